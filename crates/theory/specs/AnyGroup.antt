@@ -1,0 +1,38 @@
+-- Groups on any carrier whatever, and the tables that are one of them numbered: who says "some group" means any group.
+-- Assumes nothing.
+use mathlib.Core.Path.{_≡_}
+use mathlib.Core.List.{List, [], _∷_}
+use Prim.Native.Nat.{ℕ, _<_}
+
+-- The textbook's group once more, on the elements of a type.
+pub record Group (A : Type 0) : Type 0 where
+  pub op : A → A → A
+  pub unit : A
+  pub inv : A → A
+  pub assoc : (a b c : A) → op (op a b) c ≡ op a (op b c)
+  pub left-unit : (a : A) → op unit a ≡ a
+  pub right-unit : (a : A) → op a unit ≡ a
+  pub left-inverse : (a : A) → op (inv a) a ≡ unit
+  pub right-inverse : (a : A) → op a (inv a) ≡ unit
+
+-- The group's elements are numbered 0 .. N-1, each once, and the identity is 0: `num` and `elt` undo each other.
+pub record Numbers {A : Type 0} (G : Group A) (N : ℕ) : Type 0 where
+  pub num : A → ℕ
+  pub elt : ℕ → A
+  pub num-below : (a : A) → num a < N
+  pub elt-num : (a : A) → elt (num a) ≡ a
+  pub num-elt : {e : ℕ} → e < N → num (elt e) ≡ e
+  pub num-unit : num (G .unit) ≡ 0
+
+-- The table has the right steps of some group: a step by g is multiplication on the right by an element `gen g` of it.
+pub record SomeGroup (n N : ℕ) (step : ℕ → ℕ → ℕ) : Type 1 where
+  pub Carrier : Type 0
+  pub group : Group Carrier
+  pub numbers : Numbers group N
+  pub gen : ℕ → Carrier
+  pub steps : {e g : ℕ} → e < N → g < n → step e g ≡ numbers .num (group .op (numbers .elt e) (gen g))
+
+-- What a word multiplies to, with an element of the group for each letter.
+abbrev pub product : {A : Type 0} → Group A → (ℕ → A) → List ℕ → A
+product G gen [] = G .unit
+product G gen (g ∷ w) = G .op (gen g) (product G gen w)

@@ -1,0 +1,11 @@
+pub mod Bounded
+pub mod Table
+pub mod Words
+pub mod WordOrder
+pub mod Numbering
+pub mod Appearance
+pub mod Group
+pub mod AnyGroup
+pub mod Regular
+pub mod Presentation
+pub mod Test

@@ -1,0 +1,456 @@
+//! The oracle's commands, one a line on standard input; oracle/README.md
+//! lists them.
+use std::io::{BufRead, BufWriter, Stdout, Write};
+use std::panic::{AssertUnwindSafe, catch_unwind};
+use std::sync::{Arc, Mutex};
+
+use crate::check::*;
+use crate::coxeter::{todd_coxeter, todd_coxeter_traced};
+use crate::*;
+
+hypuz_util::typed_index_struct!(pub struct NoPoint(u32));
+
+/// An answer's lines, or the line that says why there is none.
+type Answer<T> = Result<T, String>;
+
+/// What the hook saw of the last panic.
+static LAST_PANIC: Mutex<String> = Mutex::new(String::new());
+
+/// Runs the originals. An error or a panic becomes the line to print.
+fn guard<T>(f: impl FnOnce() -> GroupResult<T>) -> Answer<T> {
+    match catch_unwind(AssertUnwindSafe(f)) {
+        Ok(Ok(x)) => Ok(x),
+        Ok(Err(GroupError::BadInverse(a, b, c))) => Err(format!("err BadInverse {a} {b} {c}")),
+        Ok(Err(GroupError::IndexOverflow(i))) => Err(format!("err IndexOverflow {}", i.0)),
+        Ok(Err(e)) => Err(format!("err {e:?}")),
+        Err(_) => Err(format!("panic {}", panic_name(&LAST_PANIC.lock().unwrap()))),
+    }
+}
+/// A name for the panics that the originals are known to end in, since the
+/// compiler's wording of them changes between versions.
+fn panic_name(message: &str) -> String {
+    for (part, name) in [
+        ("must not skip", "skip"),
+        ("index out of bounds", "index"),
+        ("divide by zero", "divide"),
+        ("divisor of zero", "divide"),
+    ] {
+        if message.contains(part) {
+            return name.into();
+        }
+    }
+    message.lines().skip(1).collect::<Vec<_>>().join(" ")
+}
+fn with_room<T>(room: usize, f: impl FnOnce() -> T) -> T {
+    let old = ROOM.swap(room, Ordering::Relaxed);
+    let x = f();
+    ROOM.store(old, Ordering::Relaxed);
+    x
+}
+
+fn number<T: std::str::FromStr>(words: &[&str], i: usize) -> Answer<T> {
+    let w = words.get(i).ok_or("missing argument")?;
+    w.parse().map_err(|_| format!("bad number {w}"))
+}
+fn numbers<T: std::str::FromStr>(words: &[&str]) -> Answer<Vec<T>> {
+    (0..words.len()).map(|i| number(words, i)).collect()
+}
+fn element(words: &[&str], i: usize) -> Answer<GroupElementId> {
+    number(words, i).map(GroupElementId)
+}
+
+fn matrix(n: usize, orders: &[u16]) -> Answer<CoxeterMatrix> {
+    if orders.len() != n * n.saturating_sub(1) / 2 {
+        return Err("bad order list length".into());
+    }
+    guard(|| CoxeterMatrix::from_pair_orders(n as u8, orders))
+}
+fn from_orders(n: usize, orders: &[u16]) -> Answer<AbstractGroupLut> {
+    let m = matrix(n, orders)?;
+    guard(|| todd_coxeter::construct_group("", &m))
+}
+/// Reads `table` as rows of n numbers. The room is not more than the rows
+/// given, so that no number is asked for that is not there.
+fn from_rows(n: usize, rows: usize, table: &[u32]) -> Answer<AbstractGroupLut> {
+    if table.len() < n * rows {
+        return Err("bad table length".into());
+    }
+    let at = |e: u32, g: u8| table[e as usize * n + g as usize];
+    trace::reset();
+    let lut = with_room(rows.min(ROOM.load(Ordering::Relaxed)), || {
+        guard(|| {
+            AbstractGroupLut::from_compose_fn("", n, |e, g| {
+                trace::read(e.0, g.0);
+                Ok(GroupElementId(at(e.0, g.0)))
+            })
+        })
+    });
+    lut.map_err(|line| {
+        let (e, g) = trace::place();
+        let read = table.get(e as usize * n + g as usize).unwrap_or(&0);
+        format!("{line} last-read {e} {g} {read}")
+    })
+}
+/// `enum n orders..` or `table n N rows..`
+fn factor(words: &[&str]) -> Answer<AbstractGroupLut> {
+    let n = number(words, 1)?;
+    match words[0] {
+        "enum" => from_orders(n, &numbers(&words[2..])?),
+        "table" => from_rows(n, number(words, 2)?, &numbers(&words[3..])?),
+        x => Err(format!("bad factor kind {x}")),
+    }
+}
+/// The group as an action on no points, for subgroup_action.rs.
+fn action_of(g: &Group) -> GroupResult<GroupAction<NoPoint>> {
+    let mut factors = vec![];
+    for f in g.direct_product_decomposition().iter_values() {
+        factors.push(Arc::new(AbstractGroupActionLut::from_fn(
+            Arc::clone(f),
+            0,
+            |_, p| Ok(p),
+        )?));
+    }
+    GroupAction::from_factors(factors)
+}
+
+/// FNV-1a over numbers in place of bytes.
+struct Digest(u64);
+impl Digest {
+    fn new() -> Self {
+        Digest(0xcbf29ce484222325)
+    }
+    fn add(&mut self, x: u64) {
+        self.0 = (self.0 ^ x).wrapping_mul(0x100000001b3);
+    }
+}
+
+struct Oracle {
+    out: BufWriter<Stdout>,
+    quiet: bool,
+    factors: Vec<Group>,
+    group: Group,
+    sub: Option<SubgroupAction<NoPoint>>,
+}
+
+impl Oracle {
+    fn say(&mut self, line: impl std::fmt::Display) {
+        writeln!(self.out, "{line}").unwrap();
+    }
+    fn say_list(&mut self, head: &str, list: impl IntoIterator<Item = u32>) {
+        write!(self.out, "{head}").unwrap();
+        for x in list {
+            write!(self.out, " {x}").unwrap();
+        }
+        writeln!(self.out).unwrap();
+    }
+    /// A list that grows with the group: its digest when quiet.
+    fn say_long(&mut self, head: &str, list: impl IntoIterator<Item = u32>) {
+        if !self.quiet {
+            return self.say_list(head, list);
+        }
+        let mut h = Digest::new();
+        list.into_iter().for_each(|x| h.add(x as u64));
+        self.say(format!("{head} fnv {:016x}", h.0));
+    }
+    fn say_factor(&mut self, g: &AbstractGroupLut) {
+        let (n, count, steps) = rows(g);
+        if self.quiet {
+            let mut h = Digest::new();
+            let mut longest = 0;
+            for e in g.elements() {
+                let word = g.factorization(e);
+                h.add(g.inverse(e).0 as u64);
+                h.add(word.len() as u64);
+                word.iter().for_each(|k| h.add(k.0 as u64));
+                steps[e.0 as usize * n..][..n]
+                    .iter()
+                    .for_each(|&x| h.add(x as u64));
+                longest = longest.max(word.len());
+            }
+            return self.say(format!("ok {n} {count} maxword {longest} fnv {:016x}", h.0));
+        }
+        self.say(format!("ok {n} {count}"));
+        for e in g.elements() {
+            let word: Vec<String> = g.factorization(e).iter().map(|k| k.to_string()).collect();
+            let word = if word.is_empty() {
+                "-".into()
+            } else {
+                word.join(",")
+            };
+            let head = format!("{e} {} {word}", g.inverse(e));
+            self.say_list(&head, steps[e.0 as usize * n..][..n].iter().copied());
+        }
+        self.say("end");
+    }
+    fn say_subgroup(&mut self, s: &SubgroupAction<NoPoint>) {
+        let g = s.subgroup_action.group();
+        let (inside, outside) = (
+            g.element_count() as u32,
+            s.overgroup().element_count() as u32,
+        );
+        self.say(format!("ok {} {inside} of {outside}", g.generators().len()));
+        self.say_long(
+            "s2o",
+            (0..inside).map(|i| s.subgroup_to_overgroup(GroupElementId(i)).0),
+        );
+        self.say_long(
+            "o2s",
+            (0..outside).map(|i| {
+                s.overgroup_to_subgroup(GroupElementId(i))
+                    .map_or(u32::MAX, |x| x.0)
+            }),
+        );
+        // A product of a subgroup with factors is not printed by rows.
+        if let [f] = &**g.direct_product_decomposition() {
+            self.say_factor(f);
+        }
+    }
+    fn subgroup(&self) -> Answer<&SubgroupAction<NoPoint>> {
+        self.sub.as_ref().ok_or("no subgroup".into())
+    }
+
+    fn answer(&mut self, w: &[&str]) -> Answer<()> {
+        match w[0] {
+            "room" => ROOM.store(number(w, 1)?, Ordering::Relaxed),
+            "quiet" => self.quiet = number::<u8>(w, 1)? != 0,
+            "clear" => {
+                self.factors.clear();
+                self.group = Group::trivial();
+                self.sub = None;
+            }
+            "enum" | "table" => {
+                let g = factor(w)?;
+                self.say_factor(&g);
+            }
+            "place" => self.place(w)?,
+            "check" => self.check(&w[1..])?,
+            "against" => self.against(&w[1..])?,
+            "factor" => {
+                let g = factor(&w[1..])?;
+                self.factors.push(guard(|| Group::try_from(g))?);
+                self.say(format!("ok {}", self.factors.len()));
+            }
+            "prod" => {
+                self.group = guard(|| Group::product(self.factors.iter()))?;
+                let (n, count) = (self.group.generators().len(), self.group.element_count());
+                self.say(format!("ok {n} {count}"));
+            }
+            "flatten" => {
+                let flat = guard(|| self.group.flatten())?;
+                match flat.direct_product_decomposition().first() {
+                    Some(f) => self.say_factor(f),
+                    None => self.say_factor(&AbstractGroupLut::new_trivial()),
+                }
+            }
+            "sub" | "subpred" => {
+                let act = guard(|| action_of(&self.group))?;
+                let s = if w[0] == "sub" {
+                    let gens = (1..w.len())
+                        .map(|i| element(w, i))
+                        .collect::<Answer<Vec<_>>>()?;
+                    guard(|| SubgroupAction::new(&act, &gens.into()))?
+                } else {
+                    let member: Vec<u8> = numbers(&w[1..])?;
+                    guard(|| {
+                        SubgroupAction::from_subgroup_predicate(&act, |e| member[e.0 as usize] != 0)
+                    })?
+                };
+                self.say_subgroup(&s);
+                self.sub = Some(s);
+            }
+            "subleft" | "subright" => {
+                let s = self.subgroup()?.clone();
+                let g = factor(&w[1..])?;
+                let act = guard(|| action_of(&Group::try_from(g)?))?;
+                let s = guard(|| match w[0] {
+                    "subleft" => SubgroupAction::direct_product_left(&act, s),
+                    _ => SubgroupAction::direct_product_right(s, &act),
+                })?;
+                self.say_subgroup(&s);
+                self.sub = Some(s);
+            }
+            _ => self.question(w)?,
+        }
+        Ok(())
+    }
+
+    /// Questions about the current product and subgroup.
+    fn question(&mut self, w: &[&str]) -> Answer<()> {
+        let g = &self.group;
+        let one = |x: GroupElementId| vec![x.0];
+        let (head, list) = match w[0] {
+            "gens" => ("ok", g.generators().iter_values().map(|x| x.0).collect()),
+            "step" => {
+                let (e, k) = (element(w, 1)?, GeneratorId(number(w, 2)?));
+                ("", guard(|| Ok(one(g.compose_elem_generator(e, k))))?)
+            }
+            "compose" => {
+                let (a, b) = (element(w, 1)?, element(w, 2)?);
+                ("", guard(|| Ok(one(g.compose(a, b))))?)
+            }
+            "conjugate" => {
+                let (a, b) = (element(w, 1)?, element(w, 2)?);
+                ("", guard(|| Ok(one(g.conjugate(a, b))))?)
+            }
+            "inverse" => {
+                let a = element(w, 1)?;
+                ("", guard(|| Ok(one(g.inverse(a))))?)
+            }
+            "powi" => {
+                let (a, i) = (element(w, 1)?, number(w, 2)?);
+                ("", guard(|| Ok(one(g.powi(a, i))))?)
+            }
+            "period" => {
+                let a = element(w, 1)?;
+                if guard(|| Ok(never_ends(g, a)))? {
+                    self.say("loop");
+                    return Ok(());
+                }
+                ("", vec![guard(|| Ok(g.period(a) as u32))?])
+            }
+            "word" => {
+                let a = element(w, 1)?;
+                (
+                    "ok",
+                    guard(|| Ok(g.factorization(a).map(|k| k.0 as u32).collect()))?,
+                )
+            }
+            "split" => {
+                let a = element(w, 1)?;
+                (
+                    "ok",
+                    guard(|| Ok(g.element_to_factors(a).map(|e| e.0).collect()))?,
+                )
+            }
+            "join" => {
+                let v = (1..w.len())
+                    .map(|i| element(w, i))
+                    .collect::<Answer<Vec<_>>>()?;
+                ("", guard(|| Ok(one(g.element_from_factors(v))))?)
+            }
+            "project" => {
+                let (f, a) = (FactorGroup(number(w, 1)?), element(w, 2)?);
+                ("", guard(|| Ok(one(g.project_element_to_factor(f, a))))?)
+            }
+            "inject" => {
+                let (f, a) = (FactorGroup(number(w, 1)?), element(w, 2)?);
+                ("", guard(|| Ok(one(g.element_from_factor(f, a))))?)
+            }
+            "s2o" => {
+                let (a, s) = (element(w, 1)?, self.subgroup()?);
+                ("", guard(|| Ok(one(s.subgroup_to_overgroup(a))))?)
+            }
+            "o2s" => {
+                let (a, s) = (element(w, 1)?, self.subgroup()?);
+                let x = guard(|| Ok(s.overgroup_to_subgroup(a)))?;
+                ("", vec![x.map_or(u32::MAX, |x| x.0)])
+            }
+            "subgens" => {
+                let s = self.subgroup()?;
+                (
+                    "ok",
+                    guard(|| Ok(s.subgroup_generators().iter().map(|x| x.0).collect()))?,
+                )
+            }
+            x => return Err(format!("unknown command {x}")),
+        };
+        match (head, &list[..]) {
+            ("", [x]) => self.say(x),
+            _ => self.say_list(head, list),
+        }
+        Ok(())
+    }
+
+    /// A traced run: where a new element was last asked for, and where a word
+    /// first passed the limit, with the element count there.
+    fn place(&mut self, w: &[&str]) -> Answer<()> {
+        let m = matrix(number(w, 1)?, &numbers::<u16>(&w[2..])?)?;
+        trace::reset();
+        let head = match guard(|| todd_coxeter_traced::construct_group("", &m)) {
+            Ok(g) => format!("ok {} {}", m.generator_count(), g.element_count()),
+            Err(line) => line,
+        };
+        let (e, g) = trace::place();
+        match trace::long() {
+            None => self.say(format!("{head} at {e} {g}")),
+            Some((x, k, count)) => self.say(format!("{head} at {e} {g} long {x} {k} {count}")),
+        }
+        Ok(())
+    }
+
+    fn check(&mut self, w: &[&str]) -> Answer<()> {
+        let (n, count, s) = rows(&factor(w)?);
+        let mut line = format!(
+            "ok {n} {count} group {} numbered {}",
+            is_group(n, count, &s),
+            numbered_by_first_appearance(n, count, &s)
+        );
+        if w[0] == "enum" {
+            let orders: Vec<u16> = numbers(&w[2..])?;
+            line += &format!(
+                " relations {} exact {} classified {}",
+                relation_failure(n, count, &s, &orders).is_none(),
+                pair_orders(n, &s) == orders,
+                coxeter_order(n, &orders).map_or("infinite".into(), |x| x.to_string())
+            );
+        }
+        self.say(line);
+        Ok(())
+    }
+
+    /// `against table n N rows.. | orders..`
+    fn against(&mut self, w: &[&str]) -> Answer<()> {
+        let bar = w.iter().position(|x| *x == "|").ok_or("missing argument")?;
+        let (n, count, s) = rows(&factor(&w[..bar])?);
+        let orders: Vec<u16> = numbers(&w[bar + 1..])?;
+        if orders.len() != n * n.saturating_sub(1) / 2 {
+            return Err("bad order list length".into());
+        }
+        match relation_failure(n, count, &s, &orders) {
+            None => self.say("ok"),
+            Some((e, g, h)) => self.say(format!("fails {e} {g} {h}")),
+        }
+        Ok(())
+    }
+}
+
+/// Whether `period` would run for ever: then no power comes to the identity
+/// within as many steps as there are elements.
+fn never_ends(g: &Group, a: GroupElementId) -> bool {
+    let mut x = a;
+    for _ in 0..=g.element_count().min(10_000_000) {
+        if x == GroupElementId::IDENTITY {
+            return false;
+        }
+        x = g.compose(x, a);
+    }
+    true
+}
+
+/// With the argument `--echo` each command is printed before its answer, as
+/// `> command`.
+pub fn main() {
+    std::panic::set_hook(Box::new(|i| *LAST_PANIC.lock().unwrap() = i.to_string()));
+    let echo = std::env::args().any(|a| a == "--echo");
+    let mut oracle = Oracle {
+        out: BufWriter::new(std::io::stdout()),
+        quiet: false,
+        factors: vec![],
+        group: Group::trivial(),
+        sub: None,
+    };
+    for line in std::io::stdin().lock().lines() {
+        let line = line.unwrap();
+        let words: Vec<&str> = line.split_whitespace().collect();
+        if words.is_empty() || words[0].starts_with('#') {
+            continue;
+        }
+        if echo {
+            oracle.say(format!("> {}", line.trim()));
+        }
+        if let Err(line) = oracle.answer(&words) {
+            oracle.say(line);
+        }
+        oracle.out.flush().unwrap();
+    }
+}

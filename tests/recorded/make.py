@@ -1,0 +1,634 @@
+#!/usr/bin/env python3
+"""Makes the recorded list of the oracle's answers: one text file a theme.
+
+A file is a list of commands for a fresh oracle. Each is a line `> command`;
+then, if it has an answer, a line `= ..` with what document 01 expects, and the
+lines of the oracle's answer:
+
+  = ok               inside the domain of equality: another program must give
+                     the same answer
+  = refused K A B C  document 01's refusal with its places, whatever the Rust does
+  = oracle           a question to the oracle alone
+
+The expectations come from model.py, written from document 01. Wherever the
+model and the oracle both speak they are compared, and nothing is written if
+they disagree in a way that docs/DIFFERENCES.md does not list.
+
+Run it after oracle/build.sh. The same oracle gives the same bytes each time.
+"""
+
+import itertools
+import math
+import random
+import sys
+
+from model import Model, Refused, enumerate_orders, spaced
+from replay import HERE, cases, run
+
+
+def rows_command(n, count, rows):
+    return spaced("table", n, count, *itertools.chain(*rows))
+
+
+# -------------------------------------------------------- document 01's cases
+
+S3 = "enum 2 3"
+Z2 = "enum 1"
+Z2_8 = spaced("enum", 8, *[2] * 28)
+FIVE = "table 2 5 1 2 0 3 3 0 4 4 2 1"
+CROSSED = (
+    "table 4 16 1 2 3 4 0 5 6 7 5 0 8 9 6 8 0 10 7 9 10 0 2 1 11 12 3 12 1 13 4 11 13 1 11 3 2 14"
+    " 12 4 14 2 13 14 4 3 8 7 5 15 9 6 15 5 10 15 7 6 15 10 9 8 14 13 12 11"
+)
+# Too long for the model: the oracle's trace says where 5 and 6 come.
+LONG_RUNS = {
+    "enum 2 4096",
+    "enum 2 4097",
+    "enum 4 3 2 4 2 2 3",
+    "enum 4 5 2 3 2 2 3",
+    "enum 5 3 2 3 2 2 3 2 2 2 3",
+    "enum 6 2 2 3 3 2 3 2 2 2 3 2 2 2 2 3",
+    "enum 6 4 2 3 2 2 3 2 2 2 3 2 2 2 2 3",
+    "enum 7 3 2 3 2 2 3 2 2 2 3 2 2 2 2 3 2 2 2 2 2 3",
+}
+
+
+def known():
+    yield "# The known groups of document 01, and both sides of each edge."
+    yield from ["enum 0", "enum 1", "enum 2 2", S3]
+    yield "# S3"
+    yield from ["factor " + S3, "prod", "gens", "compose 1 3", "compose 3 1", "conjugate 1 2"]
+    yield from ["powi 3 2", "powi 3 -1", "powi 3 -2147483648", "period 3", "period 0", "word 5"]
+    yield from ["inverse %d" % e for e in range(6)] + ["flatten", "clear"]
+    yield "# S3 by Z2"
+    yield from ["factor " + S3, "factor " + Z2, "prod", "gens", "split 9", "word 9"]
+    yield from ["compose 9 7", "inverse 9", "flatten", "clear"]
+    yield "# the empty product"
+    yield from ["prod", "gens", "flatten", "period 0", "word 0", "clear"]
+    yield "# composed rows"
+    yield from ["table 0 1", "table 1 2 1 0", "table 1 2 1 1", "table 1 1 0"]
+    yield from ["table 2 4 1 2 3 3 0 0 2 1", "table 2 2 1 1 0 0", CROSSED, "check " + CROSSED]
+    yield from ["factor " + CROSSED, "prod", "step 6 1", "step 5 2", "clear"]
+    yield from ["table 1 3 1 2 0", "against table 1 3 1 2 0 |"]
+    yield "# orders at their edges"
+    yield from ["enum 2 1", "enum 3 3 3", "quiet 1"]
+    yield from ["room 40", "enum 2 32767", "enum 2 32768"]
+    for room in (8191, 8192, 8193):
+        yield from ["room %d" % room, "enum 2 4096"]
+    for room in (8193, 8194):
+        yield from ["room %d" % room, "enum 2 4097"]
+    for room in (119, 120, 65535):
+        yield from ["room %d" % room, "enum 3 5 2 3"]
+    for room in (1, 2, 1000, 65535):
+        yield from ["room %d" % room, "enum 3 3 3 3"]
+    yield "# rooms at their edges"
+    for room in (0, 1, 65536):
+        yield from ["room %d" % room, "enum 0", "enum 1", "table 0 1", "table 1 2 1 0"]
+    yield from ["room 65535", "table 0 0", "table 1 2 1", "table 1 2 1 0 9"]
+    yield "# larger groups"
+    for line in sorted(LONG_RUNS):
+        if not line.startswith("enum 2"):
+            yield line
+    yield from ["enum 4 3 2 3 2 2 3", "enum 4 3 3 2 3 2 2", Z2_8, "check " + Z2_8]
+
+
+# --------------------------------------------------------------- enumerations
+
+
+def accepted_size(n, orders, room):
+    try:
+        return enumerate_orders(n, orders, room).count
+    except Refused:
+        return None
+
+
+def around(n, orders, most, infinite_rooms):
+    """Rooms about the group's size, or the given ones if it is not finite."""
+    size = accepted_size(n, orders, most)
+    for room in [size - 1, size, size + 1] if size else infinite_rooms:
+        yield from ["room %d" % room, spaced("enum", n, *orders)]
+
+
+def enumerations():
+    yield "# Every order list of up to 3 generators with orders 2 to 6."
+    yield "quiet 1"
+    for n in range(4):
+        for orders in itertools.product(range(2, 7), repeat=n * (n - 1) // 2):
+            yield from around(n, orders, 200, (1, 2, 17, 150))
+    yield "# Random lists of 4 to 8 generators, most orders 2 or 3."
+    rng = random.Random(1)
+    for _ in range(120):
+        n = rng.choice((4, 4, 4, 5, 5, 6, 7, 8))
+        odds = (2,) * 12 + (3, 3, 3, 4, 5) if n > 4 else (2, 2, 2, 2, 3, 3, 4, 5)
+        orders = [rng.choice(odds) for _ in range(n * (n - 1) // 2)]
+        yield from around(n, orders, 260, (3, 60))
+    yield "# Two generators, longer orders."
+    for m in (7, 12, 31, 64, 97):
+        yield from around(2, [m], 300, ())
+    yield "# Lists that are refused before a run."
+    yield "room 100"
+    yield from ["enum 9 " + spaced(*[2] * 36), "enum 9 2", "enum 2", "enum 2 3 3", "enum 3 1 2"]
+    yield from ["enum 2 0", "enum 3 2 2 1", "enum 3 2 1 0", "enum 3 2 40000 2", "enum 0 2"]
+    yield from ["room 0", "enum 2 3", "enum 2 1", "enum 9 2", "room 70000", "enum 2 3"]
+
+
+# ---------------------------------------------------------------------- tables
+
+
+def readings(n, room):
+    """Every table with n generators and `room` rows, as far as reading goes:
+    it reaches all the rows, or stops at a place. The rest is zeros."""
+
+    def go(sofar, count):
+        e, g = divmod(len(sofar), n)
+        if e == count:
+            if count == room:
+                yield sofar
+            return
+        for v in range(count + 2):
+            if v > count or (v == count and count == room):
+                yield sofar + [v] + [0] * (n * room - len(sofar) - 1)
+            else:
+                yield from go(sofar + [v], max(count, v + 1))
+
+    for numbers in go([], 1):
+        yield spaced("table", n, room, *numbers)
+
+
+def by_first_appearance(columns):
+    """Rows of the given columns, numbered from point 0 by first appearance."""
+    number, order, rows = {0: 0}, [0], []
+    for x in order:
+        for c in columns:
+            if c[x] not in number:
+                number[c[x]] = len(order)
+                order.append(c[x])
+        rows.append([number[c[x]] for c in columns])
+    return rows
+
+
+def closure(generators):
+    """Rows of the group that some permutations generate."""
+    identity = tuple(range(len(generators[0])))
+    seen, order = {identity: 0}, [identity]
+    rows = []
+    for a in order:
+        row = []
+        for g in generators:
+            b = tuple(g[x] for x in a)
+            if b not in seen:
+                seen[b] = len(order)
+                order.append(b)
+            row.append(seen[b])
+        rows.append(row)
+        if len(order) > 130:
+            return None
+    return rows
+
+
+def random_permutation(rng, k):
+    p = list(range(k))
+    rng.shuffle(p)
+    return p
+
+
+def random_group(rng):
+    """Rows of a random small group; now and then a generator is repeated, or
+    is the identity."""
+    while True:
+        k = rng.choice((3, 4, 4, 5, 5, 6, 7, 8))
+        generators = []
+        for _ in range(rng.randint(1, 4)):
+            p = random_permutation(rng, k)
+            power = rng.choice((1, 1, 2, 3))
+            q = list(range(k))
+            for _ in range(power):
+                q = [p[x] for x in q]
+            if q != sorted(q) and q not in generators or rng.random() < 0.03:
+                generators.append(q)
+        rows = closure(generators) if generators else None
+        if rows and len(rows) > 2:
+            return rows
+
+
+def crossed(rng, rows):
+    """Two steps crossed in two columns, which keeps them permutations; an
+    involution is kept one."""
+    n, count = len(rows[0]), len(rows)
+    columns = [[row[g] for row in rows] for g in range(n)]
+    x, y = rng.sample(range(count), 2)
+    for c in rng.sample(columns, min(2, n)):
+        u, v = c[x], c[y]
+        involution = all(c[c[i]] == i for i in range(count))
+        if involution and len({x, y, u, v}) == 4:
+            c[x], c[v], c[y], c[u] = v, x, u, y
+        else:
+            c[x], c[y] = v, u
+    return columns
+
+
+def damaged(rng, rows):
+    n, count = len(rows[0]), len(rows)
+    columns = crossed(rng, rows)
+    yield [list(row) for row in zip(*columns)]
+    yield by_first_appearance(columns)
+    two = [row[:] for row in rows]
+    (d, g), (e, h) = [(rng.randrange(count), rng.randrange(n)) for _ in range(2)]
+    two[d][g], two[e][h] = two[e][h], two[d][g]
+    yield two
+    two = [row[:] for row in rows]
+    two[rng.randrange(count)] = two[rng.randrange(count)]
+    yield two
+    columns = [[row[g] for row in rows] for g in range(n)]
+    c, (d, e) = rng.choice(columns), rng.sample(range(count), 2)
+    c[d], c[e] = c[e], c[d]
+    yield by_first_appearance(columns)
+
+
+def random_columns(rng):
+    """Random permutations, half the time involutions without fixed points."""
+    n, count = rng.randint(2, 4), rng.choice((4, 6, 6, 8, 8, 10, 12))
+    columns = []
+    for _ in range(n):
+        p = random_permutation(rng, count)
+        if rng.random() < 0.7:
+            for i in range(0, count, 2):
+                p[i], p[i + 1] = sorted((p[i], p[i + 1]))
+            q = [0] * count
+            for i in range(0, count, 2):
+                q[p[i]], q[p[i + 1]] = p[i + 1], p[i]
+            p = q
+        columns.append(p)
+    return by_first_appearance(columns)
+
+
+def nine_shifts(n):
+    """The group of 9 shifts of a 3 by 3 square, by n of them; the ninth given
+    repeats one."""
+    shifts = [(a, b) for a in range(3) for b in range(3) if a or b] + [(0, 1)]
+    columns = []
+    for a, b in shifts[:n]:
+        columns.append([(x + a) % 3 + (y + b) % 3 * 3 for y in range(3) for x in range(3)])
+    return rows_command(n, 9, by_first_appearance(columns))
+
+
+def refusal(*lines):
+    """The number of the first refusal that the model gives, or None."""
+    model = Model()
+    try:
+        for line in lines:
+            model.answer(line)
+    except Refused as refused:
+        return refused.number
+
+
+def tables():
+    for n, most in ((1, 5), (2, 3), (3, 2)):
+        yield "# Every reading of %d generators and up to %d rows." % (n, most)
+        for room in range(1, most + 1):
+            yield from readings(n, room)
+    yield "quiet 1"
+    rng = random.Random(2)
+    yield "# Random groups, and the same damaged; a room one short at times."
+    for _ in range(170):
+        rows = random_group(rng)
+        n, count = len(rows[0]), len(rows)
+        yield rows_command(n, count, rows)
+        for bad in damaged(rng, rows):
+            yield rows_command(n, len(bad), bad)
+        if rng.random() < 0.3:
+            yield from ["room %d" % (count - 1), rows_command(n, count, rows), "room 65535"]
+    yield "# Random columns, numbered by first appearance."
+    for _ in range(250):
+        rows = random_columns(rng)
+        yield rows_command(len(rows[0]), len(rows), rows)
+    yield "# Tables that the Rust takes and that are no group's."
+    found = 0
+    while found < 80:
+        if rng.random() < 0.5:
+            rows = by_first_appearance(crossed(rng, random_group(rng)))
+        else:
+            rows = random_columns(rng)
+        line = rows_command(len(rows[0]), len(rows), rows)
+        if len(rows) <= 24 and refusal(line) == 12:
+            found += 1
+            yield line
+    yield "# Eight generators, and nine."
+    yield from [nine_shifts(8), nine_shifts(9)]
+    yield "# The word limit: a cycle of 4,097 has a word of 4,096, of 4,098 one too long."
+    for count in (4097, 4098):
+        yield rows_command(1, count, [[(e + 1) % count] for e in range(count)])
+    yield "room 4097"
+    yield rows_command(1, 4098, [[(e + 1) % 4098] for e in range(4098)])
+
+
+# --------------------------------------------------------- products, subgroups
+
+FACTORS = ["enum 0", Z2, "enum 2 2", S3, "enum 2 4", "enum 2 5", "enum 3 2 2 2", "enum 3 3 2 3"]
+FACTORS += ["table 1 3 1 2 0", "table 1 4 1 2 3 0", "table 1 5 1 2 3 4 0", "table 2 3 1 2 2 0 0 1"]
+
+
+def more_factors():
+    quaternions = [[2, 3, 1, 0, 7, 6, 4, 5], [4, 5, 6, 7, 1, 0, 3, 2]]
+    yield rows_command(2, 8, by_first_appearance(quaternions))
+    rng = random.Random(3)
+    for _ in range(12):
+        rows = random_group(rng)
+        line = rows_command(len(rows[0]), len(rows), rows)
+        if len(rows) <= 60 and refusal(line) is None:
+            yield line
+
+
+def cycle(k):
+    return spaced("factor table 1", k, *range(1, k), 0)
+
+
+def make_product(rng, choices, most, size):
+    """Commands that make a random product of not too many elements."""
+    while True:
+        lines = [rng.choice(choices) for _ in range(rng.randint(0, most))]
+        counts = [Model().make(line.split()).count for line in lines]
+        total = math.prod(counts)
+        if total <= size:
+            return ["clear"] + ["factor " + line for line in lines] + ["prod"], counts, total
+
+
+def products():
+    choices = FACTORS + list(more_factors())
+    rng = random.Random(4)
+    yield "quiet 1"
+    for _ in range(70):
+        lines, counts, total = make_product(rng, choices, 4, 10**7)
+        yield from lines + ["gens"]
+        n = sum(int(line.split()[2]) for line in lines if line.startswith("factor"))
+
+        def element():
+            return rng.randrange(total) if rng.random() < 0.97 else total + rng.randrange(3)
+
+        for _ in range(4):
+            yield spaced("compose", element(), element())
+            yield spaced("conjugate", element(), element())
+            yield spaced("step", element(), rng.randrange(n + (rng.random() < 0.1)) if n else 0)
+        for _ in range(2):
+            for name in ("inverse", "period", "word", "split"):
+                yield spaced(name, element())
+        some = [rng.randint(-50, 50), rng.randint(-(2**31), 2**31 - 1)]
+        for i in [0, 1, -1, 2, 2**31 - 1, -(2**31)] + some:
+            yield spaced("powi", element(), i)
+        if counts:
+            digits = [rng.randrange(c) for c in counts]
+            yield spaced("join", *digits)
+            f = rng.randrange(len(counts))
+            yield spaced("project", f, element())
+            yield spaced("inject", f, rng.randrange(counts[f]))
+            yield spaced("project", len(counts), 0)
+        if total <= 200:
+            yield "flatten"
+    yield "# Flattening: the room, and a ninth generator."
+    small = ["clear", "factor " + Z2, "factor " + Z2, "factor table 1 5 1 2 3 4 0", "prod"]
+    yield from small
+    for room in (0, 19, 20, 21):
+        yield from ["room %d" % room, "flatten"]
+    yield from ["room 65535", "clear", "factor " + Z2_8, "prod", "flatten"]
+    yield from ["clear", "factor " + Z2_8, "factor " + Z2, "prod", "flatten", "word 511"]
+    yield "# Eight factors, and nine."
+    yield from ["clear"] + ["factor " + Z2] * 8 + ["prod", "gens", "flatten", "word 255"]
+    yield from ["factor " + Z2, "prod"]
+    yield "# Large products: 3, 5, 17 and 257 make 65,535, and 65,536 times that."
+    yield from ["clear"] + [cycle(k) for k in (3, 5, 17, 257)]
+    yield from ["prod", "split 65534", "compose 65534 65534", "period 1", "period 65534"]
+    yield from ["factor " + Z2_8] * 2 + ["prod", "split 4294901759", "inverse 4294901759"]
+    yield from ["compose 4294901759 4294901758", "powi 4294901759 -2147483648", "word 65535"]
+
+
+def subgroups():
+    choices = FACTORS + list(more_factors())
+    rng = random.Random(5)
+    for _ in range(110):
+        lines, _, total = make_product(rng, choices, 3, 240)
+        yield from lines
+        yield "quiet %d" % (total > 24)
+        for _ in range(rng.randint(2, 4)):
+            few = rng.choice((0, 1, 1, 1, 2, 2, 3))
+            # the identity, a repeat or a number too large comes now and then
+            low, high = (0, total + 1) if rng.random() < 0.1 else (min(1, total - 1), total)
+            line = spaced("sub", *(rng.randrange(low, high) for _ in range(few)))
+            yield line
+            if refusal(*lines, line) is not None:
+                continue
+            if rng.random() < 0.6:
+                yield from ["subgens", spaced("s2o", rng.randrange(3))]
+                yield spaced("o2s", rng.randrange(total + 1))
+            if rng.random() < 0.5:
+                for choice in FACTORS[:6], FACTORS[:4]:
+                    yield spaced(rng.choice(("subleft", "subright")), rng.choice(choice))
+                yield from ["subgens", "s2o 1", spaced("o2s", rng.randrange(total)), "o2s 0"]
+        p = rng.choice((0.02, 0.1, 0.5, 1))
+        yield spaced("subpred", *(int(rng.random() < p) for _ in range(total)))
+        yield "subgens"
+        if total >= 2 and rng.random() < 0.5:
+            yield from ["room %d" % rng.randint(1, total), spaced("sub", rng.randrange(1, total))]
+            yield spaced("subpred", *[1] * total)
+            yield "room 65535"
+    yield "# Eight generators, and nine; a predicate that needs eight."
+    yield from ["clear", "quiet 1", "factor " + Z2_8, "prod"]
+    yield from [spaced("sub", *(2**i for i in range(8))), spaced("sub", 1, 2, 3, 4, 5, 6, 7, 8, 9)]
+    yield from [spaced("subpred", *[1] * 256), "subgens"]
+    yield "# An overgroup of 65,535 elements, and a larger one."
+    yield from ["clear"] + [cycle(k) for k in (3, 5, 17, 257)] + ["prod", "sub 1 3", "subgens"]
+    yield from ["clear", "factor " + Z2_8, cycle(257), "prod", "sub 1"]
+
+
+# ------------------------------------------------------------------ differences
+
+
+def differences():
+    """Each title is a heading of docs/DIFFERENCES.md."""
+    for title, lines in (
+        (
+            "Tables that are no group's",
+            [FIVE, "check " + FIVE, "factor " + FIVE, "prod", "compose 1 2", "compose 2 1"]
+            + ["period 1", "period 2", "period 3", "period 4"],
+        ),
+        ("The crossed table", [CROSSED, "check " + CROSSED]),
+        (
+            "A repeated generator",
+            ["table 2 2 1 1 0 0", "factor table 2 2 1 1 0 0", "prod", "gens", "step 0 1"],
+        ),
+        ("The room before the number", ["table 1 1 2", "table 1 2 1 3"]),
+        (
+            "Elements out of range",
+            ["factor " + S3, "factor " + Z2, "prod", "compose 100 1", "compose 0 100"]
+            + ["inverse 12", "word 13", "split 100", "period 13", "powi 13 1", "inject 0 9"],
+        ),
+        (
+            "Generators and factors out of range",
+            ["factor " + S3, "factor " + Z2, "prod", "step 0 3", "project 2 0", "sub 12"],
+        ),
+        (
+            "A product of exactly 2^32 elements",
+            ["factor " + Z2_8] * 4 + ["prod", "split 4294967295", "factor enum 0", "prod"]
+            + ["project 4 0"],
+        ),
+        (
+            "More than 8 factors",
+            ["factor " + Z2] * 9 + ["prod", "word 511"],
+        ),
+        ("Orders 0 and 1", ["enum 2 1", "enum 2 0"]),
+        (
+            "Orders from 32,768 on",
+            ["enum 2 32769", "enum 2 32770", "room 9", "enum 2 32768"],
+        ),
+        ("No limit on words", ["quiet 1", "room 8194", "enum 2 4097"]),
+        ("More than 8 generators", ["quiet 1", "enum 9 " + spaced(*[2] * 36)]),
+        (
+            "A ninth generator of a subgroup",
+            ["quiet 1", "factor " + Z2_8, "factor " + Z2, "prod"]
+            + [spaced("sub", *(2**i for i in range(9))), spaced("subpred", *[1] * 512), "subgens"],
+        ),
+        (
+            "A repeated generator of a subgroup",
+            ["factor " + S3, "prod", "sub 1 1", "subgens"],
+        ),
+        (
+            "An overgroup above 65,535 elements",
+            ["quiet 1", "factor " + Z2_8, "factor " + Z2_8, "prod", "sub 1"],
+        ),
+        (
+            "A predicate short of the overgroup",
+            ["factor " + S3, "prod", "subpred 1 0 0"],
+        ),
+        (
+            "Flattening a product whose numbers skip",
+            ["factor " + S3, "factor " + Z2, "prod", "flatten"],
+        ),
+        (
+            "Flattening one factor",
+            ["factor " + S3, "prod", "room 5", "flatten"],
+        ),
+        (
+            "Flattening to a ninth generator",
+            ["quiet 1", "factor " + nine_shifts(8), "factor " + Z2, "prod", "flatten"],
+        ),
+        ("Rooms of 0 and above 65,535", ["room 0", "enum 0", "room 65536", "enum 0"]),
+    ):
+        yield "# " + title
+        yield from ["clear", "room 65535", "quiet 0"] + lines
+
+
+# ------------------------------------------------------------------ the list
+
+FILES = {
+    "known": known,
+    "enum": enumerations,
+    "table": tables,
+    "product": products,
+    "subgroup": subgroups,
+    "differences": differences,
+}
+
+
+LONG = "long"  # the expectation comes from the oracle's trace
+
+
+def allowed(command, refused, answer):
+    """Whether the oracle's answer goes with a refusal by document 01."""
+    k, (a, b, c), said = refused.number, refused.places, answer[0]
+    read = spaced("last-read", a, b)
+    if k in (1, 4, 6, 14, 15):
+        return True  # limits of document 01 that the Rust does not have
+    if k == 2:
+        return said == "bad order list length"
+    if k == 3:  # 1 and 0, or from 32,768 on, which wraps
+        return said == "err BadCD" or not said.startswith("panic")
+    if k == 5:
+        full = "err IndexOverflow GroupElementId"
+        if command == "flatten" and said.startswith("ok"):
+            return True  # one factor is handed on as it is
+        return said.startswith(full) and (read + " " in said if "last-read" in said else True)
+    if k == 7:
+        skip = said.startswith(("panic skip", "err IndexOverflow"))
+        return skip and (command == "flatten" or said.endswith(spaced(read, c)))
+    if k == 8:
+        return said.startswith("err IncompleteGroupStructure")
+    if k == 9:
+        return said.startswith("err BadGroupStructure")
+    if k == 10:
+        return (said + " ").startswith(spaced("err BadInverse", a, b, c) + " ")
+    if k in (11, 12):
+        return said.startswith("ok")
+    return k == 13 and said == spaced("fails", a, b, c)
+
+
+def traced(room, place):
+    """The expectation for a long run, from the oracle's `place`."""
+    words = place.split()
+    long = words[words.index("long") + 1 :] if "long" in words else None
+    e, g = words[words.index("at") + 1 :][:2]
+    if long and int(long[2]) < room:
+        return "refused 6 %s %s 0" % tuple(long[:2])
+    return "ok" if words[0] == "ok" else "refused 5 %s %s 0" % (e, g)
+
+
+def commands(lines):
+    """The commands, each with what the model says of it: ok and the lines of
+    the answer, or a refusal. An enumeration that runs out of room is followed
+    by its `place`, a long one by `place` and `check`."""
+    model = Model()
+    for line in lines:
+        place = line.replace("enum", "place", 1)
+        if line.startswith("#"):
+            yield line, None, None
+        elif line in LONG_RUNS:
+            yield from [(line, LONG, model.room), (place, "oracle", None)]
+            if not line.startswith("enum 2"):
+                yield "check " + line, "oracle", None
+        else:
+            try:
+                answer = model.answer(line)
+                yield line, "oracle" if answer is None else "ok", answer
+            except Refused as refused:
+                yield line, refused, None
+                if refused.number == 5 and line.startswith("enum"):
+                    yield place, "oracle", refused.places
+
+
+def agree(line, expect, said, answer):
+    """Whether the model and the oracle agree, so far as both speak."""
+    words = line.split()
+    if isinstance(expect, Refused):
+        return allowed(words[words[0] == "factor"], expect, answer)
+    if words[0] == "place" and said:
+        return answer == ["err IndexOverflow GroupElementId at %d %d" % said[:2]]
+    if line.startswith("check enum"):
+        return " group true numbered true relations true exact true " in answer[0]
+    return expect != "ok" or said == answer
+
+
+def record(name, theme):
+    plan = list(commands(theme()))
+    asked = run([line for line, _, _ in plan if not line.startswith("#")])
+    answers = [answer for _, answer in cases(asked)]
+    text, done = [], 0
+    for line, expect, said in plan:
+        if line.startswith("#"):
+            text.append(line)
+            continue
+        answer = answers[done]
+        done += 1
+        if expect is LONG:
+            expect = traced(said, answers[done][0])
+        elif not agree(line, expect, said, answer):
+            sys.exit(
+                "%s: %s\n  document 01: %s %s\n  oracle: %s" % (name, line, expect, said, answer)
+            )
+        text.append("> " + line)
+        if answer:
+            text += ["= %s" % expect, *answer]
+    (HERE / (name + ".txt")).write_text("\n".join(text) + "\n")
+    print("%s.txt: %d cases" % (name, sum(line.startswith("= ") for line in text)))
+
+
+if __name__ == "__main__":
+    for file, commands_of in FILES.items():
+        record(file, commands_of)

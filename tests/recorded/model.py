@@ -1,0 +1,543 @@
+"""What document 01 says of each command that the oracle answers.
+
+Written from document 01 alone, for clearness and not for speed. `Model.answer`
+takes a command of the oracle (oracle/README.md) and gives what is expected of
+a program that follows document 01: the lines of the answer, or the refusal.
+"""
+
+import math
+
+WORD_LIMIT = 4096
+MOST_GENERATORS = 8
+MOST_ELEMENTS = 65535
+MOST_FACTORS = 8
+MOST_PRODUCT = 2**32 - 1
+NOT_A_MEMBER = 2**32 - 1
+
+
+class Refused(Exception):
+    """A numbered refusal with its three places, zero where none is listed."""
+
+    def __init__(self, number, *places):
+        self.number = number
+        self.places = (*places, 0, 0, 0)[:3]
+
+    def __str__(self):
+        return "refused %d %d %d %d" % (self.number, *self.places)
+
+
+class Factor:
+    """An accepted table: rows of successors, recorded words, inverses."""
+
+    def __init__(self, n, rows, words, inverses):
+        self.n, self.rows, self.words, self.inverses = n, rows, words, inverses
+        self.count = len(rows)
+
+    def parents(self):
+        number = {word: e for e, word in enumerate(self.words)}
+        return [number[word[:-1]] for word in self.words]
+
+    def compose(self, a, b):
+        for g in self.words[b]:
+            a = self.rows[a][g]
+        return a
+
+
+def places(count, n):
+    return ((e, g) for e in range(count) for g in range(n))
+
+
+# ------------------------------------------------------------- composed rows
+
+
+def check_room(n, room, entries=None):
+    """Refusals 1 and 4; `entries` is the length of a lent composed list."""
+    if n > MOST_GENERATORS:
+        raise Refused(1, n)
+    if not 1 <= room <= MOST_ELEMENTS:
+        raise Refused(4)
+    if entries is not None and entries < room * n:
+        raise Refused(4)
+
+
+def new_element(words, e, g, room):
+    """Refusals 5 and 6, or a new element whose word is e's and then g."""
+    if len(words) == room:
+        raise Refused(5, e, g)
+    if len(words[e]) == WORD_LIMIT:
+        raise Refused(6, e, g)
+    words.append(words[e] + (g,))
+
+
+def read(n, room, number):
+    """Reads number(e, g) at each place in order: 7, 5, 6, and then `build`."""
+    rows, words = [], [()]
+    while len(rows) < len(words):
+        e, row = len(rows), []
+        for g in range(n):
+            v = number(e, g)
+            if v > len(words):
+                raise Refused(7, e, g, v)
+            if v == len(words):
+                new_element(words, e, g, room)
+            row.append(v)
+        rows.append(row)
+    return build(n, rows, words)
+
+
+def build(n, rows, words):
+    """Refusals 8 to 12 on the rows that were reached."""
+    count = len(rows)
+    back = [[None] * n for _ in rows]
+    for e, g in places(count, n):
+        if rows[e][g] is not None:
+            back[rows[e][g]][g] = e
+    for table in (rows, back):
+        for e, g in places(count, n):
+            if table[e][g] is None:
+                raise Refused(8, e, g)
+    arrivals = [0] * count
+    for e, g in places(count, n):
+        v = rows[e][g]
+        if v == e or (e == 0) != (v == rows[0][g]):
+            raise Refused(9, e, g)
+        arrivals[v] += 1
+    for e in range(count):
+        if arrivals[e] != n:
+            raise Refused(9, e, n)
+    inverses = []
+    for word in words:
+        e = 0
+        for g in reversed(word):
+            e = back[e][g]
+        inverses.append(e)
+    for e, i in enumerate(inverses):
+        if inverses[i] != e:
+            raise Refused(10, e, i, inverses[i])
+    for g in range(n):
+        if rows[0][g] != g + 1:
+            raise Refused(11, g)
+    factor = Factor(n, rows, words, inverses)
+    if not is_group(factor):
+        raise Refused(12)
+    return factor
+
+
+def is_group(f):
+    """Whether a(xg) = (ax)g for all a, x and generators g, where ax is reached
+    from a by the word of x. The columns are permutations by now, so this is
+    all that a group asks."""
+    parents = f.parents()
+    for a in range(f.count):
+        times = [a]  # times[x] = ax; an element's parent comes before it
+        for x in range(1, f.count):
+            times.append(f.rows[times[parents[x]]][f.words[x][-1]])
+        for x, g in places(f.count, f.n):
+            if times[f.rows[x][g]] != f.rows[times[x]][g]:
+                return False
+    return True
+
+
+def table(n, room, numbers):
+    """A composed table with `room`, from a lent list."""
+    check_room(n, room, len(numbers))
+    return read(n, room, lambda e, g: numbers[e * n + g])
+
+
+# --------------------------------------------------------------- enumeration
+
+
+def pairs(n):
+    return [(i, j) for j in range(n) for i in range(j)]
+
+
+def enumerate_orders(n, orders, room):
+    """The enumeration of 000, as module 4 of document 01 sets it out."""
+    if n > MOST_GENERATORS:
+        raise Refused(1, n)
+    if len(orders) != n * (n - 1) // 2:
+        raise Refused(2)
+    for i, m in enumerate(orders):
+        if not 2 <= m <= 32767:
+            raise Refused(3, i)
+    check_room(n, room)
+
+    rows, words = [[None] * n], [()]
+    back = [[None] * n]
+    waiting = [[([], []) for _ in range(n)]]  # left rows and right rows
+
+    def set_both(e, g, v):
+        new = rows[e][g] is None
+        rows[e][g], back[v][g] = v, e
+        return new
+
+    def start(e):
+        for (a, b), m in zip(pairs(n), orders):
+            row = ((a, b), 0, 2 * m - 1, e, e)
+            waiting[e][a][0].append(row)
+            waiting[e][b][1].append(row)
+
+    def fill(row):
+        """Moves the right end back, then the left end forward."""
+        pair, l, r, left, right = row
+        while l < r and back[right][pair[r & 1]] is not None:
+            right, r = back[right][pair[r & 1]], r - 1
+        while l < r and rows[left][pair[l & 1]] is not None:
+            left, l = rows[left][pair[l & 1]], l + 1
+        return pair, l, r, left, right
+
+    def wake(e, g):
+        lists, waiting[e][g] = waiting[e][g], ([], [])
+        found = []
+        for side in (0, 1):
+            for row in lists[side]:
+                pair, l, r, left, right = row = fill(row)
+                if l == r:
+                    for fact in ((left, right), (right, left)):
+                        if set_both(fact[0], pair[l & 1], fact[1]):
+                            found.append((fact[0], pair[l & 1]))
+                elif side == 0:
+                    waiting[left][pair[l & 1]][0].append(row)
+                else:
+                    waiting[right][pair[r & 1]][1].append(row)
+        return found
+
+    start(0)
+    e = 0
+    while e < len(words):
+        for g in range(n):
+            if rows[e][g] is not None:
+                continue
+            new_element(words, e, g, room)
+            new = len(words) - 1
+            rows.append([None] * n)
+            back.append([None] * n)
+            waiting.append([([], []) for _ in range(n)])
+            set_both(e, g, new)
+            set_both(new, g, e)
+            start(new)
+            facts = [(e, g)]
+            while facts:
+                facts += wake(*facts.pop())
+        e += 1
+    factor = build(n, rows, words)
+    against(factor, orders)
+    return factor
+
+
+def against(f, orders):
+    """Refusal 13: at each element each generator doubled, then each pair."""
+    for e in range(f.count):
+        for g in range(f.n):
+            if f.rows[f.rows[e][g]][g] != e:
+                raise Refused(13, e, g, g)
+        for (i, j), m in zip(pairs(f.n), orders):
+            x = e
+            for _ in range(m):
+                x = f.rows[f.rows[x][i]][j]
+            if x != e:
+                raise Refused(13, e, i, j)
+
+
+# ----------------------------------------------------- products and subgroups
+
+
+class Product:
+    """A product of factors; the first is the fastest digit."""
+
+    def __init__(self, factors):
+        self.factors = list(factors)
+        self.count = math.prod(f.count for f in self.factors)
+        if len(self.factors) > MOST_FACTORS or self.count > MOST_PRODUCT:
+            raise Refused(15)
+        self.n = sum(f.n for f in self.factors)
+        # for each generator: its factor, and its number there
+        self.where = [(i, g) for i, f in enumerate(self.factors) for g in range(f.n)]
+
+    def split(self, e):
+        digits = []
+        for f in self.factors:
+            e, digit = divmod(e, f.count)
+            digits.append(digit)
+        return digits
+
+    def join(self, digits):
+        e, stride = 0, 1
+        for f, digit in zip(self.factors, digits):
+            e, stride = e + stride * digit, stride * f.count
+        return e
+
+    def step(self, e, g):
+        i, k = self.where[g]
+        digits = self.split(e)
+        digits[i] = self.factors[i].rows[digits[i]][k]
+        return self.join(digits)
+
+    def compose(self, a, b):
+        both = zip(self.factors, self.split(a), self.split(b))
+        return self.join(f.compose(x, y) for f, x, y in both)
+
+    def inverse(self, a):
+        return self.join(f.inverses[x] for f, x in zip(self.factors, self.split(a)))
+
+    def conjugate(self, a, b):
+        return self.compose(self.compose(a, b), self.inverse(a))
+
+    def period(self, a):
+        x, k = a, 1
+        while x != 0:
+            x, k = self.compose(x, a), k + 1
+        return k
+
+    def powi(self, a, i):
+        x = 0
+        for _ in range(i % self.period(a)):
+            x = self.compose(x, a)
+        return x
+
+    def word(self, a):
+        word, offset = [], 0
+        for f, x in zip(self.factors, self.split(a)):
+            word += [offset + g for g in f.words[x]]
+            offset += f.n
+        return word
+
+    def flatten(self, room):
+        check_room(self.n, room)
+        return read(self.n, room, self.step)
+
+
+class Subgroup:
+    """A subgroup of a product, numbered by first appearance. `below` is the
+    count of what was multiplied on at the left, `above` at the right."""
+
+    def __init__(self, over, generators, room):
+        check_arguments((a, over.count) for a in generators)
+        if over.count > MOST_ELEMENTS:
+            raise Refused(15)
+        check_room(len(generators), room)
+        self.to_over, self.to_sub = [0], {0: 0}
+
+        def number(e, g):
+            a = over.compose(self.to_over[e], generators[g])
+            if a not in self.to_sub:
+                self.to_sub[a] = len(self.to_over)
+                self.to_over.append(a)
+            return self.to_sub[a]
+
+        self.factor = read(len(generators), room, number)
+        self.generators = list(generators)
+        self.over_count, self.below, self.above = over.count, 1, 1
+        self.sides = []
+
+    def multiplied(self, factor, left):
+        s = object.__new__(Subgroup)
+        s.__dict__.update(self.__dict__)
+        s.sides = [(left, factor)] + self.sides if left else self.sides + [(left, factor)]
+        if left:
+            s.below *= factor.count
+        else:
+            s.above *= factor.count
+        return s
+
+    def counts(self):
+        sides = self.below * self.above
+        return self.factor.count * sides, self.over_count * sides
+
+    def s2o(self, x):
+        rest, low = divmod(x, self.below)
+        high, middle = divmod(rest, self.factor.count)
+        return (high * self.over_count + self.to_over[middle]) * self.below + low
+
+    def o2s(self, x):
+        rest, low = divmod(x, self.below)
+        high, middle = divmod(rest, self.over_count)
+        if middle not in self.to_sub:
+            return NOT_A_MEMBER
+        return (high * self.factor.count + self.to_sub[middle]) * self.below + low
+
+    def generator_elements(self):
+        """In the subgroup's product: the factors' in order."""
+        stride, out = 1, []
+        left = [f for is_left, f in self.sides if is_left]
+        right = [f for is_left, f in self.sides if not is_left]
+        for f in left + [self.factor] + right:
+            out += [stride * f.rows[0][g] for g in range(f.n)]
+            stride *= f.count
+        return out
+
+
+def from_predicate(over, member, room):
+    """Rebuilt with one more generator for each member not yet reached."""
+    if over.count > MOST_ELEMENTS:
+        raise Refused(15)
+    if len(member) < over.count:
+        raise Refused(4)
+    sub = Subgroup(over, [], room)
+    for e in range(over.count):
+        if member[e] and e not in sub.to_sub:
+            if len(sub.generators) == MOST_GENERATORS:
+                raise Refused(15)
+            sub = Subgroup(over, sub.generators + [e], room)
+    return sub
+
+
+def check_arguments(arguments):
+    """Refusal 14 at the first argument that is not below its bound."""
+    for i, (a, bound) in enumerate(arguments):
+        if not 0 <= a < bound:
+            raise Refused(14, i)
+
+
+# ------------------------------------------------------------------- commands
+
+
+def digest(numbers):
+    h = 0xCBF29CE484222325
+    for x in numbers:
+        h = (h ^ x) * 0x100000001B3 % 2**64
+    return "fnv %016x" % h
+
+
+def spaced(*parts):
+    return " ".join(str(p) for p in parts)
+
+
+class Model:
+    """Follows a list of commands as the oracle does. `answer` gives the lines
+    of the answer, raises Refused, or gives None where document 01 has nothing
+    to say: a question to the oracle alone, or one about a product or subgroup
+    that was refused."""
+
+    def __init__(self):
+        self.room, self.quiet = MOST_ELEMENTS, False
+        self.clear()
+
+    def clear(self):
+        self.factors, self.product, self.sub = [], Product([]), None
+        self.refused = False  # a factor or the product was
+
+    def answer(self, line):
+        name, *rest = line.split()
+        if name in ("check", "place"):
+            return None
+        if name == "room":
+            self.room = int(rest[0])
+            return []
+        if name == "quiet":
+            self.quiet = rest[0] != "0"
+            return []
+        if name == "clear":
+            self.clear()
+            return []
+        if name in ("enum", "table"):
+            return self.show(self.make([name] + rest))
+        if name == "against":
+            bar = rest.index("|")
+            against(self.make(rest[:bar]), [int(x) for x in rest[bar + 1 :]])
+            return ["ok"]
+        if name == "factor":
+            try:
+                self.factors.append(self.make(rest))
+            except Refused:
+                self.refused = True
+                raise
+            return [spaced("ok", len(self.factors))]
+        if self.refused:
+            return None
+        if name == "prod":
+            try:
+                self.product = Product(self.factors)
+            except Refused:
+                self.refused = True
+                raise
+            return [spaced("ok", self.product.n, self.product.count)]
+        if name in ("sub", "subpred", "subleft", "subright"):
+            return self.make_subgroup(name, rest)
+        if name == "flatten":
+            return self.show(self.product.flatten(self.room))
+        numbers = [int(x) for x in rest]
+        if name in ("s2o", "o2s", "subgens"):
+            return self.ask_subgroup(name, numbers)
+        return self.ask_product(name, numbers)
+
+    def make(self, words):
+        """`enum n orders..` or `table n N rows..`; a table's room is at most
+        the N rows given."""
+        kind, *numbers = words
+        numbers = [int(x) for x in numbers]
+        if kind == "enum":
+            return enumerate_orders(numbers[0], numbers[1:], self.room)
+        n, count, *rows = numbers
+        return table(n, min(self.room, count), rows)
+
+    def show(self, f):
+        if self.quiet:
+            seen = []
+            for inverse, word, row in zip(f.inverses, f.words, f.rows):
+                seen += [inverse, len(word), *word, *row]
+            longest = max(len(word) for word in f.words)
+            return [spaced("ok", f.n, f.count, "maxword", longest, digest(seen))]
+        lines = [spaced("ok", f.n, f.count)]
+        for e, row in enumerate(f.rows):
+            word = ",".join(str(g) for g in f.words[e]) or "-"
+            lines.append(spaced(e, f.inverses[e], word, *row))
+        return lines + ["end"]
+
+    def make_subgroup(self, name, rest):
+        try:
+            if name == "sub":
+                self.sub = Subgroup(self.product, [int(x) for x in rest], self.room)
+            elif name == "subpred":
+                self.sub = from_predicate(self.product, [int(x) for x in rest], self.room)
+            elif self.sub is None:
+                return None
+            else:
+                self.sub = self.sub.multiplied(self.make(rest), name == "subleft")
+        except Refused:
+            self.sub = None
+            raise
+        s = self.sub
+        inside, outside = s.counts()
+        lines = [spaced("ok", len(s.generator_elements()), inside, "of", outside)]
+        for head, numbers in (
+            ("s2o", [s.s2o(x) for x in range(inside)]),
+            ("o2s", [s.o2s(x) for x in range(outside)]),
+        ):
+            lines.append(spaced(head, digest(numbers)) if self.quiet else spaced(head, *numbers))
+        return lines if s.sides else lines + self.show(s.factor)
+
+    def ask_subgroup(self, name, numbers):
+        s = self.sub
+        if s is None:
+            return None
+        inside, outside = s.counts()
+        if name == "subgens":
+            return [spaced("ok", *(s.s2o(x) for x in s.generator_elements()))]
+        check_arguments([(numbers[0], inside if name == "s2o" else outside)])
+        return [str(getattr(s, name)(numbers[0]))]
+
+    def ask_product(self, name, numbers):
+        p = self.product
+        if name == "gens":
+            return [spaced("ok", *(p.step(0, g) for g in range(p.n)))]
+        if name == "join":
+            check_arguments(zip(numbers, [f.count for f in p.factors]))
+            return [str(p.join(numbers))]
+        bounds = {
+            "step": (p.count, p.n),
+            "compose": (p.count, p.count),
+            "conjugate": (p.count, p.count),
+            "project": (len(p.factors), p.count),
+            "inject": (len(p.factors),),
+        }.get(name, (p.count,))
+        check_arguments(zip(numbers, bounds))
+        if name == "project":
+            return [str(p.split(numbers[1])[numbers[0]])]
+        if name == "inject":
+            f, a = numbers
+            if a >= p.factors[f].count:
+                raise Refused(14, 1)
+            return [str(p.join(a if i == f else 0 for i in range(len(p.factors))))]
+        value = getattr(p, name)(*numbers)
+        return [spaced("ok", *value) if name in ("word", "split") else str(value)]
