@@ -8,6 +8,7 @@ pub mod Places
 pub mod Counting
 pub mod IdentityRows
 pub mod FirstPlaces
+pub mod RuleLaws
 pub mod Reading
 pub mod ShortLex
 pub mod Shortest

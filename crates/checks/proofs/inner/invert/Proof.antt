@@ -1,0 +1,64 @@
+-- The invariant: the letters that are left, from here, lead where the whole word leads. A turn is one step of `invertFrom`.
+use Prim.Native.Nat.{suc, _-_}
+use mathlib.Core.Path.{_≡_}
+use native.Mathlib.Omega.{arith}
+use borrow.Author.Needs.{needs}
+use Rattle.checks.specs.Checks.{invertFrom, invertOf}
+use Rattle.checks.proofs.inner.invert.Statement.{statement}
+use Rattle.checks.proofs.inner.invert.Tie as tie
+
+abbrev Inv-loop : tie.InvT-loop
+Inv-loop t n e x₀ at₀ left₀ x at left = invertFrom left t n at x ≡ invertOf t n e
+
+abbrev μ-loop : tie.MeasureT-loop
+μ-loop t n e x₀ at₀ left₀ x at left = left
+
+word-length-requires : tie.Need-word-length-requires Inv-loop μ-loop
+word-length-requires c κs = search needs
+
+loop-holds : tie.Need-loop-holds Inv-loop μ-loop
+loop-holds c = rw (c .word-length .ensures)
+
+last-requires : tie.Need-last-requires Inv-loop μ-loop
+last-requires c κs = search needs
+
+back-requires : tie.Need-back-requires Inv-loop μ-loop
+back-requires c κs = search needs
+
+parent-requires : tie.Need-parent-requires Inv-loop μ-loop
+parent-requires c κs = search needs
+
+sub-left : tie.Need-sub-left Inv-loop μ-loop
+sub-left c = search needs
+
+loop-less : tie.Need-loop-less Inv-loop μ-loop
+loop-less c = search needs
+
+loop-again : tie.Need-loop-again Inv-loop μ-loop
+unfolding invertFrom
+loop-again c =
+    let k = c .before .before .before .before .loop .left in
+    let q : k ≡ suc (k - 1) = omega (arith, c .before .before .before .loop-test .taken) in
+    rw (c .parent .ensures, c .before .back .ensures, c .before .before .last .ensures) (rw q at (c .before .before .before .before .loop .inv))
+
+returns : tie.Need-returns Inv-loop μ-loop
+unfolding invertFrom
+returns c =
+    let q : c .before .loop .left ≡ 0 = omega arith in
+    rw q at (c .before .loop .inv)
+
+pub invert-spec : {M : Type 1} → statement M
+invert-spec =
+    tie.close
+    (tie.spec
+    Inv-loop
+    μ-loop
+    word-length-requires
+    loop-holds
+    last-requires
+    back-requires
+    parent-requires
+    sub-left
+    loop-less
+    loop-again
+    returns)

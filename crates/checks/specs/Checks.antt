@@ -1,0 +1,170 @@
+-- Refusals 8 to 12 on a table of n generators and `count` elements, in document 01's order: "Reading ends before 8; then 8 to 13 in order. Places are
+-- the first in element order, then generator order; for 8 successors are searched before predecessors."
+-- Assumes nothing.
+use Prim.Native.Nat.{ℕ, zero, suc, _+_, _*_, _-_}
+use mathlib.Core.List.{List}
+use mathlib.Core.Bool.{Bool, true, false}
+use lib.ListN.{getD}
+use lib.Dec.{eqb, ltb, leb}
+use Rattle.egg.specs.declared.Refusal.{Refusal}
+use Rattle.egg.specs.declared.Verdict.{Verdict}
+use Rattle.egg.specs.declared.Verdict.the-variants.{Fine, Refused}
+use Rattle.egg.specs.Table.{pick, putAt, startOf, parentOf, lastOf, lengthOf, inverseOf, stepOf, backOf}
+use Rattle.egg.specs.Scan.{refusedOf, andThen, scan}
+
+-- 8, "a successor or predecessor missing": a place of the row that is still 0. Predecessors stand n places after the successors.
+abbrev pub missingAt : List ℕ → ℕ → ℕ → ℕ → ℕ → Verdict
+missingAt t n shift e g = pick (eqb (getD t (startOf n e + shift + g) 0) 0) (refusedOf 8 e g 0) Fine
+
+unfoldable pub missingRow : List ℕ → ℕ → ℕ → ℕ → Verdict
+missingRow t n shift e = scan n (λ g. missingAt t n shift e g) 0
+
+unfoldable pub missing : List ℕ → ℕ → ℕ → ℕ → Verdict
+missing t n count shift = scan count (λ e. missingRow t n shift e) 0
+
+unfoldable pub check8 : List ℕ → ℕ → ℕ → Verdict
+check8 t n count = andThen (missing t n count 0) (missing t n count n)
+
+-- 17, "a number read from it is out of range": a stored step beyond the elements, a word over
+-- 4,096 letters, a parent that is no earlier element, a letter that is no generator.
+-- No build of ours leaves such a table; an altered buffer may hold one.
+abbrev pub rangeAt : List ℕ → ℕ → ℕ → ℕ → ℕ → Verdict
+rangeAt t n count e k = pick (ltb count (getD t (startOf n e + 0 + k) 0)) (refusedOf 17 0 0 0) Fine
+
+unfoldable pub rangeRow : List ℕ → ℕ → ℕ → ℕ → Verdict
+rangeRow t n count e = scan (2 * n) (λ k. rangeAt t n count e k) 0
+
+unfoldable pub linksOf : List ℕ → ℕ → ℕ → Verdict
+linksOf t n e =
+    pick (ltb 4096 (lengthOf t n e)) (refusedOf 17 0 0 0)
+    (pick (eqb e 0) Fine
+    (pick (leb e (parentOf t n e)) (refusedOf 17 0 0 0)
+    (pick (leb n (lastOf t n e)) (refusedOf 17 0 0 0) Fine)))
+
+unfoldable pub ranges : List ℕ → ℕ → ℕ → Verdict
+ranges t n count = scan count (λ e. andThen (rangeRow t n count e) (linksOf t n e)) 0
+
+-- 9, "a fixed point or wrong generator row" (003): no step stays where it is, and only the identity has a generator's element as that step.
+abbrev pub wrongAt : List ℕ → ℕ → ℕ → ℕ → Verdict
+wrongAt t n e g =
+    pick (eqb (stepOf t n e g) e) (refusedOf 9 e g 0)
+    (pick (eqb e 0) Fine (pick (eqb (stepOf t n e g) (stepOf t n 0 g)) (refusedOf 9 e g 0) Fine))
+
+unfoldable pub wrongRow : List ℕ → ℕ → ℕ → Verdict
+wrongRow t n e = scan n (λ g. wrongAt t n e g) 0
+
+unfoldable pub wrong : List ℕ → ℕ → ℕ → Verdict
+wrong t n count = scan count (λ e. wrongRow t n e) 0
+
+unfoldable pub check-table : List ℕ → ℕ → ℕ → Verdict
+check-table t n count = andThen (check8 t n count) (andThen (ranges t n count) (wrong t n count))
+
+-- 9, "or count (003)": the arrivals at each element, over all generators together, are counted in the work and must be n. "For a count the element and n."
+unfoldable pub wiped : ℕ → List ℕ → ℕ → List ℕ
+wiped zero w e = w
+wiped (suc k) w e = wiped k (putAt w e 0) (e + 1)
+
+unfoldable pub arriveRow : ℕ → List ℕ → ℕ → ℕ → List ℕ → ℕ → List ℕ
+arriveRow zero t n e w g = w
+arriveRow (suc k) t n e w g = arriveRow k t n e (putAt w (stepOf t n e g) (getD w (stepOf t n e g) 0 + 1)) (g + 1)
+
+unfoldable pub arrivals : ℕ → List ℕ → ℕ → List ℕ → ℕ → List ℕ
+arrivals zero t n w e = w
+arrivals (suc k) t n w e = arrivals k t n (arriveRow n t n e w 0) (e + 1)
+
+unfoldable pub countsRight : List ℕ → ℕ → ℕ → Verdict
+countsRight w n count = scan count (λ e. pick (eqb (getD w e 0) n) Fine (refusedOf 9 e n 0)) 0
+
+-- "The inverse follows the reversed word through predecessors from the identity": k letters are left of the word that ends at the element `at`.
+unfoldable pub invertFrom : ℕ → List ℕ → ℕ → ℕ → ℕ → ℕ
+invertFrom zero t n at x = x
+invertFrom (suc k) t n at x = invertFrom k t n (parentOf t n at) (backOf t n x (lastOf t n at))
+
+abbrev pub invertOf : List ℕ → ℕ → ℕ → ℕ
+invertOf t n e = invertFrom (lengthOf t n e) t n e 0
+
+unfoldable pub fillInverses : ℕ → List ℕ → ℕ → ℕ → List ℕ
+fillInverses zero t n e = t
+fillInverses (suc k) t n e = fillInverses k (putAt t (startOf n e + 2 * n + 3) (invertOf t n e)) n (e + 1)
+
+-- 10, "inverse of inverse differs": element, inverse, its inverse.
+abbrev pub inverseAt : List ℕ → ℕ → ℕ → Verdict
+inverseAt t n e =
+    pick (eqb (inverseOf t n (inverseOf t n e)) e) Fine (refusedOf 10 e (inverseOf t n e) (inverseOf t n (inverseOf t n e)))
+
+unfoldable pub inversesRight : List ℕ → ℕ → ℕ → Verdict
+inversesRight t n count = scan count (λ e. inverseAt t n e) 0
+
+-- 11, "identity row is not 1..n".
+unfoldable pub identityRow : List ℕ → ℕ → Verdict
+identityRow t n = scan n (λ g. pick (eqb (stepOf t n 0 g) (g + 1)) Fine (refusedOf 11 g 0 0)) 0
+
+-- 12, "no group has these right steps". First that the columns are permutations and that each recorded word leads to its element: so it is after
+-- every reading; a builder whose steps were overwritten, or an altered buffer, may break it.
+unfoldable pub columnsRow : List ℕ → ℕ → ℕ → Verdict
+columnsRow t n e = scan n (λ g. pick (eqb (stepOf t n (backOf t n e g) g) e) Fine (refusedOf 12 0 0 0)) 0
+
+unfoldable pub spelledRow : List ℕ → ℕ → ℕ → Verdict
+spelledRow t n e =
+    pick (eqb e 0) (pick (eqb (lengthOf t n e) 0) Fine (refusedOf 12 0 0 0))
+    (pick (eqb (stepOf t n (parentOf t n e) (lastOf t n e)) e)
+    (pick (eqb (lengthOf t n e) (lengthOf t n (parentOf t n e) + 1)) Fine (refusedOf 12 0 0 0))
+    (refusedOf 12 0 0 0))
+
+unfoldable pub spelled : List ℕ → ℕ → ℕ → Verdict
+spelled t n count = scan count (λ e. andThen (columnsRow t n e) (spelledRow t n e)) 0
+
+unfoldable pub check-steps : List ℕ → ℕ → ℕ → Verdict
+check-steps t n count = andThen (identityRow t n) (spelled t n count)
+
+-- Then, for each generator s, multiplication on the left by s, filled into the work by going from parent to parent, must commute with every step.
+abbrev pub leftOf : List ℕ → ℕ → ℕ → List ℕ → ℕ → ℕ
+leftOf t n s w x = pick (ltb 0 x) (stepOf t n (getD w (parentOf t n x) 0) (lastOf t n x)) (stepOf t n 0 s)
+
+unfoldable pub fillLeft : ℕ → List ℕ → ℕ → ℕ → List ℕ → ℕ → List ℕ
+fillLeft zero t n s w x = w
+fillLeft (suc k) t n s w x = fillLeft k t n s (putAt w x (leftOf t n s w x)) (x + 1)
+
+unfoldable pub goesRow : List ℕ → List ℕ → ℕ → ℕ → Verdict
+goesRow t w n x = scan n (λ g. pick (eqb (getD w (stepOf t n x g) 0) (stepOf t n (getD w x 0) g)) Fine (refusedOf 12 0 0 0)) 0
+
+unfoldable pub allGo : List ℕ → List ℕ → ℕ → ℕ → Verdict
+allGo t w n count = scan count (λ x. goesRow t w n x) 0
+
+-- The verdict and what the work holds then.
+pub data Lefts : Type 0 where
+  left : Verdict → List ℕ → Lefts
+
+-- The verdict with the work, or what comes after it.
+abbrev pub thenLeft : Verdict → List ℕ → Lefts → Lefts
+thenLeft Fine w l = l
+thenLeft (Refused r) w l = left (Refused r) w
+
+unfoldable pub lefts : ℕ → List ℕ → ℕ → ℕ → List ℕ → ℕ → Lefts
+lefts zero t n count w s = left Fine w
+lefts (suc k) t n count w s =
+    thenLeft (allGo t (fillLeft count t n s w 0) n count) (fillLeft count t n s w 0) (lefts k t n count (fillLeft count t n s w 0) (s + 1))
+
+-- All of it: the verdict, and what both stretches hold then.
+pub data Checked : Type 0 where
+  checked : Verdict → List ℕ → List ℕ → Checked
+
+abbrev pub thenChecked : Verdict → List ℕ → List ℕ → Checked → Checked
+thenChecked Fine t w c = c
+thenChecked (Refused r) t w c = checked (Refused r) t w
+
+abbrev pub withTable : List ℕ → Lefts → Checked
+withTable t (left v w) = checked v t w
+
+abbrev pub counted : List ℕ → List ℕ → ℕ → ℕ → List ℕ
+counted t w n count = arrivals count t n (wiped count w 0) 0
+
+unfoldable pub check-rest : List ℕ → List ℕ → ℕ → ℕ → Checked
+check-rest t w n count =
+    thenChecked (inversesRight t n count) t w (thenChecked (check-steps t n count) t w (withTable t (lefts n t n count w 0)))
+
+unfoldable pub check-group : List ℕ → List ℕ → ℕ → ℕ → Checked
+check-group t w n count =
+    thenChecked (check-table t n count) t w
+    (thenChecked (countsRight (counted t w n count) n count) t (counted t w n count)
+    (check-rest (fillInverses count t n 0) (counted t w n count) n count))

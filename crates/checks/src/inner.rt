@@ -1,0 +1,436 @@
+// Each check looks at the places in document 01's order and answers the first refusal. They are total on any contents,
+// so that a build over an altered buffer is refused as well: 17 where a number is out of range.
+ghost use mathlib.Core.Path.{_≡_};
+ghost use Rattle.egg.specs.Scan.{refusedOf};
+ghost use Rattle.checks.specs.Checks.{missingRow, missing, check8, rangeRow, linksOf, ranges, wrongAt, wrongRow, wrong, check-table, wiped, arriveRow, arrivals, countsRight, invertOf, fillInverses, inversesRight, identityRow, columnsRow, spelledRow, spelled, leftOf, fillLeft, goesRow, allGo, Lefts, lefts, check-steps, Checked, check-rest, check-group};
+use egg::GroupElementId;
+use egg::Refusal;
+use egg::Verdict;
+
+fn refuse(number: u32, a: u32, b: u32, c: u32) -> Verdict
+    ensures { λ r. ⌜ r ≡ refusedOf number a b c ⌝ }
+{
+    Verdict::Refused(Refusal { number, a, b, c })
+}
+
+// 8 in one row: the first generator whose number, from `shift` on, is not known.
+fn missing_row(t: &[u32], n: u8, shift: u8, e: u32) -> Verdict
+    ensures { λ r. ⌜ r ≡ missingRow (now (t .entry)) n shift e ⌝ }
+{
+    let mut g: u32 = 0;
+    while g < (n as u32) {
+        if egg::inner::cell(t, n, e, shift, g) == 0 {
+            return refuse(8, e, g, 0);
+        }
+        g += 1;
+    }
+    Verdict::Fine
+}
+
+fn missing(t: &[u32], n: u8, count: u32, shift: u8) -> Verdict
+    ensures { λ r. ⌜ r ≡ missing (now (t .entry)) n count shift ⌝ }
+{
+    let mut e: u32 = 0;
+    while e < count {
+        let v = missing_row(t, n, shift, e);
+        let Verdict::Fine = v else {
+            return v;
+        };
+        e += 1;
+    }
+    Verdict::Fine
+}
+
+// 8: a successor missing, and only then a predecessor.
+pub fn check8(t: &[u32], n: u8, count: u32) -> Verdict
+    ensures { λ r. ⌜ r ≡ check8 (now (t .entry)) n count ⌝ }
+{
+    let v = missing(t, n, count, 0);
+    let Verdict::Fine = v else {
+        return v;
+    };
+    missing(t, n, count, n)
+}
+
+// 17 in one row: a step or a step back beyond the elements.
+fn range_row(t: &[u32], n: u8, count: u32, e: u32) -> Verdict
+    ensures { λ r. ⌜ r ≡ rangeRow (now (t .entry)) n count e ⌝ }
+{
+    let mut k: u32 = 0;
+    while k < 2 * (n as u32) {
+        if count < egg::inner::cell(t, n, e, 0, k) {
+            return refuse(17, 0, 0, 0);
+        }
+        k += 1;
+    }
+    Verdict::Fine
+}
+
+// 17 in the record of a word: it is not too long, its parent is an earlier element, its last letter a generator.
+fn links(t: &[u32], n: u8, e: u32) -> Verdict
+    ensures { λ r. ⌜ r ≡ linksOf (now (t .entry)) n e ⌝ }
+{
+    if 4096 < egg::inner::word_length(t, n, GroupElementId(e)) {
+        return refuse(17, 0, 0, 0);
+    }
+    if e == 0 {
+        return Verdict::Fine;
+    }
+    if e <= egg::inner::parent(t, n, GroupElementId(e)) {
+        return refuse(17, 0, 0, 0);
+    }
+    if (n as u32) <= egg::inner::last(t, n, GroupElementId(e)) {
+        return refuse(17, 0, 0, 0);
+    }
+    Verdict::Fine
+}
+
+fn ranges(t: &[u32], n: u8, count: u32) -> Verdict
+    ensures { λ r. ⌜ r ≡ ranges (now (t .entry)) n count ⌝ }
+{
+    let mut e: u32 = 0;
+    while e < count {
+        let v = range_row(t, n, count, e);
+        let Verdict::Fine = v else {
+            return v;
+        };
+        let u = links(t, n, e);
+        let Verdict::Fine = u else {
+            return u;
+        };
+        e += 1;
+    }
+    Verdict::Fine
+}
+
+// 9 at one place (003): a step that stays, or that only the identity may have.
+fn wrong_at(t: &[u32], n: u8, e: u32, g: u32) -> Verdict
+    ensures { λ r. ⌜ r ≡ wrongAt (now (t .entry)) n e g ⌝ }
+{
+    let r = egg::inner::step(t, n, e, g);
+    if r == e {
+        return refuse(9, e, g, 0);
+    }
+    if e == 0 {
+        return Verdict::Fine;
+    }
+    if r == egg::inner::step(t, n, 0, g) {
+        return refuse(9, e, g, 0);
+    }
+    Verdict::Fine
+}
+
+fn wrong_row(t: &[u32], n: u8, e: u32) -> Verdict
+    ensures { λ r. ⌜ r ≡ wrongRow (now (t .entry)) n e ⌝ }
+{
+    let mut g: u32 = 0;
+    while g < (n as u32) {
+        let v = wrong_at(t, n, e, g);
+        let Verdict::Fine = v else {
+            return v;
+        };
+        g += 1;
+    }
+    Verdict::Fine
+}
+
+fn wrong(t: &[u32], n: u8, count: u32) -> Verdict
+    ensures { λ r. ⌜ r ≡ wrong (now (t .entry)) n count ⌝ }
+{
+    let mut e: u32 = 0;
+    while e < count {
+        let v = wrong_row(t, n, e);
+        let Verdict::Fine = v else {
+            return v;
+        };
+        e += 1;
+    }
+    Verdict::Fine
+}
+
+// 8, then 17 in what is stored, then the rows of 9.
+pub fn check_table(t: &[u32], n: u8, count: u32) -> Verdict
+    ensures { λ r. ⌜ r ≡ check-table (now (t .entry)) n count ⌝ }
+{
+    let v = check8(t, n, count);
+    let Verdict::Fine = v else {
+        return v;
+    };
+    let u = ranges(t, n, count);
+    let Verdict::Fine = u else {
+        return u;
+    };
+    wrong(t, n, count)
+}
+
+// Zeroes the first numbers of the work, where arrivals are counted.
+fn wipe(w: &mut [u32], count: u32)
+    ensures { λ r. ⌜ now (w .exit) ≡ wiped count (now (w .entry)) 0 ⌝ }
+{
+    let mut e: u32 = 0;
+    while e < count {
+        egg::inner::put(w, e as usize, 0);
+        e += 1;
+    }
+}
+
+fn arrive_row(t: &[u32], w: &mut [u32], n: u8, e: u32)
+    ensures { λ r. ⌜ now (w .exit) ≡ arriveRow n (now (t .entry)) n e (now (w .entry)) 0 ⌝ }
+{
+    let mut g: u32 = 0;
+    while g < (n as u32) {
+        let r = egg::inner::step(t, n, e, g) as usize;
+        let was = egg::inner::get(&w[..], r) as usize;
+        egg::inner::put(w, r, was + 1);
+        g += 1;
+    }
+}
+
+// How often each element is arrived at, over all generators together (003).
+fn arrivals(t: &[u32], w: &mut [u32], n: u8, count: u32)
+    ensures { λ r. ⌜ now (w .exit) ≡ arrivals count (now (t .entry)) n (now (w .entry)) 0 ⌝ }
+{
+    let mut e: u32 = 0;
+    while e < count {
+        arrive_row(t, w, n, e);
+        e += 1;
+    }
+}
+
+// 9 for a count: each element is arrived at n times.
+fn counts_right(w: &[u32], n: u8, count: u32) -> Verdict
+    ensures { λ r. ⌜ r ≡ countsRight (now (w .entry)) n count ⌝ }
+{
+    let mut e: u32 = 0;
+    while e < count {
+        if egg::inner::get(w, e as usize) != (n as u32) {
+            return refuse(9, e, n as u32, 0);
+        }
+        e += 1;
+    }
+    Verdict::Fine
+}
+
+// The inverse of e: its reversed word through predecessors, from the identity (002).
+fn invert(t: &[u32], n: u8, e: u32) -> u32
+    ensures { λ r. ⌜ r ≡ invertOf (now (t .entry)) n e ⌝ }
+{
+    let mut x: u32 = 0;
+    let mut at = e;
+    let mut left = egg::inner::word_length(t, n, GroupElementId(e));
+    while 0 < left {
+        x = egg::inner::back(t, n, x, egg::inner::last(t, n, GroupElementId(at)));
+        at = egg::inner::parent(t, n, GroupElementId(at));
+        left -= 1;
+    }
+    x
+}
+
+fn fill_inverses(t: &mut [u32], n: u8, count: u32)
+    ensures { λ r. ⌜ now (t .exit) ≡ fillInverses count (now (t .entry)) n 0 ⌝ }
+{
+    let mut e: u32 = 0;
+    while e < count {
+        let x = invert(&t[..], n, e);
+        egg::inner::put(t, egg::inner::inverse_at(n, GroupElementId(e)), x as usize);
+        e += 1;
+    }
+}
+
+// 10: the inverse of the inverse.
+fn inverses_right(t: &[u32], n: u8, count: u32) -> Verdict
+    ensures { λ r. ⌜ r ≡ inversesRight (now (t .entry)) n count ⌝ }
+{
+    let mut e: u32 = 0;
+    while e < count {
+        let i = egg::inner::get(t, egg::inner::inverse_at(n, GroupElementId(e)));
+        let j = egg::inner::get(t, egg::inner::inverse_at(n, GroupElementId(i)));
+        if j != e {
+            return refuse(10, e, i, j);
+        }
+        e += 1;
+    }
+    Verdict::Fine
+}
+
+// 11: the identity row is 1..n.
+fn identity_row(t: &[u32], n: u8) -> Verdict
+    ensures { λ r. ⌜ r ≡ identityRow (now (t .entry)) n ⌝ }
+{
+    let mut g: u32 = 0;
+    while g < (n as u32) {
+        if egg::inner::step(t, n, 0, g) != g + 1 {
+            return refuse(11, g, 0, 0);
+        }
+        g += 1;
+    }
+    Verdict::Fine
+}
+
+// 12, first part: each step back is undone by the step, so that the columns are permutations.
+fn columns_row(t: &[u32], n: u8, e: u32) -> Verdict
+    ensures { λ r. ⌜ r ≡ columnsRow (now (t .entry)) n e ⌝ }
+{
+    let mut g: u32 = 0;
+    while g < (n as u32) {
+        if egg::inner::step(t, n, egg::inner::back(t, n, e, g), g) != e {
+            return refuse(12, 0, 0, 0);
+        }
+        g += 1;
+    }
+    Verdict::Fine
+}
+
+// 12, second part: the recorded word leads to its element.
+fn spelled_row(t: &[u32], n: u8, e: u32) -> Verdict
+    ensures { λ r. ⌜ r ≡ spelledRow (now (t .entry)) n e ⌝ }
+{
+    let len = egg::inner::word_length(t, n, GroupElementId(e));
+    if e == 0 {
+        if len != 0 {
+            return refuse(12, 0, 0, 0);
+        }
+        return Verdict::Fine;
+    }
+    let p = egg::inner::parent(t, n, GroupElementId(e));
+    let g = egg::inner::last(t, n, GroupElementId(e));
+    if egg::inner::step(t, n, p, g) != e {
+        return refuse(12, 0, 0, 0);
+    }
+    let before = egg::inner::word_length(t, n, GroupElementId(p));
+    if (len as usize) != (before as usize) + 1 {
+        return refuse(12, 0, 0, 0);
+    }
+    Verdict::Fine
+}
+
+fn spelled(t: &[u32], n: u8, count: u32) -> Verdict
+    ensures { λ r. ⌜ r ≡ spelled (now (t .entry)) n count ⌝ }
+{
+    let mut e: u32 = 0;
+    while e < count {
+        let v = columns_row(t, n, e);
+        let Verdict::Fine = v else {
+            return v;
+        };
+        let u = spelled_row(t, n, e);
+        let Verdict::Fine = u else {
+            return u;
+        };
+        e += 1;
+    }
+    Verdict::Fine
+}
+
+// What generator s on the left makes of x, where the work has it for the elements before x.
+fn left_of(t: &[u32], w: &[u32], n: u8, s: u32, x: u32) -> u32
+    ensures { λ r. ⌜ r ≡ leftOf (now (t .entry)) n s (now (w .entry)) x ⌝ }
+{
+    if 0 < x {
+        let p = egg::inner::parent(t, n, GroupElementId(x));
+        let from = egg::inner::get(w, p as usize);
+        return egg::inner::step(t, n, from, egg::inner::last(t, n, GroupElementId(x)));
+    }
+    egg::inner::step(t, n, 0, s)
+}
+
+// Multiplication on the left by generator s, into the start of the work.
+fn fill_left(t: &[u32], w: &mut [u32], n: u8, count: u32, s: u32)
+    ensures { λ r. ⌜ now (w .exit) ≡ fillLeft count (now (t .entry)) n s (now (w .entry)) 0 ⌝ }
+{
+    let mut x: u32 = 0;
+    while x < count {
+        let y = left_of(t, &w[..], n, s, x);
+        egg::inner::put(w, x as usize, y as usize);
+        x += 1;
+    }
+}
+
+// 12, last part: multiplication on the left commutes with every step from x.
+fn goes_row(t: &[u32], w: &[u32], n: u8, x: u32) -> Verdict
+    ensures { λ r. ⌜ r ≡ goesRow (now (t .entry)) (now (w .entry)) n x ⌝ }
+{
+    let left = egg::inner::get(w, x as usize);
+    let mut g: u32 = 0;
+    while g < (n as u32) {
+        let y = egg::inner::step(t, n, x, g);
+        if egg::inner::get(w, y as usize) != egg::inner::step(t, n, left, g) {
+            return refuse(12, 0, 0, 0);
+        }
+        g += 1;
+    }
+    Verdict::Fine
+}
+
+fn all_go(t: &[u32], w: &[u32], n: u8, count: u32) -> Verdict
+    ensures { λ r. ⌜ r ≡ allGo (now (t .entry)) (now (w .entry)) n count ⌝ }
+{
+    let mut x: u32 = 0;
+    while x < count {
+        let v = goes_row(t, w, n, x);
+        let Verdict::Fine = v else {
+            return v;
+        };
+        x += 1;
+    }
+    Verdict::Fine
+}
+
+fn check12(t: &[u32], w: &mut [u32], n: u8, count: u32) -> Verdict
+    ensures { λ r. ⌜ Lefts.left r (now (w .exit)) ≡ lefts n (now (t .entry)) n count (now (w .entry)) 0 ⌝ }
+{
+    let mut s: u32 = 0;
+    while s < (n as u32) {
+        fill_left(t, w, n, count, s);
+        let v = all_go(t, &w[..], n, count);
+        let Verdict::Fine = v else {
+            return v;
+        };
+        s += 1;
+    }
+    Verdict::Fine
+}
+
+// 11, then 12 on a table whose words and columns are right.
+fn check_steps(t: &[u32], n: u8, count: u32) -> Verdict
+    ensures { λ r. ⌜ r ≡ check-steps (now (t .entry)) n count ⌝ }
+{
+    let v = identity_row(t, n);
+    let Verdict::Fine = v else {
+        return v;
+    };
+    spelled(t, n, count)
+}
+
+// 10 to 12, once the inverses are written.
+fn check_rest(t: &[u32], w: &mut [u32], n: u8, count: u32) -> Verdict
+    ensures { λ r. ⌜ Checked.checked r (now (t .entry)) (now (w .exit)) ≡ check-rest (now (t .entry)) (now (w .entry)) n count ⌝ }
+{
+    let v = inverses_right(t, n, count);
+    let Verdict::Fine = v else {
+        return v;
+    };
+    let u = check_steps(t, n, count);
+    let Verdict::Fine = u else {
+        return u;
+    };
+    check12(t, w, n, count)
+}
+
+// 8 to 12, with the inverses written.
+pub fn check_group(t: &mut [u32], w: &mut [u32], n: u8, count: u32) -> Verdict
+    ensures { λ r. ⌜ Checked.checked r (now (t .exit)) (now (w .exit)) ≡ check-group (now (t .entry)) (now (w .entry)) n count ⌝ }
+{
+    let v = check_table(&t[..], n, count);
+    let Verdict::Fine = v else {
+        return v;
+    };
+    wipe(w, count);
+    arrivals(&t[..], w, n, count);
+    let u = counts_right(&w[..], n, count);
+    let Verdict::Fine = u else {
+        return u;
+    };
+    fill_inverses(t, n, count);
+    check_rest(&t[..], w, n, count)
+}

@@ -1,0 +1,5 @@
+pub mod Laws
+pub mod Rooms
+pub mod Answers
+pub mod Orders
+pub mod Cells

@@ -1,0 +1,38 @@
+-- Laws of the list of pair orders, one for each way in which looking at it ends.
+-- Assumes nothing.
+use Prim.Native.Nat.{ℕ, _+_, _*_, _-_, _/_, _≤_, _<_}
+use mathlib.Core.Path.{_≡_, refl, sym, ap, _∙_}
+use mathlib.Core.List.{List}
+use native.Mathlib.Nat.{mul-le-mul, lt-of-le-of-lt}
+use native.Mathlib.Omega.{arith}
+use borrow.Author.Tests.{eq-eqb, ne-eqb, le-leb, lt-leb}
+use lib.ListN.{length, getD}
+use Rattle.egg.specs.declared.Verdict.{Verdict}
+use Rattle.egg.specs.declared.Verdict.the-variants.{Fine, Refused}
+use Rattle.egg.specs.Table.{pick}
+use Rattle.egg.specs.Scan.{refusedOf, scan}
+use Rattle.egg.specs.Pairs.{pairCount, orderAt, ordersRight}
+use Rattle.egg.proofs.Laws.{scan-here, scan-next, scan-end}
+
+-- n(n-1) is small, so that it can be halved in 32 bits.
+pub pair-product : (n : ℕ) → n < 256 → n * (n - 1) < 4294967296
+pair-product n h = let q : n ≤ 255 = omega arith in let p : n - 1 ≤ 255 = omega arith in omega (arith, mul-le-mul q p)
+
+module _ (o : List ℕ) (n : ℕ) {count : ℕ} (c : count ≡ pairCount n) where
+  pub orders-length : (length o ≡ count → ⊥) → refusedOf 2 0 0 0 ≡ ordersRight o n
+  unfolding ordersRight
+  orders-length h = rw (← c) (simp (ne-eqb _ _ h))
+
+  pub orders-begin : length o ≡ count → scan (count - 0) (λ k. orderAt o k) 0 ≡ ordersRight o n
+  unfolding ordersRight
+  orders-begin h = let q : count - 0 ≡ length o = omega arith in rw (q, ← c) (simp (eq-eqb _ _ h))
+
+module _ (o : List ℕ) (count k : ℕ) {m : ℕ} (e : m ≡ getD o k 0) (h : k < count) where
+  pub order-low : m < 2 → refusedOf 3 k 0 0 ≡ scan (count - k) (λ k. orderAt o k) k
+  order-low z = sym (scan-here count (λ k. orderAt o k) k h (rw (← e) (simp (lt-leb _ _ z))))
+
+  pub order-high : 2 ≤ m → 32767 < m → refusedOf 3 k 0 0 ≡ scan (count - k) (λ k. orderAt o k) k
+  order-high p z = sym (scan-here count (λ k. orderAt o k) k h (rw (← e) (simp (le-leb _ _ p, lt-leb _ _ z))))
+
+  pub order-fine : 2 ≤ m → m ≤ 32767 → scan (count - k) (λ k. orderAt o k) k ≡ scan (count - (k + 1)) (λ k. orderAt o k) (k + 1)
+  order-fine p z = scan-next count (λ k. orderAt o k) k h (rw (← e) (simp (le-leb _ _ p, le-leb _ _ z)))

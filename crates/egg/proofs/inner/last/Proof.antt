@@ -1,0 +1,28 @@
+use borrow.Author.Needs.{needs}
+use Rattle.egg.proofs.inner.last.Statement.{statement}
+use Rattle.egg.proofs.inner.last.Tie as tie
+use Rattle.egg.proofs.inner.last.Reads as reads
+use Rattle.egg.proofs.inner.last.Lts as lts
+use Rattle.egg.proofs.inner.get.Reads as get-reads
+use Rattle.egg.proofs.inner.start.Reads as start-reads
+
+start-requires : tie.Need-start-requires
+start-requires c κs = search needs
+
+mul-get : tie.Need-mul-get
+mul-get c = search needs
+
+add-get : tie.Need-add-get
+add-get c = search needs
+
+add-get-2 : tie.Need-add-get-2
+add-get-2 c = search needs
+
+get-requires : tie.Need-get-requires
+get-requires c κs = search needs
+
+returns : tie.Need-returns
+returns c = cc
+
+pub last-spec : {M : Type 1} → statement M
+last-spec = tie.close (tie.spec start-requires mul-get add-get add-get-2 get-requires returns)

@@ -1,0 +1,25 @@
+use borrow.Author.Needs.{needs}
+use Rattle.egg.proofs.inner.parent.Statement.{statement}
+use Rattle.egg.proofs.inner.parent.Tie as tie
+use Rattle.egg.proofs.inner.parent.Reads as reads
+use Rattle.egg.proofs.inner.parent.Lts as lts
+use Rattle.egg.proofs.inner.get.Reads as get-reads
+use Rattle.egg.proofs.inner.start.Reads as start-reads
+
+start-requires : tie.Need-start-requires
+start-requires c κs = search needs
+
+mul-get : tie.Need-mul-get
+mul-get c = search needs
+
+add-get : tie.Need-add-get
+add-get c = search needs
+
+get-requires : tie.Need-get-requires
+get-requires c κs = search needs
+
+returns : tie.Need-returns
+returns c = cc
+
+pub parent-spec : {M : Type 1} → statement M
+parent-spec = tie.close (tie.spec start-requires mul-get add-get get-requires returns)

@@ -1,0 +1,27 @@
+use mathlib.Core.Path.{_≡_, refl, sym, ap, _∙_}
+use borrow.Author.Needs.{needs}
+use Rattle.egg.proofs.inner.step.Statement.{statement}
+use Rattle.egg.proofs.inner.step.Tie as tie
+use Rattle.egg.proofs.inner.step.Reads as reads
+use Rattle.egg.proofs.inner.step.Lts as lts
+use Rattle.egg.proofs.inner.element.Reads as element-reads
+use Rattle.egg.proofs.inner.get.Reads as get-reads
+use Rattle.egg.proofs.inner.start.Reads as start-reads
+
+start-requires : tie.Need-start-requires
+start-requires c κs = search needs
+
+add-get : tie.Need-add-get
+add-get c = search needs
+
+get-requires : tie.Need-get-requires
+get-requires c κs = search needs
+
+element-requires : tie.Need-element-requires
+element-requires c κs = search needs
+
+returns : tie.Need-returns
+returns c = cc
+
+pub step-spec : {M : Type 1} → statement M
+step-spec = tie.close (tie.spec start-requires add-get get-requires element-requires returns)

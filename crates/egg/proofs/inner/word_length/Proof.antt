@@ -1,0 +1,29 @@
+use borrow.Author.Needs.{needs}
+use Rattle.egg.proofs.inner.word_length.Statement.{statement}
+use Rattle.egg.proofs.inner.word_length.Tie as tie
+use Rattle.egg.proofs.inner.word_length.Reads as reads
+use Rattle.egg.proofs.inner.word_length.Lts as lts
+use Rattle.egg.proofs.inner.get.Reads as get-reads
+use Rattle.egg.proofs.inner.start.Reads as start-reads
+
+start-requires : tie.Need-start-requires
+start-requires c κs = search needs
+
+mul-get : tie.Need-mul-get
+mul-get c = search needs
+
+add-get : tie.Need-add-get
+add-get c = search needs
+
+add-get-2 : tie.Need-add-get-2
+add-get-2 c = search needs
+
+get-requires : tie.Need-get-requires
+get-requires c κs = search needs
+
+returns : tie.Need-returns
+returns c = cc
+
+pub word-length-spec : {M : Type 1} → statement M
+word-length-spec =
+    tie.close (tie.spec start-requires mul-get add-get add-get-2 get-requires returns)

@@ -1,0 +1,70 @@
+-- The handle of a factor, its stretch of the table buffer, and the answer of one step.
+-- Assumes nothing.
+use Prim.Native.Nat.{ℕ, _+_, _*_, _-_}
+use mathlib.Core.List.{List}
+use mathlib.Core.Bool.{Bool, true, false, _&&_}
+use lib.ListN.{length, getD, take, drop}
+use lib.Dec.{ltb, leb, eqb}
+use Rattle.egg.specs.declared.GroupElementId.{GroupElementId}
+use Rattle.egg.specs.declared.GeneratorId.{GeneratorId}
+use Rattle.egg.specs.declared.Refusal.{Refusal}
+use Rattle.egg.specs.declared.Factor.{Factor}
+use Rattle.egg.specs.declared.Verdict.{Verdict}
+use Rattle.egg.specs.declared.Verdict.the-variants as verdict
+use Rattle.egg.specs.declared.Reached.{Reached}
+use Rattle.egg.specs.declared.Reached.the-variants.{Element, Refused}
+use Rattle.egg.specs.declared.Counted.{Counted}
+use Rattle.egg.specs.declared.Counted.the-variants as counted
+use Rattle.egg.specs.Table.{pick, startOf}
+
+-- Document 01's number for an answer and its values: 0 and the answer's own number, or a refusal's number and its three places.
+pub record Paper : Type 0 where
+  pub number : ℕ
+  pub a : ℕ
+  pub b : ℕ
+  pub c : ℕ
+
+abbrev pub refusalPaper : Refusal → Paper
+refusalPaper r = record { number = r .number; a = r .a; b = r .b; c = r .c }
+
+abbrev pub verdictPaper : Verdict → Paper
+verdictPaper verdict.Fine = record { number = 0; a = 0; b = 0; c = 0 }
+verdictPaper (verdict.Refused r) = refusalPaper r
+
+abbrev pub reachedPaper : Reached → Paper
+reachedPaper (Element e) = record { number = 0; a = e .0; b = 0; c = 0 }
+reachedPaper (Refused r) = refusalPaper r
+
+abbrev pub countedPaper : Counted → Paper
+countedPaper (counted.Count k) = record { number = 0; a = k; b = 0; c = 0 }
+countedPaper (counted.Refused r) = refusalPaper r
+
+-- A refused question with its number and first place.
+abbrev pub refusedReach : ℕ → ℕ → Reached
+refusedReach k a = Refused (record { number = k; a = a; b = 0; c = 0 })
+
+-- Document 01's limits and the needed stretch: at most 8 generators, room 1 to 65,535, and R(2n+4) entries from the start on.
+unfoldable pub hasRoom : ℕ → ℕ → ℕ → ℕ → Bool
+hasRoom len start room n = leb n 8 && (leb 1 room && (leb room 65535 && leb (start + room * (2 * n + 4)) len))
+
+-- The handle fits a buffer of so many numbers; it has at least the identity, and no more elements than room.
+unfoldable pub fitsIn : ℕ → Factor → Bool
+fitsIn len f = leb 1 (f .elements) && (leb (f .elements) (f .room) && hasRoom len (f .start) (f .room) (f .generators))
+
+-- The stretch of the table buffer that belongs to a factor.
+unfoldable pub stretch : List ℕ → Factor → List ℕ
+stretch t f = take (f .room * (2 * f .generators + 4)) (drop (f .start) t)
+
+-- A stored step read for an answer: 17 where it is missing or beyond the element count.
+unfoldable pub readStep : List ℕ → ℕ → ℕ → ℕ → ℕ → Reached
+readStep s n count e g =
+    pick (eqb (getD s (startOf n e + g) 0) 0) (refusedReach 17 0)
+    (pick (ltb count (getD s (startOf n e + g) 0)) (refusedReach 17 0) (Element (record { 0 = getD s (startOf n e + g) 0 - 1 })))
+
+-- Document 01: "Calls on handles check 17 in the handle, then 14, .. then 17 in what they read".
+unfoldable pub stepAnswer : List ℕ → Factor → GroupElementId → GeneratorId → Reached
+stepAnswer t f e g =
+    pick (fitsIn (length t) f)
+    (pick (leb (f .elements) (e .0)) (refusedReach 14 0)
+    (pick (leb (f .generators) (g .0)) (refusedReach 14 1) (readStep (stretch t f) (f .generators) (f .elements) (e .0) (g .0))))
+    (refusedReach 17 0)

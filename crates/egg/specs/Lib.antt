@@ -1,0 +1,4 @@
+pub mod Table
+pub mod Factor
+pub mod Scan
+pub mod Pairs

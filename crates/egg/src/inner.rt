@@ -1,0 +1,270 @@
+// Cells and places, for the layers above. The row of element e starts at e * (2n + 4): n successors, n predecessors,
+// parent, last generator, word length, inverse. A successor or predecessor is stored as its number + 1, and 0 is
+// "not known", so that a row never used is zero. Reads and writes are total: a read past the end is 0, a write there
+// does nothing, so no caller owes a proof of an index.
+ghost use mathlib.Core.Path.{_≡_};
+ghost use mathlib.Core.Bool.{true};
+ghost use Prim.Native.Nat.{_+_, _*_, _<_, _-_};
+ghost use lib.ListN.{length, getD, replicate};
+ghost use Rattle.egg.specs.Table.{putAt, startOf, succAt, predAt, foundOf, stepOf, backOf, Place};
+ghost use Rattle.egg.specs.Pairs.{pairCode, pairCount, ordersRight};
+ghost use Rattle.egg.specs.Scan.{refusedOf};
+ghost use Rattle.egg.specs.Factor.{fitsIn, stretch, refusedReach, readStep};
+use super::Factor;
+use super::GeneratorId;
+use super::GroupElementId;
+use super::Reached;
+use super::Refusal;
+use super::Verdict;
+
+// A stored step: the element, or not known yet.
+pub enum Found {
+    Element(GroupElementId),
+    Unknown,
+}
+
+// What stands at i, and 0 past the end.
+pub fn get(s: &[u32], i: usize) -> u32
+    ensures { λ r. ⌜ r ≡ getD (now (s .entry)) i 0 ⌝ }
+{
+    if i < s.len() { s[i] } else { 0 }
+}
+
+// Stores v at i; nothing past the end, and nothing where v has more than 32 bits.
+pub fn put(s: &mut [u32], i: usize, v: usize)
+    ensures { λ r. ⌜ now (s .exit) ≡ putAt (now (s .entry)) i v ⌝ }
+{
+    if i < s.len() {
+        if v < 4294967296 {
+            s[i] = v as u32;
+        }
+    }
+}
+
+pub fn clear(s: &mut [u32])
+    ensures { λ r. ⌜ now (s .exit) ≡ replicate (length (now (s .entry))) 0 ⌝ }
+{
+    let mut i = 0;
+    while i < s.len() {
+        s[i] = 0;
+        i += 1;
+    }
+}
+
+pub fn width(n: u8) -> usize
+    ensures { λ r. ⌜ r ≡ 2 * n + 4 ⌝ }
+{
+    2 * (n as usize) + 4
+}
+
+pub fn start(n: u8, e: GroupElementId) -> usize
+    ensures { λ r. ⌜ Place r (startOf n (e .0)) 4503599627370496 ⌝ }
+{
+    let x = e.0;
+    (x as usize) * width(n)
+}
+
+pub fn successor_at(n: u8, e: GroupElementId, g: GeneratorId) -> usize
+    ensures { λ r. ⌜ Place r (succAt n e g) 9007199254740992 ⌝ }
+{
+    let k = g.0;
+    start(n, e) + (k as usize)
+}
+
+pub fn predecessor_at(n: u8, e: GroupElementId, g: GeneratorId) -> usize
+    ensures { λ r. ⌜ Place r (predAt n e g) 9007199254740992 ⌝ }
+{
+    let k = g.0;
+    start(n, e) + (n as usize) + (k as usize)
+}
+
+pub fn known(x: u32) -> Found
+    ensures { λ r. ⌜ r ≡ foundOf x ⌝ }
+{
+    if x == 0 {
+        Found::Unknown
+    } else {
+        Found::Element(GroupElementId(x - 1))
+    }
+}
+
+pub fn successor(t: &[u32], n: u8, e: GroupElementId, g: GeneratorId) -> Found
+    ensures { λ r. ⌜ r ≡ foundOf (getD (now (t .entry)) (succAt n e g) 0) ⌝ }
+{
+    known(get(t, successor_at(n, e, g)))
+}
+
+pub fn predecessor(t: &[u32], n: u8, e: GroupElementId, g: GeneratorId) -> Found
+    ensures { λ r. ⌜ r ≡ foundOf (getD (now (t .entry)) (predAt n e g) 0) ⌝ }
+{
+    known(get(t, predecessor_at(n, e, g)))
+}
+
+// A number of the row of e: the k-th from `shift` on.
+pub fn cell(t: &[u32], n: u8, e: u32, shift: u8, k: u32) -> u32
+    ensures { λ r. ⌜ r ≡ getD (now (t .entry)) (startOf n e + shift + k) 0 ⌝ }
+{
+    get(
+        t,
+        start(n, GroupElementId(e)) + (shift as usize) + (k as usize),
+    )
+}
+
+// What a stored step stands for where nothing is missing: "not known" counts as the identity.
+pub fn element(x: u32) -> u32
+    ensures { λ r. ⌜ r ≡ x - 1 ⌝ }
+{
+    if x == 0 { 0 } else { x - 1 }
+}
+
+// The step of a table with nothing missing.
+pub fn step(t: &[u32], n: u8, e: u32, g: u32) -> u32
+    ensures { λ r. ⌜ r ≡ stepOf (now (t .entry)) n e g ⌝ }
+{
+    element(get(t, start(n, GroupElementId(e)) + (g as usize)))
+}
+
+// The step back of a table with nothing missing.
+pub fn back(t: &[u32], n: u8, e: u32, g: u32) -> u32
+    ensures { λ r. ⌜ r ≡ backOf (now (t .entry)) n e g ⌝ }
+{
+    element(cell(t, n, e, n, g))
+}
+
+pub fn parent(t: &[u32], n: u8, e: GroupElementId) -> u32
+    ensures { λ r. ⌜ r ≡ getD (now (t .entry)) (startOf n (e .0) + 2 * n) 0 ⌝ }
+{
+    get(t, start(n, e) + 2 * (n as usize))
+}
+
+pub fn last(t: &[u32], n: u8, e: GroupElementId) -> u32
+    ensures { λ r. ⌜ r ≡ getD (now (t .entry)) (startOf n (e .0) + 2 * n + 1) 0 ⌝ }
+{
+    get(t, start(n, e) + 2 * (n as usize) + 1)
+}
+
+pub fn word_length(t: &[u32], n: u8, e: GroupElementId) -> u32
+    ensures { λ r. ⌜ r ≡ getD (now (t .entry)) (startOf n (e .0) + 2 * n + 2) 0 ⌝ }
+{
+    get(t, start(n, e) + 2 * (n as usize) + 2)
+}
+
+pub fn inverse_at(n: u8, e: GroupElementId) -> usize
+    ensures { λ r. ⌜ Place r (startOf n (e .0) + 2 * n + 3) 9007199254740992 ⌝ }
+{
+    start(n, e) + 2 * (n as usize) + 3
+}
+
+// A refusal of a question, with its first place.
+pub fn refuse(number: u32, a: u32) -> Reached
+    ensures { λ r. ⌜ r ≡ refusedReach number a ⌝ }
+{
+    Reached::Refused(Refusal {
+        number,
+        a,
+        b: 0,
+        c: 0,
+    })
+}
+
+// The one read that every question is built on: the step in the stretch of a factor, or 17.
+pub fn next(s: &[u32], n: u8, count: u32, e: u32, g: u8) -> Reached
+    ensures { λ r. ⌜ r ≡ readStep (now (s .entry)) n count e g ⌝ }
+{
+    let x = get(s, successor_at(n, GroupElementId(e), GeneratorId(g)));
+    if x == 0 {
+        return refuse(17, 0);
+    }
+    if count < x {
+        return refuse(17, 0);
+    }
+    Reached::Element(GroupElementId(x - 1))
+}
+
+// The stretch of a factor whose handle fits.
+pub fn part(table: &[u32], f: Factor) -> &[u32]
+    requires { ⌜ fitsIn (length (now table)) f ≡ true ⌝ }
+    ensures { λ r. ⌜ now r ≡ stretch (now (table .entry)) f ⌝ }
+{
+    let a = f.start;
+    let b = a + (f.room as usize) * width(f.generators);
+    &table[a..b]
+}
+
+// The pairs (a, b) in the order (0,1),(0,2),(1,2),(0,3).., each as 8a + b.
+const PAIRS: [u32; 28] = [
+    1,
+    2,
+    10,
+    3,
+    11,
+    19,
+    4,
+    12,
+    20,
+    28,
+    5,
+    13,
+    21,
+    29,
+    37,
+    6,
+    14,
+    22,
+    30,
+    38,
+    46,
+    7,
+    15,
+    23,
+    31,
+    39,
+    47,
+    55,
+];
+
+pub fn pair_code(k: usize) -> u32
+    requires { ⌜ k < 28 ⌝ }
+    ensures { λ r. ⌜ r ≡ pairCode k ⌝ }
+{
+    PAIRS[k]
+}
+
+// How many pairs n generators have: n(n-1)/2.
+pub fn pair_count(n: u8) -> u32
+    ensures { λ r. ⌜ r ≡ pairCount n ⌝ }
+{
+    if n == 0 {
+        return 0;
+    }
+    (n as u32) * ((n as u32) - 1) / 2
+}
+
+// A refusal of a check, with its places.
+pub fn refused(number: u32, a: u32, b: u32, c: u32) -> Verdict
+    ensures { λ r. ⌜ r ≡ refusedOf number a b c ⌝ }
+{
+    Verdict::Refused(Refusal { number, a, b, c })
+}
+
+// 2 and 3: the list of pair orders is as long as there are pairs, and each is within 2..32,767.
+pub fn orders_right(orders: &[u32], n: u8) -> Verdict
+    ensures { λ r. ⌜ r ≡ ordersRight (now (orders .entry)) n ⌝ }
+{
+    let count = pair_count(n);
+    if orders.len() != (count as usize) {
+        return refused(2, 0, 0, 0);
+    }
+    let mut k: u32 = 0;
+    while k < count {
+        let m = get(orders, k as usize);
+        if m < 2 {
+            return refused(3, k, 0, 0);
+        }
+        if 32767 < m {
+            return refused(3, k, 0, 0);
+        }
+        k += 1;
+    }
+    Verdict::Fine
+}

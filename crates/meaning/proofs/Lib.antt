@@ -1,0 +1,10 @@
+pub mod Scans
+pub mod Permutations
+pub mod Tests
+pub mod Inverses
+pub mod Lefts
+pub mod Accepted
+pub mod Arrivals
+pub mod Complete
+pub mod Refused
+pub mod Lengths
