@@ -2,13 +2,16 @@
 //!
 //! Beyond the oracle's commands (oracle/README.md): `digest 0|1` adds, after each build, a line with a digest of every
 //! lent buffer: the needed stretch of the table, the excess around it, the needed work and its excess. `short table`,
-//! `short work`, `short rows` lend the next build one number less. What this program cannot answer yet it says with
-//! `unsupported`. Whatever a call leaves in an excess is looked at after every call; a change ends the program.
+//! `short work`, `short rows` lend the next build one number less. `alter I V` stores V at the I-th number of the current
+//! factor's table buffer, and `forge START ROOM N COUNT` puts another handle in the place of its own. `bench
+//! enum ..` prints the seconds of an enumeration, the least of three. What this program cannot answer yet it says with `unsupported`.
+//! Whatever a call leaves in the buffers is held to document 01 after every build; a fault ends the program.
 use std::io::{BufRead, BufWriter, Write};
 
 mod library {
     unsafe extern "C" {
         fn hg_composed(t: *mut u32, tn: usize, start: usize, w: *mut u32, wn: usize, r: *const u32, rn: usize, n: u8, room: u32, o: *mut u32, on: usize);
+        fn hg_enumerate(t: *mut u32, tn: usize, start: usize, w: *mut u32, wn: usize, m: *const u32, mn: usize, n: u8, room: u32, o: *mut u32, on: usize);
         fn hg_step(t: *const u32, tn: usize, start: usize, room: u32, n: u8, count: u32, e: u32, g: u8) -> u64;
         fn hg_compose(t: *const u32, tn: usize, start: usize, room: u32, n: u8, count: u32, a: u32, b: u32) -> u64;
         fn hg_conjugate(t: *const u32, tn: usize, start: usize, room: u32, n: u8, count: u32, a: u32, b: u32) -> u64;
@@ -47,6 +50,11 @@ mod library {
     pub fn composed(t: &mut [u32], start: usize, w: &mut [u32], rows: &[u32], n: u8, room: u32) -> Answer<Handle> {
         let mut out = [0; 5];
         unsafe { hg_composed(t.as_mut_ptr(), t.len(), start, w.as_mut_ptr(), w.len(), rows.as_ptr(), rows.len(), n, room, out.as_mut_ptr(), out.len()) };
+        made(out, start, room, n)
+    }
+    pub fn enumerate(t: &mut [u32], start: usize, w: &mut [u32], orders: &[u32], n: u8, room: u32) -> Answer<Handle> {
+        let mut out = [0; 5];
+        unsafe { hg_enumerate(t.as_mut_ptr(), t.len(), start, w.as_mut_ptr(), w.len(), orders.as_ptr(), orders.len(), n, room, out.as_mut_ptr(), out.len()) };
         made(out, start, room, n)
     }
     pub fn step(t: &[u32], h: Handle, e: u32, g: u8) -> Answer<u32> {
@@ -196,7 +204,7 @@ impl Ours {
         Ok(Built { handle: answer?, table })
     }
 
-    /// `table n N rows..`
+    /// `enum n orders..` or `table n N rows..`
     fn build(&mut self, w: &[&str]) -> Result<Built, No> {
         let n: usize = number(w, 1)?;
         match w[0] {
@@ -209,8 +217,28 @@ impl Ours {
                 let k = n.min(255) as u8;
                 self.lend(n, room, |t, start, work| library::composed(t, start, work, &rows, k, room))
             }
+            "enum" => {
+                let (orders, room, k) = (numbers(&w[2..])?, self.room, n.min(255) as u8);
+                self.lend(n, room, |t, start, work| library::enumerate(t, start, work, &orders, k, room))
+            }
             _ => unsupported(),
         }
+    }
+
+    /// `enum n orders..`: the least seconds of three enumerations, with buffers that are lent as they were left.
+    fn bench(&mut self, w: &[&str]) -> Result<(), No> {
+        let (n, orders, room): (u8, _, _) = (number(w, 1)?, numbers(&w[2..])?, self.room);
+        let mut table = vec![0; table_need(n as usize, room as usize)];
+        let mut work = vec![0; work_need(n as usize, room as usize)];
+        let mut least = f64::MAX;
+        let mut count = 0;
+        for _ in 0..3 {
+            let start = std::time::Instant::now();
+            count = library::enumerate(&mut table, 0, &mut work, &orders, n, room)?.count;
+            least = least.min(start.elapsed().as_secs_f64());
+        }
+        self.say(format!("{count} {least:.6}"));
+        Ok(())
     }
 
     fn word(&self, b: &Built, e: u32) -> Answer<Vec<u8>> {
@@ -260,6 +288,20 @@ impl Ours {
                 Some(&"work") => self.short[1] = 1,
                 _ => self.short[2] = 1,
             },
+            "alter" => {
+                let (i, v): (usize, u32) = (number(w, 1)?, number(w, 2)?);
+                if let Some(b) = &mut self.product {
+                    let at = i % b.table.len();
+                    b.table[at] = v;
+                }
+            }
+            "forge" => {
+                let h = Handle { start: number(w, 1)?, room: number(w, 2)?, n: number(w, 3)?, count: number(w, 4)? };
+                if let Some(b) = &mut self.product {
+                    b.handle = h;
+                }
+            }
+            "bench" => self.bench(&w[1..])?,
             "clear" => {
                 self.factors.clear();
                 self.product = None;

@@ -222,6 +222,16 @@ impl Oracle {
                 let g = factor(w)?;
                 self.say_factor(&g);
             }
+            "bench" => {
+                let mut least = f64::MAX;
+                let mut count = 0;
+                for _ in 0..3 {
+                    let start = std::time::Instant::now();
+                    count = factor(&w[1..])?.element_count();
+                    least = least.min(start.elapsed().as_secs_f64());
+                }
+                self.say(format!("{count} {least:.6}"));
+            }
             "place" => self.place(w)?,
             "check" => self.check(&w[1..])?,
             "against" => self.against(&w[1..])?,

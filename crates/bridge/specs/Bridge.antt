@@ -1,0 +1,49 @@
+-- How the bridge to Rust passes handles and answers: by numbers.
+-- Assumes nothing.
+use Prim.Native.Nat.{ℕ, _+_, _*_}
+use mathlib.Core.List.{List}
+use Rattle.egg.specs.declared.Refusal.{Refusal}
+use Rattle.egg.specs.declared.Factor.{Factor}
+use Rattle.egg.specs.declared.Verdict.{Verdict}
+use Rattle.egg.specs.declared.Reached.{Reached}
+use Rattle.egg.specs.declared.Reached.the-variants as reached
+use Rattle.egg.specs.declared.Counted.{Counted}
+use Rattle.egg.specs.declared.Counted.the-variants as counted
+use Rattle.egg.specs.Table.{putAt}
+use Rattle.egg.specs.Factor.{Paper, verdictPaper}
+use Rattle.egg.specs.declared.Made.{Made}
+use Rattle.builder.specs.Lending.{Making, making}
+
+-- A handle from its numbers.
+abbrev pub handle : ℕ → ℕ → ℕ → ℕ → Factor
+handle start room n count = record { start = start; room = room; generators = n; elements = count }
+
+-- One number for an answer: its own, or the refusal's number times 2^32 and its first place.
+abbrev pub refusalCode : Refusal → ℕ
+refusalCode r = r .number * 4294967296 + r .a
+
+abbrev pub reachedCode : Reached → ℕ
+reachedCode (reached.Element e) = e .0
+reachedCode (reached.Refused r) = refusalCode r
+
+abbrev pub countedCode : Counted → ℕ
+countedCode (counted.Count k) = k
+countedCode (counted.Refused r) = refusalCode r
+
+-- A verdict's number and places in the first four numbers of a list.
+abbrev pub papered : Paper → List ℕ → List ℕ
+papered p out = putAt (putAt (putAt (putAt out 0 (p .number)) 1 (p .a)) 2 (p .b)) 3 (p .c)
+
+unfoldable pub paperInto : Verdict → List ℕ → List ℕ
+paperInto v out = papered (verdictPaper v) out
+
+-- And the element count after it.
+unfoldable pub madeInto : Made → List ℕ → List ℕ
+madeInto m out = putAt (paperInto (m .answer) out) 4 (m .factor .elements)
+
+-- What the three lent lists hold.
+pub data Bridged : Type 0 where
+  holds : List ℕ → List ℕ → List ℕ → Bridged
+
+abbrev pub bridged : Making → List ℕ → Bridged
+bridged (making m t w) out = holds t w (madeInto m out)

@@ -1,0 +1,5 @@
+pub mod Laws
+pub mod Finishing
+pub mod Refilling
+pub mod Lending
+pub mod Calls

@@ -1,0 +1,44 @@
+-- What building does to the table. Document 01, module 2: `add_successor`, and `set_successor` (overwrites, and says whether the place was new).
+-- Assumes nothing.
+use Prim.Native.Nat.{ℕ, _+_, _*_}
+use mathlib.Core.List.{List}
+use mathlib.Core.Bool.{Bool}
+use lib.ListN.{getD}
+use lib.Dec.{leb, eqb}
+use Rattle.egg.specs.declared.GroupElementId.{GroupElementId}
+use Rattle.egg.specs.declared.GeneratorId.{GeneratorId}
+use Rattle.egg.specs.declared.Refusal.{Refusal}
+use Rattle.egg.specs.declared.Reached.{Reached}
+use Rattle.egg.specs.declared.Reached.the-variants.{Element, Refused}
+use Rattle.egg.specs.Table.{pick, putAt, startOf, succAt, predAt, lengthOf}
+
+-- The step is not known yet.
+abbrev pub isNew : List ℕ → ℕ → GroupElementId → GeneratorId → Bool
+isNew t n e g = eqb (getD t (succAt n e g) 0) 0
+
+-- The step e·g = r, both ways.
+unfoldable pub setStep : List ℕ → ℕ → GroupElementId → GeneratorId → GroupElementId → List ℕ
+setStep t n e g r = putAt (putAt t (succAt n e g) (r .0 + 1)) (predAt n r g) (e .0 + 1)
+
+-- The word of a new element: parent, last generator, length. "Each element's word is its parent's word and one generator."
+unfoldable pub setWord : List ℕ → ℕ → GroupElementId → GroupElementId → GeneratorId → ℕ → List ℕ
+setWord t n new e g len =
+    putAt (putAt (putAt t (startOf n (new .0) + 2 * n) (e .0)) (startOf n (new .0) + 2 * n + 1) (g .0)) (startOf n (new .0) + 2 * n + 2) len
+
+abbrev pub numbered : ℕ → ℕ → ℕ → ℕ → Refusal
+numbered k a b c = record { number = k; a = a; b = b; c = c }
+
+-- A new element's answer and table.
+pub record Adds : Type 0 where
+  pub answer : Reached
+  pub table : List ℕ
+
+-- The element that is added has the count for its number. 5: "an element is needed beyond the room"; 6: "its word would pass 4,096".
+unfoldable pub adds : List ℕ → ℕ → ℕ → ℕ → GroupElementId → GeneratorId → Adds
+adds t n room count e g =
+    pick (leb room count) (record { answer = Refused (numbered 5 (e .0) (g .0) 0); table = t })
+    (pick (leb 4096 (lengthOf t n (e .0))) (record { answer = Refused (numbered 6 (e .0) (g .0) 0); table = t })
+    (record {
+      answer = Element (record { 0 = count });
+      table = setStep (setWord t n (record { 0 = count }) e g (lengthOf t n (e .0) + 1)) n e g (record { 0 = count });
+    }))

@@ -1,0 +1,115 @@
+-- The builder's calls. Document 01: "`add_successor`, `set_successor` (overwrites, and says whether the place was new), `build`"; "Calls on handles check 17
+-- in the handle, then 14", and these "change nothing. Once it has started, any refusal leaves the needed stretch of table and work .. zero."
+-- Assumes nothing.
+use Prim.Native.Nat.{ℕ, _+_}
+use mathlib.Core.List.{List}
+use mathlib.Core.Bool.{Bool, true, false}
+use lib.ListN.{length, take, replicate}
+use lib.Dec.{ltb, leb}
+use Rattle.egg.specs.declared.GroupElementId.{GroupElementId}
+use Rattle.egg.specs.declared.GeneratorId.{GeneratorId}
+use Rattle.egg.specs.declared.Factor.{Factor}
+use Rattle.egg.specs.declared.Verdict.{Verdict}
+use Rattle.egg.specs.declared.Verdict.the-variants as verdict
+use Rattle.egg.specs.declared.Reached.{Reached}
+use Rattle.egg.specs.declared.Reached.the-variants as reached
+use Rattle.egg.specs.declared.Counted.the-variants.{Count}
+use Rattle.egg.specs.Table.{pick}
+use Rattle.egg.specs.Scan.{refusedOf, andThen}
+use Rattle.egg.specs.Factor.{Paper, refusalPaper, hasRoom, fitsIn, stretch}
+use Rattle.builder.specs.declared.Builder.{Builder}
+use Rattle.builder.specs.declared.Begun.{Begun}
+use Rattle.builder.specs.declared.Grown.{Grown}
+use Rattle.builder.specs.declared.Stored.{Stored}
+use Rattle.builder.specs.declared.Stored.the-variants as stored
+use Rattle.builder.specs.Build.{isNew, setStep, adds}
+use Rattle.builder.specs.Finish.{zeroed, finished}
+use Rattle.builder.specs.Refill.{refilled}
+use Rattle.builder.specs.Lending.{tableNeed, workNeed, within, noFactor, refusedMade, Making, making, lentBack}
+
+-- Document 01's number and values for what storing a step answers: 1 for a new step, 0 for one that was known, or a refusal.
+abbrev pub storedPaper : Stored → Paper
+storedPaper stored.New = record { number = 0; a = 1; b = 0; c = 0 }
+storedPaper stored.Known = record { number = 0; a = 0; b = 0; c = 0 }
+storedPaper (stored.Refused r) = refusalPaper r
+
+-- What a call answers, and what the table, or the stretch that was lent to it, holds then.
+pub data Leaving (A : Type 0) : Type 0 where
+  leaving : A → List ℕ → Leaving A
+
+-- A table buffer with p in the stretch of a factor.
+abbrev pub withStretch : List ℕ → Factor → List ℕ → List ℕ
+withStretch t f p = within t (f .start) (f .start + tableNeed (f .generators) (f .room)) p
+
+-- The handle of a build that knows so many elements; and the one that fits no buffer.
+abbrev pub builderOf : ℕ → ℕ → ℕ → ℕ → Builder
+builderOf start room n count = record { 0 = record { start = start; room = room; generators = n; elements = count } }
+
+abbrev pub noBuilder : Builder
+noBuilder = record { 0 = noFactor }
+
+abbrev pub refusedBegun : ℕ → ℕ → Begun
+refusedBegun number a = record { answer = refusedOf number a 0 0; builder = noBuilder }
+
+-- `begin`: 1, then 4; else the identity alone, in a stretch of zeros.
+unfoldable pub begins : List ℕ → ℕ → ℕ → ℕ → Leaving Begun
+begins table start room n =
+    pick (ltb 8 n) (leaving (refusedBegun 1 n) table)
+    (pick (hasRoom (length table) start room n)
+    (leaving (record { answer = verdict.Fine; builder = builderOf start room n 1 })
+    (within table start (start + tableNeed n room) (replicate (tableNeed n room) 0)))
+    (leaving (refusedBegun 4 0) table))
+
+-- 17 in the handle, then 14 for an element and a generator.
+unfoldable pub placed : ℕ → Factor → GroupElementId → GeneratorId → Verdict
+placed len f e g =
+    pick (fitsIn len f)
+    (pick (leb (f .elements) (e .0)) (refusedOf 14 0 0 0) (pick (leb (f .generators) (g .0)) (refusedOf 14 1 0 0) verdict.Fine))
+    (refusedOf 17 0 0 0)
+
+-- The same, then 14 for a second element.
+unfoldable pub placedStep : ℕ → Factor → GroupElementId → GeneratorId → GroupElementId → Verdict
+placedStep len f e g r = andThen (placed len f e g) (pick (leb (f .elements) (r .0)) (refusedOf 14 2 0 0) verdict.Fine)
+
+-- A new element's builder knows one element more; 5 and 6 refuse the build: zeros in its stretch, and no builder.
+abbrev pub grownBy : Factor → Reached → List ℕ → Leaving Grown
+grownBy f (reached.Element e) s =
+    leaving (record { answer = reached.Element e; builder = builderOf (f .start) (f .room) (f .generators) (f .elements + 1) }) s
+grownBy f (reached.Refused r) s = leaving (record { answer = reached.Refused r; builder = noBuilder }) (zeroed s)
+
+unfoldable pub grown : List ℕ → Factor → GroupElementId → GeneratorId → Leaving Grown
+grown s f e g =
+    grownBy f (adds s (f .generators) (f .room) (f .elements) e g .answer) (adds s (f .generators) (f .room) (f .elements) e g .table)
+
+abbrev pub growsBy : List ℕ → Factor → Verdict → Leaving Grown → Leaving Grown
+growsBy t f verdict.Fine (leaving x s) = leaving x (withStretch t f s)
+growsBy t f (verdict.Refused r) l = leaving (record { answer = reached.Refused r; builder = record { 0 = f } }) t
+
+-- `add_successor`: a new element, reached from e by g.
+unfoldable pub grows : List ℕ → Builder → GroupElementId → GeneratorId → Leaving Grown
+grows t b e g = growsBy t (b .0) (placed (length t) (b .0) e g) (grown (stretch t (b .0)) (b .0) e g)
+
+abbrev pub newOr : Bool → Stored
+newOr true = stored.New
+newOr false = stored.Known
+
+abbrev pub storesBy : List ℕ → Verdict → Bool → List ℕ → Leaving Stored
+storesBy t verdict.Fine new t₁ = leaving (newOr new) t₁
+storesBy t (verdict.Refused r) new t₁ = leaving (stored.Refused r) t
+
+-- `set_successor`: the step e·g = r, both ways.
+unfoldable pub stores : List ℕ → Builder → GroupElementId → GeneratorId → GroupElementId → Leaving Stored
+stores t b e g r =
+    storesBy t (placedStep (length t) (b .0) e g r) (isNew (stretch t (b .0)) (b .0 .generators) e g)
+    (withStretch t (b .0) (setStep (stretch t (b .0)) (b .0 .generators) e g r))
+
+-- `build`: 17 in the handle, 4 for the work, then the predecessors afresh and zeros beyond the elements, and 8 to 12.
+unfoldable pub builds : List ℕ → Builder → List ℕ → Making
+builds t b w =
+    pick (fitsIn (length t) (b .0))
+    (pick (leb (workNeed (b .0 .generators) (b .0 .room)) (length w))
+    (lentBack t (b .0 .start) w (b .0 .generators) (b .0 .room)
+    (finished (Count (b .0 .elements)) (b .0 .generators) (refilled (b .0 .generators) (b .0 .elements) (stretch t (b .0)))
+    (take (workNeed (b .0 .generators) (b .0 .room)) w)))
+    (making (refusedMade 4 0) t w))
+    (making (refusedMade 17 0) t w)

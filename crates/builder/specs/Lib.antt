@@ -1,0 +1,5 @@
+pub mod Build
+pub mod Finish
+pub mod Refill
+pub mod Lending
+pub mod Calls

@@ -1,0 +1,124 @@
+// builder.rs: a table built element by element.
+ghost use mathlib.Core.Path.{_≡_};
+ghost use Rattle.builder.specs.Lending.{Making};
+ghost use Rattle.builder.specs.Calls.{Leaving, begins, grows, stores, builds};
+use egg::Factor;
+use egg::GeneratorId;
+use egg::GroupElementId;
+use egg::Made;
+use egg::Reached;
+use egg::Refusal;
+use egg::Verdict;
+
+pub mod inner;
+
+// The handle of a build that goes on: a factor's numbers, kept apart, so that no question is asked of a table that is not checked.
+pub struct Builder(pub Factor);
+
+// What beginning answers; the handle fits no buffer where it was refused.
+pub struct Begun {
+    pub answer: Verdict,
+    pub builder: Builder,
+}
+
+// What adding an element answers: the element, and the builder that knows it.
+pub struct Grown {
+    pub answer: Reached,
+    pub builder: Builder,
+}
+
+// What storing a step answers.
+pub enum Stored {
+    New,
+    Known,
+    Refused(Refusal),
+}
+
+// Begins a build in the stretch of `table` that starts at `start`.
+pub fn begin(table: &mut [u32], start: usize, room: u32, n: u8) -> Begun
+    ensures { λ r. ⌜ Leaving.leaving r (now (table .exit)) ≡ begins (now (table .entry)) start room n ⌝ }
+{
+    if 8 < n {
+        return inner::refused_begun(1, n as u32);
+    }
+    if !egg::has_room(table.len(), start, room, n) {
+        return inner::refused_begun(4, 0);
+    }
+    let end = inner::stretch_end(table.len(), start, room, n);
+    egg::inner::clear(&mut table[start..end]);
+    Begun {
+        answer: Verdict::Fine,
+        builder: Builder(Factor {
+            start,
+            room,
+            generators: n,
+            elements: 1,
+        }),
+    }
+}
+
+// A new element, reached from e by g: 17 and 14 touch nothing, 5 and 6 end the build.
+pub fn add_successor(table: &mut [u32], b: Builder, e: GroupElementId, g: GeneratorId) -> Grown
+    ensures { λ r. ⌜ Leaving.leaving r (now (table .exit)) ≡ grows (now (table .entry)) b e g ⌝ }
+{
+    let f = b.0;
+    match inner::place(&table[..], f, e, g) {
+        Verdict::Refused(why) => Grown {
+            answer: Reached::Refused(why),
+            builder: b,
+        },
+        Verdict::Fine => {
+            let a = f.start;
+            let end = inner::stretch_end(table.len(), a, f.room, f.generators);
+            inner::grow(&mut table[a..end], f, e, g)
+        }
+    }
+}
+
+// The step e·g = r, both ways; it overwrites, and says whether the place was new.
+pub fn set_successor(
+    table: &mut [u32],
+    b: Builder,
+    e: GroupElementId,
+    g: GeneratorId,
+    r: GroupElementId,
+) -> Stored
+    ensures { λ x. ⌜ Leaving.leaving x (now (table .exit)) ≡ stores (now (table .entry)) b e g r ⌝ }
+{
+    let f = b.0;
+    match inner::place_step(&table[..], f, e, g, r) {
+        Verdict::Refused(why) => Stored::Refused(why),
+        Verdict::Fine => {
+            let a = f.start;
+            let end = inner::stretch_end(table.len(), a, f.room, f.generators);
+            if inner::set_successor(&mut table[a..end], f.generators, e, g, r) {
+                Stored::New
+            } else {
+                Stored::Known
+            }
+        }
+    }
+}
+
+// Works the predecessors out afresh, for steps may have been overwritten, checks what was built, 8 to 12, and makes it a factor.
+pub fn build(table: &mut [u32], b: Builder, work: &mut [u32]) -> Made
+    ensures { λ r. ⌜ Making.making r (now (table .exit)) (now (work .exit)) ≡ builds (now (table .entry)) b (now (work .entry)) ⌝ }
+{
+    let f = b.0;
+    if !egg::fits(&table[..], f) {
+        return inner::refused_made(17, 0);
+    }
+    let need = inner::work_need(f.generators, f.room);
+    if work.len() < need {
+        return inner::refused_made(4, 0);
+    }
+    let a = f.start;
+    let end = inner::stretch_end(table.len(), a, f.room, f.generators);
+    let count = inner::complete(
+        &mut table[a..end],
+        &mut work[..need],
+        f.generators,
+        f.elements,
+    );
+    inner::made(a, f.room, f.generators, count)
+}

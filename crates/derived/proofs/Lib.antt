@@ -1,0 +1,17 @@
+pub mod Cells
+pub mod Spots
+pub mod Rowing
+pub mod Storing
+pub mod Waiting
+pub mod Marking
+pub mod Growing
+pub mod Knowing
+pub mod Settling
+pub mod Visiting
+pub mod Running
+pub mod Derivation
+pub mod Ending
+pub mod Stacking
+pub mod Emptying
+pub mod Settled
+pub mod Sample

@@ -1,0 +1,3 @@
+pub mod Invariant
+pub mod Recorded
+pub mod Stack

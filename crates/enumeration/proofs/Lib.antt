@@ -1,0 +1,3 @@
+pub mod FactLaws
+pub mod RunLaws
+pub mod Calls

@@ -1,0 +1,65 @@
+-- The enumeration as it is called: the refusals in front of it, the run in its stretches, the checks, and what every lent buffer holds. Document 01,
+-- module 4, and "13 applies to enumeration".
+-- Assumes nothing.
+use Prim.Native.Nat.{ℕ, _+_, _*_}
+use mathlib.Core.List.{List}
+use lib.ListN.{length, take}
+use lib.Dec.{ltb}
+use Rattle.egg.specs.declared.Refusal.{Refusal}
+use Rattle.egg.specs.declared.Made.{Made}
+use Rattle.egg.specs.declared.Verdict.{Verdict}
+use Rattle.egg.specs.declared.Verdict.the-variants as verdict
+use Rattle.egg.specs.declared.Counted.{Counted}
+use Rattle.egg.specs.declared.Counted.the-variants.{Count, Refused}
+use Rattle.egg.specs.Table.{pick}
+use Rattle.egg.specs.Pairs.{ordersRight}
+use Rattle.builder.specs.Finish.{Built, built, zeroed, finished}
+use Rattle.builder.specs.Lending.{tableNeed, workNeed, lentRight, noFactor, refusedMade, Making, making, lentBack}
+use Rattle.factor.specs.Relations.{relationsRow}
+use Rattle.enumeration.specs.declared.inner.Ran.{Ran}
+use Rattle.enumeration.specs.declared.inner.Ran.the-variants as ran
+use Rattle.enumeration.specs.Run.{Outcome, enumerated}
+
+-- How a run ended, as a count or a refusal. A run whose allowance is spent would go on with what it has, and 8 would refuse it; with the largest
+-- allowance none is.
+abbrev pub ranCount : Ran → Counted
+ranCount (ran.Done count) = Count count
+ranCount (ran.Paused at) = Count (at .count)
+ranCount (ran.Refused r) = Refused r
+
+-- 13: in a table that has passed 8 to 12 a relation that holds at the identity holds at every element, and one that fails, fails at the identity first;
+-- so only the identity is tested.
+pub data Relating : Type 0 where
+  relating : Counted → List ℕ → Relating
+
+abbrev pub relatingBy : Verdict → ℕ → List ℕ → Relating
+relatingBy verdict.Fine count t = relating (Count count) t
+relatingBy (verdict.Refused r) count t = relating (Refused r) (zeroed t)
+
+abbrev pub relates : ℕ → List ℕ → Counted → List ℕ → Relating
+relates n o (Count count) t = relatingBy (relationsRow t n count o 0) count t
+relates n o (Refused r) t = relating (Refused r) t
+
+abbrev pub withWork : List ℕ → Relating → Built
+withWork w (relating c t) = built c t w
+
+abbrev pub related : ℕ → List ℕ → Built → Built
+related n o (built c t w) = withWork w (relates n o c t)
+
+-- The whole build in its stretches, of these lengths: the run, 8 to 12, then 13.
+unfoldable pub enumeratedIn : ℕ → ℕ → List ℕ → ℕ → ℕ → Built
+enumeratedIn lt lw o n room =
+    related n o (finished (ranCount (enumerated n o room lt lw .answer)) n (enumerated n o room lt lw .table) (enumerated n o room lt lw .work))
+
+abbrev pub refusedMaking : Verdict → List ℕ → List ℕ → Making → Making
+refusedMaking verdict.Fine t w m = m
+refusedMaking (verdict.Refused r) t w m = making (record { answer = verdict.Refused r; factor = noFactor }) t w
+
+-- 1, then 2 and 3, then 4, with every buffer as it was; then the build.
+unfoldable pub enumerates : List ℕ → ℕ → List ℕ → List ℕ → ℕ → ℕ → Making
+enumerates table start work orders n room =
+    pick (ltb 8 n) (making (refusedMade 1 n) table work)
+    (refusedMaking (ordersRight orders n) table work
+    (pick (lentRight (length table) start (length work) room n)
+    (lentBack table start work n room (enumeratedIn (tableNeed n room) (workNeed n room) orders n room))
+    (making (refusedMade 4 0) table work)))

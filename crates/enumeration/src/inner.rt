@@ -1,0 +1,307 @@
+// The machine of the enumeration: facts, one visit of a place, the run. Facts are places of the work stretch, on a stack
+// that is a list through the places themselves, since a place becomes a fact once at most.
+ghost use mathlib.Core.Path.{_≡_};
+ghost use Prim.Native.Nat.{_+_, _<_, _≤_};
+ghost use lib.ListN.{length};
+ghost use Rattle.rows.specs.Rows.{Orders};
+ghost use Rattle.enumeration.specs.Facts.{state, learns, wakes, wakesAll, emptied, updated, settled};
+ghost use Rattle.enumeration.specs.Run.{discovered, visit, visits, advanced, outcome, runs, enumerated};
+ghost use Rattle.enumeration.specs.Calls.{ranCount, Relating, relates, enumeratedIn};
+ghost use Rattle.builder.specs.Finish.{Built};
+use egg::Counted;
+use egg::GeneratorId;
+use egg::GroupElementId;
+use egg::Reached;
+use egg::Refusal;
+use egg::Verdict;
+use rows::inner::SideOfGap;
+
+// Where a run stands: the place to visit next, and the elements so far.
+pub struct Run {
+    pub element: u32,
+    pub generator: u8,
+    pub count: u32,
+}
+
+// How a run ended: with so many elements, at a place where its allowance was spent, or refused.
+pub enum Ran {
+    Done(u32),
+    Paused(Run),
+    Refused(Refusal),
+}
+
+// Sets one step; where it is new, its place goes on the stack of facts. The top comes back.
+pub fn learn(
+    t: &mut [u32],
+    w: &mut [u32],
+    n: u8,
+    e: GroupElementId,
+    g: GeneratorId,
+    r: GroupElementId,
+    top: u32,
+) -> u32
+    ensures { λ x. ⌜ state (now (t .exit)) (now (w .exit)) x ≡ learns n e g r (state (now (t .entry)) (now (w .entry)) top) ⌝ }
+{
+    if builder::inner::set_successor(t, n, e, g, r) {
+        let at = rows::inner::place_at(n, e, g);
+        egg::inner::put(w, at + 6, top as usize);
+        ((at + 1) % 4294967296) as u32
+    } else {
+        top
+    }
+}
+
+// One copy of a row that a fact woke: what it gives when its ends have met, else it waits again.
+pub fn wake(t: &mut [u32], w: &mut [u32], n: u8, at: usize, side: SideOfGap, top: u32) -> u32
+    requires { ⌜ at < 36028797018963968 ⌝ }
+    ensures { λ r. ⌜ state (now (t .exit)) (now (w .exit)) r ≡ wakes n at side (state (now (t .entry)) (now (w .entry)) top) ⌝ }
+{
+    let row = rows::inner::fill(&t[..], n, rows::inner::read_row(&w[..], at));
+    if row.left == row.right {
+        let g = rows::inner::generator(row.pair, row.left);
+        let top1 = learn(t, w, n, row.from, g, row.to, top);
+        learn(t, w, n, row.to, g, row.from, top1)
+    } else {
+        rows::inner::wait(w, n, at, row, side);
+        top
+    }
+}
+
+// The copies of one list in order, as many as it counts.
+pub fn wake_all(
+    t: &mut [u32],
+    w: &mut [u32],
+    n: u8,
+    first: u32,
+    count: u32,
+    side: SideOfGap,
+    top: u32,
+) -> u32
+    ensures { λ r. ⌜ state (now (t .exit)) (now (w .exit)) r ≡ wakesAll count n first side (state (now (t .entry)) (now (w .entry)) top) ⌝ }
+{
+    let mut at = first;
+    let mut left = count;
+    let mut now_top = top;
+    while left != 0 {
+        if at == 0 {
+            return now_top;
+        }
+        let row = (at - 1) as usize;
+        let next = egg::inner::get(&w[..], row + 5);
+        now_top = wake(t, w, n, row, side, now_top);
+        at = next;
+        left -= 1;
+    }
+    now_top
+}
+
+// 000, mem::take: both lists of a place, and its link of the fact stack.
+pub fn empty(w: &mut [u32], place: usize)
+    requires { ⌜ place < 36028797018963968 ⌝ }
+    ensures { λ x. ⌜ now (w .exit) ≡ emptied (now (w .entry)) place ⌝ }
+{
+    egg::inner::put(w, place, 0);
+    egg::inner::put(w, place + 1, 0);
+    egg::inner::put(w, place + 2, 0);
+    egg::inner::put(w, place + 3, 0);
+    egg::inner::put(w, place + 4, 0);
+    egg::inner::put(w, place + 5, 0);
+    egg::inner::put(w, place + 6, 0);
+}
+
+// 000, update_with_fact: takes both lists, then wakes the left rows, then the right rows.
+pub fn update_with_fact(t: &mut [u32], w: &mut [u32], n: u8, place: usize, top: u32) -> u32
+    requires { ⌜ place < 36028797018963968 ⌝ }
+    ensures { λ r. ⌜ state (now (t .exit)) (now (w .exit)) r ≡ updated n place (state (now (t .entry)) (now (w .entry)) top) ⌝ }
+{
+    let lefts = egg::inner::get(&w[..], place);
+    let left_count = egg::inner::get(&w[..], place + 2);
+    let rights = egg::inner::get(&w[..], place + 3);
+    let right_count = egg::inner::get(&w[..], place + 5);
+    empty(w, place);
+    let top1 = wake_all(t, w, n, lefts, left_count, SideOfGap::Left, top);
+    wake_all(t, w, n, rights, right_count, SideOfGap::Right, top1)
+}
+
+// Facts, last in first out, until none is left. A run never has as many facts as there are numbers of work.
+pub fn settle(t: &mut [u32], w: &mut [u32], n: u8, first: u32) -> u32
+    ensures { λ r. ⌜ state (now (t .exit)) (now (w .exit)) r ≡ settled n (state (now (t .entry)) (now (w .entry)) first) ⌝ }
+{
+    let mut top = first;
+    let mut left = w.len();
+    while top != 0 {
+        if left == 0 {
+            return top;
+        }
+        let place = (top - 1) as usize;
+        let below = egg::inner::get(&w[..], place + 6);
+        top = update_with_fact(t, w, n, place, below);
+        left -= 1;
+    }
+    top
+}
+
+// What follows from a new element: its step back, which is no fact, its rows, and all that the step to it settles.
+pub fn discover(
+    t: &mut [u32],
+    w: &mut [u32],
+    orders: &[u32],
+    n: u8,
+    e: GroupElementId,
+    g: GeneratorId,
+    new: GroupElementId,
+)
+    requires { ⌜ Orders (now orders) ⌝ }
+    ensures { λ x. ⌜ (now (t .exit) ≡ discovered n (now (orders .entry)) e g new (now (t .entry)) (now (w .entry)) .table)
+        × (now (w .exit) ≡ discovered n (now (orders .entry)) e g new (now (t .entry)) (now (w .entry)) .work) ⌝ }
+{
+    builder::inner::set_successor(t, n, new, g, e);
+    rows::inner::add_rows(w, orders, n, new);
+    let place = rows::inner::place_at(n, e, g);
+    egg::inner::put(w, place + 6, 0);
+    settle(t, w, n, ((place + 1) % 4294967296) as u32);
+}
+
+// One place (element, generator) of the inner loop of 000: the element count after it, or 5 or 6.
+pub fn visit_place(
+    t: &mut [u32],
+    w: &mut [u32],
+    orders: &[u32],
+    n: u8,
+    room: u32,
+    count: u32,
+    e: GroupElementId,
+    g: GeneratorId,
+) -> Counted
+    requires { ⌜ Orders (now orders) ⌝ }
+    ensures { λ r. ⌜ visit r (now (t .exit)) (now (w .exit)) ≡ visits n (now (orders .entry)) room count e g (now (t .entry)) (now (w .entry)) ⌝ }
+{
+    if egg::inner::get(&t[..], egg::inner::successor_at(n, e, g)) != 0 {
+        return Counted::Count(count);
+    }
+    match builder::inner::add_successor(t, n, room, count, e, g) {
+        Reached::Refused(why) => Counted::Refused(why),
+        Reached::Element(new) => {
+            discover(t, w, orders, n, e, g, new);
+            Counted::Count(count + 1)
+        }
+    }
+}
+
+// The place after this one.
+pub fn advance(n: u8, at: Run, count: u32) -> Run
+    requires { ⌜ (at .generator < n) × (at .element < 4294967295) ⌝ }
+    ensures { λ r. ⌜ r ≡ advanced n at count ⌝ }
+{
+    if at.generator + 1 < n {
+        Run {
+            element: at.element,
+            generator: at.generator + 1,
+            count,
+        }
+    } else {
+        Run {
+            element: at.element + 1,
+            generator: 0,
+            count,
+        }
+    }
+}
+
+// At most `allowance` places, in order.
+pub fn go(
+    t: &mut [u32],
+    w: &mut [u32],
+    orders: &[u32],
+    n: u8,
+    room: u32,
+    from: Run,
+    allowance: u64,
+) -> Ran
+    requires { ⌜ Orders (now orders) × (from .generator < n) ⌝ }
+    ensures { λ r. ⌜ outcome r (now (t .exit)) (now (w .exit)) ≡ runs allowance n (now (orders .entry)) room from (now (t .entry)) (now (w .entry)) ⌝ }
+{
+    let mut at = from;
+    let mut left = allowance;
+    while at.element < at.count {
+        if left == 0 {
+            return Ran::Paused(at);
+        }
+        let e = GroupElementId(at.element);
+        let g = GeneratorId(at.generator);
+        match visit_place(t, w, orders, n, room, at.count, e, g) {
+            Counted::Refused(why) => {
+                return Ran::Refused(why);
+            }
+            Counted::Count(count) => {
+                at = advance(n, at, count);
+            }
+        }
+        left -= 1;
+    }
+    Ran::Done(at.count)
+}
+
+// A whole run from cleared stretches. With no generators there is no place to visit.
+pub fn enumerate(t: &mut [u32], w: &mut [u32], orders: &[u32], n: u8, room: u32) -> Ran
+    requires { ⌜ Orders (now orders) ⌝ }
+    ensures { λ r. ⌜ outcome r (now (t .exit)) (now (w .exit)) ≡ enumerated n (now (orders .entry)) room (length (now (t .entry))) (length (now (w .entry))) ⌝ }
+{
+    egg::inner::clear(t);
+    egg::inner::clear(w);
+    rows::inner::add_rows(w, orders, n, GroupElementId(0));
+    if n == 0 {
+        return Ran::Done(1);
+    }
+    go(
+        t,
+        w,
+        orders,
+        n,
+        room,
+        Run {
+            element: 0,
+            generator: 0,
+            count: 1,
+        },
+        18446744073709551615,
+    )
+}
+
+// How a run ended, as a count or a refusal. With the largest allowance none is paused.
+pub fn counted(r: Ran) -> Counted
+    ensures { λ x. ⌜ x ≡ ranCount r ⌝ }
+{
+    match r {
+        Ran::Done(count) => Counted::Count(count),
+        Ran::Paused(at) => Counted::Count(at.count),
+        Ran::Refused(why) => Counted::Refused(why),
+    }
+}
+
+// 13, at the identity: of a table that has passed 8 to 12 that is as good as at every element. A failure zeroes the table.
+pub fn relate(t: &mut [u32], orders: &[u32], n: u8, read: Counted) -> Counted
+    requires { ⌜ length (now orders) ≤ 28 ⌝ }
+    ensures { λ r. ⌜ Relating.relating r (now (t .exit)) ≡ relates n (now (orders .entry)) read (now (t .entry)) ⌝ }
+{
+    match read {
+        Counted::Refused(why) => Counted::Refused(why),
+        Counted::Count(count) => match factor::inner::relations_row(&t[..], n, count, orders, 0) {
+            Verdict::Refused(why) => {
+                egg::inner::clear(t);
+                Counted::Refused(why)
+            }
+            Verdict::Fine => Counted::Count(count),
+        },
+    }
+}
+
+// The whole build in its stretches: the run, 8 to 12, then 13.
+pub fn enumerate_in(t: &mut [u32], w: &mut [u32], orders: &[u32], n: u8, room: u32) -> Counted
+    requires { ⌜ Orders (now orders) ⌝ }
+    ensures { λ r. ⌜ Built.built r (now (t .exit)) (now (w .exit)) ≡ enumeratedIn (length (now (t .entry))) (length (now (w .entry))) (now (orders .entry)) n room ⌝ }
+{
+    let run = enumerate(t, w, orders, n, room);
+    let count = builder::inner::finish(t, w, n, counted(run));
+    relate(t, orders, n, count)
+}

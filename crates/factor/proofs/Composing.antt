@@ -1,0 +1,56 @@
+-- One law for each answer of the call on composed rows.
+-- Assumes nothing.
+use Prim.Native.Nat.{ℕ, _+_, _*_, _-_, _≤_, _<_}
+use mathlib.Core.Path.{_≡_, refl, sym, ap, _∙_}
+use mathlib.Core.Bool.{true, false, _&&_}
+use mathlib.Core.List.{List, _++_}
+use native.Mathlib.Nat.{mul-le-mul}
+use native.Mathlib.Omega.{arith}
+use borrow.Author.Tests.{lt-ltb, le-ltb, le-leb, lt-leb}
+use borrow.Rule.Slice.PartMut.{midOf, putMid}
+use lib.ListN.{length, take, drop, replicate}
+use Rattle.egg.specs.declared.Made.{Made}
+use Rattle.egg.specs.declared.Counted.{Counted}
+use Rattle.egg.specs.Factor.{hasRoom}
+use Rattle.builder.specs.Finish.{Built, built, finished}
+use Rattle.builder.specs.Lending.{tableNeed, workNeed, lentRight, Ends, refusedMade, madeOf, Making, making, lentBack}
+use Rattle.builder.proofs.Lending.{part-length, build-back}
+use Rattle.factor.specs.Reading.{Placed, placed, readAll}
+use Rattle.factor.specs.Composed.{composedAt, finishedPlaced, composedIn, composed}
+
+-- The build: a zeroed table, read into, and finished.
+pub composed-in : (size : ℕ) (w rows : List ℕ) (n room : ℕ) {t₀ t : List ℕ} {c : Counted} {b : Built} → t₀ ≡ replicate size 0
+    → placed c t ≡ readAll (composedAt rows n) n room t₀ → b ≡ finished c n t w → b ≡ composedIn size w rows n room
+unfolding composedIn
+composed-in size w rows n room {t₀} {t} {c} a p q =
+    let e : placed c t ≡ readAll (composedAt rows n) n room (replicate size 0) = rw a at p in
+    q ∙ ap (λ (x : Placed). finishedPlaced x n w) e
+
+-- A product of 32 and 8 bits fits.
+pub listed-small : {room n : ℕ} → room < 4294967296 → n < 256 → room * n < 18446744073709551616
+listed-small {room} {n} h k = let p : room ≤ 4294967295 = omega arith in let q : n ≤ 255 = omega arith in omega (arith, mul-le-mul p q)
+
+module _ (table : List ℕ) (start : ℕ) (work rows : List ℕ) (n room : ℕ) {m : Made} where
+  pub composed-generators : 8 < n → m ≡ refusedMade 1 n → making m table work ≡ composed table start work rows n room
+  unfolding composed
+  composed-generators h e = simp (lt-ltb _ _ h) (rw e)
+
+  pub composed-short : n ≤ 8 → lentRight (length table) start (length work) room n ≡ false → m ≡ refusedMade 4 0
+      → making m table work ≡ composed table start work rows n room
+  unfolding composed
+  composed-short h l e = simp (le-ltb _ _ h, l) (rw e)
+
+  pub composed-unlisted : n ≤ 8 → lentRight (length table) start (length work) room n ≡ true → length rows < room * n → m ≡ refusedMade 4 0
+      → making m table work ≡ composed table start work rows n room
+  unfolding composed
+  composed-unlisted h l k e = simp (le-ltb _ _ h, l, lt-leb _ _ k) (rw e)
+
+  pub composed-built : n ≤ 8 → lentRight (length table) start (length work) room n ≡ true → room * n ≤ length rows
+      → {e d : ℕ} {c : Counted} {t w : List ℕ} → Ends e start (tableNeed n room) (length table) → d ≡ workNeed n room → m ≡ madeOf start room n c
+      → built c t w ≡ composedIn (length (midOf start (e - start) table)) (take d work) rows n room
+      → making m (putMid start (e - start) table t) (w ++ drop d work) ≡ composed table start work rows n room
+  unfolding composed
+  composed-built h l k {e} {d} {c} {t} {w} q need made b =
+      let b′ : built c t w ≡ composedIn (tableNeed n room) (take (workNeed n room) work) rows n room
+      = b ∙ rw (part-length table start (tableNeed n room) q, need) in
+      build-back table start work n room q need made b′ ∙ simp (le-ltb _ _ h, l, le-leb _ _ k)

@@ -1,0 +1,183 @@
+-- Laws of the questions about a stretch, one for each answer, by the tests that lead to it.
+-- Assumes nothing.
+use Prim.Native.Nat.{ℕ, suc, _-_, _%_, _≤_, _<_}
+use mathlib.Core.Path.{_≡_, refl, sym, ap, _∙_}
+use mathlib.Core.Bool.{Bool, true, false, _&&_}
+use mathlib.Core.List.{List}
+use native.Mathlib.Omega.{arith}
+use borrow.Author.Tests.{lt-ltb, le-ltb, le-leb, lt-leb, ltb-true, ltb-false}
+use lib.ListN.{length, take, set}
+use lib.Dec.{ltb}
+use Rattle.egg.specs.declared.Refusal.{Refusal}
+use Rattle.egg.specs.declared.Factor.{Factor}
+use Rattle.egg.specs.declared.GroupElementId.{GroupElementId}
+use Rattle.egg.specs.declared.Verdict.{Verdict}
+use Rattle.egg.specs.declared.Verdict.the-variants as verdict
+use Rattle.egg.specs.declared.Reached.{Reached}
+use Rattle.egg.specs.declared.Reached.the-variants.{Element, Refused}
+use Rattle.egg.specs.declared.Counted.{Counted}
+use Rattle.egg.specs.declared.Counted.the-variants as counted
+use Rattle.egg.specs.Table.{parentOf, lastOf, lengthOf, inverseOf}
+use Rattle.egg.specs.Factor.{stretch, refusedReach, readStep}
+use Rattle.factor.specs.Questions.{admits, ifCount, onReached, along, composeIn, inverseIn, generatorIn, lengthIn, readable, spell, writeIn, writeAnswer, writtenBy, filledBy}
+
+-- Going on from an element, and not from a refusal.
+module _ {v w : Reached} (q : v ≡ w) (f : ℕ → Reached) where
+  pub on-refused : {r : Refusal} → v ≡ Refused r → Refused r ≡ onReached w f
+  on-refused e = rw (← q, e)
+
+  pub on-element : {x : GroupElementId} → v ≡ Element x → f (x .0) ≡ onReached w f
+  on-element e = rw (← q, e)
+
+-- A letter is a byte.
+pub letter-byte : {g n : ℕ} → g < n → n < 256 → g % 256 ≡ g
+letter-byte h k = omega arith
+
+module _ (s : List ℕ) (n count from e : ℕ) where
+  pub along-none : {left : ℕ} → left ≡ 0 → Element (record { 0 = from }) ≡ along left s n count from e
+  unfolding along
+  along-none z = rw z
+
+  module _ {left p : ℕ} (k : left ≡ 0 → ⊥) (q : p ≡ parentOf s n e) where
+    pub along-parent : count ≤ p → refusedReach 17 0 ≡ along left s n count from e
+    unfolding along
+    along-parent h = let d : left ≡ suc (left - 1) = omega arith in rw (d, ← q) (simp (le-leb _ _ h))
+
+    module _ (h : p < count) {g : ℕ} (w : g ≡ lastOf s n e) where
+      pub along-letter : n ≤ g → refusedReach 17 0 ≡ along left s n count from e
+      unfolding along
+      along-letter z = let d : left ≡ suc (left - 1) = omega arith in rw (d, ← q, ← w) (simp (lt-leb _ _ h, le-leb _ _ z))
+
+      pub along-more : g < n → onReached (along (left - 1) s n count from p) (λ x. readStep s n count x g) ≡ along left s n count from e
+      unfolding along
+      along-more z =
+          let d : left ≡ suc (left - 1) = omega arith in
+          sym (ap (λ (l : ℕ). along l s n count from e) d ∙ rw (← q, ← w) (simp (lt-leb _ _ h, lt-leb _ _ z)))
+
+module _ (s : List ℕ) (n count a b : ℕ) {len : ℕ} (q : len ≡ lengthOf s n b) where
+  pub compose-long : 4096 < len → refusedReach 17 0 ≡ composeIn s n count a b
+  unfolding composeIn
+  compose-long h = rw (← q) (simp (lt-ltb _ _ h))
+
+  pub compose-along : len ≤ 4096 → along len s n count a b ≡ composeIn s n count a b
+  unfolding composeIn
+  compose-along h = rw (← q) (simp (le-ltb _ _ h))
+
+module _ (s : List ℕ) (n count a : ℕ) {i : ℕ} (q : i ≡ inverseOf s n a) where
+  pub inverse-beyond : count ≤ i → refusedReach 17 0 ≡ inverseIn s n count a
+  unfolding inverseIn
+  inverse-beyond h = rw (← q) (simp (le-leb _ _ h))
+
+  pub inverse-element : i < count → Element (record { 0 = i }) ≡ inverseIn s n count a
+  unfolding inverseIn
+  inverse-element h = rw (← q) (simp (lt-leb _ _ h))
+
+module _ (s : List ℕ) (n count g : ℕ) where
+  pub generator-none : n ≤ g → refusedReach 14 0 ≡ generatorIn s n count g
+  unfolding generatorIn
+  generator-none h = simp (le-leb _ _ h)
+
+  pub generator-step : g < n → readStep s n count 0 g ≡ generatorIn s n count g
+  unfolding generatorIn
+  generator-step h = simp (lt-leb _ _ h)
+
+module _ (s : List ℕ) (n e : ℕ) {len : ℕ} (q : len ≡ lengthOf s n e) where
+  pub length-long : 4096 < len → counted.Refused (record { number = 17; a = 0; b = 0; c = 0 }) ≡ lengthIn s n e
+  unfolding lengthIn
+  length-long h = rw (← q) (simp (lt-ltb _ _ h))
+
+  pub length-count : len ≤ 4096 → counted.Count len ≡ lengthIn s n e
+  unfolding lengthIn
+  length-count h = rw (← q) (simp (le-ltb _ _ h))
+
+and-false : (a : Bool) → a && false ≡ false
+and-false true = refl
+and-false false = refl
+
+module _ (s : List ℕ) (n count e : ℕ) where
+  pub readable-end : {left : ℕ} → left ≤ 0 → true ≡ readable left s n count e
+  unfolding readable
+  readable-end {left} h = let d : left ≡ 0 = omega arith in rw d
+
+  module _ {left g : ℕ} (k : 0 < left) (w : g ≡ lastOf s n e) where
+    pub readable-letter : n ≤ g → false ≡ readable left s n count e
+    unfolding readable
+    readable-letter h = let d : left ≡ suc (left - 1) = omega arith in rw (d, ← w) (simp (le-ltb _ _ h, and-false))
+
+    module _ {p : ℕ} (q : p ≡ parentOf s n e) (h : g < n) where
+      pub readable-parent : count ≤ p → false ≡ readable left s n count e
+      unfolding readable
+      readable-parent z = let d : left ≡ suc (left - 1) = omega arith in rw (d, ← q) (simp (le-ltb _ _ z))
+
+      pub readable-more : p < count → readable left s n count e ≡ readable (left - 1) s n count p
+      unfolding readable
+      readable-more z =
+          let d : left ≡ suc (left - 1) = omega arith in
+          ap (λ (l : ℕ). readable l s n count e) d ∙ rw (← q, ← w) (simp (lt-ltb _ _ z, lt-ltb _ _ h))
+
+module _ (s : List ℕ) (n e : ℕ) (out : List ℕ) where
+  pub spell-end : {left : ℕ} → left ≤ 0 → out ≡ spell left s n e out
+  unfolding spell
+  spell-end {left} h = let d : left ≡ 0 = omega arith in rw d
+
+  pub spell-more : {left p g : ℕ} → 0 < left → p ≡ parentOf s n e → g ≡ lastOf s n e
+      → spell left s n e out ≡ spell (left - 1) s n p (set out (left - 1) (g % 256))
+  unfolding spell
+  spell-more {left} k q w =
+      let d : left ≡ suc (left - 1) = omega arith in
+      ap (λ (l : ℕ). spell l s n e out) d ∙ rw (q, w)
+
+module _ (s : List ℕ) (n count e size : ℕ) {len : ℕ} (q : len ≡ lengthOf s n e) where
+  pub write-long : 4096 < len → writeIn s n count e size ≡ counted.Refused (record { number = 17; a = 0; b = 0; c = 0 })
+  unfolding writeIn
+  write-long h = rw (← q) (simp (lt-ltb _ _ h))
+
+  module _ (h : len ≤ 4096) where
+    pub write-short : size < len → writeIn s n count e size ≡ counted.Refused (record { number = 4; a = 0; b = 0; c = 0 })
+    unfolding writeIn
+    write-short k = rw (← q) (simp (le-ltb _ _ h, lt-ltb _ _ k))
+
+    module _ (k : len ≤ size) where
+      pub write-unread : readable len s n count e ≡ false → writeIn s n count e size ≡ counted.Refused (record { number = 17; a = 0; b = 0; c = 0 })
+      unfolding writeIn
+      write-unread z = rw (← q) (simp (le-ltb _ _ h, le-ltb _ _ k) (rw z))
+
+      pub write-count : readable len s n count e ≡ true → writeIn s n count e size ≡ counted.Count len
+      unfolding writeIn
+      write-count z = rw (← q) (simp (le-ltb _ _ h, le-ltb _ _ k) (rw z))
+
+-- The answer and what the buffer holds, both by the answer.
+pub wrote : (s : List ℕ) (n e : ℕ) (out : List ℕ) {w r x : Counted} {o : List ℕ} → w ≡ r → x ≡ r → o ≡ writtenBy r s n e out
+    → (x ≡ w) × (o ≡ writtenBy w s n e out)
+wrote s n e out q p h = rw q (p, h)
+
+never-both : {v : Counted} {r : Refusal} {k : ℕ} → v ≡ counted.Refused r → v ≡ counted.Count k → ⊥
+never-both q e = let z : _≡_ {A = ℕ} 0 1 = cc in omega arith
+
+-- A word that was written had room.
+write-fits : (s : List ℕ) (n count e size : ℕ) {k : ℕ} → writeIn s n count e size ≡ counted.Count k → k ≤ size
+write-fits s n count e size {k} h = by (ltb 4096 (lengthOf s n e)) (ltb size (lengthOf s n e)) (readable (lengthOf s n e) s n count e) refl refl refl where
+  by : (b d r : Bool) → ltb 4096 (lengthOf s n e) ≡ b → ltb size (lengthOf s n e) ≡ d → readable (lengthOf s n e) s n count e ≡ r → k ≤ size
+  by true d r p q z = absurd (never-both (write-long s n count e size refl (ltb-true _ _ p)) h)
+  by false true r p q z = absurd (never-both (write-short s n count e size refl (ltb-false _ _ p) (ltb-true _ _ q)) h)
+  by false false false p q z = absurd (never-both (write-unread s n count e size refl (ltb-false _ _ p) (ltb-false _ _ q) z) h)
+  by false false true p q z =
+      let w : writeIn s n count e size ≡ counted.Count (lengthOf s n e) = write-count s n count e size refl (ltb-false _ _ p) (ltb-false _ _ q) z in
+      let d : k ≡ lengthOf s n e = cc in
+      omega (arith, ltb-false size (lengthOf s n e) q)
+
+counted-by : (v : Verdict) {x : Counted} {k : ℕ} → ifCount v x ≡ counted.Count k → x ≡ counted.Count k
+counted-by verdict.Fine h = h
+counted-by (verdict.Refused r) h = absurd (never-both refl h)
+
+pub answer-fits : (t : List ℕ) (f : Factor) (e : GroupElementId) (size : ℕ) {v : Counted} {k : ℕ} → v ≡ writeAnswer t f e size → v ≡ counted.Count k → k ≤ size
+unfolding writeAnswer
+answer-fits t f e size q h = write-fits (stretch t f) (f .generators) (f .elements) (e .0) size (counted-by (admits (length t) f (e .0) 0) (sym q ∙ h))
+
+-- The part that is handed back, by the answer.
+module _ {v w : Counted} (q : v ≡ w) {o l : List ℕ} (p : o ≡ l) where
+  pub filled-count : {k : ℕ} → v ≡ counted.Count k → take k o ≡ filledBy w l
+  filled-count e = rw (← q, e, p)
+
+  pub filled-none : {r : Refusal} → v ≡ counted.Refused r → take 0 o ≡ filledBy w l
+  filled-none e = rw (← q, e)

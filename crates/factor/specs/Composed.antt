@@ -1,0 +1,30 @@
+-- A factor from a lent list of composed numbers: the call, its refusals, and what every lent buffer holds.
+-- Assumes nothing.
+use Prim.Native.Nat.{ℕ, _+_, _*_}
+use mathlib.Core.List.{List}
+use mathlib.Core.Bool.{_&&_}
+use lib.ListN.{length, getD, take, replicate}
+use lib.Dec.{ltb, leb}
+use Rattle.egg.specs.Table.{pick}
+use Rattle.builder.specs.Finish.{Built, finished}
+use Rattle.builder.specs.Lending.{tableNeed, workNeed, lentRight, refusedMade, Making, making, lentBack}
+use Rattle.factor.specs.Reading.{Placed, placed, readAll}
+
+-- The number at (e, g) of a list of rows of n numbers.
+abbrev pub composedAt : List ℕ → ℕ → ℕ → ℕ → ℕ
+composedAt rows n e g = getD rows (e * n + g) 0
+
+abbrev pub finishedPlaced : Placed → ℕ → List ℕ → Built
+finishedPlaced (placed c t) n w = finished c n t w
+
+-- The build in its stretches: the table's is zeroed first, and read into; then the checks.
+unfoldable pub composedIn : ℕ → List ℕ → List ℕ → ℕ → ℕ → Built
+composedIn size w rows n room = finishedPlaced (readAll (composedAt rows n) n room (replicate size 0)) n w
+
+-- 1, then 4, with every buffer as it was; then the build. "A composed list needs Rn entries."
+unfoldable pub composed : List ℕ → ℕ → List ℕ → List ℕ → ℕ → ℕ → Making
+composed table start work rows n room =
+    pick (ltb 8 n) (making (refusedMade 1 n) table work)
+    (pick (lentRight (length table) start (length work) room n && leb (room * n) (length rows))
+    (lentBack table start work n room (composedIn (tableNeed n room) (take (workNeed n room) work) rows n room))
+    (making (refusedMade 4 0) table work))

@@ -1,0 +1,126 @@
+-- Questions about an accepted factor. Document 01: "Calls on handles check 17 in the handle, then 14, .. then 17 in what they read." "A refused question
+-- writes nothing." Each is first defined on the factor's stretch s, with n generators and `count` elements, and then on the buffer and the handle.
+-- Assumes nothing.
+use Prim.Native.Nat.{ℕ, zero, suc, _+_, _*_, _-_, _%_}
+use mathlib.Core.List.{List}
+use mathlib.Core.Bool.{Bool, true, false, _&&_}
+use lib.ListN.{length, getD, take, set}
+use lib.Dec.{ltb, leb}
+use Rattle.egg.specs.declared.Refusal.{Refusal}
+use Rattle.egg.specs.declared.Factor.{Factor}
+use Rattle.egg.specs.declared.GroupElementId.{GroupElementId}
+use Rattle.egg.specs.declared.GeneratorId.{GeneratorId}
+use Rattle.egg.specs.declared.Verdict.{Verdict}
+use Rattle.egg.specs.declared.Verdict.the-variants as verdict
+use Rattle.egg.specs.declared.Reached.{Reached}
+use Rattle.egg.specs.declared.Reached.the-variants.{Element, Refused}
+use Rattle.egg.specs.declared.Counted.{Counted}
+use Rattle.egg.specs.declared.Counted.the-variants as counted
+use Rattle.egg.specs.Table.{pick, parentOf, lastOf, lengthOf, inverseOf}
+use Rattle.egg.specs.Scan.{refusedOf}
+use Rattle.egg.specs.Factor.{fitsIn, stretch, refusedReach, readStep}
+
+-- 17 in the handle, then 14 for two element arguments; a call with one takes the identity for the second.
+unfoldable pub admits : ℕ → Factor → ℕ → ℕ → Verdict
+admits len f a b =
+    pick (fitsIn len f)
+    (pick (leb (f .elements) a) (refusedOf 14 0 0 0) (pick (leb (f .elements) b) (refusedOf 14 1 0 0) verdict.Fine))
+    (refusedOf 17 0 0 0)
+
+abbrev pub ifReach : Verdict → Reached → Reached
+ifReach verdict.Fine x = x
+ifReach (verdict.Refused r) x = Refused r
+
+abbrev pub ifCount : Verdict → Counted → Counted
+ifCount verdict.Fine x = x
+ifCount (verdict.Refused r) x = counted.Refused r
+
+-- What goes on from an element; a refusal stands.
+abbrev pub onReached : Reached → (ℕ → Reached) → Reached
+onReached (Element e) f = f (e .0)
+onReached (Refused r) f = Refused r
+
+-- From an element along the last k letters of the recorded word that ends at e: first to the parent's element, then by the last letter.
+unfoldable pub along : ℕ → List ℕ → ℕ → ℕ → ℕ → ℕ → Reached
+along zero s n count from e = Element (record { 0 = from })
+along (suc k) s n count from e =
+    pick (leb count (parentOf s n e)) (refusedReach 17 0)
+    (pick (leb n (lastOf s n e)) (refusedReach 17 0)
+    (onReached (along k s n count from (parentOf s n e)) (λ x. readStep s n count x (lastOf s n e))))
+
+-- "`compose` walks the word of the second from the first"; a length over 4,096 is 17.
+unfoldable pub composeIn : List ℕ → ℕ → ℕ → ℕ → ℕ → Reached
+composeIn s n count a b = pick (ltb 4096 (lengthOf s n b)) (refusedReach 17 0) (along (lengthOf s n b) s n count a b)
+
+unfoldable pub inverseIn : List ℕ → ℕ → ℕ → ℕ → Reached
+inverseIn s n count a = pick (leb count (inverseOf s n a)) (refusedReach 17 0) (Element (record { 0 = inverseOf s n a }))
+
+-- "`conjugate(a,b)` is a·b·a⁻¹."
+unfoldable pub conjugateIn : List ℕ → ℕ → ℕ → ℕ → ℕ → Reached
+conjugateIn s n count a b =
+    onReached (composeIn s n count a b) (λ c. onReached (inverseIn s n count a) (λ i. composeIn s n count c i))
+
+unfoldable pub composeAnswer : List ℕ → Factor → GroupElementId → GroupElementId → Reached
+composeAnswer t f a b =
+    ifReach (admits (length t) f (a .0) (b .0)) (composeIn (stretch t f) (f .generators) (f .elements) (a .0) (b .0))
+
+unfoldable pub inverseAnswer : List ℕ → Factor → GroupElementId → Reached
+inverseAnswer t f a = ifReach (admits (length t) f (a .0) 0) (inverseIn (stretch t f) (f .generators) (f .elements) (a .0))
+
+unfoldable pub conjugateAnswer : List ℕ → Factor → GroupElementId → GroupElementId → Reached
+conjugateAnswer t f a b =
+    ifReach (admits (length t) f (a .0) (b .0)) (conjugateIn (stretch t f) (f .generators) (f .elements) (a .0) (b .0))
+
+unfoldable pub countAnswer : List ℕ → Factor → Counted
+countAnswer t f = ifCount (admits (length t) f 0 0) (counted.Count (f .elements))
+
+-- "The element of generator g" is read from the identity row; a generator that is none is 14.
+unfoldable pub generatorIn : List ℕ → ℕ → ℕ → ℕ → Reached
+generatorIn s n count g = pick (leb n g) (refusedReach 14 0) (readStep s n count 0 g)
+
+unfoldable pub generatorAnswer : List ℕ → Factor → GeneratorId → Reached
+generatorAnswer t f g = ifReach (admits (length t) f 0 0) (generatorIn (stretch t f) (f .generators) (f .elements) (g .0))
+
+-- The recorded length of a word.
+unfoldable pub lengthIn : List ℕ → ℕ → ℕ → Counted
+lengthIn s n e = pick (ltb 4096 (lengthOf s n e)) (counted.Refused (record { number = 17; a = 0; b = 0; c = 0 })) (counted.Count (lengthOf s n e))
+
+unfoldable pub lengthAnswer : List ℕ → Factor → GroupElementId → Counted
+lengthAnswer t f e = ifCount (admits (length t) f (e .0) 0) (lengthIn (stretch t f) (f .generators) (e .0))
+
+-- Every letter of the last k of the word that ends at e can be read.
+unfoldable pub readable : ℕ → List ℕ → ℕ → ℕ → ℕ → Bool
+readable zero s n count e = true
+readable (suc k) s n count e = ltb (parentOf s n e) count && (ltb (lastOf s n e) n && readable k s n count (parentOf s n e))
+
+-- They are written to their places, 0 to k - 1; the rest of the buffer stays.
+unfoldable pub spell : ℕ → List ℕ → ℕ → ℕ → List ℕ → List ℕ
+spell zero s n e out = out
+spell (suc k) s n e out = spell k s n (parentOf s n e) (set out k (lastOf s n e % 256))
+
+-- "4 if short, after 17 in a length"; then 17 in a letter. After any refusal the buffer is as it was.
+unfoldable pub writeIn : List ℕ → ℕ → ℕ → ℕ → ℕ → Counted
+writeIn s n count e size =
+    pick (ltb 4096 (lengthOf s n e)) (counted.Refused (record { number = 17; a = 0; b = 0; c = 0 }))
+    (pick (ltb size (lengthOf s n e)) (counted.Refused (record { number = 4; a = 0; b = 0; c = 0 }))
+    (pick (readable (lengthOf s n e) s n count e) (counted.Count (lengthOf s n e)) (counted.Refused (record { number = 17; a = 0; b = 0; c = 0 }))))
+
+unfoldable pub writeAnswer : List ℕ → Factor → GroupElementId → ℕ → Counted
+writeAnswer t f e size =
+    ifCount (admits (length t) f (e .0) 0) (writeIn (stretch t f) (f .generators) (f .elements) (e .0) size)
+
+-- What the buffer holds: the word at its start where the answer is a count.
+abbrev pub writtenBy : Counted → List ℕ → ℕ → ℕ → List ℕ → List ℕ
+writtenBy (counted.Count k) s n e out = spell k s n e out
+writtenBy (counted.Refused r) s n e out = out
+
+unfoldable pub written : List ℕ → Factor → GroupElementId → List ℕ → List ℕ
+written t f e out = writtenBy (writeAnswer t f e (length out)) (stretch t f) (f .generators) (e .0) out
+
+-- The filled part, as long as the recorded length, or the empty start.
+abbrev pub filledBy : Counted → List ℕ → List ℕ
+filledBy (counted.Count k) out = take k out
+filledBy (counted.Refused r) out = take 0 out
+
+unfoldable pub wordPart : List ℕ → Factor → GroupElementId → List ℕ → List ℕ
+wordPart t f e out = filledBy (writeAnswer t f e (length out)) (written t f e out)

@@ -1,0 +1,163 @@
+// abstract_group.rs: a checked factor from composed rows, and what may be asked of it.
+ghost use mathlib.Core.Path.{_≡_};
+ghost use Prim.Native.Nat.{_+_, _*_, _<_, _≤_};
+ghost use lib.ListN.{length};
+ghost use Rattle.builder.specs.Lending.{Making};
+ghost use Rattle.factor.specs.Composed.{composed};
+ghost use Rattle.factor.specs.Questions.{composeAnswer, inverseAnswer, conjugateAnswer, countAnswer, generatorAnswer, lengthAnswer, writeAnswer, written, wordPart};
+ghost use Rattle.factor.specs.Relations.{checkAnswer};
+use egg::Counted;
+use egg::Factor;
+use egg::GeneratorId;
+use egg::GroupElementId;
+use egg::Made;
+use egg::Reached;
+use egg::Verdict;
+
+pub mod inner;
+
+// `from_compose_fn`, with a lent table of numbers in the place of the closure. The factor is built into the stretch of
+// `table` that starts at `start`.
+pub fn from_composed(
+    table: &mut [u32],
+    start: usize,
+    work: &mut [u32],
+    rows: &[u32],
+    n: u8,
+    room: u32,
+) -> Made
+    ensures { λ r. ⌜ Making.making r (now (table .exit)) (now (work .exit)) ≡ composed (now (table .entry)) start (now (work .entry)) (now (rows .entry)) n room ⌝ }
+{
+    if 8 < n {
+        return builder::inner::refused_made(1, n as u32);
+    }
+    if !builder::inner::lent_right(table.len(), start, work.len(), room, n) {
+        return builder::inner::refused_made(4, 0);
+    }
+    if rows.len() < (room as usize) * (n as usize) {
+        return builder::inner::refused_made(4, 0);
+    }
+    let end = builder::inner::stretch_end(table.len(), start, room, n);
+    let need = builder::inner::work_need(n, room);
+    let count = inner::compose_in(&mut table[start..end], &mut work[..need], rows, n, room);
+    builder::inner::made(start, room, n, count)
+}
+
+pub fn element_count(table: &[u32], f: Factor) -> Counted
+    ensures { λ r. ⌜ r ≡ countAnswer (now (table .entry)) f ⌝ }
+{
+    match inner::admit(table, f, 0, 0) {
+        Verdict::Refused(why) => Counted::Refused(why),
+        Verdict::Fine => Counted::Count(f.elements),
+    }
+}
+
+// The element of a generator: what stands in the identity's row.
+pub fn generator(table: &[u32], f: Factor, g: GeneratorId) -> Reached
+    ensures { λ r. ⌜ r ≡ generatorAnswer (now (table .entry)) f g ⌝ }
+{
+    match inner::admit(table, f, 0, 0) {
+        Verdict::Refused(why) => Reached::Refused(why),
+        Verdict::Fine => inner::generator_in(
+            egg::inner::part(table, f),
+            f.generators,
+            f.elements,
+            g.0,
+        ),
+    }
+}
+
+pub fn word_length(table: &[u32], f: Factor, e: GroupElementId) -> Counted
+    ensures { λ r. ⌜ r ≡ lengthAnswer (now (table .entry)) f e ⌝ }
+{
+    match inner::admit(table, f, e.0, 0) {
+        Verdict::Refused(why) => Counted::Refused(why),
+        Verdict::Fine => inner::length_in(egg::inner::part(table, f), f.generators, e.0),
+    }
+}
+
+pub fn inverse(table: &[u32], f: Factor, a: GroupElementId) -> Reached
+    ensures { λ r. ⌜ r ≡ inverseAnswer (now (table .entry)) f a ⌝ }
+{
+    match inner::admit(table, f, a.0, 0) {
+        Verdict::Refused(why) => Reached::Refused(why),
+        Verdict::Fine => inner::inverse_in(
+            egg::inner::part(table, f),
+            f.generators,
+            f.elements,
+            a.0,
+        ),
+    }
+}
+
+pub fn compose(table: &[u32], f: Factor, a: GroupElementId, b: GroupElementId) -> Reached
+    ensures { λ r. ⌜ r ≡ composeAnswer (now (table .entry)) f a b ⌝ }
+{
+    match inner::admit(table, f, a.0, b.0) {
+        Verdict::Refused(why) => Reached::Refused(why),
+        Verdict::Fine => inner::compose_elements(
+            egg::inner::part(table, f),
+            f.generators,
+            f.elements,
+            a.0,
+            b.0,
+        ),
+    }
+}
+
+// a·b·a⁻¹.
+pub fn conjugate(table: &[u32], f: Factor, a: GroupElementId, b: GroupElementId) -> Reached
+    ensures { λ r. ⌜ r ≡ conjugateAnswer (now (table .entry)) f a b ⌝ }
+{
+    match inner::admit(table, f, a.0, b.0) {
+        Verdict::Refused(why) => Reached::Refused(why),
+        Verdict::Fine => inner::conjugate_elements(
+            egg::inner::part(table, f),
+            f.generators,
+            f.elements,
+            a.0,
+            b.0,
+        ),
+    }
+}
+
+// Writes the recorded word of e into the start of a lent byte buffer and answers its length.
+pub fn write_word(table: &[u32], f: Factor, e: GroupElementId, out: &mut [u8]) -> Counted
+    ensures { λ r. ⌜ (r ≡ writeAnswer (now (table .entry)) f e (length (now (out .entry)))) × (now (out .exit) ≡ written (now (table .entry)) f e (now (out .entry))) ⌝ }
+{
+    match inner::admit(table, f, e.0, 0) {
+        Verdict::Refused(why) => Counted::Refused(why),
+        Verdict::Fine => inner::write_in(
+            egg::inner::part(table, f),
+            f.generators,
+            f.elements,
+            e.0,
+            out,
+        ),
+    }
+}
+
+// The same, with the filled part handed back; refused: the empty start, and `write_word` tells the number.
+pub fn word<'a>(table: &[u32], f: Factor, e: GroupElementId, out: &'a mut [u8]) -> &'a mut [u8]
+    ensures { λ r. ⌜ now r ≡ wordPart (now (table .entry)) f e (now (out .entry)) ⌝ }
+{
+    match write_word(table, f, e, out) {
+        Counted::Count(len) => &mut out[..len as usize],
+        Counted::Refused(_) => &mut out[..0],
+    }
+}
+
+// Checks an accepted factor against pair orders.
+pub fn check(table: &[u32], f: Factor, orders: &[u32]) -> Verdict
+    ensures { λ r. ⌜ r ≡ checkAnswer (now (table .entry)) f (now (orders .entry)) ⌝ }
+{
+    let v = inner::admit(table, f, 0, 0);
+    let Verdict::Fine = v else {
+        return v;
+    };
+    let u = egg::inner::orders_right(orders, f.generators);
+    let Verdict::Fine = u else {
+        return u;
+    };
+    inner::relations(egg::inner::part(table, f), f.generators, f.elements, orders)
+}

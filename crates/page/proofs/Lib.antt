@@ -1,0 +1,4 @@
+pub mod Laws
+pub mod Orders
+pub mod Bounds
+pub mod Pages

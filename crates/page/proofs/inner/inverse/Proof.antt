@@ -1,0 +1,16 @@
+-- The cell at the inverse's place.
+use borrow.Author.Needs.{needs}
+use Rattle.page.proofs.inner.inverse.Statement.{statement}
+use Rattle.page.proofs.inner.inverse.Tie as tie
+
+inverse-at-requires : tie.Need-inverse-at-requires
+inverse-at-requires c κs = search needs
+
+get-requires : tie.Need-get-requires
+get-requires c κs = search needs
+
+returns : tie.Need-returns
+returns c = cc
+
+pub inverse-spec : {M : Type 1} → statement M
+inverse-spec = tie.close (tie.spec inverse-at-requires get-requires returns)

@@ -1,0 +1,243 @@
+// Text written into a lent byte buffer: each function stores its bytes from `at` on and answers where the next go.
+// What lies past the buffer's end is dropped and still counted, so no caller owes a proof that the text fits it.
+ghost use mathlib.Core.Path.{_≡_};
+ghost use Prim.Native.Nat.{_+_, _<_, _≤_};
+ghost use mathlib.Core.List.{[], _∷_};
+ghost use lib.ListN.{length, getD, take, replicate};
+ghost use Rattle.egg.specs.Pairs.{ordersRight};
+ghost use Rattle.page.specs.Listing.{orderIn, ordersIn, pageBy, rightPage, listingOf};
+ghost use Rattle.egg.specs.Table.{inverseOf, lengthOf};
+ghost use Rattle.page.specs.Text.{
+  Writes,
+  Ends,
+  digits,
+  decimal,
+  spaced,
+  stepsText,
+  lineText,
+  linesText,
+  groupText,
+  refusedText,
+};
+use egg::GroupElementId;
+use egg::Verdict;
+
+pub fn put_byte(out: &mut [u8], at: usize, b: u8) -> usize
+    requires { ⌜ Ends at (b ∷ []) ⌝ }
+    ensures { λ r. ⌜ Writes (now (out .entry)) at (b ∷ []) (now (out .exit)) r ⌝ }
+{
+    if at < out.len() {
+        out[at] = b;
+    }
+    at + 1
+}
+
+pub fn write_word(out: &mut [u8], at: usize, word: &[u8]) -> usize
+    requires { ⌜ Ends at (now word) ⌝ }
+    ensures { λ r. ⌜ Writes (now (out .entry)) at (now (word .entry)) (now (out .exit)) r ⌝ }
+{
+    let mut next = at;
+    let mut i = 0;
+    while i < word.len() {
+        next = put_byte(out, next, word[i]);
+        i += 1;
+    }
+    next
+}
+
+// The byte of a digit: 48 is '0'.
+pub fn digit(x: u32) -> u8
+    requires { ⌜ x < 10 ⌝ }
+    ensures { λ r. ⌜ r ≡ 48 + x ⌝ }
+{
+    48 + (x as u8)
+}
+
+// The last k digits of x, without leading zeros.
+pub fn write_digits(out: &mut [u8], at: usize, k: u8, x: u32) -> usize
+    requires { ⌜ Ends at (digits k x) ⌝ }
+    ensures { λ r. ⌜ Writes (now (out .entry)) at (digits k x) (now (out .exit)) r ⌝ }
+{
+    if k == 0 {
+        return at;
+    }
+    if x < 10 {
+        return put_byte(out, at, digit(x));
+    }
+    let next = write_digits(out, at, k - 1, x / 10);
+    put_byte(out, next, digit(x % 10))
+}
+
+// Ten digits are enough for 32 bits.
+pub fn write_decimal(out: &mut [u8], at: usize, x: u32) -> usize
+    requires { ⌜ Ends at (decimal x) ⌝ }
+    ensures { λ r. ⌜ Writes (now (out .entry)) at (decimal x) (now (out .exit)) r ⌝ }
+{
+    write_digits(out, at, 10, x)
+}
+
+pub fn write_spaced(out: &mut [u8], at: usize, x: u32) -> usize
+    requires { ⌜ Ends at (spaced x) ⌝ }
+    ensures { λ r. ⌜ Writes (now (out .entry)) at (spaced x) (now (out .exit)) r ⌝ }
+{
+    let next = put_byte(out, at, b' ');
+    write_decimal(out, next, x)
+}
+
+// The successors of e.
+pub fn write_steps(out: &mut [u8], at: usize, t: &[u32], n: u8, e: u32) -> usize
+    requires { ⌜ Ends at (stepsText n (now t) n e 0) ⌝ }
+    ensures { λ r. ⌜ Writes (now (out .entry)) at (stepsText n (now (t .entry)) n e 0) (now (out .exit)) r ⌝ }
+{
+    let mut next = at;
+    let mut g: u32 = 0;
+    while g < (n as u32) {
+        next = write_spaced(out, next, egg::inner::step(t, n, e, g));
+        g += 1;
+    }
+    next
+}
+
+pub fn inverse(t: &[u32], n: u8, e: u32) -> u32
+    ensures { λ r. ⌜ r ≡ inverseOf (now (t .entry)) n e ⌝ }
+{
+    egg::inner::get(t, egg::inner::inverse_at(n, GroupElementId(e)))
+}
+
+pub fn word_length(t: &[u32], n: u8, e: u32) -> u32
+    ensures { λ r. ⌜ r ≡ lengthOf (now (t .entry)) n e ⌝ }
+{
+    egg::inner::word_length(t, n, GroupElementId(e))
+}
+
+// "element, inverse, word length, successors"
+pub fn write_line(out: &mut [u8], at: usize, t: &[u32], n: u8, e: u32) -> usize
+    requires { ⌜ Ends at (lineText (now t) n e) ⌝ }
+    ensures { λ r. ⌜ Writes (now (out .entry)) at (lineText (now (t .entry)) n e) (now (out .exit)) r ⌝ }
+{
+    let a = write_decimal(out, at, e);
+    let b = write_spaced(out, a, inverse(t, n, e));
+    let c = write_spaced(out, b, word_length(t, n, e));
+    let d = write_steps(out, c, t, n, e);
+    put_byte(out, d, b'\n')
+}
+
+pub fn write_lines(out: &mut [u8], at: usize, t: &[u32], n: u8, count: u32) -> usize
+    requires { ⌜ Ends at (linesText count (now t) n 0) ⌝ }
+    ensures { λ r. ⌜ Writes (now (out .entry)) at (linesText count (now (t .entry)) n 0) (now (out .exit)) r ⌝ }
+{
+    let mut next = at;
+    let mut e: u32 = 0;
+    while e < count {
+        next = write_line(out, next, t, n, e);
+        e += 1;
+    }
+    next
+}
+
+pub fn write_group(out: &mut [u8], at: usize, t: &[u32], n: u8, count: u32) -> usize
+    requires { ⌜ Ends at (groupText (now t) n count) ⌝ }
+    ensures { λ r. ⌜ Writes (now (out .entry)) at (groupText (now (t .entry)) n count) (now (out .exit)) r ⌝ }
+{
+    let a = write_word(out, at, b"group");
+    let b = write_spaced(out, a, n as u32);
+    let c = write_spaced(out, b, count);
+    let d = put_byte(out, c, b'\n');
+    write_lines(out, d, t, n, count)
+}
+
+pub fn write_refused(out: &mut [u8], at: usize, number: u32) -> usize
+    requires { ⌜ Ends at (refusedText number) ⌝ }
+    ensures { λ r. ⌜ Writes (now (out .entry)) at (refusedText number) (now (out .exit)) r ⌝ }
+{
+    let a = write_word(out, at, b"refused");
+    let b = write_spaced(out, a, number);
+    put_byte(out, b, b'\n')
+}
+
+// The byte at i, and 0 past the end.
+pub fn byte(input: &[u8], i: usize) -> u8
+    ensures { λ r. ⌜ r ≡ getD (now (input .entry)) i 0 ⌝ }
+{
+    if i < input.len() { input[i] } else { 0 }
+}
+
+// "then two bytes an order", the higher first.
+pub fn order_at(input: &[u8], i: usize) -> u32
+    requires { ⌜ i < 28 ⌝ }
+    ensures { λ r. ⌜ r ≡ orderIn (now (input .entry)) i ⌝ }
+{
+    (byte(input, 2 * i + 1) as u32) * 256 + (byte(input, 2 * i + 2) as u32)
+}
+
+// The k orders of the input, stored from the front on.
+pub fn read_orders(input: &[u8], orders: &mut [u32], k: usize)
+    requires { ⌜ (k ≤ 28) × (length (now orders) ≡ 28) ⌝ }
+    ensures { λ r. ⌜ take k (now (orders .exit)) ≡ ordersIn k (now (input .entry)) 0 ⌝ }
+{
+    let mut i = 0;
+    while i < k {
+        orders[i] = order_at(input, i);
+        i += 1;
+    }
+}
+
+// What an enumeration answered: its lines, or its refusal.
+pub fn write_answer(out: &mut [u8], answer: Verdict, table: &[u32], n: u8, count: u32) -> usize
+    ensures { λ r. ⌜ Writes (now (out .entry)) 0 (pageBy answer (now (table .entry)) n count) (now (out .exit)) r ⌝ }
+{
+    match answer {
+        Verdict::Fine => write_group(out, 0, table, n, count),
+        Verdict::Refused(why) => write_refused(out, 0, why.number),
+    }
+}
+
+// 3, then 4 for more than four generators, then the enumeration with room 120.
+pub fn write_page(
+    out: &mut [u8],
+    table: &mut [u32],
+    work: &mut [u32],
+    orders: &[u32],
+    n: u8,
+) -> usize
+    requires { ⌜ (now table ≡ replicate 1440 0) × (now work ≡ replicate 13440 0) ⌝ }
+    ensures { λ r. ⌜ Writes (now (out .entry)) 0 (rightPage (ordersRight (now (orders .entry)) n) n (now (orders .entry))) (now (out .exit)) r ⌝ }
+{
+    let right = egg::inner::orders_right(orders, n);
+    if let Verdict::Refused(why) = right {
+        return write_refused(out, 0, why.number);
+    }
+    if 4 < n {
+        return write_refused(out, 0, 4);
+    }
+    let made = enumeration::enumerate(table, 0, work, orders, n, 120);
+    let answer = made.answer;
+    let f = made.factor;
+    write_answer(out, answer, table, f.generators, f.elements)
+}
+
+// 1, then 2 for missing or extra bytes, then what the orders say.
+pub fn write_listing(
+    input: &[u8],
+    out: &mut [u8],
+    table: &mut [u32],
+    work: &mut [u32],
+    orders: &mut [u32],
+) -> usize
+    requires { ⌜ (now table ≡ replicate 1440 0) × (now work ≡ replicate 13440 0) × (length (now orders) ≡ 28) ⌝ }
+    ensures { λ r. ⌜ Writes (now (out .entry)) 0 (listingOf (now (input .entry))) (now (out .exit)) r ⌝ }
+{
+    if input.len() == 0 {
+        return write_refused(out, 0, 2);
+    }
+    let n = input[0];
+    if 8 < n {
+        return write_refused(out, 0, 1);
+    }
+    let k = egg::inner::pair_count(n) as usize;
+    if input.len() != 2 * k + 1 {
+        return write_refused(out, 0, 2);
+    }
+    read_orders(input, orders, k);
+    write_page(out, table, work, &orders[..k], n)
+}

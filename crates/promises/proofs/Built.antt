@@ -1,0 +1,153 @@
+-- A build from composed rows in its stretches: accepted exactly when the rows are taken, and then the table holds them.
+-- Assumes nothing.
+use Prim.Native.Nat.{ℕ, zero, suc, _+_, _*_, _≤_, _<_}
+use mathlib.Core.Path.{_≡_, refl, sym, ap, _∙_, subst}
+use mathlib.Core.List.{List}
+use native.Mathlib.Nat.{mul-le-mul, le-refl}
+use native.Mathlib.Omega.{arith}
+use lib.ListN.{length, getD, replicate}
+use Rattle.egg.specs.declared.Refusal.{Refusal}
+use Rattle.egg.specs.declared.Verdict.{Verdict}
+use Rattle.egg.specs.declared.Verdict.the-variants as verdict
+use Rattle.egg.specs.declared.Counted.{Counted}
+use Rattle.egg.specs.declared.Counted.the-variants.{Count, Refused}
+use Rattle.egg.specs.Table.{startOf, parentOf, lastOf, lengthOf, stepOf}
+use Rattle.checks.specs.Checks.{Checked, checked, check-group}
+use Rattle.builder.specs.Finish.{Built, built, zeroed, settledBy, finished}
+use Rattle.factor.specs.Reading.{Placed, placed, readAll}
+use Rattle.factor.specs.Composed.{composedAt, finishedPlaced, composedIn}
+use Rattle.theory.specs.Table.{Table, Columns}
+use Rattle.theory.specs.Words.{Parents, Recorded}
+use Rattle.theory.specs.Group.{RightRegular}
+use Rattle.theory.specs.AnyGroup.{SomeGroup}
+use Rattle.theory.proofs.AnyCarrier.{any-carrier}
+use Rattle.theory.proofs.Counting.{numbered-table}
+use Rattle.theory.proofs.FirstPlaces.{first-parents}
+use Rattle.theory.proofs.Recording.{word-of-recorded}
+use Rattle.theory.proofs.Complete.{columns}
+use Rattle.meaning.specs.Stored.{Stored, Kept, wordOf}
+use Rattle.meaning.specs.Sound.{Sound}
+use Rattle.meaning.proofs.Accepted.{checks-sound, checks-kept, sound-regular}
+use Rattle.meaning.proofs.Complete.{checks-complete}
+use Rattle.meaning.proofs.Lengths.{checks-work}
+use Rattle.meaning.proofs.Refused.{regular-same}
+use Rattle.numbering.specs.Read.{Read, Readable}
+use Rattle.numbering.proofs.Readings.{accepted-read, readable-accepted, read-words, read-letters, read-readable, read-steps}
+use Rattle.promises.specs.Composed.{Taken, Holding}
+
+-- An accepted end of a build is an accepted count and a passed check.
+pub record Passed (p : Placed) (n N : ℕ) (w t w₁ : List ℕ) : Type 0 where
+  pub before : List ℕ
+  pub after : List ℕ
+  pub count : p ≡ placed (Count N) before
+  pub checks : check-group before w n N ≡ checked verdict.Fine t after
+  pub wiped : w₁ ≡ zeroed after
+
+pub by-check : {c N : ℕ} {t w₁ : List ℕ} (k : Checked) → settledBy c k ≡ built (Count N) t w₁ → (c ≡ N) × ((w₂ : List ℕ) × ((k ≡ checked verdict.Fine t w₂) × (w₁ ≡ zeroed w₂)))
+by-check (checked verdict.Fine t₁ w₂) q = (cc, (w₂, (cc, cc)))
+by-check {N = N} {t} {w₁} (checked (verdict.Refused r) t₁ w₂) q = absurd (never q) where
+  never : built (Refused r) (zeroed t₁) (zeroed w₂) ≡ built (Count N) t w₁ → ⊥
+  never h = let z : _≡_ {A = ℕ} 0 1 = cc in omega arith
+
+pub passed : (p : Placed) (n : ℕ) (w : List ℕ) {N : ℕ} {t w₁ : List ℕ} → finishedPlaced p n w ≡ built (Count N) t w₁ → Passed p n N w t w₁
+unfolding finished
+passed (placed (Count c) t₀) n w {N} {t} q =
+    let b = by-check (check-group t₀ w n c) q in
+    record {
+      before = t₀;
+      after = b .1 .0;
+      count = ap (λ (k : ℕ). placed (Count k) t₀) (b .0);
+      checks = subst (λ (k : ℕ). check-group t₀ w n k ≡ checked verdict.Fine t (b .1 .0)) (b .0) (b .1 .1 .0);
+      wiped = b .1 .1 .1;
+    }
+passed (placed (Refused r) t₀) n w {N} {t} {w₁} q = absurd (never q) where
+  never : built (Refused r) (zeroed t₀) (zeroed w) ≡ built (Count N) t w₁ → ⊥
+  never h = let z : _≡_ {A = ℕ} 0 1 = cc in omega arith
+
+pub passes : {p : Placed} (n : ℕ) {N : ℕ} (w : List ℕ) {t₀ t w₁ : List ℕ} → p ≡ placed (Count N) t₀ → check-group t₀ w n N ≡ checked verdict.Fine t w₁
+    → finishedPlaced p n w ≡ built (Count N) t (zeroed w₁)
+unfolding finished
+passes n w a b = rw (a, b)
+
+-- A place beyond the rows is no inverse's.
+pub below-cells : (n N e : ℕ) → e < N → (i : ℕ) → N * (2 * n + 4) ≤ i → i ≡ startOf n e + 2 * n + 3 → ⊥
+unfolding startOf
+below-cells n N e he i h q = omega (arith, mul-le-mul {n₁ = suc e} he (le-refl (2 * n + 4)))
+
+-- Where the columns are permutations, the predecessors that reading stored are the steps back.
+module _ {src back : ℕ → ℕ → ℕ} {n room size N : ℕ} {t : List ℕ} (R : Read src n room size N t) (C : Columns n N src back) where
+  stored-back : (r g x : ℕ) → r < N → g < n → getD t (startOf n r + n + g) 0 ≡ x → x ≡ suc (back r g)
+  stored-back r g zero hr hg q = absurd (R .arrived {r = r} (C .closed hr hg) hg (C .step-back hr hg) q)
+  stored-back r g (suc e) hr hg q =
+      let p = R .predecessor hr hg q in
+      let z : back (src e g) g ≡ e = C .back-step (p .0) hg in
+      ap suc (sym (subst (λ (y : ℕ). back y g ≡ e) (p .1) z))
+
+  pub read-stored : Stored t n N src back (parentOf t n) (lastOf t n) (wordOf t n)
+  read-stored = record {
+    successor = R .successor;
+    predecessor = λ {e} {g} he hg. stored-back e g _ he hg refl;
+    parents = λ pos he. refl;
+    letters = λ pos he. refl;
+    lengths = λ {e} he. read-letters R e he ∙ ap length (sym (read-words R e he));
+  }
+
+module _ (rows : List ℕ) (n room size : ℕ) (w : List ℕ) (few : n ≤ 8) (lo : 1 ≤ room) (hi : room ≤ 65535) (fits : room * (2 * n + 4) ≤ size)
+    (work : room * (6 * n * n + 4 * n) ≤ length w) where
+  -- The work has a number for each element.
+  work-enough : {N : ℕ} → N ≤ room → 0 < n → N ≤ length w
+  work-enough h pos =
+      let one : 1 ≤ 6 * n * n + 4 * n = omega arith in
+      omega (arith, mul-le-mul (le-refl room) one)
+
+  rows-fit : {N k : ℕ} → N ≤ room → k ≡ size → N * (2 * n + 4) ≤ k
+  rows-fit h e = omega (arith, mul-le-mul h (le-refl (2 * n + 4)))
+
+  module _ {N : ℕ} {t₀ : List ℕ} (R : Read (composedAt rows n) n room size N t₀) where
+    -- What the checks accepted after this reading.
+    pub checked-holds : {t w₁ : List ℕ} → check-group t₀ w n N ≡ checked verdict.Fine t w₁ → Holding (composedAt rows n) n room size N t
+    checked-holds {t} {w₁} h =
+        let K = checks-kept t₀ w n N h in
+        let S = checks-sound t₀ w n N h (R .origin) (omega (arith, R .within)) (rows-fit (R .within) (R .whole)) in
+        let same : (e g : ℕ) → e < N → g < n → stepOf t n e g ≡ composedAt rows n e g = λ e g he hg. K .step-same e hg ∙ read-steps R e g he hg in
+        record {
+          taken = record {
+            readable = read-readable R;
+            identity-row = λ g hg. sym (same 0 g (R .origin) hg) ∙ S .identity-row hg;
+            group = any-carrier .1 (regular-same (S .table) same (sound-regular S));
+          };
+          sound = S;
+          size-kept = K .size ∙ R .whole;
+          steps = λ {e} {g} he hg. same e g he hg;
+          beyond = λ {i} h. K .other i (λ e he q. below-cells n N e he i h q) ∙ R .beyond h;
+        }
+
+    -- And a group's rows are accepted.
+    pub taken-checked : Taken (composedAt rows n) n room N → (t : List ℕ) × (w₁ : List ℕ) × (check-group t₀ w n N ≡ checked verdict.Fine t w₁)
+    taken-checked G =
+        let r = any-carrier .0 (G .group) in
+        let C = columns (r .group) (r .steps) in
+        checks-complete few (omega (arith, R .within)) (rows-fit (R .within) (R .whole)) (read-stored R C) (numbered-table (R .by-rule))
+        (first-parents (R .appearance)) (word-of-recorded (first-parents (R .appearance))) C
+        (λ e he. rw (read-words R e he) (G .readable .short he)) w (work-enough (R .within)) (G .identity-row) r
+
+  pub built-holds : {N : ℕ} {t w₁ : List ℕ} → composedIn size w rows n room ≡ built (Count N) t w₁ → Holding (composedAt rows n) n room size N t
+  unfolding composedIn
+  built-holds q =
+      let p = passed (readAll (composedAt rows n) n room (replicate size 0)) n w q in
+      checked-holds (accepted-read (composedAt rows n) n room size few lo hi fits (p .count)) (p .checks)
+
+  -- Then the work is zero.
+  pub built-work : {N : ℕ} {t w₁ : List ℕ} → composedIn size w rows n room ≡ built (Count N) t w₁ → w₁ ≡ replicate (length w) 0
+  unfolding composedIn
+  built-work {N} q =
+      let p = passed (readAll (composedAt rows n) n room (replicate size 0)) n w q in
+      p .wiped ∙ ap (λ (k : ℕ). replicate k 0) (checks-work (p .before) w n N (p .checks))
+
+  pub taken-built : {N : ℕ} → Taken (composedAt rows n) n room N → (t : List ℕ) × (w₁ : List ℕ) × (composedIn size w rows n room ≡ built (Count N) t w₁)
+  unfolding composedIn
+  taken-built G =
+      let a = readable-accepted (composedAt rows n) n room size few lo hi fits (G .readable) in
+      let R = accepted-read (composedAt rows n) n room size few lo hi fits (a .1) in
+      let b = taken-checked R G in
+      (b .0, zeroed (b .1), passes n w (a .1) (b .2))

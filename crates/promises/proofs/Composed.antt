@@ -1,0 +1,109 @@
+-- Demand 2 for composed rows. The call is the build in its stretches, put back into the buffers; so what holds of the build holds of the call.
+-- Assumes nothing.
+use Prim.Native.Nat.{ℕ, zero, suc, _+_, _*_, _-_, _≤_, _<_, zero-le}
+use mathlib.Core.Path.{_≡_, refl, sym, ap, _∙_, subst}
+use mathlib.Core.Logic.{_↔_}
+use mathlib.Core.Bool.{Bool, true, false, _&&_}
+use mathlib.Core.List.{List, _++_}
+use native.Mathlib.Nat.{mul-le-mul, le-refl}
+use native.Mathlib.Omega.{arith}
+use borrow.Author.Tests.{le-leb, lt-leb, le-ltb, leb-true}
+use lib.ListN.{length, getD, take, drop, replicate, length-append, length-take, length-drop, length-replicate}
+use lib.Seq.{length-take-le, take-at, drop-at}
+use lib.Dec.{leb, ltb}
+use Rattle.egg.specs.declared.Refusal.{Refusal}
+use Rattle.egg.specs.declared.Factor.{Factor}
+use Rattle.egg.specs.declared.Made.{Made}
+use Rattle.egg.specs.declared.Verdict.{Verdict}
+use Rattle.egg.specs.declared.Verdict.the-variants as verdict
+use Rattle.egg.specs.declared.Counted.{Counted}
+use Rattle.egg.specs.declared.Counted.the-variants.{Count, Refused}
+use Rattle.egg.specs.Factor.{hasRoom, fitsIn, stretch}
+use Rattle.egg.proofs.Rooms.{and-first, and-second, few, positive, limited, within-length}
+use Rattle.builder.specs.Finish.{Built, built}
+use Rattle.builder.specs.Lending.{tableNeed, workNeed, lentRight, within, noFactor, madeOf, Making, making, lentBack}
+use Rattle.factor.specs.Composed.{composedAt, composedIn, composed}
+use Rattle.answers.specs.Accepted.{Accepted}
+use Rattle.promises.specs.Composed.{Taken, Holding, Given}
+use Rattle.promises.proofs.Lent.{handle, lentTable, by-build, stretch-part, fits-still}
+use Rattle.promises.proofs.Built.{built-holds, built-work, taken-built}
+
+module _ (table : List ℕ) (start : ℕ) (work rows : List ℕ) (n room : ℕ) (hn : n ≤ 8)
+    (lent : lentRight (length table) start (length work) room n ≡ true) (listed : room * n ≤ length rows) where
+  has-room : hasRoom (length table) start room n ≡ true
+  unfolding lentRight
+  has-room = and-first _ (leb (workNeed n room) (length work)) lent
+
+  work-fits : workNeed n room ≤ length work
+  unfolding lentRight
+  work-fits = leb-true _ _ (and-second (hasRoom (length table) start room n) _ lent)
+
+  build : Built
+  build = composedIn (tableNeed n room) (take (workNeed n room) work) rows n room
+
+  call-is-build : composed table start work rows n room ≡ lentBack table start work n room build
+  unfolding composed build
+  call-is-build = simp (le-ltb _ _ hn, lent, le-leb _ _ listed)
+
+  lo : 1 ≤ room
+  lo = positive (length table) start room n has-room
+
+  hi : room ≤ 65535
+  hi = limited (length table) start room n has-room
+
+  lent-work : length (take (workNeed n room) work) ≡ workNeed n room
+  lent-work = length-take-le (workNeed n room) work work-fits
+
+  work-lent : room * (6 * n * n + 4 * n) ≤ length (take (workNeed n room) work)
+  work-lent = rw lent-work (le-refl (workNeed n room))
+
+  module _ {N : ℕ} {s : List ℕ} (H : Holding (composedAt rows n) n room (tableNeed n room) N s) where
+    part : stretch (lentTable table start n room s) (handle start n room N) ≡ s
+    part = stretch-part table start n room has-room s (H .size-kept) N
+
+    -- What holds of the handle and the buffers, for the element count and the stretch that a build gave.
+    given : {v : List ℕ} → v ≡ replicate (workNeed n room) 0 → Given table start work rows n room (handle start n room N) (lentTable table start n room s) (within work 0 (workNeed n room) v)
+    given z = record {
+      handle = refl;
+      taken = H .taken;
+      accepted = record {
+        fits = fits-still table start n room has-room s (H .size-kept) N (H .sound .table .origin) (H .taken .readable .within);
+        sound = rw part (H .sound);
+      };
+      steps = λ {e} {g} he hg. rw part (H .steps he hg);
+      beyond = λ {i} h. rw part (H .beyond h);
+      table-kept = rw part;
+      work-zero = rw z;
+    }
+
+  given-at : {f f′ : Factor} {t t′ w w′ : List ℕ} → f ≡ f′ → t ≡ t′ → w ≡ w′ → Given table start work rows n room f′ t′ w′
+      → Given table start work rows n room f t w
+  given-at a b c G = rw (a, b, c) G
+
+  -- An accepted call gives all of this.
+  pub composed-given : {f : Factor} {t w : List ℕ}
+      → composed table start work rows n room ≡ making (record { answer = verdict.Fine; factor = f }) t w
+      → Given table start work rows n room f t w
+  unfolding build
+  composed-given {f} {t} {w} q =
+      let b = by-build table start work n room build (sym call-is-build ∙ q) in
+      let H = built-holds rows n room (tableNeed n room) (take (workNeed n room) work) hn lo hi (le-refl (tableNeed n room)) work-lent (b .3 .0) in
+      let z = built-work rows n room (tableNeed n room) (take (workNeed n room) work) hn lo hi (le-refl (tableNeed n room)) work-lent (b .3 .0) in
+      given-at (b .3 .1 .0) (b .3 .1 .1 .0) (b .3 .1 .1 .1) (given H (z ∙ ap (λ (k : ℕ). replicate k 0) lent-work))
+
+  -- Accepted exactly when: "a table within 01's limits and the given room is accepted exactly when some group has it as its right steps under the
+  -- numbering rule".
+  pub composed-exactly : ((f : Factor) × (t : List ℕ) × (w : List ℕ)
+      × (composed table start work rows n room ≡ making (record { answer = verdict.Fine; factor = f }) t w))
+      ↔ ((N : ℕ) × Taken (composedAt rows n) n room N)
+  unfolding build
+  composed-exactly = (
+    λ a. (a .0 .elements, composed-given (a .3) .taken),
+    λ g.
+        let b = taken-built rows n room (tableNeed n room) (take (workNeed n room) work) hn lo hi (le-refl (tableNeed n room)) work-lent (g .1) in (
+          record { start = start; room = room; generators = n; elements = g .0 },
+          within table start (start + tableNeed n room) (b .0),
+          within work 0 (workNeed n room) (b .1),
+          call-is-build ∙ ap (lentBack table start work n room) (b .2),
+        ),
+  )

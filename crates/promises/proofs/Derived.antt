@@ -1,0 +1,158 @@
+-- An enumeration's build in its stretches: the run is derivable, the checks make it a group's table, and 13 at the identity is 13 everywhere.
+-- Assumes nothing.
+use Prim.Native.Nat.{ℕ, zero, suc, _+_, _*_, _-_, _/_, _%_, _≤_, _<_}
+use mathlib.Core.Path.{_≡_, refl, sym, ap, _∙_, subst}
+use mathlib.Core.List.{List, [], _∷_, _++_}
+use native.Mathlib.Nat.{mul-le-mul, le-refl, div-add-mod', mod-lt, le-div-iff-mul-le}
+use native.Mathlib.Omega.{arith}
+use lib.ListN.{length, getD, replicate}
+use Rattle.egg.specs.declared.Refusal.{Refusal}
+use Rattle.egg.specs.declared.Verdict.{Verdict}
+use Rattle.egg.specs.declared.Verdict.the-variants as verdict
+use Rattle.egg.specs.declared.Counted.{Counted}
+use Rattle.egg.specs.declared.Counted.the-variants.{Count, Refused}
+use Rattle.egg.specs.Table.{startOf, parentOf, lastOf, stepOf}
+use Rattle.egg.specs.Pairs.{ordersRight}
+use Rattle.checks.specs.Checks.{Checked, checked, check-group}
+use Rattle.builder.specs.Finish.{Built, built, zeroed, settledBy, finished}
+use Rattle.factor.specs.Relations.{relationsRow, relations}
+use Rattle.enumeration.specs.declared.inner.Ran.{Ran}
+use Rattle.enumeration.specs.declared.inner.Ran.the-variants as ran
+use Rattle.enumeration.specs.Run.{enumerated}
+use Rattle.enumeration.specs.Calls.{ranCount, relatingBy, withWork, related, enumeratedIn}
+use Rattle.theory.specs.Words.{Word, walk, trace, word-of}
+use Rattle.theory.specs.Presentation.{order-of, Equiv, Holds, Derived}
+use Rattle.theory.proofs.Presented.{presented}
+use Rattle.meaning.specs.Stored.{Kept, wordOf}
+use Rattle.meaning.specs.Sound.{Sound}
+use Rattle.meaning.proofs.Scans.{refused-fine}
+use Rattle.meaning.proofs.Inverses.{kept-cell}
+use Rattle.meaning.proofs.Accepted.{checks-sound, checks-kept}
+use Rattle.meaning.proofs.Lengths.{checks-work}
+use Rattle.answers.proofs.Relators.{orders-long, relations-exact, relations-first}
+use Rattle.derived.specs.Recorded as run
+use Rattle.derived.proofs.Derivation.{done-sound, sound-derived}
+use Rattle.derived.proofs.Running.{Ends, enumerated-ok}
+use Rattle.derived.proofs.Ending.{never-paused}
+use Rattle.promises.proofs.Built.{by-check, below-cells}
+
+-- Words recorded alike are the same.
+trace-same : {p p′ l l′ : ℕ → ℕ} → ((x : ℕ) → p x ≡ p′ x) → ((x : ℕ) → l x ≡ l′ x) → (k e : ℕ) → trace p l k e ≡ trace p′ l′ k e
+trace-same a b zero e = refl
+trace-same a b (suc k) zero = refl
+trace-same {p′ = p′} a b (suc k) (suc e) = rw (a (suc e), b (suc e), trace-same a b k (p′ (suc e)))
+
+-- An accepted end: an accepted build before 13, and 13 passed at the identity.
+by-relations : (n : ℕ) (o : List ℕ) (b : Built) {N : ℕ} {t w : List ℕ} → related n o b ≡ built (Count N) t w
+    → (b ≡ built (Count N) t w) × (relationsRow t n N o 0 ≡ verdict.Fine)
+by-relations n o (built (Count c) s v) {N} {t} {w} q = by (relationsRow s n c o 0) refl q where
+  by : (d : Verdict) → relationsRow s n c o 0 ≡ d → withWork v (relatingBy d c s) ≡ built (Count N) t w
+      → (built (Count c) s v ≡ built (Count N) t w) × (relationsRow t n N o 0 ≡ verdict.Fine)
+  by verdict.Fine h e =
+      let a : c ≡ N = cc in
+      let b : s ≡ t = cc in
+      (e, subst (λ (x : List ℕ). relationsRow x n N o 0 ≡ verdict.Fine) b (subst (λ (x : ℕ). relationsRow s n x o 0 ≡ verdict.Fine) a h))
+  by (verdict.Refused r) h e = absurd (never e) where
+    never : built (Refused r) (zeroed s) v ≡ built (Count N) t w → ⊥
+    never x = let z : _≡_ {A = ℕ} 0 1 = cc in omega arith
+by-relations n o (built (Refused r) s v) {N} {t} {w} q = absurd (never q) where
+  never : built (Refused r) s v ≡ built (Count N) t w → ⊥
+  never x = let z : _≡_ {A = ℕ} 0 1 = cc in omega arith
+
+by-count : (c : Counted) (n : ℕ) (s v : List ℕ) {N : ℕ} {t w : List ℕ} → finished c n s v ≡ built (Count N) t w
+    → (c ≡ Count N) × ((w₂ : List ℕ) × ((check-group s v n N ≡ checked verdict.Fine t w₂) × (w ≡ zeroed w₂)))
+unfolding finished
+by-count (Count c) n s v {N} {t} q =
+    let b = by-check (check-group s v n c) q in
+    (ap Count (b .0), (b .1 .0, (subst (λ (k : ℕ). check-group s v n k ≡ checked verdict.Fine t (b .1 .0)) (b .0) (b .1 .1 .0), b .1 .1 .1)))
+by-count (Refused r) n s v {N} {t} {w} q = absurd (never q) where
+  never : built (Refused r) (zeroed s) (zeroed v) ≡ built (Count N) t w → ⊥
+  never x = let z : _≡_ {A = ℕ} 0 1 = cc in omega arith
+
+module _ (o : List ℕ) (n room lt lw : ℕ) (L : run.Limits n o room lt lw) (right : ordersRight o n ≡ verdict.Fine) where
+  -- Rows from N on are zero, so every number from there on is.
+  blank-beyond : {N : ℕ} {t : List ℕ} → run.Sound n o room lt N t → (i : ℕ) → N * (2 * n + 4) ≤ i → getD t i 0 ≡ 0
+  unfolding startOf
+  blank-beyond {N} {t} D i h =
+      let pos : 0 < 2 * n + 4 = omega arith in
+      rw (div-add-mod' i (2 * n + 4)) at (D .blank (i / (2 * n + 4)) (i % (2 * n + 4)) (le-div-iff-mul-le pos .1 h) (mod-lt i pos))
+
+  -- A run that counts N is done with N elements.
+  done : (a : Ran) → enumerated n o room lt lw .answer ≡ a → {N : ℕ} → ranCount a ≡ Count N → enumerated n o room lt lw .answer ≡ ran.Done N
+  done (ran.Done c) e q = e ∙ ap ran.Done (cc)
+  done (ran.Paused at) e q = absurd (never-paused L e)
+  done (ran.Refused r) e {N} q = absurd (never q) where
+    never : Refused r ≡ Count N → ⊥
+    never x = let z : _≡_ {A = ℕ} 0 1 = cc in omega arith
+
+  -- The run keeps the length of the work.
+  pub work-long : {N : ℕ} → enumerated n o room lt lw .answer ≡ ran.Done N → length (enumerated n o room lt lw .work) ≡ lw
+  work-long q =
+      let ok = subst (λ (a : Ran). Ends L a (enumerated n o room lt lw .table) (enumerated n o room lt lw .work)) q (enumerated-ok L) in
+      ok .work-length
+
+  -- How an enumeration was accepted: the run was done, 8 to 12 passed, and 13 at the identity.
+  pub record Steps (N : ℕ) (t w : List ℕ) : Type 0 where
+    pub finish : enumerated n o room lt lw .answer ≡ ran.Done N
+    pub work₁ : List ℕ
+    pub checks : check-group (enumerated n o room lt lw .table) (enumerated n o room lt lw .work) n N ≡ checked verdict.Fine t work₁
+    pub wiped : w ≡ zeroed work₁
+    pub identity : relationsRow t n N o 0 ≡ verdict.Fine
+
+  pub enumerated-steps : {N : ℕ} {t w : List ℕ} → enumeratedIn lt lw o n room ≡ built (Count N) t w → Steps N t w
+  unfolding enumeratedIn
+  enumerated-steps q =
+      let a = by-relations n o (finished (ranCount (enumerated n o room lt lw .answer)) n (enumerated n o room lt lw .table) (enumerated n o room lt lw .work)) q in
+      let b = by-count (ranCount (enumerated n o room lt lw .answer)) n (enumerated n o room lt lw .table) (enumerated n o room lt lw .work) (a .0) in
+      record {
+        finish = done (enumerated n o room lt lw .answer) refl (b .0);
+        work₁ = b .1 .0;
+        checks = b .1 .1 .0;
+        wiped = b .1 .1 .1;
+        identity = a .1;
+      }
+
+  -- And the other way round.
+  pub steps-enumerated : {N : ℕ} {t₀ w₀ t w₁ : List ℕ} → enumerated n o room lt lw .answer ≡ ran.Done N → enumerated n o room lt lw .table ≡ t₀
+      → enumerated n o room lt lw .work ≡ w₀ → check-group t₀ w₀ n N ≡ checked verdict.Fine t w₁ → relationsRow t n N o 0 ≡ verdict.Fine
+      → enumeratedIn lt lw o n room ≡ built (Count N) t (zeroed w₁)
+  unfolding enumeratedIn finished
+  steps-enumerated a b c d e = rw (a, b, c, d, e)
+
+  -- The stretch of an accepted enumeration.
+  pub record Related (N : ℕ) (t w : List ℕ) : Type 0 where
+    pub sound : Sound t n N
+    pub within-room : N ≤ room
+    pub size-kept : length t ≡ lt
+    pub derived : Derived n N (order-of o) (stepOf t n) (wordOf t n)
+    pub all-related : relations t n N o ≡ verdict.Fine
+    pub holds : Holds n N (order-of o) (stepOf t n)
+    pub beyond : {i : ℕ} → N * (2 * n + 4) ≤ i → getD t i 0 ≡ 0
+    pub work-zero : w ≡ replicate lw 0
+
+  pub enumerated-related : {N : ℕ} {t w : List ℕ} → enumeratedIn lt lw o n room ≡ built (Count N) t w → Related N t w
+  enumerated-related {N} {t} {w} q =
+      let t₀ = enumerated n o room lt lw .table in
+      let w₀ = enumerated n o room lt lw .work in
+      let P = enumerated-steps q in
+      let D = done-sound L (P .finish) in
+      let c = P .checks in
+      let K = checks-kept t₀ w₀ n N c in
+      let small : N ≤ 65535 = omega (arith, D .fits, L .limit) in
+      let fits : N * (2 * n + 4) ≤ length t₀ = omega (arith, D .whole, L .table-room, mul-le-mul (D .fits) (le-refl (2 * n + 4))) in
+      let S = checks-sound t₀ w₀ n N c (D .some) small fits in
+      let known : (e g : ℕ) → e < N → g < n → getD t₀ (startOf n e + g) 0 ≡ 0 → ⊥ = λ e g he hg z.
+      omega (arith, S .stored .successor he hg, kept-cell K (startOf n e + g) e g (omega arith) refl) in
+      let same : (e : ℕ) → wordOf t n e ≡ run.words n t₀ e = λ e. trace-same (K .parent-same) (K .last-same) e e in
+      let m = relations-first S (L .few) o (orders-long o n right) (P .identity) in
+      let d = sound-derived D known in
+      record {
+        sound = S;
+        within-room = D .fits;
+        size-kept = K .size ∙ D .whole;
+        derived = record { derived = λ {e} {g} he hg. rw (K .step-same e hg, same e, same (stepOf t₀ n e g)) (d .derived he hg) };
+        all-related = m;
+        holds = relations-exact S (L .few) o (orders-long o n right) .0 m;
+        beyond = λ {i} h. K .other i (λ e he x. below-cells n N e he i h x) ∙ blank-beyond D i h;
+        work-zero = P .wiped ∙ ap (λ (k : ℕ). replicate k 0) (checks-work t₀ w₀ n N c ∙ work-long (P .finish));
+      }

@@ -1,0 +1,138 @@
+-- Demand 3: whatever the arguments, an enumeration that is accepted gives the group that the pair orders present.
+-- Assumes nothing.
+use Prim.Native.Nat.{ℕ, zero, suc, _+_, _*_, _≤_, _<_}
+use mathlib.Core.Path.{_≡_, refl, sym, ap, _∙_, subst}
+use mathlib.Core.Bool.{Bool, true, false}
+use mathlib.Core.List.{List, _++_}
+use native.Mathlib.Nat.{le-refl}
+use native.Mathlib.Omega.{arith}
+use borrow.Author.Tests.{ltb-false, leb-true}
+use lib.ListN.{length, replicate}
+use lib.Dec.{ltb, leb}
+use Rattle.egg.specs.declared.Refusal.{Refusal}
+use Rattle.egg.specs.declared.Factor.{Factor}
+use Rattle.egg.specs.declared.Made.{Made}
+use Rattle.egg.specs.declared.Verdict.{Verdict}
+use Rattle.egg.specs.declared.Verdict.the-variants as verdict
+use Rattle.egg.specs.declared.Counted.the-variants.{Count}
+use Rattle.egg.specs.Table.{pick, stepOf}
+use Rattle.egg.specs.Scan.{refusedOf}
+use Rattle.egg.specs.Pairs.{ordersRight}
+use Rattle.egg.specs.Factor.{hasRoom, stretch}
+use Rattle.egg.proofs.Orders.{orders-limits}
+use Rattle.egg.proofs.Rooms.{and-first, and-second, few, positive, limited}
+use Rattle.builder.specs.Lending.{tableNeed, workNeed, lentRight, within, noFactor, refusedMade, Making, making, lentBack}
+use Rattle.factor.specs.Questions.{composeAnswer}
+use Rattle.enumeration.specs.Calls.{enumeratedIn, refusedMaking, enumerates}
+use Rattle.theory.specs.Words.{Word}
+use Rattle.theory.proofs.Walking.{walk-closed}
+use Rattle.theory.proofs.Sound.{compose-words}
+use Rattle.theory.proofs.Presented.{presented}
+use Rattle.answers.specs.Accepted.{Accepted, reach}
+use Rattle.answers.proofs.Handles.{compose-answer}
+use Rattle.derived.specs.Recorded as run
+use Rattle.promises.specs.Enumerated.{Enumerated, Demand3}
+use Rattle.promises.proofs.Lent.{handle, lentTable, by-build, stretch-part, fits-still}
+use Rattle.promises.proofs.Derived.{Related, enumerated-related}
+
+-- A verdict that is a refusal is no acceptance.
+refused-making : {r : Refusal} {f f′ : Factor} {t t′ w w′ : List ℕ}
+    → making (record { answer = verdict.Refused r; factor = f }) t w ≡ making (record { answer = verdict.Fine; factor = f′ }) t′ w′ → ⊥
+refused-making {r} {f} {f′} h =
+    let m : _≡_ {A = Made} (record { answer = verdict.Refused r; factor = f }) (record { answer = verdict.Fine; factor = f′ }) = cc in
+    let a : verdict.Refused r ≡ verdict.Fine = ap (λ (x : Made). x .answer) m in
+    let z : _≡_ {A = ℕ} 0 1 = cc in
+    omega arith
+
+-- Where the call is accepted, 1 to 4 have passed.
+pub record Begun (table : List ℕ) (start : ℕ) (work orders : List ℕ) (n room : ℕ) (m : Making) : Type 0 where
+  pub generators : n ≤ 8
+  pub right : ordersRight orders n ≡ verdict.Fine
+  pub lent : lentRight (length table) start (length work) room n ≡ true
+  pub is : lentBack table start work n room (enumeratedIn (tableNeed n room) (workNeed n room) orders n room) ≡ m
+
+module _ (table : List ℕ) (start : ℕ) (work orders : List ℕ) (n room : ℕ) (f : Factor) (t w : List ℕ) where
+  abbrev pub accepted : Making
+  accepted = making (record { answer = verdict.Fine; factor = f }) t w
+
+  begun : enumerates table start work orders n room ≡ accepted → Begun table start work orders n room accepted
+  unfolding enumerates
+  begun h = first (ltb 8 n) refl h where
+    third : (v : Verdict) → ordersRight orders n ≡ v → ltb 8 n ≡ false → (b : Bool) → lentRight (length table) start (length work) room n ≡ b
+        → refusedMaking v table work (pick b (lentBack table start work n room (enumeratedIn (tableNeed n room) (workNeed n room) orders n room))
+        (making (refusedMade 4 0) table work)) ≡ accepted
+        → Begun table start work orders n room accepted
+    third verdict.Fine o g true l e = record { generators = ltb-false 8 n g; right = o; lent = l; is = e }
+    third verdict.Fine o g false l e = absurd (refused-making e)
+    third (verdict.Refused r) o g b l e = absurd (refused-making e)
+
+    first : (a : Bool) → ltb 8 n ≡ a
+        → pick a (making (refusedMade 1 n) table work)
+        (refusedMaking (ordersRight orders n) table work
+        (pick (lentRight (length table) start (length work) room n)
+        (lentBack table start work n room (enumeratedIn (tableNeed n room) (workNeed n room) orders n room))
+        (making (refusedMade 4 0) table work))) ≡ accepted
+        → Begun table start work orders n room accepted
+    first true g e = absurd (refused-making e)
+    first false g e = third (ordersRight orders n) refl g (lentRight (length table) start (length work) room n) refl e
+
+  module _ (B : Begun table start work orders n room accepted) where
+    has-room : hasRoom (length table) start room n ≡ true
+    unfolding lentRight
+    has-room = and-first _ (leb (workNeed n room) (length work)) (B .lent)
+
+    pub limits : run.Limits n orders room (tableNeed n room) (workNeed n room)
+    limits = record {
+      few = B .generators;
+      full = orders-limits orders n (B .right) .0;
+      orders = orders-limits orders n (B .right) .1;
+      some = positive (length table) start room n has-room;
+      limit = limited (length table) start room n has-room;
+      table-room = le-refl (tableNeed n room);
+      work-room = le-refl (workNeed n room);
+    }
+
+    module _ {N : ℕ} {s v : List ℕ} (R : Related orders n room (tableNeed n room) (workNeed n room) limits (B .right) N s v) where
+      part : stretch (lentTable table start n room s) (handle start n room N) ≡ s
+      part = stretch-part table start n room has-room s (R .size-kept) N
+
+      taken : Accepted (lentTable table start n room s) (handle start n room N)
+      taken = record {
+        fits = fits-still table start n room has-room s (R .size-kept) N (R .sound .table .origin) (R .within-room);
+        sound = rw part (R .sound);
+      }
+
+      demand : Demand3 orders (handle start n room N) (lentTable table start n room s)
+      demand = record {
+        presented = λ {u} {v} hu hv. rw part (presented (R .sound .table) (R .holds) (R .sound .spelled) (R .derived) hu hv);
+        joined = λ {u} {v} hu hv.
+            let A = taken in
+            let a = walk-closed (A .sound .table) (A .sound .table .origin) hu in
+            let b = walk-closed (A .sound .table) (A .sound .table .origin) hv in
+            compose-answer A a b ∙ ap reach (compose-words (A .sound .table) (A .sound .spelled) (A .sound .check) hu hv);
+      }
+
+      related-enumerated : Enumerated table start work orders n room (handle start n room N) (lentTable table start n room s) (within work 0 (workNeed n room) v)
+      related-enumerated = record {
+        handle = refl;
+        accepted = taken;
+        demand-3 = demand;
+        holds = rw part (R .holds);
+        all-related = rw part (R .all-related);
+        beyond = λ {i} h. rw part (R .beyond h);
+        table-kept = rw part;
+        work-zero = rw (R .work-zero);
+      }
+
+  at : {f′ : Factor} {t′ w′ : List ℕ} → f ≡ f′ → t ≡ t′ → w ≡ w′ → Enumerated table start work orders n room f′ t′ w′
+      → Enumerated table start work orders n room f t w
+  at a b c E = rw (a, b, c) E
+
+  -- For any pair orders whose enumeration is accepted.
+  pub enumeration-accepted : enumerates table start work orders n room ≡ making (record { answer = verdict.Fine; factor = f }) t w
+      → Enumerated table start work orders n room f t w
+  enumeration-accepted h =
+      let B = begun h in
+      let b = by-build table start work n room (enumeratedIn (tableNeed n room) (workNeed n room) orders n room) (B .is) in
+      let R = enumerated-related orders n room (tableNeed n room) (workNeed n room) (limits B) (B .right) (b .3 .0) in
+      at (b .3 .1 .0) (b .3 .1 .1 .0) (b .3 .1 .1 .1) (related-enumerated B R)

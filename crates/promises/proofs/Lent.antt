@@ -1,0 +1,67 @@
+-- What a call lends and gets back: a stretch of the table buffer and one of the work. What holds of the build in its stretches holds of the call.
+-- Assumes nothing.
+use Prim.Native.Nat.{ℕ, _+_, _*_, _≤_}
+use mathlib.Core.Path.{_≡_, refl, sym, ap, _∙_}
+use mathlib.Core.Bool.{true}
+use mathlib.Core.List.{List, _++_}
+use native.Mathlib.Omega.{arith}
+use borrow.Author.Tests.{le-leb}
+use lib.ListN.{length, take, drop, length-append, length-drop}
+use lib.Seq.{length-take-le, take-at, drop-at}
+use Rattle.egg.specs.declared.Refusal.{Refusal}
+use Rattle.egg.specs.declared.Factor.{Factor}
+use Rattle.egg.specs.declared.Made.{Made}
+use Rattle.egg.specs.declared.Verdict.the-variants as verdict
+use Rattle.egg.specs.declared.Counted.the-variants.{Count, Refused}
+use Rattle.egg.specs.Factor.{hasRoom, fitsIn, stretch}
+use Rattle.egg.proofs.Rooms.{within-length}
+use Rattle.builder.specs.Finish.{Built, built}
+use Rattle.builder.specs.Lending.{tableNeed, workNeed, within, madeOf, Making, making, lentBack}
+
+-- A list with a part of itself replaced by one as long: its length, and the part.
+module _ (l : List ℕ) (a k : ℕ) (fits : a + k ≤ length l) (p : List ℕ) (size : length p ≡ k) where
+  pub within-long : length (within l a (a + k) p) ≡ length l
+  unfolding within
+  within-long = simp (length-append, length-drop, length-take-le a l (omega arith)) (omega arith)
+
+  pub within-part : take k (drop a (within l a (a + k) p)) ≡ p
+  unfolding within
+  within-part =
+      rw (drop-at (take a l) (p ++ drop (a + k) l) a (length-take-le a l (omega arith))) (take-at p (drop (a + k) l) k size)
+
+abbrev pub handle : ℕ → ℕ → ℕ → ℕ → Factor
+handle start n room N = record { start = start; room = room; generators = n; elements = N }
+
+abbrev pub lentTable : List ℕ → ℕ → ℕ → ℕ → List ℕ → List ℕ
+lentTable table start n room s = within table start (start + tableNeed n room) s
+
+module _ (table : List ℕ) (start n room : ℕ) (has : hasRoom (length table) start room n ≡ true) (s : List ℕ) (size : length s ≡ tableNeed n room) (N : ℕ) where
+  end-fits : start + tableNeed n room ≤ length table
+  end-fits = within-length (length table) start room n has
+
+  pub stretch-part : stretch (lentTable table start n room s) (handle start n room N) ≡ s
+  unfolding stretch
+  stretch-part = within-part table start (tableNeed n room) end-fits s size
+
+  pub fits-still : 1 ≤ N → N ≤ room → fitsIn (length (lentTable table start n room s)) (handle start n room N) ≡ true
+  unfolding fitsIn
+  fits-still one most = rw (within-long table start (tableNeed n room) end-fits s size) (simp (le-leb _ _ one, le-leb _ _ most, has))
+
+module _ (table : List ℕ) (start : ℕ) (work : List ℕ) (n room : ℕ) where
+  -- An accepted call is an accepted build.
+  pub by-build : (b : Built) {f : Factor} {t w : List ℕ}
+      → lentBack table start work n room b ≡ making (record { answer = verdict.Fine; factor = f }) t w
+      → (N : ℕ) × (s : List ℕ) × (v : List ℕ)
+      × ((b ≡ built (Count N) s v) × ((f ≡ handle start n room N)
+      × ((t ≡ within table start (start + tableNeed n room) s) × (w ≡ within work 0 (workNeed n room) v))))
+  by-build (built (Count N) s v) {f} q =
+      let m : madeOf start room n (Count N) ≡ record { answer = verdict.Fine; factor = f } = cc in
+      (N, s, v, (refl, (sym (ap (λ (x : Made). x .factor) m), (cc, cc))))
+  by-build (built (Refused r) s v) {f} {t} {w} q = absurd (never q) where
+    never : making (madeOf start room n (Refused r)) (within table start (start + tableNeed n room) s) (within work 0 (workNeed n room) v)
+        ≡ making (record { answer = verdict.Fine; factor = f }) t w → ⊥
+    never h =
+        let m : madeOf start room n (Refused r) ≡ record { answer = verdict.Fine; factor = f } = cc in
+        let a : verdict.Refused r ≡ verdict.Fine = ap (λ (x : Made). x .answer) m in
+        let z : _≡_ {A = ℕ} 0 1 = cc in
+        omega arith

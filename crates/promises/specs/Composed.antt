@@ -1,0 +1,42 @@
+-- Demand 2 for composed rows: what is accepted, and what an accepted call gives.
+-- Assumes nothing.
+use Prim.Native.Nat.{ℕ, _+_, _*_, _≤_, _<_}
+use mathlib.Core.Path.{_≡_}
+use mathlib.Core.List.{List}
+use lib.ListN.{length, getD, replicate}
+use Rattle.egg.specs.declared.Factor.{Factor}
+use Rattle.egg.specs.Table.{stepOf}
+use Rattle.egg.specs.Factor.{stretch}
+use Rattle.builder.specs.Lending.{tableNeed, workNeed, within}
+use Rattle.factor.specs.Composed.{composedAt}
+use Rattle.theory.specs.Numbering.{IdentityRow}
+use Rattle.theory.specs.AnyGroup.{SomeGroup}
+use Rattle.meaning.specs.Sound.{Sound}
+use Rattle.numbering.specs.Read.{Readable}
+use Rattle.answers.specs.Accepted.{Accepted, factorStep}
+
+-- What is accepted: numbers that follow the numbering rule with N elements within the room and no recorded word over 4,096 (`Readable`), with identity
+-- row 1..n, and that are the right steps of some group, whatever its carrier.
+pub record Taken (src : ℕ → ℕ → ℕ) (n room N : ℕ) : Type 1 where
+  pub readable : Readable src n room N
+  pub identity-row : IdentityRow n src
+  pub group : SomeGroup n N src
+
+-- What a stretch of that size holds after acceptance: a sound table, whose steps are the rows', and zeros beyond its last row.
+pub record Holding (src : ℕ → ℕ → ℕ) (n room size N : ℕ) (t : List ℕ) : Type 1 where
+  pub taken : Taken src n room N
+  pub sound : Sound t n N
+  pub size-kept : length t ≡ size
+  pub steps : {e g : ℕ} → e < N → g < n → stepOf t n e g ≡ src e g
+  pub beyond : {i : ℕ} → N * (2 * n + 4) ≤ i → getD t i 0 ≡ 0
+
+-- What an accepted call gives: the handle of the given stretch with so many elements as were taken; a factor that is accepted, whose steps are the rows';
+-- zeros in its rows beyond the last element and in the needed work; and everything else in both buffers as it was.
+pub record Given (table : List ℕ) (start : ℕ) (work rows : List ℕ) (n room : ℕ) (f : Factor) (t w : List ℕ) : Type 1 where
+  pub handle : f ≡ record { start = start; room = room; generators = n; elements = f .elements }
+  pub taken : Taken (composedAt rows n) n room (f .elements)
+  pub accepted : Accepted t f
+  pub steps : {e g : ℕ} → e < f .elements → g < n → factorStep t f e g ≡ composedAt rows n e g
+  pub beyond : {i : ℕ} → f .elements * (2 * n + 4) ≤ i → getD (stretch t f) i 0 ≡ 0
+  pub table-kept : t ≡ within table start (start + tableNeed n room) (stretch t f)
+  pub work-zero : w ≡ within work 0 (workNeed n room) (replicate (workNeed n room) 0)

@@ -1,0 +1,21 @@
+use Rattle.rows.specs.Rows.{filled}
+use borrow.Author.Needs.{needs}
+use Rattle.rows.proofs.inner.fill.Statement.{statement}
+use Rattle.rows.proofs.inner.fill.Tie as tie
+use Rattle.rows.proofs.inner.fill.Reads as reads
+use Rattle.rows.proofs.inner.fill.Lts as lts
+use Rattle.rows.proofs.inner.back.Reads as back-reads
+use Rattle.rows.proofs.inner.forward.Reads as forward-reads
+
+back-requires : tie.Need-back-requires
+back-requires c κs = search needs
+
+forward-requires : tie.Need-forward-requires
+forward-requires c κs = search needs
+
+returns : tie.Need-returns
+unfolding filled
+returns c = cc
+
+pub fill-spec : {M : Type 1} → statement M
+fill-spec = tie.close (tie.spec back-requires forward-requires returns)
