@@ -16,7 +16,7 @@ use Rattle.rows.specs.Rows.{workWidth, genOf, readRow, writeRow, filled, linkAt
 use Rattle.enumeration.specs.Facts.{State, state, belowAt, gives, woken, wakes, wakesAll, emptied, updated, settleFrom}
 use Rattle.derived.specs.Invariant.{RowOk, Spot, Copy, Link, WorkOk, StateOk}
 use Rattle.derived.specs.Stack.{free, Absent, Stack, bottom, above, Six, Piled}
-use Rattle.derived.proofs.Cells.{put-other}
+use Rattle.egg.proofs.Cells.{put-other}
 use Rattle.derived.proofs.Spots.{spot-once, row-spot}
 use Rattle.derived.proofs.Rowing.{filled-ok, met}
 use Rattle.derived.proofs.Storing.{write-other, work-write}

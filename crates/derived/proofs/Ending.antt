@@ -20,7 +20,7 @@ use Rattle.enumeration.specs.declared.inner.Ran.{Ran}
 use Rattle.enumeration.specs.declared.inner.Ran.the-variants as ran
 use Rattle.derived.specs.Recorded.{Limits}
 use Rattle.derived.specs.Invariant.{RunOk}
-use Rattle.derived.proofs.Cells.{inside}
+use Rattle.egg.proofs.Cells.{inside}
 use Rattle.derived.proofs.Visiting.{place, next}
 use Rattle.derived.proofs.Running.{Counts, visits-ok, first-ok}
 

@@ -16,7 +16,8 @@ use Rattle.egg.specs.Table.{pick, putAt, startOf, parentOf, lastOf}
 use Rattle.builder.specs.Build.{setStep, setWord}
 use Rattle.rows.specs.declared.inner.RelationTableRow.{RelationTableRow}
 use Rattle.derived.specs.Invariant.{Step, Marked, Worded, TableOk, RowOk, WorkOk}
-use Rattle.derived.proofs.Cells.{inside, put-same, put-other, put-length, put-keeps}
+use Rattle.egg.proofs.Cells.{inside, put-same, put-other, put-length}
+use Rattle.derived.proofs.Cells.{put-keeps}
 use Rattle.derived.proofs.Rowing.{step-back}
 use Rattle.derived.proofs.Marking.{row-is, cell-is, set-ok}
 

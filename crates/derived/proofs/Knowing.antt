@@ -12,7 +12,8 @@ use Rattle.egg.specs.declared.GeneratorId.{GeneratorId}
 use Rattle.egg.specs.Table.{putAt, startOf, succAt, predAt, parentOf, lastOf}
 use Rattle.builder.specs.Build.{setStep}
 use Rattle.derived.specs.Invariant.{Known, Made, TableOk}
-use Rattle.derived.proofs.Cells.{inside, put-same, put-keeps}
+use Rattle.egg.proofs.Cells.{inside, put-same}
+use Rattle.derived.proofs.Cells.{put-keeps}
 use Rattle.derived.proofs.Marking.{set-parent, set-last}
 use Rattle.derived.proofs.Growing.{written, parent-old, last-old, parent-new, last-new, other-row, word-length}
 

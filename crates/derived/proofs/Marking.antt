@@ -10,7 +10,8 @@ use Rattle.egg.specs.declared.GeneratorId.{GeneratorId}
 use Rattle.egg.specs.Table.{putAt, startOf, succAt, predAt, parentOf, lastOf}
 use Rattle.builder.specs.Build.{setStep}
 use Rattle.derived.specs.Invariant.{Step, Marked, Worded, TableOk}
-use Rattle.derived.proofs.Cells.{same-row, same-cell, put-other, put-length, put-keeps}
+use Rattle.egg.proofs.Cells.{same-row, same-cell, put-other, put-length}
+use Rattle.derived.proofs.Cells.{put-keeps}
 
 -- Cell k of row e is the cell of no other row and number.
 module _ (n e e′ k k′ : ℕ) (hk : k < 2 * n + 4) (hk′ : k′ < 2 * n + 4) (q : startOf n e + k ≡ startOf n e′ + k′) where

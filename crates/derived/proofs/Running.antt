@@ -27,7 +27,7 @@ use Rattle.enumeration.specs.declared.inner.Ran.{Ran}
 use Rattle.enumeration.specs.declared.inner.Ran.the-variants as ran
 use Rattle.derived.specs.Recorded.{Limits}
 use Rattle.derived.specs.Invariant.{TableOk, Working, Link, FactLink, Holds, StateOk, RunOk}
-use Rattle.derived.proofs.Cells.{inside, put-length}
+use Rattle.egg.proofs.Cells.{inside, put-length}
 use Rattle.derived.proofs.Visiting.{next}
 use Rattle.derived.proofs.Storing.{work-put}
 use Rattle.derived.proofs.Waiting.{place-spot, added-rows-ok, added-rows-length}

@@ -20,7 +20,7 @@ use Rattle.enumeration.specs.Run.{discovered}
 use Rattle.derived.specs.Recorded.{Limits}
 use Rattle.derived.specs.Invariant.{RunOk}
 use Rattle.derived.specs.Stack.{Fact, bottom, above, Piled}
-use Rattle.derived.proofs.Cells.{inside, put-same}
+use Rattle.egg.proofs.Cells.{inside, put-same}
 use Rattle.derived.proofs.Spots.{place-link, width-parts}
 use Rattle.derived.proofs.Waiting.{added-rows-length}
 use Rattle.derived.proofs.Growing.{written, word-length}

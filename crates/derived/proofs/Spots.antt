@@ -9,7 +9,7 @@ use Rattle.egg.specs.declared.GeneratorId.{GeneratorId}
 use Rattle.rows.specs.Rows.{workWidth, placeAt}
 use Rattle.enumeration.specs.Facts.{link}
 use Rattle.derived.specs.Invariant.{Spot, in-place, in-copy, Copy}
-use Rattle.derived.proofs.Cells.{same-cell}
+use Rattle.egg.proofs.Cells.{same-cell}
 
 pub width-parts : (n : ℕ) → 10 * n + 6 * (n * (n - 1)) ≡ workWidth n
 unfolding workWidth

@@ -21,7 +21,7 @@ use Rattle.rows.specs.Rows.{workWidth, placeAt}
 use Rattle.enumeration.specs.Facts.{State, state, link, belowAt, learns}
 use Rattle.derived.specs.Invariant.{Known, Spot, in-place}
 use Rattle.derived.specs.Stack.{free, Fact, Absent, Stack, bottom, above, Six, Piled}
-use Rattle.derived.proofs.Cells.{inside, same-row, same-cell, put-same, put-other}
+use Rattle.egg.proofs.Cells.{inside, same-row, same-cell, put-same, put-other}
 use Rattle.derived.proofs.Spots.{place-inside, place-link, link-small}
 use Rattle.derived.proofs.Knowing.{set-more, set-known}
 

@@ -11,7 +11,8 @@ use Rattle.egg.specs.Table.{putAt}
 use Rattle.rows.specs.declared.inner.RelationTableRow.{RelationTableRow}
 use Rattle.rows.specs.Rows.{readRow, writeRow}
 use Rattle.derived.specs.Invariant.{RowOk, Spot, Copy, Link, Holds, CellsOk, WorkOk}
-use Rattle.derived.proofs.Cells.{put-same, put-other, put-length, put-keeps}
+use Rattle.egg.proofs.Cells.{put-same, put-other, put-length}
+use Rattle.derived.proofs.Cells.{put-keeps}
 use Rattle.derived.proofs.Spots.{spot-once, row-spot, copy-once}
 
 -- A store of what a cell of that kind may hold.

@@ -22,7 +22,7 @@ use Rattle.enumeration.specs.Run.{discovered, Visit, visit, onReached, visits, 
 use Rattle.enumeration.specs.declared.inner.Run.{Run}
 use Rattle.enumeration.specs.declared.inner.Ran.{Ran}
 use Rattle.enumeration.specs.declared.inner.Ran.the-variants as ran
-use Rattle.derived.proofs.Cells.{inside}
+use Rattle.egg.proofs.Cells.{inside}
 
 abbrev pub IsDone : Ran → Type 0
 IsDone (ran.Done c) = Unit {0}

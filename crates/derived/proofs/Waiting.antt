@@ -18,7 +18,7 @@ use Rattle.rows.specs.declared.inner.SideOfGap.the-variants.{Left, Right}
 use Rattle.egg.specs.Pairs.{pairCode}
 use Rattle.rows.specs.Rows.{workWidth, placeAt, rowsAt, genOf, linkAt, appended, listAt, waits, addedRow, addRowsFrom}
 use Rattle.derived.specs.Invariant.{RowOk, Spot, in-place, Copy, Link, Holds, WorkOk, Working}
-use Rattle.derived.proofs.Cells.{put-length, inside}
+use Rattle.egg.proofs.Cells.{put-length, inside}
 use Rattle.derived.proofs.Spots.{row-spot, copy-inside}
 use Rattle.derived.proofs.Rowing.{new-row-ok}
 use Rattle.derived.proofs.Storing.{work-put, write-length, work-write}

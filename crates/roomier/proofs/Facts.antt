@@ -18,7 +18,7 @@ use Rattle.rows.specs.declared.inner.SideOfGap.the-variants.{Left, Right}
 use Rattle.rows.specs.Rows.{workWidth, placeAt, genOf, readRow, filled, waits}
 use Rattle.enumeration.specs.Facts.{State, state, link, belowAt, learns, gives, woken, wakes, wakesAll, emptied, updated, settleFrom}
 use Rattle.derived.specs.Invariant.{RowOk, Link, FactLink, StateOk}
-use Rattle.derived.proofs.Cells.{inside}
+use Rattle.egg.proofs.Cells.{inside}
 use Rattle.derived.proofs.Spots.{row-spot}
 use Rattle.derived.proofs.Rowing.{filled-ok, met}
 use Rattle.derived.proofs.Stacking.{place-within}

@@ -11,7 +11,7 @@ use Rattle.rows.specs.declared.inner.SideOfGap.{SideOfGap}
 use Rattle.rows.specs.declared.inner.SideOfGap.the-variants.{Left, Right}
 use Rattle.rows.specs.Rows.{workWidth, placeAt, readRow, writeRow, backFrom, forwardFrom, filled, linkAt, appended, listAt, waits}
 use Rattle.derived.specs.Invariant.{RowOk, Copy, Link, WorkOk}
-use Rattle.derived.proofs.Cells.{inside}
+use Rattle.egg.proofs.Cells.{inside}
 use Rattle.derived.proofs.Spots.{place-inside}
 use Rattle.derived.proofs.Storing.{work-write}
 use Rattle.derived.proofs.Waiting.{Threads, list-of}

@@ -8,7 +8,7 @@ use lib.ListN.{getD, length, set, replicate, length-append, length-replicate, re
 use lib.Seq.{set-append-left, set-getD}
 use lib.Dec.{ltb}
 use Rattle.egg.specs.Table.{pick, putAt}
-use Rattle.derived.proofs.Cells.{put-length}
+use Rattle.egg.proofs.Cells.{put-length}
 use Rattle.derived.proofs.Running.{zeros}
 use Rattle.roomier.specs.Longer.{longer, Long}
 
