@@ -1,7 +1,6 @@
 -- How long a text can be: ten digits a number, so that every listing ends far below what a usize can name.
 -- Assumes nothing.
 use Prim.Native.Nat.{ℕ, zero, suc, _+_, _*_, _/_, _%_, _≤_, _<_, zero-le}
-use mathlib.Core.Path.{_≡_, refl, sym, ap, _∙_}
 use mathlib.Core.Bool.{Bool, true, false}
 use mathlib.Core.List.{List, [], _∷_, _++_}
 use native.Mathlib.Nat.{mul-le-mul}
@@ -9,7 +8,7 @@ use native.Mathlib.Omega.{arith}
 use lib.ListN.{length, length-append}
 use lib.Dec.{ltb}
 use Rattle.egg.specs.Table.{pick, lengthOf, inverseOf, stepOf}
-use Rattle.page.specs.Text.{Ends, digits, decimal, spaced, stepsText, lineText, linesText, groupText, refusedText}
+use Rattle.page.specs.Text.{Ends, digits, stepsText, lineText, linesText, groupText, refusedText}
 
 digits-length : (k x : ℕ) → length (digits k x) ≤ k
 unfolding digits

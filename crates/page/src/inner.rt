@@ -5,8 +5,8 @@ ghost use Prim.Native.Nat.{_+_, _<_, _≤_};
 ghost use mathlib.Core.List.{[], _∷_};
 ghost use lib.ListN.{length, getD, take, replicate};
 ghost use Rattle.egg.specs.Pairs.{ordersRight};
-ghost use Rattle.page.specs.Listing.{orderIn, ordersIn, pageBy, rightPage, listingOf};
 ghost use Rattle.egg.specs.Table.{inverseOf, lengthOf};
+ghost use Rattle.page.specs.Listing.{orderIn, ordersIn, pageBy, rightPage, listingOf};
 ghost use Rattle.page.specs.Text.{
   Writes,
   Ends,
@@ -22,6 +22,7 @@ ghost use Rattle.page.specs.Text.{
 use egg::GroupElementId;
 use egg::Verdict;
 
+// The byte at `at`, where the buffer has that place.
 pub fn put_byte(out: &mut [u8], at: usize, b: u8) -> usize
     requires { ⌜ Ends at (b ∷ []) ⌝ }
     ensures { λ r. ⌜ Writes (now (out .entry)) at (b ∷ []) (now (out .exit)) r ⌝ }
@@ -53,7 +54,7 @@ pub fn digit(x: u32) -> u8
     48 + (x as u8)
 }
 
-// The last k digits of x, without leading zeros.
+// The last k digits of x; no zero leads where k are enough.
 pub fn write_digits(out: &mut [u8], at: usize, k: u8, x: u32) -> usize
     requires { ⌜ Ends at (digits k x) ⌝ }
     ensures { λ r. ⌜ Writes (now (out .entry)) at (digits k x) (now (out .exit)) r ⌝ }
@@ -98,6 +99,7 @@ pub fn write_steps(out: &mut [u8], at: usize, t: &[u32], n: u8, e: u32) -> usize
     next
 }
 
+// The two numbers of a line that the table holds as they are.
 pub fn inverse(t: &[u32], n: u8, e: u32) -> u32
     ensures { λ r. ⌜ r ≡ inverseOf (now (t .entry)) n e ⌝ }
 {
@@ -122,6 +124,7 @@ pub fn write_line(out: &mut [u8], at: usize, t: &[u32], n: u8, e: u32) -> usize
     put_byte(out, d, b'\n')
 }
 
+// The lines of all elements.
 pub fn write_lines(out: &mut [u8], at: usize, t: &[u32], n: u8, count: u32) -> usize
     requires { ⌜ Ends at (linesText count (now t) n 0) ⌝ }
     ensures { λ r. ⌜ Writes (now (out .entry)) at (linesText count (now (t .entry)) n 0) (now (out .exit)) r ⌝ }
@@ -135,6 +138,7 @@ pub fn write_lines(out: &mut [u8], at: usize, t: &[u32], n: u8, count: u32) -> u
     next
 }
 
+// The head, "generators, elements", and the lines.
 pub fn write_group(out: &mut [u8], at: usize, t: &[u32], n: u8, count: u32) -> usize
     requires { ⌜ Ends at (groupText (now t) n count) ⌝ }
     ensures { λ r. ⌜ Writes (now (out .entry)) at (groupText (now (t .entry)) n count) (now (out .exit)) r ⌝ }
@@ -146,6 +150,7 @@ pub fn write_group(out: &mut [u8], at: usize, t: &[u32], n: u8, count: u32) -> u
     write_lines(out, d, t, n, count)
 }
 
+// "`refused` and its number"
 pub fn write_refused(out: &mut [u8], at: usize, number: u32) -> usize
     requires { ⌜ Ends at (refusedText number) ⌝ }
     ensures { λ r. ⌜ Writes (now (out .entry)) at (refusedText number) (now (out .exit)) r ⌝ }
