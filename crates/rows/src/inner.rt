@@ -6,6 +6,7 @@ ghost use mathlib.Core.Path.{_≡_};
 ghost use Prim.Native.Nat.{_+_, _*_, _<_, _≤_};
 ghost use Rattle.egg.specs.Table.{Place};
 ghost use Rattle.rows.specs.Rows.{workWidth, placeAt, rowsAt, genOf, readRow, writeRow, backed, forwarded, filled, linkAt, appended, listAt, waits, addedRow, addedRows, Orders};
+ghost use Rattle.rows.specs.Walk.{walkFrom, onward, onwardLeft};
 use egg::GeneratorId;
 use egg::GroupElementId;
 
@@ -17,6 +18,20 @@ pub struct RelationTableRow {
     pub right: u32,
     pub from: GroupElementId,
     pub to: GroupElementId,
+}
+
+// An end of a row on its way: the element where it stands, and the steps that it has left.
+pub struct Walked {
+    pub element: u32,
+    pub left: u32,
+}
+
+// A part of a walk: where it ends, whether there is more of the walk, and how many numbers on its last two steps led.
+pub struct Leg {
+    pub element: u32,
+    pub left: u32,
+    pub more: bool,
+    pub jump: u32,
 }
 
 // The side of its gap on which a copy of a row waits.
@@ -66,10 +81,22 @@ pub fn beside(pair: u32, index: u32) -> GeneratorId
     generator(pair, index % 2 + 1)
 }
 
+// One test for the whole row, on the way that every run takes.
 pub fn read_row(w: &[u32], at: usize) -> RelationTableRow
     requires { ⌜ at < 36028797018963968 ⌝ }
     ensures { λ r. ⌜ r ≡ readRow (now (w .entry)) at ⌝ }
 {
+    if at + 5 < w.len() {
+        let from = GroupElementId(w[at + 3]);
+        let to = GroupElementId(w[at + 4]);
+        return RelationTableRow {
+            pair: w[at],
+            left: w[at + 1],
+            right: w[at + 2],
+            from,
+            to,
+        };
+    }
     RelationTableRow {
         pair: egg::inner::get(w, at),
         left: egg::inner::get(w, at + 1),
@@ -95,59 +122,108 @@ pub fn write_row(w: &mut [u32], at: usize, row: RelationTableRow)
     egg::inner::put(w, at + 4, to as usize);
 }
 
-// 000, fill, its first loop: the right end goes back as far as it can. The generators of the pair take turns, so a turn of
-// the loop is two steps.
+// Walks on from an element along two columns of the table's rows in turn, at most `steps` steps, as long as two steps lead
+// `jump` numbers on. The guess costs a test, and lets a processor read on before the cell that it waits for has come.
+pub fn walk_leg(
+    t: &[u32],
+    n: u8,
+    here: usize,
+    there: usize,
+    element: u32,
+    steps: u32,
+    jump: u32,
+) -> Leg
+    requires { ⌜ (here < 4294967296) × (there < 4294967296) ⌝ }
+    ensures { λ r. ⌜ (onward (now (t .entry)) n here there r ≡ walkFrom steps (now (t .entry)) n element here there) × (onwardLeft r ≤ steps) ⌝ }
+{
+    let mut e = element;
+    let mut left = steps;
+    while left != 0 {
+        let guess = std::num::wrapping_add_u32(e, jump);
+        let x = egg::inner::get(t, egg::inner::start(n, GroupElementId(e)) + here);
+        if x == 0 {
+            return Leg {
+                element: e,
+                left,
+                more: false,
+                jump,
+            };
+        }
+        left -= 1;
+        if left == 0 {
+            return Leg {
+                element: x - 1,
+                left,
+                more: false,
+                jump,
+            };
+        }
+        let y = egg::inner::get(t, egg::inner::start(n, GroupElementId(x - 1)) + there);
+        if y == 0 {
+            return Leg {
+                element: x - 1,
+                left,
+                more: false,
+                jump,
+            };
+        }
+        left -= 1;
+        if guess != y - 1 {
+            return Leg {
+                element: y - 1,
+                left,
+                more: true,
+                jump: std::num::wrapping_sub_u32(y - 1, e),
+            };
+        }
+        e = guess;
+    }
+    Leg {
+        element: e,
+        left,
+        more: false,
+        jump,
+    }
+}
+
+// A whole walk, leg by leg; round a long relation a leg has even jumps.
+pub fn walk(t: &[u32], n: u8, here: usize, there: usize, element: u32, steps: u32) -> Walked
+    requires { ⌜ (here < 4294967296) × (there < 4294967296) ⌝ }
+    ensures { λ r. ⌜ r ≡ walkFrom steps (now (t .entry)) n element here there ⌝ }
+{
+    let mut e = element;
+    let mut left = steps;
+    let mut jump = 0;
+    let mut more = true;
+    while more {
+        let leg = walk_leg(t, n, here, there, e, left, jump);
+        e = leg.element;
+        left = leg.left;
+        jump = leg.jump;
+        more = leg.more;
+    }
+    Walked { element: e, left }
+}
+
+// 000, fill, its first loop: the right end goes back as far as it can.
 pub fn back(t: &[u32], n: u8, row: RelationTableRow) -> RelationTableRow
     ensures { λ r. ⌜ r ≡ backed (now (t .entry)) n row ⌝ }
 {
-    let pair = row.pair;
-    let left = row.left;
-    let from = row.from;
-    let mut right = row.right;
-    let mut to = row.to;
-    let due = generator(pair, right);
-    let next = beside(pair, right);
-    while left < right {
-        let x = egg::inner::get(t, egg::inner::predecessor_at(n, to, due));
-        if x == 0 {
-            return RelationTableRow {
-                pair,
-                left,
-                right,
-                from,
-                to,
-            };
-        }
-        right -= 1;
-        to = GroupElementId(x - 1);
-        if left >= right {
-            return RelationTableRow {
-                pair,
-                left,
-                right,
-                from,
-                to,
-            };
-        }
-        let y = egg::inner::get(t, egg::inner::predecessor_at(n, to, next));
-        if y == 0 {
-            return RelationTableRow {
-                pair,
-                left,
-                right,
-                from,
-                to,
-            };
-        }
-        right -= 1;
-        to = GroupElementId(y - 1);
+    if row.right <= row.left {
+        return row;
     }
+    let due = generator(row.pair, row.right).0;
+    let next = beside(row.pair, row.right).0;
+    let here = (n as usize) + (due as usize);
+    let there = (n as usize) + (next as usize);
+    let end = walk(t, n, here, there, row.to.0, row.right - row.left);
+    let from = row.from;
     RelationTableRow {
-        pair,
-        left,
-        right,
+        pair: row.pair,
+        left: row.left,
+        right: row.left + end.left,
         from,
-        to,
+        to: GroupElementId(end.element),
     }
 }
 
@@ -155,53 +231,25 @@ pub fn back(t: &[u32], n: u8, row: RelationTableRow) -> RelationTableRow
 pub fn forward(t: &[u32], n: u8, row: RelationTableRow) -> RelationTableRow
     ensures { λ r. ⌜ r ≡ forwarded (now (t .entry)) n row ⌝ }
 {
-    let pair = row.pair;
-    let right = row.right;
-    let to = row.to;
-    let mut left = row.left;
-    let mut from = row.from;
-    let due = generator(pair, left);
-    let next = beside(pair, left);
-    while left < right {
-        let x = egg::inner::get(t, egg::inner::successor_at(n, from, due));
-        if x == 0 {
-            return RelationTableRow {
-                pair,
-                left,
-                right,
-                from,
-                to,
-            };
-        }
-        left += 1;
-        from = GroupElementId(x - 1);
-        if left >= right {
-            return RelationTableRow {
-                pair,
-                left,
-                right,
-                from,
-                to,
-            };
-        }
-        let y = egg::inner::get(t, egg::inner::successor_at(n, from, next));
-        if y == 0 {
-            return RelationTableRow {
-                pair,
-                left,
-                right,
-                from,
-                to,
-            };
-        }
-        left += 1;
-        from = GroupElementId(y - 1);
+    if row.right <= row.left {
+        return row;
     }
+    let due = generator(row.pair, row.left).0;
+    let next = beside(row.pair, row.left).0;
+    let end = walk(
+        t,
+        n,
+        due as usize,
+        next as usize,
+        row.from.0,
+        row.right - row.left,
+    );
+    let to = row.to;
     RelationTableRow {
-        pair,
-        left,
-        right,
-        from,
+        pair: row.pair,
+        left: row.right - end.left,
+        right: row.right,
+        from: GroupElementId(end.element),
         to,
     }
 }
@@ -268,8 +316,10 @@ pub fn add_row(w: &mut [u32], n: u8, e: GroupElementId, at: usize, pair: u32, or
         from: e,
         to: e,
     };
-    wait(w, n, at, row, SideOfGap::Left);
-    wait(w, n, at + 6, row, SideOfGap::Right);
+    write_row(w, at, row);
+    append(w, list_at(n, row, SideOfGap::Left), at);
+    write_row(w, at + 6, row);
+    append(w, list_at(n, row, SideOfGap::Right), at + 6);
 }
 
 // A row for each pair, at a new element.

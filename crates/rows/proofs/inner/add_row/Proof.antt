@@ -1,10 +1,12 @@
-use Rattle.rows.specs.Rows.{addedRow}
+use Rattle.rows.specs.Rows.{waits, addedRow}
 use borrow.Author.Needs.{needs}
 use Rattle.rows.proofs.inner.add_row.Statement.{statement}
 use Rattle.rows.proofs.inner.add_row.Tie as tie
 use Rattle.rows.proofs.inner.add_row.Reads as reads
 use Rattle.rows.proofs.inner.add_row.Lts as lts
-use Rattle.rows.proofs.inner.wait.Reads as wait-reads
+use Rattle.rows.proofs.inner.append.Reads as append-reads
+use Rattle.rows.proofs.inner.list_at.Reads as list-at-reads
+use Rattle.rows.proofs.inner.write_row.Reads as write-row-reads
 
 mul-t8 : tie.Need-mul-t8
 mul-t8 c = search needs
@@ -12,22 +14,50 @@ mul-t8 c = search needs
 sub-t9 : tie.Need-sub-t9
 sub-t9 c = search needs
 
-wait-requires : tie.Need-wait-requires
-wait-requires c κs = search needs
+write-row-requires : tie.Need-write-row-requires
+write-row-requires c κs = search needs
 
-add-wait : tie.Need-add-wait
-add-wait c = search needs
+list-at-requires : tie.Need-list-at-requires
+list-at-requires c κs = search needs
 
-wait-requires-2 : tie.Need-wait-requires-2
-wait-requires-2 c κs = search needs
+append-requires : tie.Need-append-requires
+append-requires c κs = search needs
+
+add-write-row : tie.Need-add-write-row
+add-write-row c = search needs
+
+write-row-requires-2 : tie.Need-write-row-requires-2
+write-row-requires-2 c κs = search needs
+
+list-at-requires-2 : tie.Need-list-at-requires-2
+list-at-requires-2 c κs = search needs
+
+add-append : tie.Need-add-append
+add-append c = search needs
+
+append-requires-2 : tie.Need-append-requires-2
+append-requires-2 c κs = search needs
 
 same-length : tie.Need-same-length
 same-length c = search needs
 
 returns : tie.Need-returns
-unfolding addedRow
+unfolding waits addedRow
 returns c = cc
 
 pub add-row-spec : {M : Type 1} → statement M
 add-row-spec =
-    tie.close (tie.spec mul-t8 sub-t9 wait-requires add-wait wait-requires-2 same-length returns)
+    tie.close
+    (tie.spec
+    mul-t8
+    sub-t9
+    write-row-requires
+    list-at-requires
+    append-requires
+    add-write-row
+    write-row-requires-2
+    list-at-requires-2
+    add-append
+    append-requires-2
+    same-length
+    returns)

@@ -6,6 +6,55 @@ use Rattle.rows.proofs.inner.read_row.Reads as reads
 use Rattle.rows.proofs.inner.read_row.Lts as lts
 use Rattle.egg.proofs.inner.get.Reads as get-reads
 
+add-if1 : tie.Need-add-if1
+add-if1 c = search needs
+
+add-t8 : tie.Need-add-t8
+add-t8 c = search needs
+
+mul-t9 : tie.Need-mul-t9
+mul-t9 c = search needs
+
+shared-slice-read-t11 : tie.Need-shared-slice-read-t11
+shared-slice-read-t11 c = search needs
+
+add-t8-2 : tie.Need-add-t8-2
+add-t8-2 c = search needs
+
+mul-t9-2 : tie.Need-mul-t9-2
+mul-t9-2 c = search needs
+
+shared-slice-read-t11-2 : tie.Need-shared-slice-read-t11-2
+shared-slice-read-t11-2 c = search needs
+
+mul-t8 : tie.Need-mul-t8
+mul-t8 c = search needs
+
+shared-slice-read-t11-3 : tie.Need-shared-slice-read-t11-3
+shared-slice-read-t11-3 c = search needs
+
+add-t9 : tie.Need-add-t9
+add-t9 c = search needs
+
+mul-t14 : tie.Need-mul-t14
+mul-t14 c = search needs
+
+shared-slice-read-t16 : tie.Need-shared-slice-read-t16
+shared-slice-read-t16 c = search needs
+
+add-t17 : tie.Need-add-t17
+add-t17 c = search needs
+
+mul-t18 : tie.Need-mul-t18
+mul-t18 c = search needs
+
+shared-slice-read-t20 : tie.Need-shared-slice-read-t20
+shared-slice-read-t20 c = search needs
+
+returns : tie.Need-returns
+unfolding readRow
+returns c = cc
+
 get-requires : tie.Need-get-requires
 get-requires c κs = search needs
 
@@ -33,14 +82,30 @@ add-get-4 c = search needs
 get-requires-5 : tie.Need-get-requires-5
 get-requires-5 c κs = search needs
 
-returns : tie.Need-returns
+returns-2 : tie.Need-returns-2
 unfolding readRow
-returns c = cc
+returns-2 c = cc
 
 pub read-row-spec : {M : Type 1} → statement M
 read-row-spec =
     tie.close
     (tie.spec
+    add-if1
+    add-t8
+    mul-t9
+    shared-slice-read-t11
+    add-t8-2
+    mul-t9-2
+    shared-slice-read-t11-2
+    mul-t8
+    shared-slice-read-t11-3
+    add-t9
+    mul-t14
+    shared-slice-read-t16
+    add-t17
+    mul-t18
+    shared-slice-read-t20
+    returns
     get-requires
     add-get
     get-requires-2
@@ -50,4 +115,4 @@ read-row-spec =
     get-requires-4
     add-get-4
     get-requires-5
-    returns)
+    returns-2)

@@ -1,0 +1,35 @@
+use Prim.Native.Nat.{suc, suc-le-suc}
+use mathlib.Core.Path.{_≡_, refl, sym, _∙_}
+use borrow.Author.Needs.{needs}
+use Rattle.egg.specs.Table.{pick}
+use Rattle.rows.specs.Walk.{walkOf, walkFrom}
+use Rattle.rows.proofs.inner.walk.Statement.{statement}
+use Rattle.rows.proofs.inner.walk.Tie as tie
+use Rattle.rows.proofs.inner.walk.Reads as reads
+use Rattle.rows.proofs.inner.walk.Lts as lts
+use Rattle.rows.proofs.inner.walk_leg.Reads as walk-leg-reads
+
+abbrev Inv-loop : tie.InvT-loop
+Inv-loop t n here there element steps e₀ left₀ jump₀ more₀ e left jump more = pick more (walkFrom left t n e here there) (walkOf e left) ≡ walkFrom steps t n element here there
+
+abbrev μ-loop : tie.MeasureT-loop
+μ-loop t n here there element steps e₀ left₀ jump₀ more₀ e left jump more = pick more (suc left) 0
+
+loop-holds : tie.Need-loop-holds Inv-loop μ-loop
+loop-holds c = refl
+
+walk-leg-requires : tie.Need-walk-leg-requires Inv-loop μ-loop
+walk-leg-requires c κs = (c .before .before .before .pre)
+
+loop-less : tie.Need-loop-less Inv-loop μ-loop
+loop-less c = rw (c .before .loop-test .taken) (suc-le-suc (c .walk-leg .ensures .1))
+
+loop-again : tie.Need-loop-again Inv-loop μ-loop
+loop-again c = c .walk-leg .ensures .0 ∙ rw (c .before .loop-test .taken) at (c .before .before .loop .inv)
+
+returns : tie.Need-returns Inv-loop μ-loop
+returns c = rw (c .loop-test .left) at (c .before .loop .inv)
+
+pub walk-spec : {M : Type 1} → statement M
+walk-spec =
+    tie.close (tie.spec Inv-loop μ-loop loop-holds walk-leg-requires loop-less loop-again returns)
