@@ -1,3 +1,4 @@
 pub mod FactLaws
+pub mod Carrying
 pub mod RunLaws
 pub mod Calls

@@ -1,3 +1,4 @@
 pub mod Facts
+pub mod Carrying
 pub mod Run
 pub mod Calls

@@ -4,7 +4,9 @@ ghost use mathlib.Core.Path.{_≡_};
 ghost use Prim.Native.Nat.{_+_, _<_, _≤_};
 ghost use lib.ListN.{length};
 ghost use Rattle.rows.specs.Rows.{Orders};
+ghost use Rattle.rows.specs.Alike.{Moves};
 ghost use Rattle.enumeration.specs.Facts.{state, learns, wakes, wakesAll, emptied, updated, settled};
+ghost use Rattle.enumeration.specs.Carrying.{wakesRest, moreLeft};
 ghost use Rattle.enumeration.specs.Run.{discovered, visit, visits, advanced, outcome, runs, enumerated};
 ghost use Rattle.enumeration.specs.Calls.{ranCount, Relating, relates, enumeratedIn};
 ghost use Rattle.builder.specs.Finish.{Built};
@@ -14,6 +16,7 @@ use egg::GroupElementId;
 use egg::Reached;
 use egg::Refusal;
 use egg::Verdict;
+use rows::inner::RelationTableRow;
 use rows::inner::SideOfGap;
 
 // Where a run stands: the place to visit next, and the elements so far.
@@ -67,6 +70,133 @@ pub fn wake(t: &mut [u32], w: &mut [u32], n: u8, at: usize, side: SideOfGap, top
     }
 }
 
+// How far the waking of a list has come: the link of the copy that is due, the copies left, how many numbers on the last
+// link led, and whether more of them may stand alike.
+pub struct Carried {
+    pub at: u32,
+    pub left: u32,
+    pub step: u32,
+    pub more: bool,
+}
+
+// Moves copies on that stand as `before` stood, which was filled to `after`, as long as each link leads `step` numbers on.
+// The guess costs a test, and lets a processor read on before the copy that it waits for has come.
+pub fn carry_leg(
+    t: &[u32],
+    w: &mut [u32],
+    n: u8,
+    first: u32,
+    count: u32,
+    side: SideOfGap,
+    before: RelationTableRow,
+    after: RelationTableRow,
+    step: u32,
+    top: u32,
+) -> Carried
+    requires { ⌜ Moves (now t) n before after ⌝ }
+    ensures { λ r. ⌜ (wakesRest r n side (state (now (t .entry)) (now (w .exit)) top) ≡ wakesAll count n first side (state (now (t .entry)) (now (w .entry)) top)) × ((r .left ≤ count) × (moreLeft r ≤ count)) ⌝ }
+{
+    let list = rows::inner::list_at(n, after, side);
+    let forth = after.left - before.left;
+    let back = before.right - after.right;
+    let mut at = first;
+    let mut left = count;
+    while left != 0 {
+        let guess = std::num::wrapping_add_u32(at, step);
+        if at == 0 {
+            return Carried {
+                at,
+                left,
+                step,
+                more: false,
+            };
+        }
+        let place = (at - 1) as usize;
+        let row = rows::inner::read_row(&w[..], place);
+        if !rows::inner::alike(row, before, forth + back) {
+            return Carried {
+                at,
+                left,
+                step,
+                more: false,
+            };
+        }
+        let next = egg::inner::get(&w[..], place + 5);
+        let from = after.from;
+        let to = after.to;
+        let moved = RelationTableRow {
+            pair: row.pair,
+            left: row.left + forth,
+            right: row.right - back,
+            from,
+            to,
+        };
+        rows::inner::write_row(w, place, moved);
+        rows::inner::append(w, list, place);
+        left -= 1;
+        if next != guess {
+            return Carried {
+                at: next,
+                left,
+                step: std::num::wrapping_sub_u32(next, at),
+                more: true,
+            };
+        }
+        at = guess;
+    }
+    Carried {
+        at,
+        left,
+        step,
+        more: false,
+    }
+}
+
+// The copies at the start of a list that stand alike, moved on with one filling, leg by leg. Only long lists have many.
+pub fn carry(
+    t: &[u32],
+    w: &mut [u32],
+    n: u8,
+    first: u32,
+    count: u32,
+    side: SideOfGap,
+    top: u32,
+) -> Carried
+    ensures { λ r. ⌜ (wakesRest r n side (state (now (t .entry)) (now (w .exit)) top) ≡ wakesAll count n first side (state (now (t .entry)) (now (w .entry)) top)) × (r .left ≤ count) ⌝ }
+{
+    let none = Carried {
+        at: first,
+        left: count,
+        step: 0,
+        more: false,
+    };
+    if count <= 16 {
+        return none;
+    }
+    if first == 0 {
+        return none;
+    }
+    let mut at = first;
+    let mut left = count;
+    let mut step = 0;
+    let before = rows::inner::read_row(&w[..], (first - 1) as usize);
+    let after = rows::inner::fill(t, n, before);
+    let mut more = after.left < after.right;
+    while more {
+        let leg = carry_leg(t, w, n, at, left, side, before, after, step, top);
+        at = leg.at;
+        left = leg.left;
+        step = leg.step;
+        more = leg.more;
+    }
+    Carried {
+        at,
+        left,
+        step,
+        more,
+    }
+}
+
 // The copies of one list in order, as many as it counts.
 pub fn wake_all(
     t: &mut [u32],
@@ -83,14 +213,18 @@ pub fn wake_all(
     let mut left = count;
     let mut now_top = top;
     while left != 0 {
-        if at == 0 {
+        let rest = carry(&t[..], w, n, at, left, side, now_top);
+        if rest.left == 0 {
             return now_top;
         }
-        let row = (at - 1) as usize;
+        if rest.at == 0 {
+            return now_top;
+        }
+        let row = (rest.at - 1) as usize;
         let next = egg::inner::get(&w[..], row + 5);
         now_top = wake(t, w, n, row, side, now_top);
         at = next;
-        left -= 1;
+        left = rest.left - 1;
     }
     now_top
 }

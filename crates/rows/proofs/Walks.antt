@@ -13,6 +13,7 @@ use Rattle.egg.specs.declared.GroupElementId.{GroupElementId}
 use Rattle.egg.specs.declared.GeneratorId.{GeneratorId}
 use Rattle.egg.specs.Table.{pick, startOf}
 use Rattle.rows.specs.declared.inner.RelationTableRow.{RelationTableRow}
+use Rattle.rows.specs.declared.inner.Walked.{Walked}
 use Rattle.rows.specs.Rows.{genOf, rowOf, backFrom, forwardFrom}
 use Rattle.rows.specs.Walk.{walkOf, walkFrom}
 use Rattle.rows.proofs.Laws.{gen-again}
@@ -43,6 +44,33 @@ module _ (t : List ℕ) (n : ℕ) where
           → walkFrom (suc k) t n e a b .left ≤ suc k
       by-test true q h = rw q (le-refl _)
       by-test false q h = rw q (omega arith)
+
+  -- A walk that a missing step ends, ends there however many steps it might still take.
+  pub walk-any : (s m k e a b j i : ℕ) {z : ℕ} → m ≡ s + suc j → k ≡ s + suc i → walkFrom m t n e a b ≡ walkOf z (suc j)
+      → walkFrom k t n e a b ≡ walkOf z (suc i)
+  unfolding walkFrom
+  walk-any s zero k e a b j i p q h = absurd (omega arith)
+  walk-any s (suc m) zero e a b j i p q h = absurd (omega arith)
+  walk-any zero (suc m) (suc k) e a b j i {z} p q h = by-test (eqb (getD t (startOf n e + a) 0) 0) refl
+    where
+      by-test : (y : Bool) → eqb (getD t (startOf n e + a) 0) 0 ≡ y → walkFrom (suc k) t n e a b ≡ walkOf z (suc i)
+      by-test true r =
+          let x : e ≡ z = ap (λ (v : Walked). v .element) (rw r at h) in
+          let l : suc k ≡ suc i = omega arith in
+          rw (r, x, l)
+      by-test false r =
+          let l : walkFrom m t n (getD t (startOf n e + a) 0 - 1) b a .left ≡ suc j = ap (λ (v : Walked). v .left) (rw r at h) in
+          absurd (omega (arith, l, walk-left m (getD t (startOf n e + a) 0 - 1) b a))
+  walk-any (suc s) (suc m) (suc k) e a b j i {z} p q h = by-test (eqb (getD t (startOf n e + a) 0) 0) refl
+      (walk-any s m k (getD t (startOf n e + a) 0 - 1) b a j i (omega arith) (omega arith))
+    where
+      by-test : (y : Bool) → eqb (getD t (startOf n e + a) 0) 0 ≡ y
+          → (walkFrom m t n (getD t (startOf n e + a) 0 - 1) b a ≡ walkOf z (suc j) → walkFrom k t n (getD t (startOf n e + a) 0 - 1) b a ≡ walkOf z (suc i))
+          → walkFrom (suc k) t n e a b ≡ walkOf z (suc i)
+      by-test true r ih =
+          let l : suc m ≡ suc j = ap (λ (v : Walked). v .left) (rw r at h) in
+          absurd (omega arith)
+      by-test false r ih = rw r (ih (rw r at h))
 
   -- Ends that have met stay.
   pub back-met : (k : ℕ) (r : RelationTableRow) → k ≡ 0 → r ≡ backFrom k t n r

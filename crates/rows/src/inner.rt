@@ -7,6 +7,8 @@ ghost use Prim.Native.Nat.{_+_, _*_, _<_, _≤_};
 ghost use Rattle.egg.specs.Table.{Place};
 ghost use Rattle.rows.specs.Rows.{workWidth, placeAt, rowsAt, genOf, readRow, writeRow, backed, forwarded, filled, linkAt, appended, listAt, waits, addedRow, addedRows, Orders};
 ghost use Rattle.rows.specs.Walk.{walkFrom, onward, onwardLeft};
+ghost use Rattle.rows.specs.Alike.{Alike};
+ghost use mathlib.Core.Bool.{true};
 use egg::GeneratorId;
 use egg::GroupElementId;
 
@@ -259,6 +261,31 @@ pub fn fill(t: &[u32], n: u8, row: RelationTableRow) -> RelationTableRow
     ensures { λ r. ⌜ r ≡ filled (now (t .entry)) n row ⌝ }
 {
     forward(t, n, back(t, n, row))
+}
+
+// Whether a row stands as `before` does, with more than so many columns in its gap.
+pub fn alike(row: RelationTableRow, before: RelationTableRow, columns: u32) -> bool
+    ensures { λ r. ⌜ (r ≡ true → Alike row before columns) ⌝ }
+{
+    if row.pair != before.pair {
+        return false;
+    }
+    if row.from.0 != before.from.0 {
+        return false;
+    }
+    if row.to.0 != before.to.0 {
+        return false;
+    }
+    if row.left % 2 != before.left % 2 {
+        return false;
+    }
+    if row.right % 2 != before.right % 2 {
+        return false;
+    }
+    if row.right <= row.left {
+        return false;
+    }
+    columns < row.right - row.left
 }
 
 // Where the link to a new last row goes: to the head of an empty list, else to the last row's next.
