@@ -139,12 +139,8 @@ pub extern "C" fn hg_step(
 ) -> u64
     ensures { λ r. ⌜ r ≡ reachedCode (stepAnswer (now (table .entry)) (handle start room n count) (record { 0 = e }) (record { 0 = g })) ⌝ }
 {
-    reached_code(egg::step(
-        table,
-        factor_of(start, room, n, count),
-        GroupElementId(e),
-        GeneratorId(g),
-    ))
+    let f = factor_of(start, room, n, count);
+    reached_code(egg::step(table, f, GroupElementId(e), GeneratorId(g)))
 }
 
 #[no_mangle]
@@ -173,12 +169,8 @@ pub extern "C" fn hg_compose(
 ) -> u64
     ensures { λ r. ⌜ r ≡ reachedCode (composeAnswer (now (table .entry)) (handle start room n count) (record { 0 = a }) (record { 0 = b })) ⌝ }
 {
-    reached_code(factor::compose(
-        table,
-        factor_of(start, room, n, count),
-        GroupElementId(a),
-        GroupElementId(b),
-    ))
+    let f = factor_of(start, room, n, count);
+    reached_code(factor::compose(table, f, GroupElementId(a), GroupElementId(b)))
 }
 
 #[no_mangle]
@@ -193,12 +185,8 @@ pub extern "C" fn hg_conjugate(
 ) -> u64
     ensures { λ r. ⌜ r ≡ reachedCode (conjugateAnswer (now (table .entry)) (handle start room n count) (record { 0 = a }) (record { 0 = b })) ⌝ }
 {
-    reached_code(factor::conjugate(
-        table,
-        factor_of(start, room, n, count),
-        GroupElementId(a),
-        GroupElementId(b),
-    ))
+    let f = factor_of(start, room, n, count);
+    reached_code(factor::conjugate(table, f, GroupElementId(a), GroupElementId(b)))
 }
 
 #[no_mangle]
@@ -241,12 +229,8 @@ pub extern "C" fn hg_word(
 ) -> u64
     ensures { λ r. ⌜ (r ≡ countedCode (writeAnswer (now (table .entry)) (handle start room n count) (record { 0 = e }) (length (now (out .entry))))) × (now (out .exit) ≡ written (now (table .entry)) (handle start room n count) (record { 0 = e }) (now (out .entry))) ⌝ }
 {
-    counted_code(factor::write_word(
-        table,
-        factor_of(start, room, n, count),
-        GroupElementId(e),
-        out,
-    ))
+    let f = factor_of(start, room, n, count);
+    counted_code(factor::write_word(table, f, GroupElementId(e), out))
 }
 
 #[no_mangle]
