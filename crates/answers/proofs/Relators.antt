@@ -15,7 +15,7 @@ use Rattle.egg.specs.declared.Verdict.the-variants.{Fine, Refused}
 use Rattle.egg.specs.Table.{pick, stepOf}
 use Rattle.egg.specs.Pairs.{pairCode, pairCount, ordersRight, orderAt}
 use Rattle.egg.specs.Scan.{andThen, scan}
-use Rattle.egg.proofs.Laws.{scan-here}
+use Rattle.egg.proofs.Scans.{refused-fine, andThen-fine, andThen-refused, scan-here, scan-fine, scan-refused}
 use Rattle.factor.specs.Relations.{turned, relationAt, doubledRow, pairsRow, relationsRow, relations}
 use Rattle.theory.specs.Words.{walk}
 use Rattle.theory.specs.Presentation.{pairs-below, pair-place, order-of, alternate, Relator, double, pair, Holds}
@@ -24,7 +24,7 @@ use Rattle.theory.proofs.Relations.{relator-word}
 use Rattle.theory.proofs.Sound.{compose-walk}
 use Rattle.meaning.specs.Sound.{Sound}
 use Rattle.meaning.proofs.Accepted.{sound-group}
-use Rattle.meaning.proofs.Scans.{refused-fine, andThen-fine, scan-fine, eq-passes, eq-then}
+use Rattle.meaning.proofs.Passes.{eq-passes, eq-then}
 use Rattle.answers.specs.Accepted.{reach, Fails}
 use Rattle.answers.proofs.Steps.{read-step}
 use Rattle.answers.proofs.Codes.{code-first, code-second, pair-count}
@@ -34,20 +34,7 @@ pub orders-long : (o : List ℕ) (n : ℕ) → ordersRight o n ≡ Fine → leng
 unfolding ordersRight
 orders-long o n h = eq-then (length o) (pairCount n) _ (scan (length o) (λ k. orderAt o k) 0) .0 h .0 ∙ pair-count n
 
--- Where a refusal comes from: the first verdict or the second; a place of the scan; a test of equality that failed.
-pub andThen-refused : (u v : Verdict) {r : Refusal} → andThen u v ≡ Refused r → (u ≡ Refused r) ⊎ (v ≡ Refused r)
-andThen-refused Fine v h = inr h
-andThen-refused (Refused q) v h = inl h
-
-refused-from : (k : ℕ) (f : ℕ → Verdict) (i : ℕ) {r : Refusal} → scan k f i ≡ Refused r → (j : ℕ) × (j < i + k) × (f j ≡ Refused r)
-unfolding scan
-refused-from zero f i h = absurd (refused-fine (sym h))
-refused-from (suc k) f i h =
-    ⊎-elim (λ q. (i, omega arith, q)) (λ q. let (j, l, p) = refused-from k f (i + 1) q in (j, omega arith, p)) (andThen-refused (f i) (scan k f (i + 1)) h)
-
-pub scan-refused : (k : ℕ) (f : ℕ → Verdict) {r : Refusal} → scan k f 0 ≡ Refused r → (j : ℕ) × (j < k) × (f j ≡ Refused r)
-scan-refused k f h = let (j, l, p) = refused-from k f 0 h in (j, omega arith, p)
-
+-- Where the refusal of a test of equality comes from.
 pub eq-refused : (a b : ℕ) {q r : Refusal} → pick (eqb a b) Fine (Refused q) ≡ Refused r → (r ≡ q) × (a ≡ b → ⊥)
 eq-refused a b {q} {r} = by (eqb a b) refl where
   by : (v : Bool) → eqb a b ≡ v → pick v Fine (Refused q) ≡ Refused r → (r ≡ q) × (a ≡ b → ⊥)

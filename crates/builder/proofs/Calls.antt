@@ -19,7 +19,8 @@ use Rattle.egg.specs.declared.Reached.{Reached}
 use Rattle.egg.specs.declared.Reached.the-variants as reached
 use Rattle.egg.specs.declared.Counted.{Counted}
 use Rattle.egg.specs.declared.Counted.the-variants.{Count}
-use Rattle.egg.specs.Scan.{refusedOf, andThen}
+use Rattle.egg.specs.Scan.{refusedOf}
+use Rattle.egg.proofs.Scans.{andThen-fine}
 use Rattle.egg.specs.Factor.{hasRoom, fitsIn, stretch}
 use Rattle.egg.proofs.Rooms.{has, room-enough, limited}
 use Rattle.builder.specs.declared.Builder.{Builder}
@@ -91,14 +92,10 @@ module _ (len : ℕ) (f : Factor) (e : GroupElementId) (g : GeneratorId) where
     unfolding placedStep
     end-fine h k = rw (← q, h) (simp (lt-leb _ _ k))
 
-first-fine : (a b : Verdict) → andThen a b ≡ verdict.Fine → a ≡ verdict.Fine
-first-fine verdict.Fine b h = refl
-first-fine (verdict.Refused r) b h = h
-
 pub end-fits : (len : ℕ) (f : Factor) (e : GroupElementId) (g : GeneratorId) (r : GroupElementId) {v : Verdict}
     → v ≡ placedStep len f e g r → v ≡ verdict.Fine → fitsIn len f ≡ true
 unfolding placedStep
-end-fits len f e g r q h = place-fits len f e g refl (first-fine _ _ (sym q ∙ h))
+end-fits len f e g r q h = place-fits len f e g refl (andThen-fine (placed len f e g) _ .0 (sym q ∙ h) .0)
 
 module _ (s : List ℕ) (f : Factor) (e : GroupElementId) (g : GeneratorId) {x : Reached} {s₁ : List ℕ}
     (a : (x ≡ adds s (f .generators) (f .room) (f .elements) e g .answer) × (s₁ ≡ adds s (f .generators) (f .room) (f .elements) e g .table)) where

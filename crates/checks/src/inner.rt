@@ -1,17 +1,9 @@
 // Each check looks at the places in document 01's order and answers the first refusal. They are total on any contents,
 // so that a build over an altered buffer is refused as well: 17 where a number is out of range.
 ghost use mathlib.Core.Path.{_≡_};
-ghost use Rattle.egg.specs.Scan.{refusedOf};
 ghost use Rattle.checks.specs.Checks.{missingRow, missing, check8, rangeRow, linksOf, ranges, wrongAt, wrongRow, wrong, check-table, wiped, arriveRow, arrivals, countsRight, invertOf, fillInverses, inversesRight, identityRow, columnsRow, spelledRow, spelled, leftOf, fillLeft, goesRow, allGo, Lefts, lefts, check-steps, Checked, check-rest, check-group};
 use egg::GroupElementId;
-use egg::Refusal;
 use egg::Verdict;
-
-fn refuse(number: u32, a: u32, b: u32, c: u32) -> Verdict
-    ensures { λ r. ⌜ r ≡ refusedOf number a b c ⌝ }
-{
-    Verdict::Refused(Refusal { number, a, b, c })
-}
 
 // 8 in one row: the first generator whose number, from `shift` on, is not known.
 fn missing_row(t: &[u32], n: u8, shift: u8, e: u32) -> Verdict
@@ -20,7 +12,7 @@ fn missing_row(t: &[u32], n: u8, shift: u8, e: u32) -> Verdict
     let mut g: u32 = 0;
     while g < (n as u32) {
         if egg::inner::cell(t, n, e, shift, g) == 0 {
-            return refuse(8, e, g, 0);
+            return egg::inner::refused(8, e, g, 0);
         }
         g += 1;
     }
@@ -59,7 +51,7 @@ fn range_row(t: &[u32], n: u8, count: u32, e: u32) -> Verdict
     let mut k: u32 = 0;
     while k < 2 * (n as u32) {
         if count < egg::inner::cell(t, n, e, 0, k) {
-            return refuse(17, 0, 0, 0);
+            return egg::inner::refused(17, 0, 0, 0);
         }
         k += 1;
     }
@@ -71,16 +63,16 @@ fn links(t: &[u32], n: u8, e: u32) -> Verdict
     ensures { λ r. ⌜ r ≡ linksOf (now (t .entry)) n e ⌝ }
 {
     if 4096 < egg::inner::word_length(t, n, GroupElementId(e)) {
-        return refuse(17, 0, 0, 0);
+        return egg::inner::refused(17, 0, 0, 0);
     }
     if e == 0 {
         return Verdict::Fine;
     }
     if e <= egg::inner::parent(t, n, GroupElementId(e)) {
-        return refuse(17, 0, 0, 0);
+        return egg::inner::refused(17, 0, 0, 0);
     }
     if (n as u32) <= egg::inner::last(t, n, GroupElementId(e)) {
-        return refuse(17, 0, 0, 0);
+        return egg::inner::refused(17, 0, 0, 0);
     }
     Verdict::Fine
 }
@@ -109,13 +101,13 @@ fn wrong_at(t: &[u32], n: u8, e: u32, g: u32) -> Verdict
 {
     let r = egg::inner::step(t, n, e, g);
     if r == e {
-        return refuse(9, e, g, 0);
+        return egg::inner::refused(9, e, g, 0);
     }
     if e == 0 {
         return Verdict::Fine;
     }
     if r == egg::inner::step(t, n, 0, g) {
-        return refuse(9, e, g, 0);
+        return egg::inner::refused(9, e, g, 0);
     }
     Verdict::Fine
 }
@@ -204,7 +196,7 @@ fn counts_right(w: &[u32], n: u8, count: u32) -> Verdict
     let mut e: u32 = 0;
     while e < count {
         if egg::inner::get(w, e as usize) != (n as u32) {
-            return refuse(9, e, n as u32, 0);
+            return egg::inner::refused(9, e, n as u32, 0);
         }
         e += 1;
     }
@@ -246,7 +238,7 @@ fn inverses_right(t: &[u32], n: u8, count: u32) -> Verdict
         let i = egg::inner::get(t, egg::inner::inverse_at(n, GroupElementId(e)));
         let j = egg::inner::get(t, egg::inner::inverse_at(n, GroupElementId(i)));
         if j != e {
-            return refuse(10, e, i, j);
+            return egg::inner::refused(10, e, i, j);
         }
         e += 1;
     }
@@ -260,7 +252,7 @@ fn identity_row(t: &[u32], n: u8) -> Verdict
     let mut g: u32 = 0;
     while g < (n as u32) {
         if egg::inner::step(t, n, 0, g) != g + 1 {
-            return refuse(11, g, 0, 0);
+            return egg::inner::refused(11, g, 0, 0);
         }
         g += 1;
     }
@@ -274,7 +266,7 @@ fn columns_row(t: &[u32], n: u8, e: u32) -> Verdict
     let mut g: u32 = 0;
     while g < (n as u32) {
         if egg::inner::step(t, n, egg::inner::back(t, n, e, g), g) != e {
-            return refuse(12, 0, 0, 0);
+            return egg::inner::refused(12, 0, 0, 0);
         }
         g += 1;
     }
@@ -288,18 +280,18 @@ fn spelled_row(t: &[u32], n: u8, e: u32) -> Verdict
     let len = egg::inner::word_length(t, n, GroupElementId(e));
     if e == 0 {
         if len != 0 {
-            return refuse(12, 0, 0, 0);
+            return egg::inner::refused(12, 0, 0, 0);
         }
         return Verdict::Fine;
     }
     let p = egg::inner::parent(t, n, GroupElementId(e));
     let g = egg::inner::last(t, n, GroupElementId(e));
     if egg::inner::step(t, n, p, g) != e {
-        return refuse(12, 0, 0, 0);
+        return egg::inner::refused(12, 0, 0, 0);
     }
     let before = egg::inner::word_length(t, n, GroupElementId(p));
     if (len as usize) != (before as usize) + 1 {
-        return refuse(12, 0, 0, 0);
+        return egg::inner::refused(12, 0, 0, 0);
     }
     Verdict::Fine
 }
@@ -355,7 +347,7 @@ fn goes_row(t: &[u32], w: &[u32], n: u8, x: u32) -> Verdict
     while g < (n as u32) {
         let y = egg::inner::step(t, n, x, g);
         if egg::inner::get(w, y as usize) != egg::inner::step(t, n, left, g) {
-            return refuse(12, 0, 0, 0);
+            return egg::inner::refused(12, 0, 0, 0);
         }
         g += 1;
     }

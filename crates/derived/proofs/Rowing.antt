@@ -3,7 +3,7 @@
 use Prim.Native.Nat.{ℕ, zero, suc, _+_, _*_, _-_, _/_, _%_, _<_, _≤_}
 use mathlib.Core.Path.{_≡_, refl, sym, ap}
 use mathlib.Core.Bool.{Bool, true, false}
-use mathlib.Core.List.{List, [], _∷_, _++_, append-nil, append-assoc}
+use mathlib.Core.List.{List, [], _∷_, _++_, append-assoc}
 use native.Mathlib.Nat.{le-refl, add-zero}
 use native.Mathlib.Omega.{arith}
 use borrow.Author.Tests.{eqb-false}
@@ -12,8 +12,10 @@ use lib.Dec.{T, eqb, eqb→eq}
 use Rattle.theory.specs.Bounded.{all}
 use Rattle.theory.proofs.BoundedTests.{all-holds}
 use Rattle.theory.proofs.Pairs.{pair-at}
-use Rattle.theory.specs.Presentation.{pair-place, pairs-below, order-of, alternate, Relator, double, pair as paired, Equiv, insert, turn, join}
+use Rattle.theory.specs.Words.{empty, letter}
+use Rattle.theory.specs.Presentation.{pair-place, pairs-below, order-of, alternate, Relator, pair as paired, Equiv, turn, join}
 use Rattle.theory.proofs.Relations.{append-right}
+use Rattle.theory.proofs.Deduction.{strike, strike-double, cancel}
 use Rattle.egg.specs.declared.GroupElementId.{GroupElementId}
 use Rattle.egg.specs.declared.GeneratorId.{GeneratorId}
 use Rattle.egg.specs.Table.{pick, startOf}
@@ -22,17 +24,8 @@ use Rattle.egg.specs.Pairs.{pairCode}
 use Rattle.rows.specs.Rows.{genOf, rowOf, rightCell, leftCell, backFrom, forwardFrom, backed, filled, newRow}
 use Rattle.derived.specs.Invariant.{Step, TableOk, letters, RowOk}
 
--- A relator at the end of a word may be struck out; in particular a doubled generator, so that a last letter may be cancelled.
+-- A generator leads back.
 module _ {n : ℕ} {m : ℕ → ℕ → ℕ} where
-  pub strike : (u : List ℕ) {r : List ℕ} → Relator n m r → Equiv n m (u ++ r) u
-  strike u h = turn (simp append-nil at (insert u [] h))
-
-  strike-double : (u : List ℕ) {g : ℕ} → g < n → Equiv n m (u ++ g ∷ [] ++ g ∷ []) u
-  strike-double u h = rw append-assoc (strike u (double h))
-
-  cancel : (u v : List ℕ) {g : ℕ} → g < n → Equiv n m (u ++ g ∷ []) (v ++ g ∷ []) → Equiv n m u v
-  cancel u v {g} k h = join (turn (strike-double u k)) (join (append-right h (g ∷ [])) (strike-double v k))
-
   pub step-back : {word : ℕ → List ℕ} {count e g r : ℕ} → g < n → Step n m word count e g r → Step n m word count r g e
   step-back {word} {e = e} {g} h s = record {
     from-below = s .to-below;
@@ -79,7 +72,7 @@ module _ {n : ℕ} {m : ℕ → ℕ → ℕ} {word : ℕ → List ℕ} {count : 
           gens = ok .gens;
           from-below = ok .from-below;
           to-below = s .from-below;
-          leads = cancel _ _ (ok .gens (r .right)) (join (rw append-assoc (rw (gap-last (r .pair) (r .left) (r .right) gap) at (ok .leads))) (turn (s .leads)));
+          leads = cancel _ _ (letter (ok .gens (r .right)) empty) (join (rw append-assoc (rw (gap-last (r .pair) (r .left) (r .right) gap) at (ok .leads))) (turn (s .leads)));
         }
 
     moved-on : (leftCell t n r ≡ 0 → ⊥) → RowOk n m word count (rowOf (r .pair) (r .left + 1) (r .right) (record { 0 = leftCell t n r - 1 }) (r .to))

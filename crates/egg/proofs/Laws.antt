@@ -9,11 +9,7 @@ use native.Mathlib.Omega.{arith}
 use lib.ListN.{length, drop, replicate, set}
 use lib.Seq.{drop-length, set-out}
 use lib.Dec.{ltb, lit<}
-use Rattle.egg.specs.declared.Refusal.{Refusal}
-use Rattle.egg.specs.declared.Verdict.{Verdict}
-use Rattle.egg.specs.declared.Verdict.the-variants.{Fine, Refused}
 use Rattle.egg.specs.Table.{pick, putAt}
-use Rattle.egg.specs.Scan.{andThen, scan}
 
 -- A list that was filled to its end.
 pub cleared : (s s₀ : List ℕ) (i : ℕ) → i ≡ length s₀ → s ≡ replicate i 0 ++ drop i s₀ → s ≡ replicate (length s₀) 0
@@ -34,17 +30,3 @@ pick-same false e = refl
 pub putAt-out : (l : List ℕ) (i v : ℕ) → length l ≤ i → putAt l i v ≡ l
 unfolding putAt
 putAt-out l i v h = pick-same (ltb v 4294967296) (set-out l i v h)
-
--- A loop over a scan: `c - i` places are left at i. Each turn goes on, stops at a refusal, or has come to the end.
-module _ (c : ℕ) (f : ℕ → Verdict) (i : ℕ) where
-  pub scan-next : i < c → f i ≡ Fine → scan (c - i) f i ≡ scan (c - (i + 1)) f (i + 1)
-  unfolding scan
-  scan-next h e = let q : c - i ≡ suc (c - (i + 1)) = omega arith in rw (q, e)
-
-  pub scan-here : {r : Refusal} → i < c → f i ≡ Refused r → scan (c - i) f i ≡ Refused r
-  unfolding scan
-  scan-here h e = let q : c - i ≡ suc (c - (i + 1)) = omega arith in rw (q, e)
-
-  pub scan-end : c ≤ i → scan (c - i) f i ≡ Fine
-  unfolding scan
-  scan-end h = let q : c - i ≡ 0 = omega arith in rw q

@@ -1,4 +1,5 @@
 pub mod Laws
+pub mod Scans
 pub mod Rooms
 pub mod Answers
 pub mod Orders

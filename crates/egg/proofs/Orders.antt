@@ -12,9 +12,9 @@ use lib.ListN.{length, getD}
 use Rattle.egg.specs.declared.Verdict.{Verdict}
 use Rattle.egg.specs.declared.Verdict.the-variants.{Fine, Refused}
 use Rattle.egg.specs.Table.{pick}
-use Rattle.egg.specs.Scan.{refusedOf, andThen, scan}
+use Rattle.egg.specs.Scan.{refusedOf, scan}
 use Rattle.egg.specs.Pairs.{pairCount, orderAt, ordersRight}
-use Rattle.egg.proofs.Laws.{scan-here, scan-next, scan-end}
+use Rattle.egg.proofs.Scans.{refused-fine, scan-here, scan-next, scan-fine}
 
 -- n(n-1) is small, so that it can be halved in 32 bits.
 pub pair-product : (n : ℕ) → n < 256 → n * (n - 1) < 4294967296
@@ -39,31 +39,13 @@ module _ (o : List ℕ) (count k : ℕ) {m : ℕ} (e : m ≡ getD o k 0) (h : k 
   pub order-fine : 2 ≤ m → m ≤ 32767 → scan (count - k) (λ k. orderAt o k) k ≡ scan (count - (k + 1)) (λ k. orderAt o k) (k + 1)
   order-fine p z = scan-next count (λ k. orderAt o k) k h (rw (← e) (simp (le-leb _ _ p, le-leb _ _ z)))
 
-fine-refused : {k a b c : ℕ} → refusedOf k a b c ≡ Fine → ⊥
-fine-refused h = let z : _≡_ {A = ℕ} 0 1 = cc in omega arith
-
-both-fine : (u v : Verdict) → andThen u v ≡ Fine → (u ≡ Fine) × (v ≡ Fine)
-both-fine Fine v h = (refl, h)
-both-fine (Refused r) v h = absurd (never h) where
-  never : Refused r ≡ Fine → ⊥
-  never e = let z : _≡_ {A = ℕ} 0 1 = cc in omega arith
-
--- Where a scan is fine, each of its places is.
-pub scanned : (k : ℕ) (f : ℕ → Verdict) (i : ℕ) → scan k f i ≡ Fine → (j : ℕ) → j < k → f (i + j) ≡ Fine
-unfolding scan
-scanned zero f i h j l = absurd (omega arith)
-scanned (suc k) f i h zero l = let q : i + 0 ≡ i = omega arith in rw q (both-fine (f i) (scan k f (i + 1)) h .0)
-scanned (suc k) f i h (suc j) l =
-    let q : i + suc j ≡ i + 1 + j = omega arith in
-    rw q (scanned k f (i + 1) (both-fine (f i) (scan k f (i + 1)) h .1) j (omega arith))
-
 order-limits : (o : List ℕ) (k : ℕ) → orderAt o k ≡ Fine → (1 ≤ getD o k 0) × (getD o k 0 < 32768)
 order-limits o k h = by (leb 2 (getD o k 0)) (leb (getD o k 0) 32767) refl refl h where
   by : (a b : Bool) → leb 2 (getD o k 0) ≡ a → leb (getD o k 0) 32767 ≡ b
       → pick a (pick b Fine (refusedOf 3 k 0 0)) (refusedOf 3 k 0 0) ≡ Fine → (1 ≤ getD o k 0) × (getD o k 0 < 32768)
   by true true p q e = omega (arith, leb-true 2 (getD o k 0) p, leb-true (getD o k 0) 32767 q)
-  by true false p q e = absurd (fine-refused e)
-  by false b p q e = absurd (fine-refused e)
+  by true false p q e = absurd (refused-fine e)
+  by false b p q e = absurd (refused-fine e)
 
 -- What 2 and 3 have shown of the orders.
 pub orders-limits : (o : List ℕ) (n : ℕ) → ordersRight o n ≡ Fine
@@ -72,9 +54,13 @@ unfolding ordersRight pairCount
 orders-limits o n h = by (eqb (length o) (n * (n - 1) / 2)) refl h where
   by : (b : Bool) → eqb (length o) (n * (n - 1) / 2) ≡ b → pick b (scan (length o) (λ k. orderAt o k) 0) (refusedOf 2 0 0 0) ≡ Fine
       → (length o ≡ n * (n - 1) / 2) × ((k : ℕ) → k < length o → (1 ≤ getD o k 0) × (getD o k 0 < 32768))
-  by true q e = (eqb-true _ _ q, λ k hk. let z : 0 + k ≡ k = omega arith in order-limits o k (rw z at (scanned (length o) (λ k. orderAt o k) 0 e k hk)))
-  by false q e = absurd (fine-refused e)
+  by true q e = (eqb-true _ _ q, λ k hk. order-limits o k (scan-fine (length o) (λ k. orderAt o k) .0 e k hk))
+  by false q e = absurd (refused-fine e)
 
 -- Eight generators have 28 pairs.
 pub few-pairs : (n : ℕ) → n ≤ 8 → n * (n - 1) / 2 ≤ 28
 few-pairs n h = let p : n - 1 ≤ 7 = omega arith in omega (arith, mul-le-mul h p)
+
+pub pairs-few : {n : ℕ} → n ≤ 8 → pairCount n ≤ 28
+unfolding pairCount
+pairs-few {n} h = few-pairs n h

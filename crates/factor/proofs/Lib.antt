@@ -1,6 +1,5 @@
 pub mod Admits
 pub mod Readings
 pub mod Questions
-pub mod Scans
 pub mod Relations
 pub mod Composing

@@ -19,7 +19,7 @@ use Rattle.egg.specs.Scan.{refusedOf}
 use Rattle.egg.specs.Pairs.{pairs, pairCode, pairCount, ordersRight}
 use Rattle.egg.specs.Factor.{readStep}
 use Rattle.egg.proofs.Rooms.{and-first, and-second}
-use Rattle.egg.proofs.Orders.{orders-length}
+use Rattle.egg.proofs.Orders.{orders-limits, few-pairs}
 use Rattle.factor.specs.Relations.{turned, returnsTo, relationAt}
 
 module _ (s : List ℕ) (n count x a b : ℕ) where
@@ -73,16 +73,6 @@ pub pair-relation : (s : List ℕ) (n count e k m : ℕ) {p : ℕ} → p ≡ pai
     → relationAt s n count e (p / 8 % 256) (p % 8) m ≡ relationAt s n count e (pairCode k / 8) (pairCode k % 8) m
 pair-relation s n count e k m {p} q = let d : p / 8 % 256 ≡ p / 8 = omega (arith, pair-small k) in rw (d, q)
 
-pub pairs-few : {n : ℕ} → n ≤ 8 → pairCount n ≤ 28
-unfolding pairCount
-pairs-few {n} h = let p : n - 1 ≤ 7 = omega arith in omega (arith, mul-le-mul h p)
-
 -- A list of orders that is right has as many as there are pairs.
 pub orders-few : (o : List ℕ) (n : ℕ) {v : Verdict} → n ≤ 8 → v ≡ ordersRight o n → v ≡ verdict.Fine → length o ≤ 28
-orders-few o n {v} h q e = by (eqb (length o) (pairCount n)) refl where
-  by : (b : Bool) → eqb (length o) (pairCount n) ≡ b → length o ≤ 28
-  by true d = omega (arith, eqb-true (length o) (pairCount n) d, pairs-few h)
-  by false d =
-      let p : refusedOf 2 0 0 0 ≡ v = orders-length o n refl (eqb-false (length o) (pairCount n) d) ∙ sym q in
-      let z : _≡_ {A = ℕ} 0 1 = cc in
-      absurd (omega arith)
+orders-few o n h q e = omega (arith, orders-limits o n (sym q ∙ e) .0, few-pairs n h)

@@ -16,6 +16,7 @@ use Rattle.egg.specs.declared.Counted.the-variants.{Count}
 use Rattle.egg.specs.Table.{putAt, startOf}
 use Rattle.egg.specs.Scan.{scan}
 use Rattle.egg.specs.Factor.{hasRoom, fitsIn, stretch}
+use Rattle.egg.proofs.Scans.{refused-fine}
 use Rattle.checks.specs.Checks.{missingRow, missing, check8, rangeRow, linksOf, ranges, wrongRow, wrong, check-table, wiped, arriveRow, arrivals, countsRight}
 use Rattle.checks.specs.Checks.{invertFrom, fillInverses, inversesRight, identityRow, columnsRow, spelledRow, spelled, check-steps, fillLeft, goesRow, allGo}
 use Rattle.checks.specs.Checks.{lefts, check-rest, check-group}
@@ -31,37 +32,34 @@ use Rattle.known.proofs.Factors.{known-factors}
 abbrev z3 : Making
 z3 = call 1 3 (1 ∷ 2 ∷ 0 ∷ [])
 
-fine-refused : {r : Refusal} → Fine ≡ Refused r → ⊥
-fine-refused h = let z : _≡_ {A = ℕ} 0 1 = cc in omega arith
+-- What the contract says of the table, the work and the word of element 2, by computing.
+computed : (getD (tableBy z3) 0 0 ≡ 2) × (getD (workBy z3) 0 0 ≡ 0) × (lengthAnswer (tableBy z3) (factorOf 1 3 3) (element 2) ≡ Count 2)
+unfolding putAt startOf scan hasRoom fitsIn stretch missingRow missing check8 rangeRow linksOf ranges wrongRow wrong check-table wiped arriveRow arrivals countsRight invertFrom fillInverses inversesRight identityRow columnsRow spelledRow spelled check-steps fillLeft goesRow allGo lefts check-rest check-group setStep setWord adds finished lentRight within readPlace readRow readFrom composedIn composed admits lengthIn lengthAnswer
+computed = (refl, refl, refl)
 
 module _ {m : Made} {t w : List ℕ} (contract : making m t w ≡ z3) where
   is-z3 : m ≡ record { answer = Fine; factor = factorOf 1 3 3 }
   is-z3 = ap madeBy contract ∙ known-factors .z3
 
   pub refusing-everything : {r : Refusal} → m .answer ≡ Refused r → ⊥
-  refusing-everything h = fine-refused (sym (ap (λ (x : Made). x .answer) is-z3) ∙ h)
+  refusing-everything h = refused-fine (sym h ∙ ap (λ (x : Made). x .answer) is-z3)
 
   pub one-element-always : m .factor .elements ≡ 1 → ⊥
   one-element-always h = let q : m .factor .elements ≡ 3 = ap (λ (x : Made). x .factor .elements) is-z3 in omega arith
 
   -- The buffers were lent full of 7 and 9.
   pub table-untouched : t ≡ replicate 18 7 → ⊥
-  unfolding putAt startOf scan hasRoom fitsIn stretch missingRow missing check8 rangeRow linksOf ranges wrongRow wrong check-table wiped arriveRow arrivals countsRight invertFrom fillInverses inversesRight identityRow columnsRow spelledRow spelled check-steps fillLeft goesRow allGo lefts check-rest check-group setStep setWord adds finished lentRight within readPlace readRow readFrom composedIn composed
   table-untouched h =
-      let q : getD (tableBy z3) 0 0 ≡ 2 = refl in
-      let p : getD t 0 0 ≡ 2 = ap (λ (x : Making). getD (tableBy x) 0 0) contract ∙ q in
+      let p : getD t 0 0 ≡ 2 = ap (λ (x : Making). getD (tableBy x) 0 0) contract ∙ computed .0 in
       let z : getD t 0 0 ≡ 7 = ap (λ (l : List ℕ). getD l 0 0) h in
       omega arith
 
   pub work-untouched : w ≡ replicate 30 9 → ⊥
-  unfolding putAt startOf scan hasRoom fitsIn stretch missingRow missing check8 rangeRow linksOf ranges wrongRow wrong check-table wiped arriveRow arrivals countsRight invertFrom fillInverses inversesRight identityRow columnsRow spelledRow spelled check-steps fillLeft goesRow allGo lefts check-rest check-group setStep setWord adds finished lentRight within readPlace readRow readFrom composedIn composed
   work-untouched h =
-      let q : getD (workBy z3) 0 0 ≡ 0 = refl in
-      let p : getD w 0 0 ≡ 0 = ap (λ (x : Making). getD (workBy x) 0 0) contract ∙ q in
+      let p : getD w 0 0 ≡ 0 = ap (λ (x : Making). getD (workBy x) 0 0) contract ∙ computed .1 in
       let z : getD w 0 0 ≡ 9 = ap (λ (l : List ℕ). getD l 0 0) h in
       omega arith
 
 -- The word of element 2 has two letters.
 pub made-up-length : {c : Counted} → c ≡ lengthAnswer (tableBy z3) (factorOf 1 3 3) (element 2) → c ≡ Count 2
-unfolding putAt startOf scan hasRoom fitsIn stretch missingRow missing check8 rangeRow linksOf ranges wrongRow wrong check-table wiped arriveRow arrivals countsRight invertFrom fillInverses inversesRight identityRow columnsRow spelledRow spelled check-steps fillLeft goesRow allGo lefts check-rest check-group setStep setWord adds finished lentRight within readPlace readRow readFrom composedIn composed admits lengthIn lengthAnswer
-made-up-length h = h
+made-up-length h = h ∙ computed .2

@@ -20,7 +20,7 @@ use Rattle.theory.proofs.Recording.{recorded-spelled, word-of-recorded}
 use Rattle.theory.proofs.Sound.{sound, sound-steps}
 use Rattle.meaning.specs.Stored.{Stored, Kept, wordOf}
 use Rattle.meaning.specs.Sound.{Sound}
-use Rattle.meaning.proofs.Scans.{refused-fine}
+use Rattle.egg.proofs.Scans.{refused-fine}
 use Rattle.meaning.proofs.Permutations.{two-sided}
 use Rattle.meaning.proofs.Tests.{check8-fine, table-fine, steps-fine, ranges-fine, counts-fine, identity-fine, spelled-fine}
 use Rattle.meaning.proofs.Inverses.{keeps, fill-kept, kept-turned, kept-cell, stored-kept, fill-inverse}

@@ -14,7 +14,7 @@ use Rattle.theory.proofs.Walking.{retrace-closed}
 use Rattle.theory.proofs.Recording.{recorded-spelled}
 use Rattle.meaning.specs.Stored.{Stored, Kept}
 use Rattle.egg.proofs.Cells.{put-same, put-other, put-length, cell-inside, other-cell, other-row}
-use Rattle.meaning.proofs.Scans.{here-or-later}
+use Rattle.egg.proofs.Scans.{here-or-later}
 
 -- What the filling leaves.
 fill-other : (k : ℕ) (t : List ℕ) (n e i : ℕ) → ((d : ℕ) → e ≤ d → d < e + k → i ≡ startOf n d + 2 * n + 3 → ⊥)

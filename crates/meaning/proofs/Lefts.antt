@@ -19,7 +19,7 @@ use Rattle.theory.proofs.Walking.{walk-closed}
 use Rattle.theory.proofs.Recording.{recorded-spelled, walk-grow}
 use Rattle.meaning.specs.Stored.{Stored}
 use Rattle.egg.proofs.Cells.{put-length, put-extends}
-use Rattle.meaning.proofs.Scans.{here-or-later, refused-fine}
+use Rattle.egg.proofs.Scans.{here-or-later, refused-fine}
 use Rattle.meaning.proofs.Tests.{all-go-fine}
 use Rattle.meaning.proofs.Inverses.{step-is}
 

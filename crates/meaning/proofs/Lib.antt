@@ -1,4 +1,4 @@
-pub mod Scans
+pub mod Passes
 pub mod Permutations
 pub mod Tests
 pub mod Inverses

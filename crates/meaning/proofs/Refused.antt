@@ -20,7 +20,7 @@ use Rattle.theory.specs.Table.{Table, Columns}
 use Rattle.theory.specs.Words.{Parents, Recorded}
 use Rattle.theory.specs.Group.{RightRegular}
 use Rattle.meaning.specs.Stored.{Stored}
-use Rattle.meaning.proofs.Scans.{refused-fine, Says, says-fine, says-refused, says-pick, says-then, says-scan}
+use Rattle.egg.proofs.Scans.{refused-fine, Says, says-fine, says-refused, says-pick, says-then, says-scan}
 use Rattle.meaning.proofs.Tests.{identity-fine}
 use Rattle.meaning.proofs.Inverses.{fill-kept, stored-kept, step-is}
 use Rattle.meaning.proofs.Accepted.{checks-sound, checks-kept, sound-regular}

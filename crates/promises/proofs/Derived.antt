@@ -25,7 +25,7 @@ use Rattle.theory.specs.Presentation.{order-of, Equiv, Holds, Derived}
 use Rattle.theory.proofs.Presented.{presented}
 use Rattle.meaning.specs.Stored.{Kept, wordOf}
 use Rattle.meaning.specs.Sound.{Sound}
-use Rattle.meaning.proofs.Scans.{refused-fine}
+use Rattle.egg.proofs.Scans.{refused-fine}
 use Rattle.meaning.proofs.Inverses.{kept-cell}
 use Rattle.meaning.proofs.Accepted.{checks-sound, checks-kept}
 use Rattle.meaning.proofs.Lengths.{checks-work}

@@ -20,14 +20,15 @@ pub data Deduced (n : ℕ) (m : ℕ → ℕ → ℕ) (word : ℕ → List ℕ) :
 tail-word : {n g : ℕ} {b : List ℕ} → Word n (g ∷ b) → Word n b
 tail-word (letter h w) = w
 
+-- A relator at the end of a word may be struck out, in particular a doubled generator; so a word at the end of both sides may be cancelled.
 module _ {n : ℕ} {m : ℕ → ℕ → ℕ} where
-  strike : (u : List ℕ) {r : List ℕ} → Relator n m r → Equiv n m (u ++ r) u
+  pub strike : (u : List ℕ) {r : List ℕ} → Relator n m r → Equiv n m (u ++ r) u
   strike u h = turn (simp append-nil at (insert u [] h))
 
-  strike-double : (u : List ℕ) {g : ℕ} → g < n → Equiv n m (u ++ g ∷ [] ++ g ∷ []) u
+  pub strike-double : (u : List ℕ) {g : ℕ} → g < n → Equiv n m (u ++ g ∷ [] ++ g ∷ []) u
   strike-double u h = rw append-assoc (strike u (double h))
 
-  cancel : (u v : List ℕ) {b : List ℕ} → Word n b → Equiv n m (u ++ b) (v ++ b) → Equiv n m u v
+  pub cancel : (u v : List ℕ) {b : List ℕ} → Word n b → Equiv n m (u ++ b) (v ++ b) → Equiv n m u v
   cancel u v empty h = simp append-nil at h
   cancel u v (letter {g = g} {w = b} k w) h =
       let shorter = cancel (u ++ g ∷ []) (v ++ g ∷ []) w (simp append-assoc h) in

@@ -4,7 +4,7 @@ use lib.ListN.{length}
 use Rattle.egg.proofs.Rooms.{few, has}
 use Rattle.factor.specs.Relations.{checkAnswer}
 use Rattle.factor.proofs.Admits.{admitted}
-use Rattle.factor.proofs.Scans.{then-refused, then-fine}
+use Rattle.egg.proofs.Scans.{then-refused, then-fine}
 use Rattle.factor.proofs.Relations.{orders-few}
 use borrow.Author.Needs.{needs}
 use Rattle.factor.proofs.check.Statement.{statement}

@@ -4,7 +4,7 @@ use mathlib.Core.Path.{_≡_, refl, _∙_}
 use native.Mathlib.Nat.{sub-zero, sub-eq-zero-of-le}
 use lib.ListN.{length}
 use borrow.Author.Needs.{needs}
-use Rattle.checks.proofs.Laws.{left-suc}
+use Rattle.egg.proofs.Scans.{left-suc}
 use Rattle.builder.specs.Refill.{backRow}
 use Rattle.builder.proofs.inner.refill_row.Statement.{statement}
 use Rattle.builder.proofs.inner.refill_row.Tie as tie

@@ -3,7 +3,7 @@ use Prim.Native.Nat.{_-_}
 use mathlib.Core.Path.{sym, _∙_}
 use borrow.Author.Needs.{needs}
 use Rattle.checks.specs.Checks.{goesRow, allGo}
-use Rattle.checks.proofs.Laws.{Scanning, scanning, hands-on, goes-on, ends}
+use Rattle.egg.proofs.Scans.{Scanning, scanning, hands-on, goes-on, ends}
 use Rattle.checks.proofs.inner.all_go.Statement.{statement}
 use Rattle.checks.proofs.inner.all_go.Tie as tie
 

@@ -5,7 +5,7 @@ use native.Mathlib.Nat.{sub-zero, sub-eq-zero-of-le}
 use lib.ListN.{length}
 use borrow.Author.Needs.{needs}
 use Rattle.checks.specs.Checks.{arriveRow}
-use Rattle.checks.proofs.Laws.{left-suc}
+use Rattle.egg.proofs.Scans.{left-suc}
 use Rattle.checks.proofs.inner.arrive_row.Statement.{statement}
 use Rattle.checks.proofs.inner.arrive_row.Tie as tie
 

@@ -8,7 +8,7 @@ use Rattle.egg.specs.Table.{pick, stepOf, backOf}
 use Rattle.egg.specs.declared.Verdict.the-variants.{Fine}
 use Rattle.egg.specs.Scan.{refusedOf}
 use Rattle.checks.specs.Checks.{columnsRow}
-use Rattle.checks.proofs.Laws.{Scanning, scanning, stops, goes-on, ends}
+use Rattle.egg.proofs.Scans.{Scanning, scanning, stops, goes-on, ends}
 use Rattle.checks.proofs.inner.columns_row.Statement.{statement}
 use Rattle.checks.proofs.inner.columns_row.Tie as tie
 
@@ -29,8 +29,8 @@ back-requires c κs = search needs
 step-requires : tie.Need-step-requires Inv-loop μ-loop
 step-requires c κs = search needs
 
-refuse-requires : tie.Need-refuse-requires Inv-loop μ-loop
-refuse-requires c κs = search needs
+refused-requires : tie.Need-refused-requires Inv-loop μ-loop
+refused-requires c κs = search needs
 
 returns : tie.Need-returns Inv-loop μ-loop
 returns c =
@@ -39,7 +39,7 @@ returns c =
     let at-back = at-step .before in
     let at-loop-test = at-back .before in
     let at-loop = at-loop-test .before in
-    c .refuse .ensures
+    c .refused .ensures
     ∙ stops (at-loop .loop .inv) (at-loop-test .loop-test .taken)
     (rw (← at-back .back .ensures, ← at-step .step .ensures) (simp (ne-eqb _ _ (at-if1 .if1 .taken))))
 
@@ -66,7 +66,7 @@ columns-row-spec =
     loop-holds
     back-requires
     step-requires
-    refuse-requires
+    refused-requires
     returns
     add-g
     loop-less

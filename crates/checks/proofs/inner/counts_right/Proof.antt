@@ -9,7 +9,7 @@ use Rattle.egg.specs.Table.{pick}
 use Rattle.egg.specs.declared.Verdict.the-variants.{Fine}
 use Rattle.egg.specs.Scan.{refusedOf}
 use Rattle.checks.specs.Checks.{countsRight}
-use Rattle.checks.proofs.Laws.{Scanning, scanning, stops, goes-on, ends}
+use Rattle.egg.proofs.Scans.{Scanning, scanning, stops, goes-on, ends}
 use Rattle.checks.proofs.inner.counts_right.Statement.{statement}
 use Rattle.checks.proofs.inner.counts_right.Tie as tie
 
@@ -29,12 +29,12 @@ cast-get c = search needs
 get-requires : tie.Need-get-requires Inv-loop μ-loop
 get-requires c κs = search needs
 
-refuse-requires : tie.Need-refuse-requires Inv-loop μ-loop
-refuse-requires c κs = search needs
+refused-requires : tie.Need-refused-requires Inv-loop μ-loop
+refused-requires c κs = search needs
 
 returns : tie.Need-returns Inv-loop μ-loop
 returns c =
-    c .refuse .ensures
+    c .refused .ensures
     ∙ stops (c .before .before .before .before .loop .inv) (c .before .before .before .loop-test .taken)
     (rw (← c .before .before .get .ensures) (simp (ne-eqb _ _ (c .before .if1 .taken))))
 
@@ -61,7 +61,7 @@ counts-right-spec =
     loop-holds
     cast-get
     get-requires
-    refuse-requires
+    refused-requires
     returns
     add-e
     loop-less

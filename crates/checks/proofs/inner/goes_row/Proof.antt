@@ -9,7 +9,7 @@ use Rattle.egg.specs.Table.{pick, stepOf}
 use Rattle.egg.specs.declared.Verdict.the-variants.{Fine}
 use Rattle.egg.specs.Scan.{refusedOf}
 use Rattle.checks.specs.Checks.{goesRow}
-use Rattle.checks.proofs.Laws.{Scanning, scanning, stops, goes-on, ends}
+use Rattle.egg.proofs.Scans.{Scanning, scanning, stops, goes-on, ends}
 use Rattle.checks.proofs.inner.goes_row.Statement.{statement}
 use Rattle.checks.proofs.inner.goes_row.Tie as tie
 
@@ -40,12 +40,12 @@ get-requires-2 c κs = search needs
 step-requires-2 : tie.Need-step-requires-2 Inv-loop μ-loop
 step-requires-2 c κs = search needs
 
-refuse-requires : tie.Need-refuse-requires Inv-loop μ-loop
-refuse-requires c κs = search needs
+refused-requires : tie.Need-refused-requires Inv-loop μ-loop
+refused-requires c κs = search needs
 
 returns : tie.Need-returns Inv-loop μ-loop
 returns c =
-    c .refuse .ensures
+    c .refused .ensures
     ∙ stops (c .before .before .before .before .before .before .loop .inv) (c .before .before .before .before .before .loop-test .taken)
     (rw (← c .before .before .before .before .before .before .before .get .ensures, ← c .before .before .before .before .step .ensures, ← c .before .before .before .get2 .ensures, ← c .before .before .step2 .ensures)
     (simp (ne-eqb _ _ (c .before .if1 .taken))))
@@ -77,7 +77,7 @@ goes-row-spec =
     cast-get
     get-requires-2
     step-requires-2
-    refuse-requires
+    refused-requires
     returns
     add-g
     loop-less

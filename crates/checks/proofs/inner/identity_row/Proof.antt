@@ -8,7 +8,7 @@ use Rattle.egg.specs.Table.{pick, stepOf}
 use Rattle.egg.specs.declared.Verdict.the-variants.{Fine}
 use Rattle.egg.specs.Scan.{refusedOf}
 use Rattle.checks.specs.Checks.{identityRow}
-use Rattle.checks.proofs.Laws.{Scanning, scanning, stops, goes-on, ends}
+use Rattle.egg.proofs.Scans.{Scanning, scanning, stops, goes-on, ends}
 use Rattle.checks.proofs.inner.identity_row.Statement.{statement}
 use Rattle.checks.proofs.inner.identity_row.Tie as tie
 
@@ -28,12 +28,12 @@ step-requires c κs = search needs
 add-if1 : tie.Need-add-if1 Inv-loop μ-loop
 add-if1 c = search needs
 
-refuse-requires : tie.Need-refuse-requires Inv-loop μ-loop
-refuse-requires c κs = search needs
+refused-requires : tie.Need-refused-requires Inv-loop μ-loop
+refused-requires c κs = search needs
 
 returns : tie.Need-returns Inv-loop μ-loop
 returns c =
-    c .refuse .ensures
+    c .refused .ensures
     ∙ stops (c .before .before .before .before .loop .inv) (c .before .before .before .loop-test .taken)
     (rw (← c .before .before .step .ensures) (simp (ne-eqb _ _ (c .before .if1 .taken))))
 
@@ -60,7 +60,7 @@ identity-row-spec =
     loop-holds
     step-requires
     add-if1
-    refuse-requires
+    refused-requires
     returns
     add-g
     loop-less

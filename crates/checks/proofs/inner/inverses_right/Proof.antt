@@ -4,7 +4,7 @@ use mathlib.Core.Path.{_∙_}
 use borrow.Author.Tests.{eq-eqb, ne-eqb}
 use borrow.Author.Needs.{needs}
 use Rattle.checks.specs.Checks.{inverseAt, inversesRight}
-use Rattle.checks.proofs.Laws.{Scanning, scanning, stops, goes-on, ends}
+use Rattle.egg.proofs.Scans.{Scanning, scanning, stops, goes-on, ends}
 use Rattle.checks.proofs.inner.inverses_right.Statement.{statement}
 use Rattle.checks.proofs.inner.inverses_right.Tie as tie
 
@@ -30,8 +30,8 @@ inverse-at-requires-2 c κs = search needs
 get-requires-2 : tie.Need-get-requires-2 Inv-loop μ-loop
 get-requires-2 c κs = search needs
 
-refuse-requires : tie.Need-refuse-requires Inv-loop μ-loop
-refuse-requires c κs = search needs
+refused-requires : tie.Need-refused-requires Inv-loop μ-loop
+refused-requires c κs = search needs
 
 returns : tie.Need-returns Inv-loop μ-loop
 returns c =
@@ -42,7 +42,7 @@ returns c =
     let at-inverse-at = at-get .before in
     let at-loop-test = at-inverse-at .before in
     let at-loop = at-loop-test .before in
-    c .refuse .ensures
+    c .refused .ensures
     ∙ stops (at-loop .loop .inv) (at-loop-test .loop-test .taken)
     (rw (← at-inverse-at .inverse-at .ensures .at, ← at-get .get .ensures, ← at-inverse-at2 .inverse-at2 .ensures .at, ← at-get2 .get2 .ensures)
     (simp (ne-eqb _ _ (at-if1 .if1 .taken))))
@@ -79,7 +79,7 @@ inverses-right-spec =
     get-requires
     inverse-at-requires-2
     get-requires-2
-    refuse-requires
+    refused-requires
     returns
     add-e
     loop-less

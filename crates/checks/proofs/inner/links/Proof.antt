@@ -7,7 +7,7 @@ use Rattle.checks.proofs.inner.links.Statement.{statement}
 use Rattle.checks.proofs.inner.links.Tie as tie
 use Rattle.checks.proofs.inner.links.Reads as reads
 use Rattle.checks.proofs.inner.links.Lts as lts
-use Rattle.checks.proofs.inner.refuse.Reads as refuse-reads
+use Rattle.egg.proofs.inner.refused.Reads as refused-reads
 use Rattle.egg.proofs.inner.last.Reads as last-reads
 use Rattle.egg.proofs.inner.parent.Reads as parent-reads
 use Rattle.egg.proofs.inner.word_length.Reads as word-length-reads
@@ -15,12 +15,12 @@ use Rattle.egg.proofs.inner.word_length.Reads as word-length-reads
 word-length-requires : tie.Need-word-length-requires
 word-length-requires c κs = search needs
 
-refuse-requires : tie.Need-refuse-requires
-refuse-requires c κs = search needs
+refused-requires : tie.Need-refused-requires
+refused-requires c κs = search needs
 
 returns : tie.Need-returns
 unfolding linksOf
-returns c = c .refuse .ensures ∙ rw (← c .before .before .word-length .ensures) (simp (lt-ltb _ _ (c .before .if1 .taken)))
+returns c = c .refused .ensures ∙ rw (← c .before .before .word-length .ensures) (simp (lt-ltb _ _ (c .before .if1 .taken)))
 
 returns-2 : tie.Need-returns-2
 unfolding linksOf
@@ -29,22 +29,22 @@ returns-2 c = rw (← c .before .before .word-length .ensures) (simp (le-ltb _ _
 parent-requires : tie.Need-parent-requires
 parent-requires c κs = search needs
 
-refuse-requires-2 : tie.Need-refuse-requires-2
-refuse-requires-2 c κs = search needs
+refused-requires-2 : tie.Need-refused-requires-2
+refused-requires-2 c κs = search needs
 
 returns-3 : tie.Need-returns-3
 unfolding linksOf
-returns-3 c = c .refuse2 .ensures ∙ rw (← c .before .before .before .before .before .word-length .ensures, ← c .before .before .parent .ensures) (simp (le-ltb _ _ (c .before .before .before .before .if1 .left), ne-eqb _ _ (c .before .before .before .if2 .left), le-leb _ _ (c .before .if3 .taken)))
+returns-3 c = c .refused2 .ensures ∙ rw (← c .before .before .before .before .before .word-length .ensures, ← c .before .before .parent .ensures) (simp (le-ltb _ _ (c .before .before .before .before .if1 .left), ne-eqb _ _ (c .before .before .before .if2 .left), le-leb _ _ (c .before .if3 .taken)))
 
 last-requires : tie.Need-last-requires
 last-requires c κs = search needs
 
-refuse-requires-3 : tie.Need-refuse-requires-3
-refuse-requires-3 c κs = search needs
+refused-requires-3 : tie.Need-refused-requires-3
+refused-requires-3 c κs = search needs
 
 returns-4 : tie.Need-returns-4
 unfolding linksOf
-returns-4 c = c .refuse3 .ensures ∙ rw (← c .before .before .before .before .before .before .before .word-length .ensures, ← c .before .before .before .before .parent .ensures, ← c .before .before .last .ensures) (simp (le-ltb _ _ (c .before .before .before .before .before .before .if1 .left), ne-eqb _ _ (c .before .before .before .before .before .if2 .left), lt-leb _ _ (c .before .before .before .if3 .left), le-leb _ _ (c .before .if4 .taken)))
+returns-4 c = c .refused3 .ensures ∙ rw (← c .before .before .before .before .before .before .before .word-length .ensures, ← c .before .before .before .before .parent .ensures, ← c .before .before .last .ensures) (simp (le-ltb _ _ (c .before .before .before .before .before .before .if1 .left), ne-eqb _ _ (c .before .before .before .before .before .if2 .left), lt-leb _ _ (c .before .before .before .if3 .left), le-leb _ _ (c .before .if4 .taken)))
 
 returns-5 : tie.Need-returns-5
 unfolding linksOf
@@ -55,13 +55,13 @@ links-spec =
     tie.close
     (tie.spec
     word-length-requires
-    refuse-requires
+    refused-requires
     returns
     returns-2
     parent-requires
-    refuse-requires-2
+    refused-requires-2
     returns-3
     last-requires
-    refuse-requires-3
+    refused-requires-3
     returns-4
     returns-5)

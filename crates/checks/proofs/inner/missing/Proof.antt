@@ -3,7 +3,7 @@ use Prim.Native.Nat.{_-_}
 use mathlib.Core.Path.{sym, _∙_}
 use borrow.Author.Needs.{needs}
 use Rattle.checks.specs.Checks.{missingRow, missing}
-use Rattle.checks.proofs.Laws.{Scanning, scanning, hands-on, goes-on, ends}
+use Rattle.egg.proofs.Scans.{Scanning, scanning, hands-on, goes-on, ends}
 use Rattle.checks.proofs.inner.missing.Statement.{statement}
 use Rattle.checks.proofs.inner.missing.Tie as tie
 

@@ -4,7 +4,7 @@ use mathlib.Core.Path.{_∙_}
 use borrow.Author.Tests.{eq-eqb, ne-eqb}
 use borrow.Author.Needs.{needs}
 use Rattle.checks.specs.Checks.{missingAt, missingRow}
-use Rattle.checks.proofs.Laws.{Scanning, scanning, stops, goes-on, ends}
+use Rattle.egg.proofs.Scans.{Scanning, scanning, stops, goes-on, ends}
 use Rattle.checks.proofs.inner.missing_row.Statement.{statement}
 use Rattle.checks.proofs.inner.missing_row.Tie as tie
 
@@ -21,12 +21,12 @@ loop-holds c = scanning
 cell-requires : tie.Need-cell-requires Inv-loop μ-loop
 cell-requires c κs = search needs
 
-refuse-requires : tie.Need-refuse-requires Inv-loop μ-loop
-refuse-requires c κs = search needs
+refused-requires : tie.Need-refused-requires Inv-loop μ-loop
+refused-requires c κs = search needs
 
 returns : tie.Need-returns Inv-loop μ-loop
 returns c =
-    c .refuse .ensures
+    c .refused .ensures
     ∙ stops (c .before .before .before .before .loop .inv) (c .before .before .before .loop-test .taken)
     (rw (← c .before .before .cell .ensures) (simp (eq-eqb _ _ (c .before .if1 .taken))))
 
@@ -52,7 +52,7 @@ missing-row-spec =
     μ-loop
     loop-holds
     cell-requires
-    refuse-requires
+    refused-requires
     returns
     add-g
     loop-less

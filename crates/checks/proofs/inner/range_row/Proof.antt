@@ -4,7 +4,7 @@ use mathlib.Core.Path.{_∙_}
 use borrow.Author.Tests.{lt-ltb, le-ltb}
 use borrow.Author.Needs.{needs}
 use Rattle.checks.specs.Checks.{rangeAt, rangeRow}
-use Rattle.checks.proofs.Laws.{Scanning, scanning, stops, goes-on, ends}
+use Rattle.egg.proofs.Scans.{Scanning, scanning, stops, goes-on, ends}
 use Rattle.checks.proofs.inner.range_row.Statement.{statement}
 use Rattle.checks.proofs.inner.range_row.Tie as tie
 
@@ -24,12 +24,12 @@ mul-loop c = search needs
 cell-requires : tie.Need-cell-requires Inv-loop μ-loop
 cell-requires c κs = search needs
 
-refuse-requires : tie.Need-refuse-requires Inv-loop μ-loop
-refuse-requires c κs = search needs
+refused-requires : tie.Need-refused-requires Inv-loop μ-loop
+refused-requires c κs = search needs
 
 returns : tie.Need-returns Inv-loop μ-loop
 returns c =
-    c .refuse .ensures
+    c .refused .ensures
     ∙ stops (c .before .before .before .before .loop .inv) (c .before .before .before .loop-test .taken)
     (rw (← c .before .before .cell .ensures) (simp (lt-ltb _ _ (c .before .if1 .taken))))
 
@@ -56,7 +56,7 @@ range-row-spec =
     loop-holds
     mul-loop
     cell-requires
-    refuse-requires
+    refused-requires
     returns
     add-k
     loop-less

@@ -4,7 +4,7 @@ use mathlib.Core.Path.{_∙_}
 use borrow.Author.Needs.{needs}
 use Rattle.egg.specs.Scan.{andThen}
 use Rattle.checks.specs.Checks.{rangeRow, linksOf, ranges}
-use Rattle.checks.proofs.Laws.{Scanning, scanning, stops, goes-on, ends}
+use Rattle.egg.proofs.Scans.{Scanning, scanning, stops, goes-on, ends}
 use Rattle.checks.proofs.inner.ranges.Statement.{statement}
 use Rattle.checks.proofs.inner.ranges.Tie as tie
 

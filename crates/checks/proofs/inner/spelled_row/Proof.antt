@@ -9,13 +9,13 @@ use Rattle.checks.proofs.inner.spelled_row.Tie as tie
 word-length-requires : tie.Need-word-length-requires
 word-length-requires c κs = search needs
 
-refuse-requires : tie.Need-refuse-requires
-refuse-requires c κs = search needs
+refused-requires : tie.Need-refused-requires
+refused-requires c κs = search needs
 
 returns : tie.Need-returns
 unfolding spelledRow
 returns c =
-    c .refuse .ensures
+    c .refused .ensures
     ∙ rw (← c .before .before .before .word-length .ensures) (simp (eq-eqb _ _ (c .before .before .if1 .taken), ne-eqb _ _ (c .before .if2 .taken)))
 
 returns-2 : tie.Need-returns-2
@@ -32,8 +32,8 @@ last-requires c κs = search needs
 step-requires : tie.Need-step-requires
 step-requires c κs = search needs
 
-refuse-requires-2 : tie.Need-refuse-requires-2
-refuse-requires-2 c κs = search needs
+refused-requires-2 : tie.Need-refused-requires-2
+refused-requires-2 c κs = search needs
 
 returns-3 : tie.Need-returns-3
 unfolding spelledRow
@@ -43,7 +43,7 @@ returns-3 c =
     let at-last = at-step .before in
     let at-parent = at-last .before in
     let at-if1 = at-parent .before in
-    c .refuse2 .ensures
+    c .refused2 .ensures
     ∙ rw (← at-parent .parent .ensures, ← at-last .last .ensures, ← at-step .step .ensures)
     (simp (ne-eqb _ _ (at-if1 .if1 .left), ne-eqb _ _ (at-if3 .if3 .taken)))
 
@@ -59,8 +59,8 @@ cast-if4-2 c = search needs
 add-if4 : tie.Need-add-if4
 add-if4 c = search needs
 
-refuse-requires-3 : tie.Need-refuse-requires-3
-refuse-requires-3 c κs = search needs
+refused-requires-3 : tie.Need-refused-requires-3
+refused-requires-3 c κs = search needs
 
 returns-4 : tie.Need-returns-4
 unfolding spelledRow
@@ -73,7 +73,7 @@ returns-4 c =
     let at-parent = at-last .before in
     let at-if1 = at-parent .before in
     let at-word-length = at-if1 .before in
-    c .refuse3 .ensures
+    c .refused3 .ensures
     ∙ rw (← at-parent .parent .ensures, ← at-last .last .ensures, ← at-step .step .ensures, ← at-word-length .word-length .ensures, ← at-word-length2 .word-length2 .ensures)
     (simp (ne-eqb _ _ (at-if1 .if1 .left), eq-eqb _ _ (at-if3 .if3 .left), ne-eqb _ _ (at-if4 .if4 .taken)))
 
@@ -95,18 +95,18 @@ spelled-row-spec =
     tie.close
     (tie.spec
     word-length-requires
-    refuse-requires
+    refused-requires
     returns
     returns-2
     parent-requires
     last-requires
     step-requires
-    refuse-requires-2
+    refused-requires-2
     returns-3
     word-length-requires-2
     cast-if4
     cast-if4-2
     add-if4
-    refuse-requires-3
+    refused-requires-3
     returns-4
     returns-5)

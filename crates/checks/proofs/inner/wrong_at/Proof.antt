@@ -8,11 +8,11 @@ use Rattle.checks.proofs.inner.wrong_at.Tie as tie
 step-requires : tie.Need-step-requires
 step-requires c κs = search needs
 
-refuse-requires : tie.Need-refuse-requires
-refuse-requires c κs = search needs
+refused-requires : tie.Need-refused-requires
+refused-requires c κs = search needs
 
 returns : tie.Need-returns
-returns c = c .refuse .ensures ∙ rw (← c .before .before .step .ensures) (simp (eq-eqb _ _ (c .before .if1 .taken)))
+returns c = c .refused .ensures ∙ rw (← c .before .before .step .ensures) (simp (eq-eqb _ _ (c .before .if1 .taken)))
 
 returns-2 : tie.Need-returns-2
 returns-2 c = rw (← c .before .before .step .ensures) (simp (ne-eqb _ _ (c .before .if1 .left), eq-eqb _ _ (c .if2 .taken)))
@@ -20,8 +20,8 @@ returns-2 c = rw (← c .before .before .step .ensures) (simp (ne-eqb _ _ (c .be
 step-requires-2 : tie.Need-step-requires-2
 step-requires-2 c κs = search needs
 
-refuse-requires-2 : tie.Need-refuse-requires-2
-refuse-requires-2 c κs = search needs
+refused-requires-2 : tie.Need-refused-requires-2
+refused-requires-2 c κs = search needs
 
 returns-3 : tie.Need-returns-3
 returns-3 c =
@@ -30,7 +30,7 @@ returns-3 c =
     let at-if2 = at-step2 .before in
     let at-if1 = at-if2 .before in
     let at-step = at-if1 .before in
-    c .refuse2 .ensures
+    c .refused2 .ensures
     ∙ rw (← at-step .step .ensures, ← at-step2 .step2 .ensures)
     (simp (ne-eqb _ _ (at-if1 .if1 .left), ne-eqb _ _ (at-if2 .if2 .left), eq-eqb _ _ (at-if3 .if3 .taken)))
 
@@ -44,10 +44,10 @@ wrong-at-spec =
     tie.close
     (tie.spec
     step-requires
-    refuse-requires
+    refused-requires
     returns
     returns-2
     step-requires-2
-    refuse-requires-2
+    refused-requires-2
     returns-3
     returns-4)

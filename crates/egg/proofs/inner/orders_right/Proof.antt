@@ -1,7 +1,7 @@
 use Rattle.egg.specs.Pairs.{orderAt, ordersRight}
 use Rattle.egg.specs.Scan.{scan}
 use Rattle.egg.proofs.Orders.{orders-length, orders-begin, order-low, order-high, order-fine}
-use Rattle.egg.proofs.Laws.{scan-end}
+use Rattle.egg.proofs.Scans.{scan-end}
 use Prim.Native.Nat.{ℕ, _-_, _≤_}
 use mathlib.Core.Path.{_≡_, refl, sym, ap, _∙_}
 use borrow.Author.Needs.{needs}

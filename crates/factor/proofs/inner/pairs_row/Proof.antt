@@ -1,26 +1,24 @@
 -- A loop over a scan: each turn goes on or stops at a refusal; the pair that was taken apart is the pair of the list.
-use Prim.Native.Nat.{_-_, _≤_, _/_, _%_}
-use mathlib.Core.Path.{_≡_, sym, _∙_}
+use Prim.Native.Nat.{_-_, _/_, _%_}
+use mathlib.Core.Path.{sym, _∙_}
 use borrow.Author.Needs.{needs}
 use lib.ListN.{length, getD}
-use Rattle.egg.specs.Scan.{scan}
 use Rattle.egg.specs.Pairs.{pairCode}
-use Rattle.egg.proofs.Laws.{scan-end}
+use Rattle.egg.proofs.Scans.{Scanning, scanning, hands-on, goes-on, ends}
 use Rattle.factor.specs.Relations.{relationAt, pairsRow}
-use Rattle.factor.proofs.Scans.{scan-begin, scan-on, scan-stop}
 use Rattle.factor.proofs.Relations.{pair-relation}
 use Rattle.factor.proofs.inner.pairs_row.Statement.{statement}
 use Rattle.factor.proofs.inner.pairs_row.Tie as tie
 
 abbrev Inv-loop : tie.InvT-loop
-Inv-loop s n count orders e k₀ k = (k ≤ length orders) × (scan (length orders - k) (λ i. relationAt s n count e (pairCode i / 8) (pairCode i % 8) (getD orders i 0)) k ≡ pairsRow s n count orders e)
+Inv-loop s n count orders e k₀ k = Scanning (length orders) (λ i. relationAt s n count e (pairCode i / 8) (pairCode i % 8) (getD orders i 0)) k (pairsRow s n count orders e)
 
 abbrev μ-loop : tie.MeasureT-loop
 μ-loop s n count orders e k₀ k = length orders - k
 
 loop-holds : tie.Need-loop-holds Inv-loop μ-loop
 unfolding pairsRow
-loop-holds c = (search needs, scan-begin _ _)
+loop-holds c = scanning
 
 pair-code-requires : tie.Need-pair-code-requires Inv-loop μ-loop
 pair-code-requires c κs = search needs
@@ -47,7 +45,7 @@ enum-told-2 : tie.Need-enum-told-2 Inv-loop μ-loop
 enum-told-2 c = search needs
 
 returns : tie.Need-returns Inv-loop μ-loop
-returns c = let a = (c .before .before .before .before .before .before .before .before .before .args) in scan-stop _ _ _ (c .before .before .before .before .before .loop-test .taken) (c .before .before .relation-at .ensures ∙ pair-relation (a .s .now) (a .n) (a .count) (a .e) (c .before .before .before .before .before .before .loop .k) _ (c .before .before .before .before .pair-code .ensures)) (c .enum-told2 .given .1) ∙ c .before .before .before .before .before .before .loop .inv .1
+returns c = let a = (c .before .before .before .before .before .before .before .before .before .args) in hands-on (c .before .before .before .before .before .before .loop .inv) (c .before .before .before .before .before .loop-test .taken) (c .before .before .relation-at .ensures ∙ pair-relation (a .s .now) (a .n) (a .count) (a .e) (c .before .before .before .before .before .before .loop .k) _ (c .before .before .before .before .pair-code .ensures)) (c .enum-told2 .given .1)
 
 add-k : tie.Need-add-k Inv-loop μ-loop
 add-k c = search needs
@@ -56,10 +54,10 @@ loop-less : tie.Need-loop-less Inv-loop μ-loop
 loop-less c = search needs
 
 loop-again : tie.Need-loop-again Inv-loop μ-loop
-loop-again c = let a = (c .before .before .before .before .before .before .before .before .before .args) in (search needs, sym (scan-on _ _ _ (c .before .before .before .before .before .loop-test .taken) (c .before .before .relation-at .ensures ∙ pair-relation (a .s .now) (a .n) (a .count) (a .e) (c .before .before .before .before .before .before .loop .k) _ (c .before .before .before .before .pair-code .ensures)) (c .enum-told .given .1)) ∙ c .before .before .before .before .before .before .loop .inv .1)
+loop-again c = let a = (c .before .before .before .before .before .before .before .before .before .args) in goes-on (c .before .before .before .before .before .before .loop .inv) (c .before .before .before .before .before .loop-test .taken) (sym (c .before .before .relation-at .ensures ∙ pair-relation (a .s .now) (a .n) (a .count) (a .e) (c .before .before .before .before .before .before .loop .k) _ (c .before .before .before .before .pair-code .ensures)) ∙ c .enum-told .given .1)
 
 returns-2 : tie.Need-returns-2 Inv-loop μ-loop
-returns-2 c = sym (scan-end _ _ _ (c .loop-test .left)) ∙ c .before .loop .inv .1
+returns-2 c = ends (c .before .loop .inv) (c .loop-test .left)
 
 pub pairs-row-spec : {M : Type 1} → statement M
 pairs-row-spec =

@@ -1,23 +1,21 @@
 -- A loop over a scan: each turn goes on or stops at a refusal.
-use Prim.Native.Nat.{_-_, _≤_}
-use mathlib.Core.Path.{_≡_, sym, _∙_}
+use Prim.Native.Nat.{_-_}
+use mathlib.Core.Path.{sym, _∙_}
 use borrow.Author.Needs.{needs}
-use Rattle.egg.specs.Scan.{scan}
-use Rattle.egg.proofs.Laws.{scan-end}
+use Rattle.egg.proofs.Scans.{Scanning, scanning, hands-on, goes-on, ends}
 use Rattle.factor.specs.Relations.{relationsRow, relations}
-use Rattle.factor.proofs.Scans.{scan-begin, scan-on, scan-stop}
 use Rattle.factor.proofs.inner.relations.Statement.{statement}
 use Rattle.factor.proofs.inner.relations.Tie as tie
 
 abbrev Inv-loop : tie.InvT-loop
-Inv-loop s n count orders e₀ e = (e ≤ count) × (scan (count - e) (λ i. relationsRow s n count orders i) e ≡ relations s n count orders)
+Inv-loop s n count orders e₀ e = Scanning count (λ i. relationsRow s n count orders i) e (relations s n count orders)
 
 abbrev μ-loop : tie.MeasureT-loop
 μ-loop s n count orders e₀ e = count - e
 
 loop-holds : tie.Need-loop-holds Inv-loop μ-loop
 unfolding relations
-loop-holds c = (search needs, scan-begin _ _)
+loop-holds c = scanning
 
 relations-row-requires : tie.Need-relations-row-requires Inv-loop μ-loop
 relations-row-requires c κs = search needs
@@ -29,7 +27,7 @@ enum-told-2 : tie.Need-enum-told-2 Inv-loop μ-loop
 enum-told-2 c = search needs
 
 returns : tie.Need-returns Inv-loop μ-loop
-returns c = scan-stop _ _ _ (c .before .before .before .loop-test .taken) (c .before .before .relations-row .ensures) (c .enum-told2 .given .1) ∙ c .before .before .before .before .loop .inv .1
+returns c = hands-on (c .before .before .before .before .loop .inv) (c .before .before .before .loop-test .taken) (c .before .before .relations-row .ensures) (c .enum-told2 .given .1)
 
 add-e : tie.Need-add-e Inv-loop μ-loop
 add-e c = search needs
@@ -38,10 +36,10 @@ loop-less : tie.Need-loop-less Inv-loop μ-loop
 loop-less c = search needs
 
 loop-again : tie.Need-loop-again Inv-loop μ-loop
-loop-again c = (search needs, sym (scan-on _ _ _ (c .before .before .before .loop-test .taken) (c .before .before .relations-row .ensures) (c .enum-told .given .1)) ∙ c .before .before .before .before .loop .inv .1)
+loop-again c = goes-on (c .before .before .before .before .loop .inv) (c .before .before .before .loop-test .taken) (sym (c .before .before .relations-row .ensures) ∙ c .enum-told .given .1)
 
 returns-2 : tie.Need-returns-2 Inv-loop μ-loop
-returns-2 c = sym (scan-end _ _ _ (c .loop-test .left)) ∙ c .before .loop .inv .1
+returns-2 c = ends (c .before .loop .inv) (c .loop-test .left)
 
 pub relations-spec : {M : Type 1} → statement M
 relations-spec =

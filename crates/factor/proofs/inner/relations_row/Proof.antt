@@ -1,6 +1,6 @@
 -- The first verdict stands where it is a refusal.
 use mathlib.Core.Path.{_∙_}
-use Rattle.factor.proofs.Scans.{then-refused, then-fine}
+use Rattle.egg.proofs.Scans.{then-refused, then-fine}
 use borrow.Author.Needs.{needs}
 use Rattle.factor.proofs.inner.relations_row.Statement.{statement}
 use Rattle.factor.proofs.inner.relations_row.Tie as tie
