@@ -1,42 +1,29 @@
 -- Demand 2 for composed rows. The call is the build in its stretches, put back into the buffers; so what holds of the build holds of the call.
 -- Assumes nothing.
-use Prim.Native.Nat.{ℕ, zero, suc, _+_, _*_, _-_, _≤_, _<_, zero-le}
-use mathlib.Core.Path.{_≡_, refl, sym, ap, _∙_, subst}
+use Prim.Native.Nat.{ℕ, _+_, _*_, _≤_}
+use mathlib.Core.Path.{_≡_, refl, sym, ap, _∙_}
 use mathlib.Core.Logic.{_↔_}
-use mathlib.Core.Bool.{Bool, true, false, _&&_}
-use mathlib.Core.List.{List, _++_}
-use native.Mathlib.Nat.{mul-le-mul, le-refl}
-use native.Mathlib.Omega.{arith}
-use borrow.Author.Tests.{le-leb, lt-leb, le-ltb, leb-true}
-use lib.ListN.{length, getD, take, drop, replicate, length-append, length-take, length-drop, length-replicate}
-use lib.Seq.{length-take-le, take-at, drop-at}
-use lib.Dec.{leb, ltb}
-use Rattle.egg.specs.declared.Refusal.{Refusal}
+use mathlib.Core.Bool.{true}
+use mathlib.Core.List.{List}
+use native.Mathlib.Nat.{le-refl}
+use borrow.Author.Tests.{le-leb, le-ltb}
+use lib.ListN.{length, take, replicate}
+use lib.Seq.{length-take-le}
 use Rattle.egg.specs.declared.Factor.{Factor}
-use Rattle.egg.specs.declared.Made.{Made}
-use Rattle.egg.specs.declared.Verdict.{Verdict}
 use Rattle.egg.specs.declared.Verdict.the-variants as verdict
-use Rattle.egg.specs.declared.Counted.{Counted}
-use Rattle.egg.specs.declared.Counted.the-variants.{Count, Refused}
-use Rattle.egg.specs.Factor.{hasRoom, fitsIn, stretch}
-use Rattle.egg.proofs.Rooms.{and-first, and-second, few, positive, limited, within-length}
-use Rattle.builder.specs.Finish.{Built, built}
-use Rattle.builder.specs.Lending.{tableNeed, workNeed, lentRight, within, noFactor, madeOf, Making, making, lentBack}
+use Rattle.egg.specs.Factor.{hasRoom, stretch}
+use Rattle.egg.proofs.Rooms.{positive, limited}
+use Rattle.builder.specs.Finish.{Built}
+use Rattle.builder.specs.Lending.{tableNeed, workNeed, lentRight, within, making, lentBack}
 use Rattle.factor.specs.Composed.{composedAt, composedIn, composed}
-use Rattle.answers.specs.Accepted.{Accepted}
 use Rattle.promises.specs.Composed.{Taken, Holding, Given}
-use Rattle.promises.proofs.Lent.{handle, lentTable, by-build, stretch-part, fits-still}
+use Rattle.promises.proofs.Lent.{lent-room, lent-work, handle, lentTable, by-build, stretch-part, fits-still}
 use Rattle.promises.proofs.Built.{built-holds, built-work, taken-built}
 
 module _ (table : List ℕ) (start : ℕ) (work rows : List ℕ) (n room : ℕ) (hn : n ≤ 8)
     (lent : lentRight (length table) start (length work) room n ≡ true) (listed : room * n ≤ length rows) where
   has-room : hasRoom (length table) start room n ≡ true
-  unfolding lentRight
-  has-room = and-first _ (leb (workNeed n room) (length work)) lent
-
-  work-fits : workNeed n room ≤ length work
-  unfolding lentRight
-  work-fits = leb-true _ _ (and-second (hasRoom (length table) start room n) _ lent)
+  has-room = lent-room (length table) start (length work) room n lent
 
   build : Built
   build = composedIn (tableNeed n room) (take (workNeed n room) work) rows n room
@@ -51,11 +38,11 @@ module _ (table : List ℕ) (start : ℕ) (work rows : List ℕ) (n room : ℕ) 
   hi : room ≤ 65535
   hi = limited (length table) start room n has-room
 
-  lent-work : length (take (workNeed n room) work) ≡ workNeed n room
-  lent-work = length-take-le (workNeed n room) work work-fits
+  work-taken : length (take (workNeed n room) work) ≡ workNeed n room
+  work-taken = length-take-le (workNeed n room) work (lent-work (length table) start (length work) room n lent)
 
   work-lent : room * (6 * n * n + 4 * n) ≤ length (take (workNeed n room) work)
-  work-lent = rw lent-work (le-refl (workNeed n room))
+  work-lent = rw work-taken (le-refl (workNeed n room))
 
   module _ {N : ℕ} {s : List ℕ} (H : Holding (composedAt rows n) n room (tableNeed n room) N s) where
     part : stretch (lentTable table start n room s) (handle start n room N) ≡ s
@@ -89,7 +76,7 @@ module _ (table : List ℕ) (start : ℕ) (work rows : List ℕ) (n room : ℕ) 
       let b = by-build table start work n room build (sym call-is-build ∙ q) in
       let H = built-holds rows n room (tableNeed n room) (take (workNeed n room) work) hn lo hi (le-refl (tableNeed n room)) work-lent (b .3 .0) in
       let z = built-work rows n room (tableNeed n room) (take (workNeed n room) work) hn lo hi (le-refl (tableNeed n room)) work-lent (b .3 .0) in
-      given-at (b .3 .1 .0) (b .3 .1 .1 .0) (b .3 .1 .1 .1) (given H (z ∙ ap (λ (k : ℕ). replicate k 0) lent-work))
+      given-at (b .3 .1 .0) (b .3 .1 .1 .0) (b .3 .1 .1 .1) (given H (z ∙ ap (λ (k : ℕ). replicate k 0) work-taken))
 
   -- Accepted exactly when: "a table within 01's limits and the given room is accepted exactly when some group has it as its right steps under the
   -- numbering rule".

@@ -1,30 +1,26 @@
 -- Demand 3: whatever the arguments, an enumeration that is accepted gives the group that the pair orders present.
 -- Assumes nothing.
-use Prim.Native.Nat.{ℕ, zero, suc, _+_, _*_, _≤_, _<_}
-use mathlib.Core.Path.{_≡_, refl, sym, ap, _∙_, subst}
+use Prim.Native.Nat.{ℕ, _≤_}
+use mathlib.Core.Path.{_≡_, refl, ap, _∙_}
 use mathlib.Core.Bool.{Bool, true, false}
-use mathlib.Core.List.{List, _++_}
+use mathlib.Core.List.{List}
 use native.Mathlib.Nat.{le-refl}
 use native.Mathlib.Omega.{arith}
-use borrow.Author.Tests.{ltb-false, leb-true}
-use lib.ListN.{length, replicate}
-use lib.Dec.{ltb, leb}
+use borrow.Author.Tests.{le-ltb, ltb-false}
+use lib.ListN.{length}
+use lib.Dec.{ltb}
 use Rattle.egg.specs.declared.Refusal.{Refusal}
 use Rattle.egg.specs.declared.Factor.{Factor}
 use Rattle.egg.specs.declared.Made.{Made}
 use Rattle.egg.specs.declared.Verdict.{Verdict}
 use Rattle.egg.specs.declared.Verdict.the-variants as verdict
-use Rattle.egg.specs.declared.Counted.the-variants.{Count}
-use Rattle.egg.specs.Table.{pick, stepOf}
-use Rattle.egg.specs.Scan.{refusedOf}
+use Rattle.egg.specs.Table.{pick}
 use Rattle.egg.specs.Pairs.{ordersRight}
 use Rattle.egg.specs.Factor.{hasRoom, stretch}
 use Rattle.egg.proofs.Orders.{orders-limits}
-use Rattle.egg.proofs.Rooms.{and-first, and-second, few, positive, limited}
-use Rattle.builder.specs.Lending.{tableNeed, workNeed, lentRight, within, noFactor, refusedMade, Making, making, lentBack}
-use Rattle.factor.specs.Questions.{composeAnswer}
+use Rattle.egg.proofs.Rooms.{positive, limited}
+use Rattle.builder.specs.Lending.{tableNeed, workNeed, lentRight, within, refusedMade, Making, making, lentBack}
 use Rattle.enumeration.specs.Calls.{enumeratedIn, refusedMaking, enumerates}
-use Rattle.theory.specs.Words.{Word}
 use Rattle.theory.proofs.Walking.{walk-closed}
 use Rattle.theory.proofs.Sound.{compose-words}
 use Rattle.theory.proofs.Presented.{presented}
@@ -32,7 +28,7 @@ use Rattle.answers.specs.Accepted.{Accepted, reach}
 use Rattle.answers.proofs.Handles.{compose-answer}
 use Rattle.derived.specs.Recorded as run
 use Rattle.promises.specs.Enumerated.{Enumerated, Demand3}
-use Rattle.promises.proofs.Lent.{handle, lentTable, by-build, stretch-part, fits-still}
+use Rattle.promises.proofs.Lent.{lent-room, handle, lentTable, by-build, stretch-part, fits-still}
 use Rattle.promises.proofs.Derived.{Related, enumerated-related}
 
 -- A verdict that is a refusal is no acceptance.
@@ -43,6 +39,27 @@ refused-making {r} {f} {f′} h =
     let a : verdict.Refused r ≡ verdict.Fine = ap (λ (x : Made). x .answer) m in
     let z : _≡_ {A = ℕ} 0 1 = cc in
     omega arith
+
+-- Where 1 to 4 pass, the run is within its limits, and the call is the build in its stretches, put back into the buffers.
+module _ (table : List ℕ) (start : ℕ) (work orders : List ℕ) (n room : ℕ) (generators : n ≤ 8) (right : ordersRight orders n ≡ verdict.Fine)
+    (lent : lentRight (length table) start (length work) room n ≡ true) where
+  pub limits : run.Limits n orders room (tableNeed n room) (workNeed n room)
+  limits =
+      let has = lent-room (length table) start (length work) room n lent in
+      record {
+        few = generators;
+        full = orders-limits orders n right .0;
+        orders = orders-limits orders n right .1;
+        some = positive (length table) start room n has;
+        limit = limited (length table) start room n has;
+        table-room = le-refl (tableNeed n room);
+        work-room = le-refl (workNeed n room);
+      }
+
+  pub call-is-build : enumerates table start work orders n room
+      ≡ lentBack table start work n room (enumeratedIn (tableNeed n room) (workNeed n room) orders n room)
+  unfolding enumerates
+  call-is-build = simp (le-ltb _ _ generators, right, lent)
 
 -- Where the call is accepted, 1 to 4 have passed.
 pub record Begun (table : List ℕ) (start : ℕ) (work orders : List ℕ) (n room : ℕ) (m : Making) : Type 0 where
@@ -55,7 +72,7 @@ module _ (table : List ℕ) (start : ℕ) (work orders : List ℕ) (n room : ℕ
   abbrev pub accepted : Making
   accepted = making (record { answer = verdict.Fine; factor = f }) t w
 
-  begun : enumerates table start work orders n room ≡ accepted → Begun table start work orders n room accepted
+  pub begun : enumerates table start work orders n room ≡ accepted → Begun table start work orders n room accepted
   unfolding enumerates
   begun h = first (ltb 8 n) refl h where
     third : (v : Verdict) → ordersRight orders n ≡ v → ltb 8 n ≡ false → (b : Bool) → lentRight (length table) start (length work) room n ≡ b
@@ -78,21 +95,12 @@ module _ (table : List ℕ) (start : ℕ) (work orders : List ℕ) (n room : ℕ
 
   module _ (B : Begun table start work orders n room accepted) where
     has-room : hasRoom (length table) start room n ≡ true
-    unfolding lentRight
-    has-room = and-first _ (leb (workNeed n room) (length work)) (B .lent)
+    has-room = lent-room (length table) start (length work) room n (B .lent)
 
-    pub limits : run.Limits n orders room (tableNeed n room) (workNeed n room)
-    limits = record {
-      few = B .generators;
-      full = orders-limits orders n (B .right) .0;
-      orders = orders-limits orders n (B .right) .1;
-      some = positive (length table) start room n has-room;
-      limit = limited (length table) start room n has-room;
-      table-room = le-refl (tableNeed n room);
-      work-room = le-refl (workNeed n room);
-    }
+    begun-limits : run.Limits n orders room (tableNeed n room) (workNeed n room)
+    begun-limits = limits table start work orders n room (B .generators) (B .right) (B .lent)
 
-    module _ {N : ℕ} {s v : List ℕ} (R : Related orders n room (tableNeed n room) (workNeed n room) limits (B .right) N s v) where
+    module _ {N : ℕ} {s v : List ℕ} (R : Related orders n room (tableNeed n room) (workNeed n room) begun-limits (B .right) N s v) where
       part : stretch (lentTable table start n room s) (handle start n room N) ≡ s
       part = stretch-part table start n room has-room s (R .size-kept) N
 
@@ -134,5 +142,5 @@ module _ (table : List ℕ) (start : ℕ) (work orders : List ℕ) (n room : ℕ
   enumeration-accepted h =
       let B = begun h in
       let b = by-build table start work n room (enumeratedIn (tableNeed n room) (workNeed n room) orders n room) (B .is) in
-      let R = enumerated-related orders n room (tableNeed n room) (workNeed n room) (limits B) (B .right) (b .3 .0) in
+      let R = enumerated-related orders n room (tableNeed n room) (workNeed n room) (begun-limits B) (B .right) (b .3 .0) in
       at (b .3 .1 .0) (b .3 .1 .1 .0) (b .3 .1 .1 .1) (related-enumerated B R)

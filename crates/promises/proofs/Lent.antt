@@ -1,24 +1,34 @@
 -- What a call lends and gets back: a stretch of the table buffer and one of the work. What holds of the build in its stretches holds of the call.
 -- Assumes nothing.
-use Prim.Native.Nat.{ℕ, _+_, _*_, _≤_}
+use Prim.Native.Nat.{ℕ, _+_, _≤_, _<_}
 use mathlib.Core.Path.{_≡_, refl, sym, ap, _∙_}
 use mathlib.Core.Bool.{true}
 use mathlib.Core.List.{List, _++_}
 use native.Mathlib.Omega.{arith}
-use borrow.Author.Tests.{le-leb}
-use lib.ListN.{length, take, drop, length-append, length-drop}
-use lib.Seq.{length-take-le, take-at, drop-at}
-use Rattle.egg.specs.declared.Refusal.{Refusal}
+use borrow.Author.Tests.{le-leb, leb-true}
+use lib.ListN.{length, getD, take, drop, length-append, length-drop}
+use lib.Seq.{length-take-le, take-at, drop-at, getD-take, getD-drop}
+use lib.Dec.{leb}
 use Rattle.egg.specs.declared.Factor.{Factor}
 use Rattle.egg.specs.declared.Made.{Made}
 use Rattle.egg.specs.declared.Verdict.the-variants as verdict
 use Rattle.egg.specs.declared.Counted.the-variants.{Count, Refused}
 use Rattle.egg.specs.Factor.{hasRoom, fitsIn, stretch}
-use Rattle.egg.proofs.Rooms.{within-length}
+use Rattle.egg.proofs.Rooms.{and-first, and-second, within-length}
 use Rattle.builder.specs.Finish.{Built, built}
-use Rattle.builder.specs.Lending.{tableNeed, workNeed, within, madeOf, Making, making, lentBack}
+use Rattle.builder.specs.Lending.{tableNeed, workNeed, lentRight, within, madeOf, making, lentBack}
 
--- A list with a part of itself replaced by one as long: its length, and the part.
+-- What is known of buffers that are not short.
+module _ (table start work room n : ℕ) (lent : lentRight table start work room n ≡ true) where
+  pub lent-room : hasRoom table start room n ≡ true
+  unfolding lentRight
+  lent-room = and-first _ (leb (workNeed n room) work) lent
+
+  pub lent-work : workNeed n room ≤ work
+  unfolding lentRight
+  lent-work = leb-true _ _ (and-second (hasRoom table start room n) _ lent)
+
+-- A list with a part of itself replaced by one as long: its length, the part, and the part's numbers.
 module _ (l : List ℕ) (a k : ℕ) (fits : a + k ≤ length l) (p : List ℕ) (size : length p ≡ k) where
   pub within-long : length (within l a (a + k) p) ≡ length l
   unfolding within
@@ -28,6 +38,11 @@ module _ (l : List ℕ) (a k : ℕ) (fits : a + k ≤ length l) (p : List ℕ) (
   unfolding within
   within-part =
       rw (drop-at (take a l) (p ++ drop (a + k) l) a (length-take-le a l (omega arith))) (take-at p (drop (a + k) l) k size)
+
+  pub within-cell : (i : ℕ) → i < k → getD (within l a (a + k) p) (a + i) 0 ≡ getD p i 0
+  within-cell i h =
+      sym (getD-drop a (within l a (a + k) p) i 0) ∙ sym (getD-take k (drop a (within l a (a + k) p)) i 0 h)
+      ∙ ap (λ (x : List ℕ). getD x i 0) within-part
 
 abbrev pub handle : ℕ → ℕ → ℕ → ℕ → Factor
 handle start n room N = record { start = start; room = room; generators = n; elements = N }
@@ -42,6 +57,9 @@ module _ (table : List ℕ) (start n room : ℕ) (has : hasRoom (length table) s
   pub stretch-part : stretch (lentTable table start n room s) (handle start n room N) ≡ s
   unfolding stretch
   stretch-part = within-part table start (tableNeed n room) end-fits s size
+
+  pub stretch-cell : (i : ℕ) → i < tableNeed n room → getD (lentTable table start n room s) (start + i) 0 ≡ getD s i 0
+  stretch-cell = within-cell table start (tableNeed n room) end-fits s size
 
   pub fits-still : 1 ≤ N → N ≤ room → fitsIn (length (lentTable table start n room s)) (handle start n room N) ≡ true
   unfolding fitsIn

@@ -2,26 +2,28 @@
 -- Assumes nothing.
 use Prim.Native.Nat.{ℕ, zero, suc, _+_, _*_, _-_, _≤_, _<_}
 use mathlib.Core.Path.{_≡_, refl, sym, ap, _∙_, subst}
-use mathlib.Core.List.{List, _++_}
+use mathlib.Core.Bool.{true}
+use mathlib.Core.List.{List}
 use native.Mathlib.Nat.{mul-le-mul, le-refl}
 use native.Mathlib.Omega.{arith}
-use lib.ListN.{length, getD, replicate}
+use lib.ListN.{length, getD}
+use Rattle.egg.specs.declared.Factor.{Factor}
 use Rattle.egg.specs.declared.Verdict.the-variants as verdict
 use Rattle.egg.specs.declared.Counted.the-variants.{Count}
 use Rattle.egg.specs.Table.{putAt, startOf, parentOf, lastOf, lengthOf, stepOf, backOf}
 use Rattle.egg.specs.Pairs.{ordersRight}
 use Rattle.egg.proofs.Cells.{put-length, inside}
-use Rattle.checks.specs.Checks.{Checked, checked, check-group, invertFrom, invertOf, fillInverses}
+use Rattle.checks.specs.Checks.{checked, check-group, invertFrom, invertOf, fillInverses}
 use Rattle.builder.specs.Finish.{built, zeroed}
+use Rattle.builder.specs.Lending.{tableNeed, workNeed, lentRight, within, making, lentBack}
 use Rattle.egg.specs.declared.Reached.{Reached}
 use Rattle.egg.specs.declared.Reached.the-variants.{Element, Refused}
 use Rattle.egg.specs.Factor.{readStep}
 use Rattle.factor.specs.Questions.{onReached}
 use Rattle.factor.specs.Relations.{turned, doubledRow, pairsRow, relationsRow}
 use Rattle.enumeration.specs.Run.{enumerated}
-use Rattle.enumeration.specs.Calls.{enumeratedIn}
+use Rattle.enumeration.specs.Calls.{enumeratedIn, enumerates}
 use Rattle.meaning.specs.Stored.{Stored, wordOf}
-use Rattle.meaning.specs.Sound.{Sound}
 use Rattle.meaning.proofs.Inverses.{kept-cell}
 use Rattle.meaning.proofs.Accepted.{checks-sound, checks-kept, accepted-filled, sound-regular}
 use Rattle.meaning.proofs.Complete.{checks-complete}
@@ -30,7 +32,10 @@ use Rattle.derived.proofs.Derivation.{done-sound}
 use Rattle.roomier.specs.Longer.{longer}
 use Rattle.roomier.proofs.Stores.{longer-get, longer-put, longer-length}
 use Rattle.roomier.proofs.Roomier.{more-room}
-use Rattle.promises.proofs.Derived.{Steps, work-long, steps-enumerated, enumerated-steps}
+use Rattle.promises.specs.Roomier.{Roomier}
+use Rattle.promises.proofs.Lent.{lent-room, handle, lentTable, by-build, stretch-cell}
+use Rattle.promises.proofs.Derived.{work-long, steps-enumerated, enumerated-steps, enumerated-related}
+use Rattle.promises.proofs.Enumerated.{limits, call-is-build, begun}
 
 -- Inverses are found and filled alike in a longer list.
 invert-longer : (k : ℕ) (l : List ℕ) (n j at x : ℕ) → invertFrom j (longer k l) n at x ≡ invertFrom j l n at x
@@ -111,3 +116,45 @@ module _ (o : List ℕ) (n room lt lw : ℕ) (L : run.Limits n o room lt lw) (ri
       ∙ fill-longer k N t₀ n 0 N (omega arith) fits ∙ ap (longer k) (accepted-filled t₀ w₀ n N (P .checks)) in
       let fine : relationsRow (longer k t) n N o 0 ≡ verdict.Fine = relations-longer k t n N o ∙ P .identity in
       (zeroed (C .1), steps-enumerated o n room′ lt′ lw′ L′ right (R .answer) refl refl (subst (λ (l : List ℕ). check-group t₁ w₁ n N ≡ checked verdict.Fine l (C .1)) filled (C .2)) fine)
+
+-- The same of the call. Where 1 to 4 pass at both rooms, an accepted build at the first gives the call at the second.
+module _ (table : List ℕ) (start : ℕ) (work orders : List ℕ) (n room : ℕ) (table′ : List ℕ) (start′ : ℕ) (work′ : List ℕ) (room′ : ℕ)
+    (few : n ≤ 8) (right : ordersRight orders n ≡ verdict.Fine) (lent : lentRight (length table) start (length work) room n ≡ true)
+    (lent′ : lentRight (length table′) start′ (length work′) room′ n ≡ true) (more : room ≤ room′) where
+  built-roomier : {N : ℕ} {s v : List ℕ} → enumeratedIn (tableNeed n room) (workNeed n room) orders n room ≡ built (Count N) s v
+      → Roomier orders n start room (handle start n room N) (lentTable table start n room s) table′ start′ work′ room′
+  built-roomier {N} {s} q =
+      let L = limits table start work orders n room few right lent in
+      let L′ = limits table′ start′ work′ orders n room′ few right lent′ in
+      let R = enumerated-related orders n room (tableNeed n room) (workNeed n room) L right q in
+      let wider : tableNeed n room ≤ tableNeed n room′ = mul-le-mul more (le-refl (2 * n + 4)) in
+      let deeper : workNeed n room ≤ workNeed n room′ = mul-le-mul more (le-refl (6 * n * n + 4 * n)) in
+      let E = enumerated-roomier orders n room (tableNeed n room) (workNeed n room) L right room′ (tableNeed n room′) (workNeed n room′) L′ more wider deeper q in
+      let k = tableNeed n room′ - tableNeed n room in
+      let size : length (longer k s) ≡ tableNeed n room′ = longer-length k s ∙ omega (arith, R .size-kept) in
+      let has = lent-room (length table) start (length work) room n lent in
+      let has′ = lent-room (length table′) start′ (length work′) room′ n lent′ in
+      let cell : (i : ℕ) → i < tableNeed n room′ → getD (lentTable table′ start′ n room′ (longer k s)) (start′ + i) 0 ≡ getD s i 0 = λ i hi.
+      stretch-cell table′ start′ n room′ has′ (longer k s) size N i hi ∙ longer-get k s i in
+      record {
+        table-then = lentTable table′ start′ n room′ (longer k s);
+        work-then = within work′ 0 (workNeed n room′) (E .0);
+        accepted = call-is-build table′ start′ work′ orders n room′ few right lent′ ∙ ap (lentBack table′ start′ work′ n room′) (E .1);
+        same = λ {i} hi. cell i (omega arith) ∙ sym (stretch-cell table start n room has s (R .size-kept) N i hi);
+        beyond = λ {i} lo hi. cell i hi ∙ R .beyond (omega (arith, mul-le-mul (R .within-room) (le-refl (2 * n + 4))));
+      }
+
+-- Nothing is asked but that the first call is accepted and that the second is lent enough for at least the same room.
+module _ (table : List ℕ) (start : ℕ) (work orders : List ℕ) (n room : ℕ) (f : Factor) (t w table′ : List ℕ) (start′ : ℕ) (work′ : List ℕ) (room′ : ℕ) where
+  roomier-at : {f₀ : Factor} {t₀ : List ℕ} → f ≡ f₀ → t ≡ t₀ → Roomier orders n start room f₀ t₀ table′ start′ work′ room′
+      → Roomier orders n start room f t table′ start′ work′ room′
+  roomier-at a b r = rw (a, b) r
+
+  pub enumeration-roomier : enumerates table start work orders n room ≡ making (record { answer = verdict.Fine; factor = f }) t w
+      → room ≤ room′ → lentRight (length table′) start′ (length work′) room′ n ≡ true
+      → Roomier orders n start room f t table′ start′ work′ room′
+  enumeration-roomier h more lent′ =
+      let B = begun table start work orders n room f t w h in
+      let b = by-build table start work n room (enumeratedIn (tableNeed n room) (workNeed n room) orders n room) (B .is) in
+      roomier-at (b .3 .1 .0) (b .3 .1 .1 .0)
+      (built-roomier table start work orders n room table′ start′ work′ room′ (B .generators) (B .right) (B .lent) lent′ more (b .3 .0))

@@ -1,2 +1,3 @@
 pub mod Composed
 pub mod Enumerated
+pub mod Roomier
