@@ -1,4 +1,4 @@
--- How long a text can be: ten digits a number, so that every listing ends far below what a usize can name.
+-- How long a text can be: ten digits a number, so that every text ends far below what a usize can name.
 -- Assumes nothing.
 use Prim.Native.Nat.{ℕ, zero, suc, _+_, _*_, _/_, _%_, _≤_, _<_, zero-le}
 use mathlib.Core.Bool.{Bool, true, false}
@@ -35,15 +35,17 @@ module _ (t : List ℕ) (n : ℕ) where
   lines-length zero e = zero-le
   lines-length (suc k) e = rw length-append (omega (arith, line-length e, lines-length k (e + 1)))
 
+  pub group-length : (count : ℕ) → length (groupText t n count) ≤ 28 + count * (33 + 11 * n)
+  group-length count = simp length-append (omega (arith, digits-length 10 n, digits-length 10 count, lines-length count 0))
+
   pub group-ends : {count : ℕ} → n < 256 → count < 4294967296 → Ends 0 (groupText t n count)
   group-ends {count} h k =
       let a : count ≤ 4294967295 = omega arith in
       let b : 33 + 11 * n ≤ 2838 = omega arith in
-      record {
-        fits =
-            simp length-append
-            (omega (arith, digits-length 10 n, digits-length 10 count, lines-length count 0, mul-le-mul a b));
-      }
+      record { fits = omega (arith, group-length count, mul-le-mul a b) }
+
+pub refused-length : (number : ℕ) → length (refusedText number) ≤ 19
+refused-length number = simp length-append (omega (arith, digits-length 10 number))
 
 pub refused-ends : (number : ℕ) → Ends 0 (refusedText number)
-refused-ends number = record { fits = simp length-append (omega (arith, digits-length 10 number)) }
+refused-ends number = record { fits = omega (arith, refused-length number) }

@@ -1,8 +1,9 @@
--- The buffer keeps its length, so the used part of it is as long as what was used.
+-- The buffer keeps its length, and every listing fits it; so the used part of it is as long as what was used.
 use native.Mathlib.Omega.{arith}
 use mathlib.Core.Path.{sym}
 use lib.Seq.{length-take-le}
 use borrow.Author.Needs.{needs}
+use Rattle.listing.proofs.Fits.{fits-buffer}
 use Rattle.listing.proofs.main.Statement.{statement}
 use Rattle.listing.proofs.main.Tie as tie
 
@@ -25,19 +26,16 @@ listing-requires : tie.Need-listing-requires
 listing-requires c κs = search needs
 
 array-share-prefix-text : tie.Need-array-share-prefix-text
-array-share-prefix-text c = search needs
+array-share-prefix-text c = fits-buffer _ (c .before .listing .ensures .0) (c .before .listing .kept .1 .0)
 
 slice-aggregate-write-all : tie.Need-slice-aggregate-write-all
-slice-aggregate-write-all c = sym (length-take-le _ (c .before .before .before .listing .last .1 .0) (omega (arith, c .before .before .before .listing .kept .1 .0)))
+slice-aggregate-write-all c = sym (length-take-le _ (c .before .before .listing .last .1 .0) (fits-buffer _ (c .before .before .listing .ensures .0) (c .before .before .listing .kept .1 .0)))
 
 write-all-requires : tie.Need-write-all-requires
 write-all-requires c κs = search needs
 
 returns : tie.Need-returns
 returns c = search needs
-
-returns-2 : tie.Need-returns-2
-returns-2 c = search needs
 
 pub main-spec : {M : Type 1} → statement M
 main-spec =
@@ -52,5 +50,4 @@ main-spec =
     array-share-prefix-text
     slice-aggregate-write-all
     write-all-requires
-    returns
-    returns-2)
+    returns)
