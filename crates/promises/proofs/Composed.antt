@@ -6,7 +6,7 @@ use mathlib.Core.Logic.{_↔_}
 use mathlib.Core.Bool.{true}
 use mathlib.Core.List.{List}
 use native.Mathlib.Nat.{le-refl}
-use borrow.Author.Tests.{le-leb, le-ltb}
+use borrow.Author.Tests.{le-leb, le-ltb, leb-true}
 use lib.ListN.{length, take, replicate}
 use lib.Seq.{length-take-le}
 use Rattle.egg.specs.declared.Factor.{Factor}
@@ -15,15 +15,16 @@ use Rattle.egg.specs.Factor.{hasRoom, stretch}
 use Rattle.egg.proofs.Rooms.{positive, limited}
 use Rattle.builder.specs.Finish.{Built}
 use Rattle.builder.specs.Lending.{tableNeed, workNeed, lentRight, within, making, lentBack}
+use Rattle.builder.proofs.Lending.{lent-table, lent-enough}
 use Rattle.factor.specs.Composed.{composedAt, composedIn, composed}
 use Rattle.promises.specs.Composed.{Taken, Holding, Given}
-use Rattle.promises.proofs.Lent.{lent-room, lent-work, handle, lentTable, by-build, stretch-part, fits-still}
+use Rattle.promises.proofs.Lent.{handle, lentTable, by-build, stretch-part, fits-still}
 use Rattle.promises.proofs.Built.{built-holds, built-work, taken-built}
 
 module _ (table : List ℕ) (start : ℕ) (work rows : List ℕ) (n room : ℕ) (hn : n ≤ 8)
     (lent : lentRight (length table) start (length work) room n ≡ true) (listed : room * n ≤ length rows) where
   has-room : hasRoom (length table) start room n ≡ true
-  has-room = lent-room (length table) start (length work) room n lent
+  has-room = lent-table (length table) start (length work) room n lent
 
   build : Built
   build = composedIn (tableNeed n room) (take (workNeed n room) work) rows n room
@@ -39,7 +40,7 @@ module _ (table : List ℕ) (start : ℕ) (work rows : List ℕ) (n room : ℕ) 
   hi = limited (length table) start room n has-room
 
   work-taken : length (take (workNeed n room) work) ≡ workNeed n room
-  work-taken = length-take-le (workNeed n room) work (lent-work (length table) start (length work) room n lent)
+  work-taken = length-take-le (workNeed n room) work (leb-true _ _ (lent-enough (length table) start (length work) room n lent))
 
   work-lent : room * (6 * n * n + 4 * n) ≤ length (take (workNeed n room) work)
   work-lent = rw work-taken (le-refl (workNeed n room))

@@ -20,6 +20,7 @@ use Rattle.egg.specs.Factor.{hasRoom, stretch}
 use Rattle.egg.proofs.Orders.{orders-limits}
 use Rattle.egg.proofs.Rooms.{positive, limited}
 use Rattle.builder.specs.Lending.{tableNeed, workNeed, lentRight, within, refusedMade, Making, making, lentBack}
+use Rattle.builder.proofs.Lending.{lent-table}
 use Rattle.enumeration.specs.Calls.{enumeratedIn, refusedMaking, enumerates}
 use Rattle.theory.proofs.Walking.{walk-closed}
 use Rattle.theory.proofs.Sound.{compose-words}
@@ -28,7 +29,7 @@ use Rattle.answers.specs.Accepted.{Accepted, reach}
 use Rattle.answers.proofs.Handles.{compose-answer}
 use Rattle.derived.specs.Recorded as run
 use Rattle.promises.specs.Enumerated.{Enumerated, Demand3}
-use Rattle.promises.proofs.Lent.{lent-room, handle, lentTable, by-build, stretch-part, fits-still}
+use Rattle.promises.proofs.Lent.{handle, lentTable, by-build, stretch-part, fits-still}
 use Rattle.promises.proofs.Derived.{Related, enumerated-related}
 
 -- A verdict that is a refusal is no acceptance.
@@ -45,7 +46,7 @@ module _ (table : List ℕ) (start : ℕ) (work orders : List ℕ) (n room : ℕ
     (lent : lentRight (length table) start (length work) room n ≡ true) where
   pub limits : run.Limits n orders room (tableNeed n room) (workNeed n room)
   limits =
-      let has = lent-room (length table) start (length work) room n lent in
+      let has = lent-table (length table) start (length work) room n lent in
       record {
         few = generators;
         full = orders-limits orders n right .0;
@@ -95,7 +96,7 @@ module _ (table : List ℕ) (start : ℕ) (work orders : List ℕ) (n room : ℕ
 
   module _ (B : Begun table start work orders n room accepted) where
     has-room : hasRoom (length table) start room n ≡ true
-    has-room = lent-room (length table) start (length work) room n (B .lent)
+    has-room = lent-table (length table) start (length work) room n (B .lent)
 
     begun-limits : run.Limits n orders room (tableNeed n room) (workNeed n room)
     begun-limits = limits table start work orders n room (B .generators) (B .right) (B .lent)

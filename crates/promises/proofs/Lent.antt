@@ -5,28 +5,17 @@ use mathlib.Core.Path.{_≡_, refl, sym, ap, _∙_}
 use mathlib.Core.Bool.{true}
 use mathlib.Core.List.{List, _++_}
 use native.Mathlib.Omega.{arith}
-use borrow.Author.Tests.{le-leb, leb-true}
+use borrow.Author.Tests.{le-leb}
 use lib.ListN.{length, getD, take, drop, length-append, length-drop}
 use lib.Seq.{length-take-le, take-at, drop-at, getD-take, getD-drop}
-use lib.Dec.{leb}
 use Rattle.egg.specs.declared.Factor.{Factor}
 use Rattle.egg.specs.declared.Made.{Made}
 use Rattle.egg.specs.declared.Verdict.the-variants as verdict
 use Rattle.egg.specs.declared.Counted.the-variants.{Count, Refused}
 use Rattle.egg.specs.Factor.{hasRoom, fitsIn, stretch}
-use Rattle.egg.proofs.Rooms.{and-first, and-second, within-length}
+use Rattle.egg.proofs.Rooms.{within-length}
 use Rattle.builder.specs.Finish.{Built, built}
-use Rattle.builder.specs.Lending.{tableNeed, workNeed, lentRight, within, madeOf, making, lentBack}
-
--- What is known of buffers that are not short.
-module _ (table start work room n : ℕ) (lent : lentRight table start work room n ≡ true) where
-  pub lent-room : hasRoom table start room n ≡ true
-  unfolding lentRight
-  lent-room = and-first _ (leb (workNeed n room) work) lent
-
-  pub lent-work : workNeed n room ≤ work
-  unfolding lentRight
-  lent-work = leb-true _ _ (and-second (hasRoom table start room n) _ lent)
+use Rattle.builder.specs.Lending.{tableNeed, workNeed, within, madeOf, making, lentBack}
 
 -- A list with a part of itself replaced by one as long: its length, the part, and the part's numbers.
 module _ (l : List ℕ) (a k : ℕ) (fits : a + k ≤ length l) (p : List ℕ) (size : length p ≡ k) where

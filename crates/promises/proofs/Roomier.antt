@@ -16,6 +16,7 @@ use Rattle.egg.proofs.Cells.{put-length, inside}
 use Rattle.checks.specs.Checks.{checked, check-group, invertFrom, invertOf, fillInverses}
 use Rattle.builder.specs.Finish.{built, zeroed}
 use Rattle.builder.specs.Lending.{tableNeed, workNeed, lentRight, within, making, lentBack}
+use Rattle.builder.proofs.Lending.{lent-table}
 use Rattle.egg.specs.declared.Reached.{Reached}
 use Rattle.egg.specs.declared.Reached.the-variants.{Element, Refused}
 use Rattle.egg.specs.Factor.{readStep}
@@ -33,7 +34,7 @@ use Rattle.roomier.specs.Longer.{longer}
 use Rattle.roomier.proofs.Stores.{longer-get, longer-put, longer-length}
 use Rattle.roomier.proofs.Roomier.{more-room}
 use Rattle.promises.specs.Roomier.{Roomier}
-use Rattle.promises.proofs.Lent.{lent-room, handle, lentTable, by-build, stretch-cell}
+use Rattle.promises.proofs.Lent.{handle, lentTable, by-build, stretch-cell}
 use Rattle.promises.proofs.Derived.{work-long, steps-enumerated, enumerated-steps, enumerated-related}
 use Rattle.promises.proofs.Enumerated.{limits, call-is-build, begun}
 
@@ -132,8 +133,8 @@ module _ (table : List ℕ) (start : ℕ) (work orders : List ℕ) (n room : ℕ
       let E = enumerated-roomier orders n room (tableNeed n room) (workNeed n room) L right room′ (tableNeed n room′) (workNeed n room′) L′ more wider deeper q in
       let k = tableNeed n room′ - tableNeed n room in
       let size : length (longer k s) ≡ tableNeed n room′ = longer-length k s ∙ omega (arith, R .size-kept) in
-      let has = lent-room (length table) start (length work) room n lent in
-      let has′ = lent-room (length table′) start′ (length work′) room′ n lent′ in
+      let has = lent-table (length table) start (length work) room n lent in
+      let has′ = lent-table (length table′) start′ (length work′) room′ n lent′ in
       let cell : (i : ℕ) → i < tableNeed n room′ → getD (lentTable table′ start′ n room′ (longer k s)) (start′ + i) 0 ≡ getD s i 0 = λ i hi.
       stretch-cell table′ start′ n room′ has′ (longer k s) size N i hi ∙ longer-get k s i in
       record {
