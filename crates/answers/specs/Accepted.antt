@@ -46,7 +46,7 @@ factorWord t f = wordOf (stretch t f) (f .generators)
 abbrev pub reach : ℕ → Reached
 reach e = Element (record { 0 = e })
 
--- r is 13, "a relation fails: element, generator, generator", and a relator of its two generators does not lead from its element e back to e.
+-- r is 13, "a relation fails", with its places, "element, generator, generator"; and a relator of these two generators does not lead from e back to e.
 pub record Fails (n : ℕ) (m step : ℕ → ℕ → ℕ) (e : ℕ) (r : Refusal) : Type 0 where
   pub first : ℕ
   pub second : ℕ

@@ -25,6 +25,7 @@ unfoldable pub setWord : List ℕ → ℕ → GroupElementId → GroupElementId 
 setWord t n new e g len =
     putAt (putAt (putAt t (startOf n (new .0) + 2 * n) (e .0)) (startOf n (new .0) + 2 * n + 1) (g .0)) (startOf n (new .0) + 2 * n + 2) len
 
+-- A refusal by its number and places.
 abbrev pub numbered : ℕ → ℕ → ℕ → ℕ → Refusal
 numbered k a b c = record { number = k; a = a; b = b; c = c }
 

@@ -1,5 +1,5 @@
 -- The builder's calls. Document 01: "`add_successor`, `set_successor` (overwrites, and says whether the place was new), `build`"; "Calls on handles check 17
--- in the handle, then 14", and these "change nothing. Once it has started, any refusal leaves the needed stretch of table and work .. zero."
+-- in the handle, then 14", and these "change nothing. Once it has started, any refusal .. leaves the needed stretch of table and work .. zero."
 -- Assumes nothing.
 use Prim.Native.Nat.{ℕ, _+_}
 use mathlib.Core.List.{List}
@@ -81,6 +81,7 @@ unfoldable pub grown : List ℕ → Factor → GroupElementId → GeneratorId �
 grown s f e g =
     grownBy f (adds s (f .generators) (f .room) (f .elements) e g .answer) (adds s (f .generators) (f .room) (f .elements) e g .table)
 
+-- 17 in the handle and 14 change nothing, and the builder stands.
 abbrev pub growsBy : List ℕ → Factor → Verdict → Leaving Grown → Leaving Grown
 growsBy t f verdict.Fine (leaving x s) = leaving x (withStretch t f s)
 growsBy t f (verdict.Refused r) l = leaving (record { answer = reached.Refused r; builder = record { 0 = f } }) t
@@ -89,6 +90,7 @@ growsBy t f (verdict.Refused r) l = leaving (record { answer = reached.Refused r
 unfoldable pub grows : List ℕ → Builder → GroupElementId → GeneratorId → Leaving Grown
 grows t b e g = growsBy t (b .0) (placed (length t) (b .0) e g) (grown (stretch t (b .0)) (b .0) e g)
 
+-- "says whether the place was new"
 abbrev pub newOr : Bool → Stored
 newOr true = stored.New
 newOr false = stored.Known

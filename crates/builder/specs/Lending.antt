@@ -23,7 +23,7 @@ tableNeed n room = room * (2 * n + 4)
 abbrev pub workNeed : ℕ → ℕ → ℕ
 workNeed n room = room * (6 * n * n + 4 * n)
 
--- No 4: room within 1..65,535, and neither table nor work short.
+-- Where this fails it is 4, "room 0 or above 65,535, or a lent buffer short". (`hasRoom` also asks for at most 8 generators, which 1 has shown by then.)
 unfoldable pub lentRight : ℕ → ℕ → ℕ → ℕ → ℕ → Bool
 lentRight table start work room n = hasRoom table start room n && leb (workNeed n room) work
 
@@ -44,11 +44,13 @@ pub data Making : Type 0 where
 abbrev pub noFactor : Factor
 noFactor = record { start = 0; room = 0; generators = 0; elements = 0 }
 
+-- The answer for a build that counted its elements, with the handle of its stretch; a refused build has no factor.
 abbrev pub madeOf : ℕ → ℕ → ℕ → Counted → Made
 madeOf start room n (Count count) =
     record { answer = verdict.Fine; factor = record { start = start; room = room; generators = n; elements = count } }
 madeOf start room n (Refused r) = record { answer = verdict.Refused r; factor = noFactor }
 
+-- A refusal that is given before a build starts.
 abbrev pub refusedMade : ℕ → ℕ → Made
 refusedMade number a = record { answer = refusedOf number a 0 0; factor = noFactor }
 

@@ -22,12 +22,13 @@ missingRow t n shift e = scan n (λ g. missingAt t n shift e g) 0
 unfoldable pub missing : List ℕ → ℕ → ℕ → ℕ → Verdict
 missing t n count shift = scan count (λ e. missingRow t n shift e) 0
 
+-- Of the whole table: successors first, then predecessors.
 unfoldable pub check8 : List ℕ → ℕ → ℕ → Verdict
 check8 t n count = andThen (missing t n count 0) (missing t n count n)
 
--- 17, "a number read from it is out of range": a stored step beyond the elements, a word over
--- 4,096 letters, a parent that is no earlier element, a letter that is no generator.
--- No build of ours leaves such a table; an altered buffer may hold one.
+-- 17, "a number read from it is out of range": a stored step beyond the elements, a word over 4,096 letters, a parent that is no earlier element, a letter
+-- that is no generator. No reading and no enumeration leaves such a table; a builder's buffer that was altered may hold one. It is tested after 8 and
+-- before 9, so that all tests below read numbers in range.
 abbrev pub rangeAt : List ℕ → ℕ → ℕ → ℕ → ℕ → Verdict
 rangeAt t n count e k = pick (ltb count (getD t (startOf n e + 0 + k) 0)) (refusedOf 17 0 0 0) Fine
 
@@ -56,6 +57,7 @@ wrongRow t n e = scan n (λ g. wrongAt t n e g) 0
 unfoldable pub wrong : List ℕ → ℕ → ℕ → Verdict
 wrong t n count = scan count (λ e. wrongRow t n e) 0
 
+-- All that is tested on the table alone: 8, 17, and 9 but for its counts.
 unfoldable pub check-table : List ℕ → ℕ → ℕ → Verdict
 check-table t n count = andThen (check8 t n count) (andThen (ranges t n count) (wrong t n count))
 
@@ -83,6 +85,7 @@ invertFrom (suc k) t n at x = invertFrom k t n (parentOf t n at) (backOf t n x (
 abbrev pub invertOf : List ℕ → ℕ → ℕ → ℕ
 invertOf t n e = invertFrom (lengthOf t n e) t n e 0
 
+-- The inverses of k elements from e on, stored.
 unfoldable pub fillInverses : ℕ → List ℕ → ℕ → ℕ → List ℕ
 fillInverses zero t n e = t
 fillInverses (suc k) t n e = fillInverses k (putAt t (startOf n e + 2 * n + 3) (invertOf t n e)) n (e + 1)
@@ -99,8 +102,8 @@ inversesRight t n count = scan count (λ e. inverseAt t n e) 0
 unfoldable pub identityRow : List ℕ → ℕ → Verdict
 identityRow t n = scan n (λ g. pick (eqb (stepOf t n 0 g) (g + 1)) Fine (refusedOf 11 g 0 0)) 0
 
--- 12, "no group has these right steps". First that the columns are permutations and that each recorded word leads to its element: so it is after
--- every reading; a builder whose steps were overwritten, or an altered buffer, may break it.
+-- 12, "no group has these right steps". First that the columns are permutations and that each recorded word leads to its element. So it is after every
+-- reading and enumeration that has passed 8; a builder whose steps were overwritten, or an altered buffer, may break it.
 unfoldable pub columnsRow : List ℕ → ℕ → ℕ → Verdict
 columnsRow t n e = scan n (λ g. pick (eqb (stepOf t n (backOf t n e g) g) e) Fine (refusedOf 12 0 0 0)) 0
 
@@ -140,6 +143,7 @@ abbrev pub thenLeft : Verdict → List ℕ → Lefts → Lefts
 thenLeft Fine w l = l
 thenLeft (Refused r) w l = left (Refused r) w
 
+-- For k generators from s on.
 unfoldable pub lefts : ℕ → List ℕ → ℕ → ℕ → List ℕ → ℕ → Lefts
 lefts zero t n count w s = left Fine w
 lefts (suc k) t n count w s =
@@ -156,13 +160,16 @@ thenChecked (Refused r) t w c = checked (Refused r) t w
 abbrev pub withTable : List ℕ → Lefts → Checked
 withTable t (left v w) = checked v t w
 
+-- The work with the arrivals in its first numbers.
 abbrev pub counted : List ℕ → List ℕ → ℕ → ℕ → List ℕ
 counted t w n count = arrivals count t n (wiped count w 0) 0
 
+-- 10, 11 and 12, on a table that has its inverses.
 unfoldable pub check-rest : List ℕ → List ℕ → ℕ → ℕ → Checked
 check-rest t w n count =
     thenChecked (inversesRight t n count) t w (thenChecked (check-steps t n count) t w (withTable t (lefts n t n count w 0)))
 
+-- 8 to 12 in order; the table has its inverses then.
 unfoldable pub check-group : List ℕ → List ℕ → ℕ → ℕ → Checked
 check-group t w n count =
     thenChecked (check-table t n count) t w

@@ -37,6 +37,7 @@ pub record Worded (n : ℕ) (word : ℕ → List ℕ) (count : ℕ) (t : List �
 pub record Made (n count : ℕ) (t : List ℕ) : Type 0 where
   pub made : (e : ℕ) → 0 < e → e < count → Known n t (parentOf t n e) (lastOf t n e)
 
+-- The table: every number in it is right, and so are the words.
 pub record TableOk (n : ℕ) (m : ℕ → ℕ → ℕ) (word : ℕ → List ℕ) (count : ℕ) (t : List ℕ) : Type 0 where
   pub marks : (i : ℕ) → Marked n m word count i (getD t i 0)
   pub words : Worded n word count t
@@ -91,6 +92,7 @@ Holds n S (suc (suc (suc (suc (suc (suc zero)))))) v = FactLink n v
 Holds n S (suc (suc (suc (suc (suc (suc (suc zero))))))) v = Link S v
 Holds n S (suc (suc (suc (suc (suc (suc (suc (suc k)))))))) v = Unit {0}
 
+-- Every cell of the work holds what its kind may.
 pub record CellsOk (n : ℕ) (S : ℕ → Type 0) (w : List ℕ) : Type 0 where
   pub holds : (i k : ℕ) → Spot n i k → Holds n S k (getD w i 0)
 

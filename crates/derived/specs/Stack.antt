@@ -24,6 +24,7 @@ pub record Fact (n count : ℕ) (t : List ℕ) (p : ℕ) : Type 0 where
   pub stands : p ≡ element * workWidth n + 10 * generator
   pub known : Known n t element generator
 
+-- p is none of these.
 abbrev pub Absent : ℕ → List ℕ → Type 0
 Absent p [] = Unit {0}
 Absent p (q ∷ fs) = (q ≡ p → ⊥) × Absent p fs

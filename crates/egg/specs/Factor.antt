@@ -17,7 +17,8 @@ use Rattle.egg.specs.declared.Counted.{Counted}
 use Rattle.egg.specs.declared.Counted.the-variants as counted
 use Rattle.egg.specs.Table.{pick, startOf}
 
--- Document 01's number for an answer and its values: 0 and the answer's own number, or a refusal's number and its three places.
+-- "When an answer is an enum, a definition sets out this paper's number and values for each of its cases": 0 and the answer's own number, or a refusal's
+-- number and its three places.
 pub record Paper : Type 0 where
   pub number : ℕ
   pub a : ℕ
@@ -43,11 +44,12 @@ countedPaper (counted.Refused r) = refusalPaper r
 abbrev pub refusedReach : ℕ → ℕ → Reached
 refusedReach k a = Refused (record { number = k; a = a; b = 0; c = 0 })
 
--- Document 01's limits and the needed stretch: at most 8 generators, room 1 to 65,535, and R(2n+4) entries from the start on.
+-- Room for a factor in a buffer of `len` numbers, within document 01's limits: at most 8 generators, a room of 1 to 65,535, and the R(2n+4) entries that are
+-- needed, from the start on.
 unfoldable pub hasRoom : ℕ → ℕ → ℕ → ℕ → Bool
 hasRoom len start room n = leb n 8 && (leb 1 room && (leb room 65535 && leb (start + room * (2 * n + 4)) len))
 
--- The handle fits a buffer of so many numbers; it has at least the identity, and no more elements than room.
+-- The handle fits a buffer of so many numbers; it has at least the identity, and no more elements than room. Else 17, "the handle doesn't fit its buffer".
 unfoldable pub fitsIn : ℕ → Factor → Bool
 fitsIn len f = leb 1 (f .elements) && (leb (f .elements) (f .room) && hasRoom len (f .start) (f .room) (f .generators))
 
@@ -55,13 +57,14 @@ fitsIn len f = leb 1 (f .elements) && (leb (f .elements) (f .room) && hasRoom le
 unfoldable pub stretch : List ℕ → Factor → List ℕ
 stretch t f = take (f .room * (2 * f .generators + 4)) (drop (f .start) t)
 
--- A stored step read for an answer: 17 where it is missing or beyond the element count.
+-- A stored step read for an answer: 17, "a number read from it is out of range", where it is missing or beyond the element count.
 unfoldable pub readStep : List ℕ → ℕ → ℕ → ℕ → ℕ → Reached
 readStep s n count e g =
     pick (eqb (getD s (startOf n e + g) 0) 0) (refusedReach 17 0)
     (pick (ltb count (getD s (startOf n e + g) 0)) (refusedReach 17 0) (Element (record { 0 = getD s (startOf n e + g) 0 - 1 })))
 
--- Document 01: "Calls on handles check 17 in the handle, then 14, .. then 17 in what they read".
+-- "Calls on handles check 17 in the handle, then 14, .. then 17 in what they read". The place of 14 is the argument's "position among these from 0": the
+-- element has 0, the generator 1.
 unfoldable pub stepAnswer : List ℕ → Factor → GroupElementId → GeneratorId → Reached
 stepAnswer t f e g =
     pick (fitsIn (length t) f)

@@ -16,21 +16,24 @@ abbrev pub pick : {A : Type 0} → Bool → A → A → A
 pick true a b = a
 pick false a b = b
 
--- v stored at i, where i is within the list and v has 32 bits; else the list as it was.
+-- v stored at i, where i is within the list and v has 32 bits ("Lent buffers of 32-bit numbers"); else the list as it was. So a store is defined for every
+-- index and number, and no caller owes a proof of them.
 unfoldable pub putAt : List ℕ → ℕ → ℕ → List ℕ
 putAt l i v = pick (ltb v 4294967296) (set l i v) l
 
--- Where the row of an element starts. A row has n successors, n predecessors, parent, last generator, word length and inverse.
+-- Where the row of an element starts. A row has n successors, n predecessors, parent, last generator, word length and inverse: 2n + 4 numbers. Rows stand
+-- one after the other, so no address depends on the room.
 unfoldable pub startOf : ℕ → ℕ → ℕ
 startOf n e = e * (2 * n + 4)
 
+-- Where the successor and the predecessor of e by g stand. Each is stored as one more than its number, so that 0 is "not known" and an unused row is zero.
 abbrev pub succAt : ℕ → GroupElementId → GeneratorId → ℕ
 succAt n e g = startOf n (e .0) + g .0
 
 abbrev pub predAt : ℕ → GroupElementId → GeneratorId → ℕ
 predAt n e g = startOf n (e .0) + n + g .0
 
--- A stored step: 0 is "not known", any other number is one more than the element's.
+-- A stored step, read.
 abbrev pub foundOf : ℕ → Found
 foundOf x = pick (eqb x 0) Unknown (Element (record { 0 = x - 1 }))
 

@@ -36,6 +36,7 @@ abbrev pub relatingBy : Verdict → ℕ → List ℕ → Relating
 relatingBy verdict.Fine count t = relating (Count count) t
 relatingBy (verdict.Refused r) count t = relating (Refused r) (zeroed t)
 
+-- What 8 to 12 refused stays refused.
 abbrev pub relates : ℕ → List ℕ → Counted → List ℕ → Relating
 relates n o (Count count) t = relatingBy (relationsRow t n count o 0) count t
 relates n o (Refused r) t = relating (Refused r) t
@@ -51,6 +52,7 @@ unfoldable pub enumeratedIn : ℕ → ℕ → List ℕ → ℕ → ℕ → Built
 enumeratedIn lt lw o n room =
     related n o (finished (ranCount (enumerated n o room lt lw .answer)) n (enumerated n o room lt lw .table) (enumerated n o room lt lw .work))
 
+-- 2 and 3 "change nothing"; with right orders it goes on.
 abbrev pub refusedMaking : Verdict → List ℕ → List ℕ → Making → Making
 refusedMaking verdict.Fine t w m = m
 refusedMaking (verdict.Refused r) t w m = making (record { answer = verdict.Refused r; factor = noFactor }) t w

@@ -1,4 +1,5 @@
--- A factor from a lent list of composed numbers: the call, its refusals, and what every lent buffer holds.
+-- A factor from a lent list of composed numbers: the call, its refusals, and what every lent buffer holds. Document 01, module 3: "`from_compose_fn` becomes
+-- a lent table".
 -- Assumes nothing.
 use Prim.Native.Nat.{ℕ, _+_, _*_}
 use mathlib.Core.List.{List}
@@ -14,6 +15,7 @@ use Rattle.factor.specs.Reading.{Placed, placed, readAll}
 abbrev pub composedAt : List ℕ → ℕ → ℕ → ℕ → ℕ
 composedAt rows n e g = getD rows (e * n + g) 0
 
+-- What a reading left, then the checks.
 abbrev pub finishedPlaced : Placed → ℕ → List ℕ → Built
 finishedPlaced (placed c t) n w = finished c n t w
 

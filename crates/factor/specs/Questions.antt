@@ -20,7 +20,7 @@ use Rattle.egg.specs.Table.{pick, parentOf, lastOf, lengthOf, inverseOf}
 use Rattle.egg.specs.Scan.{refusedOf}
 use Rattle.egg.specs.Factor.{fitsIn, stretch, refusedReach, readStep}
 
--- 17 in the handle, then 14 for two element arguments; a call with one takes the identity for the second.
+-- 17 in the handle, then 14 for two element arguments, 0 or 1 by its position. A call with fewer takes the identity for the others, which is always there.
 unfoldable pub admits : ℕ → Factor → ℕ → ℕ → Verdict
 admits len f a b =
     pick (fitsIn len f)
@@ -52,6 +52,7 @@ along (suc k) s n count from e =
 unfoldable pub composeIn : List ℕ → ℕ → ℕ → ℕ → ℕ → Reached
 composeIn s n count a b = pick (ltb 4096 (lengthOf s n b)) (refusedReach 17 0) (along (lengthOf s n b) s n count a b)
 
+-- The inverse was found when the table was built, and stands in the row.
 unfoldable pub inverseIn : List ℕ → ℕ → ℕ → ℕ → Reached
 inverseIn s n count a = pick (leb count (inverseOf s n a)) (refusedReach 17 0) (Element (record { 0 = inverseOf s n a }))
 
@@ -60,6 +61,7 @@ unfoldable pub conjugateIn : List ℕ → ℕ → ℕ → ℕ → ℕ → Reache
 conjugateIn s n count a b =
     onReached (composeIn s n count a b) (λ c. onReached (inverseIn s n count a) (λ i. composeIn s n count c i))
 
+-- The same of the handle and the buffer.
 unfoldable pub composeAnswer : List ℕ → Factor → GroupElementId → GroupElementId → Reached
 composeAnswer t f a b =
     ifReach (admits (length t) f (a .0) (b .0)) (composeIn (stretch t f) (f .generators) (f .elements) (a .0) (b .0))
@@ -74,7 +76,7 @@ conjugateAnswer t f a b =
 unfoldable pub countAnswer : List ℕ → Factor → Counted
 countAnswer t f = ifCount (admits (length t) f 0 0) (counted.Count (f .elements))
 
--- "The element of generator g" is read from the identity row; a generator that is none is 14.
+-- The element of a generator is read from the identity row; a generator that is none is 14.
 unfoldable pub generatorIn : List ℕ → ℕ → ℕ → ℕ → Reached
 generatorIn s n count g = pick (leb n g) (refusedReach 14 0) (readStep s n count 0 g)
 
@@ -93,7 +95,8 @@ unfoldable pub readable : ℕ → List ℕ → ℕ → ℕ → ℕ → Bool
 readable zero s n count e = true
 readable (suc k) s n count e = ltb (parentOf s n e) count && (ltb (lastOf s n e) n && readable k s n count (parentOf s n e))
 
--- They are written to their places, 0 to k - 1; the rest of the buffer stays.
+-- They are written to their places, 0 to k - 1; the rest of the buffer stays. (A readable letter is below 8, so that its remainder by 256 is the
+-- letter itself.)
 unfoldable pub spell : ℕ → List ℕ → ℕ → ℕ → List ℕ → List ℕ
 spell zero s n e out = out
 spell (suc k) s n e out = spell k s n (parentOf s n e) (set out k (lastOf s n e % 256))

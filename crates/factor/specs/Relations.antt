@@ -31,9 +31,11 @@ returnsTo e a b (Refused r) = verdict.Refused r
 abbrev pub relationAt : List ℕ → ℕ → ℕ → ℕ → ℕ → ℕ → ℕ → Verdict
 relationAt s n count e a b k = returnsTo e a b (turned k s n count e a b)
 
+-- "each generator doubled, .."
 unfoldable pub doubledRow : List ℕ → ℕ → ℕ → ℕ → Verdict
 doubledRow s n count e = scan n (λ g. relationAt s n count e g g 1) 0
 
+-- ".. then each pair's 2m steps in list order": the pair (a, b) stands in the list as 8a + b.
 unfoldable pub pairsRow : List ℕ → ℕ → ℕ → List ℕ → ℕ → Verdict
 pairsRow s n count orders e =
     scan (length orders) (λ k. relationAt s n count e (pairCode k / 8) (pairCode k % 8) (getD orders k 0)) 0

@@ -19,6 +19,7 @@ use Rattle.factor.specs.Composed.{composed}
 use Rattle.factor.specs.Questions.{composeAnswer, inverseAnswer, conjugateAnswer, countAnswer, written}
 use Rattle.factor.specs.Relations.{checkAnswer}
 
+-- What a call answers, and what it leaves in the table and in the work.
 abbrev pub madeBy : Making → Made
 madeBy (making m t w) = m
 
@@ -41,6 +42,7 @@ reach e = Element (element e)
 abbrev pub factorOf : ℕ → ℕ → ℕ → Factor
 factorOf n room count = record { start = 0; room = room; generators = n; elements = count }
 
+-- "orders [3] (S3): rows 1 2 / 0 3 / 4 0 / 5 1 / 2 5 / 3 4"; and the crossed table, of 16 rows.
 abbrev pub s3 : List ℕ
 s3 = 1 ∷ 2 ∷ 0 ∷ 3 ∷ 4 ∷ 0 ∷ 5 ∷ 1 ∷ 2 ∷ 5 ∷ 3 ∷ 4 ∷ []
 

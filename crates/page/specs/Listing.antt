@@ -29,7 +29,7 @@ pageBy (verdict.Refused r) t n count = refusedText (r .number)
 abbrev pub pageOf : Making → List ℕ
 pageOf (making m t w) = pageBy (m .answer) t (m .factor .generators) (m .factor .elements)
 
--- With orders that are right: 4 for more than four generators, else the enumeration with room 120 in buffers of its own.
+-- With orders that are right: "n of 5 to 8 is 4"; else the enumeration with room 120, in buffers of its own that four generators need, 120 · 12 and 120 · 112.
 abbrev pub rightPage : Verdict → ℕ → List ℕ → List ℕ
 rightPage (verdict.Refused r) n orders = refusedText (r .number)
 rightPage verdict.Fine n orders =

@@ -16,7 +16,7 @@ use Rattle.rows.specs.declared.inner.SideOfGap.the-variants.{Left, Right
 unfoldable pub workWidth : ℕ → ℕ
 workWidth n = 6 * n * n + 4 * n
 
--- The place of an element and a generator, ten numbers: head, tail and count of the left list, head, tail and count of the right list, the link of the fact stack, three spare.
+-- The place of an element and a generator, ten numbers: head, tail and count of the left list, head, tail and count of the right list, the link of the fact stack, and three spare ones, with which places and rows come to exactly that width.
 unfoldable pub placeAt : ℕ → GroupElementId → GeneratorId → ℕ
 placeAt n e g = e .0 * workWidth n + 10 * g .0
 
@@ -119,6 +119,6 @@ addRowsFrom (suc f) w o n e k =
 abbrev pub addedRows : List ℕ → List ℕ → ℕ → GroupElementId → List ℕ
 addedRows w o n e = addRowsFrom (length o) w o n e 0
 
--- What is left of refusals 1 to 3 here: at most 28 orders, each from 1 to 32,767.
+-- What is needed here of the orders; 1 to 3 have shown more. At most 28, each from 1 to 32,767.
 abbrev pub Orders : List ℕ → Type 0
 Orders o = (length o ≤ 28) × ((k : ℕ) → k < length o → (1 ≤ getD o k 0) × (getD o k 0 < 32768))

@@ -13,7 +13,7 @@ pub record Table (n N : ℕ) (step : ℕ → ℕ → ℕ) : Type 0 where
   pub origin : 0 < N
   pub closed : {e g : ℕ} → e < N → g < n → step e g < N
 
--- The step of a table that is written out, rows of n entries one after the other: "the successors, by element and then generator".
+-- The step of a table that is written out, rows of n entries one after the other: "the successors, .. by element and then generator".
 abbrev pub entry : List ℕ → ℕ → ℕ → ℕ → ℕ
 entry rows n e g = getD rows (e * n + g) 0
 

@@ -9,6 +9,7 @@ use Rattle.theory.specs.Table.{generator}
 use Rattle.theory.specs.Appearance.{recorded}
 use Rattle.theory.specs.Regular.{left}
 
+-- 11, "identity row is not 1..n", is where this fails.
 abbrev pub identity-row-test : ℕ → (ℕ → ℕ → ℕ) → Bool
 identity-row-test n step = all n λ g. eqb (generator step g) (suc g)
 
@@ -24,6 +25,6 @@ columns-test n N step = all n λ g. all N λ e. ltb (back-of N step e g) N
 abbrev pub check-test : ℕ → ℕ → (ℕ → ℕ → ℕ) → (ℕ → List ℕ) → Bool
 check-test n N step word = all n λ s. all n λ g. all N λ x. eqb (left step word s (step x g)) (step (left step word s x) g)
 
--- Both, by the recorded words.
+-- Both, by the recorded words: a numbered table passes exactly when some group has it (`group-test-exact`).
 abbrev pub group-test : ℕ → ℕ → (ℕ → ℕ → ℕ) → Bool
 group-test n N step = columns-test n N step && check-test n N step (recorded n step)
