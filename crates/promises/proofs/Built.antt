@@ -95,12 +95,12 @@ module _ {src back : ℕ → ℕ → ℕ} {n room size N : ℕ} {t : List ℕ} (
 module _ (rows : List ℕ) (n room size : ℕ) (w : List ℕ) (few : n ≤ 8) (lo : 1 ≤ room) (hi : room ≤ 65535) (fits : room * (2 * n + 4) ≤ size)
     (work : room * (6 * n * n + 4 * n) ≤ length w) where
   -- The work has a number for each element.
-  work-enough : {N : ℕ} → N ≤ room → 0 < n → N ≤ length w
+  pub work-enough : {N : ℕ} → N ≤ room → 0 < n → N ≤ length w
   work-enough h pos =
       let one : 1 ≤ 6 * n * n + 4 * n = omega arith in
       omega (arith, mul-le-mul (le-refl room) one)
 
-  rows-fit : {N k : ℕ} → N ≤ room → k ≡ size → N * (2 * n + 4) ≤ k
+  pub rows-fit : {N k : ℕ} → N ≤ room → k ≡ size → N * (2 * n + 4) ≤ k
   rows-fit h e = omega (arith, mul-le-mul h (le-refl (2 * n + 4)))
 
   module _ {N : ℕ} {t₀ : List ℕ} (R : Read (composedAt rows n) n room size N t₀) where

@@ -3,46 +3,78 @@
 use Prim.Native.Nat.{ℕ, _+_, _*_, _≤_}
 use mathlib.Core.Path.{_≡_, refl, sym, ap, _∙_}
 use mathlib.Core.Logic.{_↔_}
-use mathlib.Core.Bool.{true}
+use mathlib.Core.Bool.{Bool, true, false, _&&_}
 use mathlib.Core.List.{List}
 use native.Mathlib.Nat.{le-refl}
-use borrow.Author.Tests.{le-leb, le-ltb, leb-true}
+use borrow.Author.Tests.{le-leb, le-ltb, leb-true, ltb-false}
+use lib.Dec.{leb, ltb}
 use lib.ListN.{length, take, replicate}
 use lib.Seq.{length-take-le}
 use Rattle.egg.specs.declared.Factor.{Factor}
 use Rattle.egg.specs.declared.Verdict.the-variants as verdict
+use Rattle.egg.specs.Table.{pick}
 use Rattle.egg.specs.Factor.{hasRoom, stretch}
-use Rattle.egg.proofs.Rooms.{positive, limited}
+use Rattle.egg.proofs.Rooms.{and-first, and-second, positive, limited}
 use Rattle.builder.specs.Finish.{Built}
-use Rattle.builder.specs.Lending.{tableNeed, workNeed, lentRight, within, making, lentBack}
+use Rattle.builder.specs.Lending.{tableNeed, workNeed, lentRight, within, making, lentBack, refusedMade, Making}
 use Rattle.builder.proofs.Lending.{lent-table, lent-enough}
 use Rattle.factor.specs.Composed.{composedAt, composedIn, composed}
 use Rattle.promises.specs.Composed.{Taken, Holding, Given}
-use Rattle.promises.proofs.Lent.{handle, lentTable, by-build, stretch-part, fits-still}
+use Rattle.promises.proofs.Lent.{refused-making, handle, lentTable, by-build, stretch-part, fits-still}
 use Rattle.promises.proofs.Built.{built-holds, built-work, taken-built}
+
+-- Where the call is accepted, 1 and 4 have passed.
+pub record Begun (table : List ℕ) (start : ℕ) (work rows : List ℕ) (n room : ℕ) : Type 0 where
+  pub generators : n ≤ 8
+  pub lent : lentRight (length table) start (length work) room n ≡ true
+  pub listed : room * n ≤ length rows
+
+module _ (table : List ℕ) (start : ℕ) (work rows : List ℕ) (n room : ℕ) (f : Factor) (t w : List ℕ) where
+  abbrev accepted : Making
+  accepted = making (record { answer = verdict.Fine; factor = f }) t w
+
+  pub begun : composed table start work rows n room ≡ making (record { answer = verdict.Fine; factor = f }) t w → Begun table start work rows n room
+  unfolding composed
+  begun h = first (lentBack table start work n room (composedIn (tableNeed n room) (take (workNeed n room) work) rows n room)) (ltb 8 n) refl h where
+    second : (m : Making) (b : Bool) → ltb 8 n ≡ false → lentRight (length table) start (length work) room n && leb (room * n) (length rows) ≡ b
+        → pick b m (making (refusedMade 4 0) table work) ≡ accepted → Begun table start work rows n room
+    second m true g l e = record {
+      generators = ltb-false 8 n g;
+      lent = and-first (lentRight (length table) start (length work) room n) _ l;
+      listed = leb-true _ _ (and-second (lentRight (length table) start (length work) room n) _ l);
+    }
+    second m false g l e = absurd (refused-making e)
+
+    first : (m : Making) (a : Bool) → ltb 8 n ≡ a
+        → pick a (making (refusedMade 1 n) table work)
+        (pick (lentRight (length table) start (length work) room n && leb (room * n) (length rows)) m (making (refusedMade 4 0) table work)) ≡ accepted
+        → Begun table start work rows n room
+    first m true g e = absurd (refused-making e)
+    first m false g e = second m (lentRight (length table) start (length work) room n && leb (room * n) (length rows)) g refl e
 
 module _ (table : List ℕ) (start : ℕ) (work rows : List ℕ) (n room : ℕ) (hn : n ≤ 8)
     (lent : lentRight (length table) start (length work) room n ≡ true) (listed : room * n ≤ length rows) where
   has-room : hasRoom (length table) start room n ≡ true
   has-room = lent-table (length table) start (length work) room n lent
 
-  build : Built
+  abbrev build : Built
   build = composedIn (tableNeed n room) (take (workNeed n room) work) rows n room
 
-  call-is-build : composed table start work rows n room ≡ lentBack table start work n room build
-  unfolding composed build
-  call-is-build = simp (le-ltb _ _ hn, lent, le-leb _ _ listed)
+  pub composed-is-build : composed table start work rows n room
+      ≡ lentBack table start work n room (composedIn (tableNeed n room) (take (workNeed n room) work) rows n room)
+  unfolding composed
+  composed-is-build = simp (le-ltb _ _ hn, lent, le-leb _ _ listed)
 
-  lo : 1 ≤ room
+  pub lo : 1 ≤ room
   lo = positive (length table) start room n has-room
 
-  hi : room ≤ 65535
+  pub hi : room ≤ 65535
   hi = limited (length table) start room n has-room
 
   work-taken : length (take (workNeed n room) work) ≡ workNeed n room
   work-taken = length-take-le (workNeed n room) work (leb-true _ _ (lent-enough (length table) start (length work) room n lent))
 
-  work-lent : room * (6 * n * n + 4 * n) ≤ length (take (workNeed n room) work)
+  pub work-lent : room * (6 * n * n + 4 * n) ≤ length (take (workNeed n room) work)
   work-lent = rw work-taken (le-refl (workNeed n room))
 
   module _ {N : ℕ} {s : List ℕ} (H : Holding (composedAt rows n) n room (tableNeed n room) N s) where
@@ -69,12 +101,11 @@ module _ (table : List ℕ) (start : ℕ) (work rows : List ℕ) (n room : ℕ) 
   given-at a b c G = rw (a, b, c) G
 
   -- An accepted call gives all of this.
-  pub composed-given : {f : Factor} {t w : List ℕ}
+  accepted-given : {f : Factor} {t w : List ℕ}
       → composed table start work rows n room ≡ making (record { answer = verdict.Fine; factor = f }) t w
       → Given table start work rows n room f t w
-  unfolding build
-  composed-given {f} {t} {w} q =
-      let b = by-build table start work n room build (sym call-is-build ∙ q) in
+  accepted-given {f} {t} {w} q =
+      let b = by-build table start work n room build (sym composed-is-build ∙ q) in
       let H = built-holds rows n room (tableNeed n room) (take (workNeed n room) work) hn lo hi (le-refl (tableNeed n room)) work-lent (b .3 .0) in
       let z = built-work rows n room (tableNeed n room) (take (workNeed n room) work) hn lo hi (le-refl (tableNeed n room)) work-lent (b .3 .0) in
       given-at (b .3 .1 .0) (b .3 .1 .1 .0) (b .3 .1 .1 .1) (given H (z ∙ ap (λ (k : ℕ). replicate k 0) work-taken))
@@ -84,14 +115,19 @@ module _ (table : List ℕ) (start : ℕ) (work rows : List ℕ) (n room : ℕ) 
   pub composed-exactly : ((f : Factor) × (t : List ℕ) × (w : List ℕ)
       × (composed table start work rows n room ≡ making (record { answer = verdict.Fine; factor = f }) t w))
       ↔ ((N : ℕ) × Taken (composedAt rows n) n room N)
-  unfolding build
   composed-exactly = (
-    λ a. (a .0 .elements, composed-given (a .3) .taken),
+    λ a. (a .0 .elements, accepted-given (a .3) .taken),
     λ g.
         let b = taken-built rows n room (tableNeed n room) (take (workNeed n room) work) hn lo hi (le-refl (tableNeed n room)) work-lent (g .1) in (
           record { start = start; room = room; generators = n; elements = g .0 },
           within table start (start + tableNeed n room) (b .0),
           within work 0 (workNeed n room) (b .1),
-          call-is-build ∙ ap (lentBack table start work n room) (b .2),
+          composed-is-build ∙ ap (lentBack table start work n room) (b .2),
         ),
   )
+
+-- The same, whatever the arguments: an accepted call has passed 1 and 4.
+module _ (table : List ℕ) (start : ℕ) (work rows : List ℕ) (n room : ℕ) (f : Factor) (t w : List ℕ) where
+  pub composed-given : composed table start work rows n room ≡ making (record { answer = verdict.Fine; factor = f }) t w
+      → Given table start work rows n room f t w
+  composed-given h = let B = begun table start work rows n room f t w h in accepted-given table start work rows n room (B .generators) (B .lent) (B .listed) h

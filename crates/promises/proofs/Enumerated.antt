@@ -5,13 +5,10 @@ use mathlib.Core.Path.{_≡_, refl, ap, _∙_}
 use mathlib.Core.Bool.{Bool, true, false}
 use mathlib.Core.List.{List}
 use native.Mathlib.Nat.{le-refl}
-use native.Mathlib.Omega.{arith}
 use borrow.Author.Tests.{le-ltb, ltb-false}
 use lib.ListN.{length}
 use lib.Dec.{ltb}
-use Rattle.egg.specs.declared.Refusal.{Refusal}
 use Rattle.egg.specs.declared.Factor.{Factor}
-use Rattle.egg.specs.declared.Made.{Made}
 use Rattle.egg.specs.declared.Verdict.{Verdict}
 use Rattle.egg.specs.declared.Verdict.the-variants as verdict
 use Rattle.egg.specs.Table.{pick}
@@ -29,17 +26,8 @@ use Rattle.answers.specs.Accepted.{Accepted, reach}
 use Rattle.answers.proofs.Handles.{compose-answer}
 use Rattle.derived.specs.Recorded as run
 use Rattle.promises.specs.Enumerated.{Enumerated, Demand3}
-use Rattle.promises.proofs.Lent.{handle, lentTable, by-build, stretch-part, fits-still}
+use Rattle.promises.proofs.Lent.{refused-making, handle, lentTable, by-build, stretch-part, fits-still}
 use Rattle.promises.proofs.Derived.{Related, enumerated-related}
-
--- A verdict that is a refusal is no acceptance.
-refused-making : {r : Refusal} {f f′ : Factor} {t t′ w w′ : List ℕ}
-    → making (record { answer = verdict.Refused r; factor = f }) t w ≡ making (record { answer = verdict.Fine; factor = f′ }) t′ w′ → ⊥
-refused-making {r} {f} {f′} h =
-    let m : _≡_ {A = Made} (record { answer = verdict.Refused r; factor = f }) (record { answer = verdict.Fine; factor = f′ }) = cc in
-    let a : verdict.Refused r ≡ verdict.Fine = ap (λ (x : Made). x .answer) m in
-    let z : _≡_ {A = ℕ} 0 1 = cc in
-    omega arith
 
 -- Where 1 to 4 pass, the run is within its limits, and the call is the build in its stretches, put back into the buffers.
 module _ (table : List ℕ) (start : ℕ) (work orders : List ℕ) (n room : ℕ) (generators : n ≤ 8) (right : ordersRight orders n ≡ verdict.Fine)
@@ -57,10 +45,10 @@ module _ (table : List ℕ) (start : ℕ) (work orders : List ℕ) (n room : ℕ
         work-room = le-refl (workNeed n room);
       }
 
-  pub call-is-build : enumerates table start work orders n room
+  pub enumerates-is-build : enumerates table start work orders n room
       ≡ lentBack table start work n room (enumeratedIn (tableNeed n room) (workNeed n room) orders n room)
   unfolding enumerates
-  call-is-build = simp (le-ltb _ _ generators, right, lent)
+  enumerates-is-build = simp (le-ltb _ _ generators, right, lent)
 
 -- Where the call is accepted, 1 to 4 have passed.
 pub record Begun (table : List ℕ) (start : ℕ) (work orders : List ℕ) (n room : ℕ) (m : Making) : Type 0 where

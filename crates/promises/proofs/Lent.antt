@@ -8,6 +8,7 @@ use native.Mathlib.Omega.{arith}
 use borrow.Author.Tests.{le-leb}
 use lib.ListN.{length, getD, take, drop, length-append, length-drop}
 use lib.Seq.{length-take-le, take-at, drop-at, getD-take, getD-drop}
+use Rattle.egg.specs.declared.Refusal.{Refusal}
 use Rattle.egg.specs.declared.Factor.{Factor}
 use Rattle.egg.specs.declared.Made.{Made}
 use Rattle.egg.specs.declared.Verdict.the-variants as verdict
@@ -54,6 +55,15 @@ module _ (table : List ℕ) (start n room : ℕ) (has : hasRoom (length table) s
   unfolding fitsIn
   fits-still one most = rw (within-long table start (tableNeed n room) end-fits s size) (simp (le-leb _ _ one, le-leb _ _ most, has))
 
+-- A verdict that is a refusal is no acceptance.
+pub refused-making : {r : Refusal} {f f′ : Factor} {t t′ w w′ : List ℕ}
+    → making (record { answer = verdict.Refused r; factor = f }) t w ≡ making (record { answer = verdict.Fine; factor = f′ }) t′ w′ → ⊥
+refused-making {r} {f} {f′} h =
+    let m : _≡_ {A = Made} (record { answer = verdict.Refused r; factor = f }) (record { answer = verdict.Fine; factor = f′ }) = cc in
+    let a : verdict.Refused r ≡ verdict.Fine = ap (λ (x : Made). x .answer) m in
+    let z : _≡_ {A = ℕ} 0 1 = cc in
+    omega arith
+
 module _ (table : List ℕ) (start : ℕ) (work : List ℕ) (n room : ℕ) where
   -- An accepted call is an accepted build.
   pub by-build : (b : Built) {f : Factor} {t w : List ℕ}
@@ -64,11 +74,4 @@ module _ (table : List ℕ) (start : ℕ) (work : List ℕ) (n room : ℕ) where
   by-build (built (Count N) s v) {f} q =
       let m : madeOf start room n (Count N) ≡ record { answer = verdict.Fine; factor = f } = cc in
       (N, s, v, (refl, (sym (ap (λ (x : Made). x .factor) m), (cc, cc))))
-  by-build (built (Refused r) s v) {f} {t} {w} q = absurd (never q) where
-    never : making (madeOf start room n (Refused r)) (within table start (start + tableNeed n room) s) (within work 0 (workNeed n room) v)
-        ≡ making (record { answer = verdict.Fine; factor = f }) t w → ⊥
-    never h =
-        let m : madeOf start room n (Refused r) ≡ record { answer = verdict.Fine; factor = f } = cc in
-        let a : verdict.Refused r ≡ verdict.Fine = ap (λ (x : Made). x .answer) m in
-        let z : _≡_ {A = ℕ} 0 1 = cc in
-        omega arith
+  by-build (built (Refused r) s v) q = absurd (refused-making q)

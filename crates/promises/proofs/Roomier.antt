@@ -1,33 +1,45 @@
--- "More room never changes an accepted table": at any larger room, in longer stretches, the same table is accepted, with zeros behind it.
+-- "More room never changes an accepted table": at any larger room, in longer stretches, the same table is accepted, with zeros behind it. A build in a longer
+-- stretch goes as in the shorter one; a call is a build put back into its buffers.
 -- Assumes nothing.
-use Prim.Native.Nat.{ℕ, zero, suc, _+_, _*_, _-_, _≤_, _<_}
+use Prim.Native.Nat.{ℕ, zero, suc, _+_, _*_, _-_, _≤_, _<_, _/_, _%_}
 use mathlib.Core.Path.{_≡_, refl, sym, ap, _∙_, subst}
-use mathlib.Core.Bool.{true}
+use mathlib.Core.Bool.{Bool, true, false}
 use mathlib.Core.List.{List}
-use native.Mathlib.Nat.{mul-le-mul, le-refl}
+use native.Mathlib.Nat.{mul-le-mul, le-refl, div-add-mod', mod-lt, div-lt-iff-lt-mul}
 use native.Mathlib.Omega.{arith}
-use lib.ListN.{length, getD}
+use borrow.Author.Tests.{ltb-true, ltb-false}
+use lib.ListN.{length, getD, take, replicate, List·getD-eq-default}
+use lib.Seq.{ext-getD}
+use lib.Dec.{ltb}
 use Rattle.egg.specs.declared.Factor.{Factor}
 use Rattle.egg.specs.declared.Verdict.the-variants as verdict
 use Rattle.egg.specs.declared.Counted.the-variants.{Count}
 use Rattle.egg.specs.Table.{putAt, startOf, parentOf, lastOf, lengthOf, stepOf, backOf}
 use Rattle.egg.specs.Pairs.{ordersRight}
+use Rattle.egg.specs.declared.Reached.{Reached}
+use Rattle.egg.specs.declared.Reached.the-variants.{Element, Refused}
+use Rattle.egg.specs.Factor.{readStep, hasRoom}
 use Rattle.egg.proofs.Cells.{put-length, inside}
 use Rattle.checks.specs.Checks.{checked, check-group, invertFrom, invertOf, fillInverses}
 use Rattle.builder.specs.Finish.{built, zeroed}
-use Rattle.builder.specs.Lending.{tableNeed, workNeed, lentRight, within, making, lentBack}
+use Rattle.builder.specs.Lending.{tableNeed, workNeed, lentRight, within, making, lentBack, Making}
 use Rattle.builder.proofs.Lending.{lent-table}
-use Rattle.egg.specs.declared.Reached.{Reached}
-use Rattle.egg.specs.declared.Reached.the-variants.{Element, Refused}
-use Rattle.egg.specs.Factor.{readStep}
 use Rattle.factor.specs.Questions.{onReached}
 use Rattle.factor.specs.Relations.{turned, doubledRow, pairsRow, relationsRow}
+use Rattle.factor.specs.Reading.{placed, readAll}
+use Rattle.factor.specs.Composed.{composedAt, composedIn, composed}
 use Rattle.enumeration.specs.Run.{enumerated}
 use Rattle.enumeration.specs.Calls.{enumeratedIn, enumerates}
+use Rattle.theory.specs.Table.{Columns}
+use Rattle.theory.proofs.AnyCarrier.{any-carrier}
+use Rattle.theory.proofs.Complete.{columns}
+use Rattle.theory.proofs.FirstPlaces.{first-unique}
 use Rattle.meaning.specs.Stored.{Stored, wordOf}
 use Rattle.meaning.proofs.Inverses.{kept-cell}
 use Rattle.meaning.proofs.Accepted.{checks-sound, checks-kept, accepted-filled, sound-regular}
 use Rattle.meaning.proofs.Complete.{checks-complete}
+use Rattle.numbering.specs.Read.{Read}
+use Rattle.numbering.proofs.Readings.{accepted-read, readable-accepted, read-letters}
 use Rattle.derived.specs.Recorded as run
 use Rattle.derived.proofs.Derivation.{done-sound}
 use Rattle.roomier.specs.Longer.{longer}
@@ -36,7 +48,10 @@ use Rattle.roomier.proofs.Roomier.{more-room}
 use Rattle.promises.specs.Roomier.{Roomier}
 use Rattle.promises.proofs.Lent.{handle, lentTable, by-build, stretch-cell}
 use Rattle.promises.proofs.Derived.{work-long, steps-enumerated, enumerated-steps, enumerated-related}
-use Rattle.promises.proofs.Enumerated.{limits, call-is-build, begun}
+use Rattle.promises.proofs.Enumerated.{limits, enumerates-is-build}
+use Rattle.promises.proofs.Enumerated as enumeration
+use Rattle.promises.proofs.Composed as rows-call
+use Rattle.promises.proofs.Built.{passed, passes, read-stored, work-enough, rows-fit, checked-holds, built-holds}
 
 -- Inverses are found and filled alike in a longer list.
 invert-longer : (k : ℕ) (l : List ℕ) (n j at x : ℕ) → invertFrom j (longer k l) n at x ≡ invertFrom j l n at x
@@ -78,84 +93,183 @@ relations-longer : (k : ℕ) (l : List ℕ) (n N : ℕ) (o : List ℕ) → relat
 unfolding doubledRow pairsRow
 relations-longer k l n N o = simp turned-longer
 
-module _ (o : List ℕ) (n room lt lw : ℕ) (L : run.Limits n o room lt lw) (right : ordersRight o n ≡ verdict.Fine)
-    (room′ lt′ lw′ : ℕ) (L′ : run.Limits n o room′ lt′ lw′) (more : room ≤ room′) (wider : lt ≤ lt′) (deeper : lw ≤ lw′) where
-  pub enumerated-roomier : {N : ℕ} {t w : List ℕ} → enumeratedIn lt lw o n room ≡ built (Count N) t w
-      → (w′ : List ℕ) × (enumeratedIn lt′ lw′ o n room′ ≡ built (Count N) (longer (lt′ - lt) t) w′)
-  unfolding longer
-  enumerated-roomier {N} {t} {w} q =
-      let P = enumerated-steps o n room lt lw L right q in
-      let t₀ = enumerated n o room lt lw .table in
-      let w₀ = enumerated n o room lt lw .work in
-      let k = lt′ - lt in
-      let R = more-room L (P .finish) more wider deeper in
-      let D = done-sound L (P .finish) in
-      let D′ = done-sound L′ (R .answer) in
-      let K = checks-kept t₀ w₀ n N (P .checks) in
-      let small : N ≤ 65535 = omega (arith, D .fits, L .limit) in
-      let fits : N * (2 * n + 4) ≤ length t₀ = omega (arith, D .whole, L .table-room, mul-le-mul (D .fits) (le-refl (2 * n + 4))) in
-      let S = checks-sound t₀ w₀ n N (P .checks) (D .some) small fits in
-      let t₁ = enumerated n o room′ lt′ lw′ .table in
-      let w₁ = enumerated n o room′ lt′ lw′ .work in
-      let same : t₁ ≡ longer k t₀ = R .table in
-      let cell : (e j : ℕ) → j < 2 * n + 3 → getD t₁ (startOf n e + j) 0 ≡ getD t (startOf n e + j) 0 = λ e j hj.
-      ap (λ (l : List ℕ). getD l (startOf n e + j) 0) same ∙ longer-get k t₀ (startOf n e + j) ∙ sym (kept-cell K (startOf n e + j) e j hj refl) in
-      let fits₁ : N * (2 * n + 4) ≤ length t₁ = omega (arith, D′ .whole, L′ .table-room, mul-le-mul (D′ .fits) (le-refl (2 * n + 4))) in
-      let stored : Stored t₁ n N (stepOf t n) (backOf t n) (parentOf t n) (lastOf t n) (wordOf t n) = record {
+-- What the checks have accepted, they accept with zeros behind it, and whatever the work held.
+module _ {n N : ℕ} (few : n ≤ 8) (some : 0 < N) (small : N ≤ 65535) where
+  checks-longer : (k : ℕ) (t₀ w₀ : List ℕ) {t w₁ : List ℕ} (w : List ℕ) → N * (2 * n + 4) ≤ length t₀ → (0 < n → N ≤ length w)
+      → check-group t₀ w₀ n N ≡ checked verdict.Fine t w₁ → (w₂ : List ℕ) × (check-group (longer k t₀) w n N ≡ checked verdict.Fine (longer k t) w₂)
+  checks-longer k t₀ w₀ {t} w fits work h =
+      let K = checks-kept t₀ w₀ n N h in
+      let S = checks-sound t₀ w₀ n N h some small fits in
+      let cell : (e j : ℕ) → j < 2 * n + 3 → getD (longer k t₀) (startOf n e + j) 0 ≡ getD t (startOf n e + j) 0 = λ e j hj.
+      longer-get k t₀ (startOf n e + j) ∙ sym (kept-cell K (startOf n e + j) e j hj refl) in
+      let fits₁ : N * (2 * n + 4) ≤ length (longer k t₀) = omega (arith, longer-length k t₀) in
+      let stored : Stored (longer k t₀) n N (stepOf t n) (backOf t n) (parentOf t n) (lastOf t n) (wordOf t n) = record {
         successor = λ {e} {g} he hg. cell e g (omega arith) ∙ S .stored .successor he hg;
         predecessor = λ {e} {g} he hg. let z : startOf n e + (n + g) ≡ startOf n e + n + g = omega arith in (rw z at (cell e (n + g) (omega arith))) ∙ S .stored .predecessor he hg;
         parents = λ {e} pos he. cell e (2 * n) (omega arith);
         letters = λ {e} pos he. let z : startOf n e + (2 * n + 1) ≡ startOf n e + 2 * n + 1 = omega arith in rw z at (cell e (2 * n + 1) (omega arith));
         lengths = λ {e} he. let z : startOf n e + (2 * n + 2) ≡ startOf n e + 2 * n + 2 = omega arith in (rw z at (cell e (2 * n + 2) (omega arith))) ∙ S .stored .lengths he;
       } in
-      let work : 0 < n → N ≤ length w₁ = λ pos.
-      let one : 1 ≤ 6 * n * n + 4 * n = omega arith in
-      omega (arith, D′ .fits, L′ .work-room, work-long o n room′ lt′ lw′ L′ right (R .answer), mul-le-mul (le-refl room′) one) in
-      let C = checks-complete (L .few) small fits₁ stored (S .table) (S .parents) (S .recorded) (S .columns)
-      (λ e he. rw (← S .stored .lengths he) (S .short he)) w₁ work (λ g hg. S .identity-row hg) (sound-regular S) in
-      let filled : C .0 ≡ longer k t = sym (accepted-filled t₁ w₁ n N (C .2)) ∙ ap (λ (l : List ℕ). fillInverses N l n 0) same
-      ∙ fill-longer k N t₀ n 0 N (omega arith) fits ∙ ap (longer k) (accepted-filled t₀ w₀ n N (P .checks)) in
-      let fine : relationsRow (longer k t) n N o 0 ≡ verdict.Fine = relations-longer k t n N o ∙ P .identity in
-      (zeroed (C .1), steps-enumerated o n room′ lt′ lw′ L′ right (R .answer) refl refl (subst (λ (l : List ℕ). check-group t₁ w₁ n N ≡ checked verdict.Fine l (C .1)) filled (C .2)) fine)
+      let C = checks-complete few small fits₁ stored (S .table) (S .parents) (S .recorded) (S .columns)
+      (λ e he. rw (← S .stored .lengths he) (S .short he)) w work (λ g hg. S .identity-row hg) (sound-regular S) in
+      let filled : C .0 ≡ longer k t = sym (accepted-filled (longer k t₀) w n N (C .2)) ∙ fill-longer k N t₀ n 0 N (omega arith) fits
+      ∙ ap (longer k) (accepted-filled t₀ w₀ n N h) in
+      (C .1, subst (λ (l : List ℕ). check-group (longer k t₀) w n N ≡ checked verdict.Fine l (C .1)) filled (C .2))
 
--- The same of the call. Where 1 to 4 pass at both rooms, an accepted build at the first gives the call at the second.
-module _ (table : List ℕ) (start : ℕ) (work orders : List ℕ) (n room : ℕ) (table′ : List ℕ) (start′ : ℕ) (work′ : List ℕ) (room′ : ℕ)
-    (few : n ≤ 8) (right : ordersRight orders n ≡ verdict.Fine) (lent : lentRight (length table) start (length work) room n ≡ true)
-    (lent′ : lentRight (length table′) start′ (length work′) room′ n ≡ true) (more : room ≤ room′) where
-  built-roomier : {N : ℕ} {s v : List ℕ} → enumeratedIn (tableNeed n room) (workNeed n room) orders n room ≡ built (Count N) s v
-      → Roomier orders n start room (handle start n room N) (lentTable table start n room s) table′ start′ work′ room′
-  built-roomier {N} {s} q =
-      let L = limits table start work orders n room few right lent in
-      let L′ = limits table′ start′ work′ orders n room′ few right lent′ in
-      let R = enumerated-related orders n room (tableNeed n room) (workNeed n room) L right q in
-      let wider : tableNeed n room ≤ tableNeed n room′ = mul-le-mul more (le-refl (2 * n + 4)) in
-      let deeper : workNeed n room ≤ workNeed n room′ = mul-le-mul more (le-refl (6 * n * n + 4 * n)) in
-      let E = enumerated-roomier orders n room (tableNeed n room) (workNeed n room) L right room′ (tableNeed n room′) (workNeed n room′) L′ more wider deeper q in
+-- A build's stretch with zeros behind it, put back into other buffers.
+module _ (table : List ℕ) (start n room : ℕ) (has : hasRoom (length table) start room n ≡ true) (table′ : List ℕ) (start′ : ℕ) (work′ : List ℕ) (room′ : ℕ)
+    (has′ : hasRoom (length table′) start′ room′ n ≡ true) (more : room ≤ room′) where
+  lent-roomier : {N : ℕ} (s v : List ℕ) {m : Making} → length s ≡ tableNeed n room
+      → m ≡ lentBack table′ start′ work′ n room′ (built (Count N) (longer (tableNeed n room′ - tableNeed n room) s) v)
+      → Roomier n start room (handle start n room N) (lentTable table start n room s) start′ room′ m
+  lent-roomier {N} s v size q =
       let k = tableNeed n room′ - tableNeed n room in
-      let size : length (longer k s) ≡ tableNeed n room′ = longer-length k s ∙ omega (arith, R .size-kept) in
-      let has = lent-table (length table) start (length work) room n lent in
-      let has′ = lent-table (length table′) start′ (length work′) room′ n lent′ in
+      let wider : tableNeed n room ≤ tableNeed n room′ = mul-le-mul more (le-refl (2 * n + 4)) in
+      let long : length (longer k s) ≡ tableNeed n room′ = longer-length k s ∙ omega arith in
       let cell : (i : ℕ) → i < tableNeed n room′ → getD (lentTable table′ start′ n room′ (longer k s)) (start′ + i) 0 ≡ getD s i 0 = λ i hi.
-      stretch-cell table′ start′ n room′ has′ (longer k s) size N i hi ∙ longer-get k s i in
+      stretch-cell table′ start′ n room′ has′ (longer k s) long N i hi ∙ longer-get k s i in
       record {
-        table-then = lentTable table′ start′ n room′ (longer k s);
-        work-then = within work′ 0 (workNeed n room′) (E .0);
-        accepted = call-is-build table′ start′ work′ orders n room′ few right lent′ ∙ ap (lentBack table′ start′ work′ n room′) (E .1);
-        same = λ {i} hi. cell i (omega arith) ∙ sym (stretch-cell table start n room has s (R .size-kept) N i hi);
-        beyond = λ {i} lo hi. cell i hi ∙ R .beyond (omega (arith, mul-le-mul (R .within-room) (le-refl (2 * n + 4))));
+        table′ = lentTable table′ start′ n room′ (longer k s);
+        work′ = within work′ 0 (workNeed n room′) v;
+        accepted = q;
+        same = λ {i} hi. cell i (omega arith) ∙ sym (stretch-cell table start n room has s size N i hi);
+        beyond = λ {i} lo hi. cell i hi ∙ List·getD-eq-default s 0 (omega arith);
       }
 
--- Nothing is asked but that the first call is accepted and that the second is lent enough for at least the same room.
-module _ (table : List ℕ) (start : ℕ) (work orders : List ℕ) (n room : ℕ) (f : Factor) (t w table′ : List ℕ) (start′ : ℕ) (work′ : List ℕ) (room′ : ℕ) where
-  roomier-at : {f₀ : Factor} {t₀ : List ℕ} → f ≡ f₀ → t ≡ t₀ → Roomier orders n start room f₀ t₀ table′ start′ work′ room′
-      → Roomier orders n start room f t table′ start′ work′ room′
-  roomier-at a b r = rw (a, b) r
+roomier-at : {n start room start′ room′ : ℕ} {f f₀ : Factor} {t t₀ : List ℕ} {m : Making} → f ≡ f₀ → t ≡ t₀ → Roomier n start room f₀ t₀ start′ room′ m
+    → Roomier n start room f t start′ room′ m
+roomier-at a b r = rw (a, b) r
 
+-- The enumeration: its run is the same with more room, then the checks, then 13.
+module _ (o : List ℕ) (n room lt lw : ℕ) (L : run.Limits n o room lt lw) (right : ordersRight o n ≡ verdict.Fine)
+    (room′ lt′ lw′ : ℕ) (L′ : run.Limits n o room′ lt′ lw′) (more : room ≤ room′) (wider : lt ≤ lt′) (deeper : lw ≤ lw′) where
+  pub enumerated-roomier : {N : ℕ} {t w : List ℕ} → enumeratedIn lt lw o n room ≡ built (Count N) t w
+      → (w′ : List ℕ) × (enumeratedIn lt′ lw′ o n room′ ≡ built (Count N) (longer (lt′ - lt) t) w′)
+  unfolding longer
+  enumerated-roomier {N} {t} q =
+      let P = enumerated-steps o n room lt lw L right q in
+      let k = lt′ - lt in
+      let R = more-room L (P .finish) more wider deeper in
+      let D = done-sound L (P .finish) in
+      let fits : N * (2 * n + 4) ≤ length (enumerated n o room lt lw .table) = omega (arith, D .whole, L .table-room, mul-le-mul (D .fits) (le-refl (2 * n + 4))) in
+      let w₁ = enumerated n o room′ lt′ lw′ .work in
+      let work : 0 < n → N ≤ length w₁ = λ pos.
+      let one : 1 ≤ 6 * n * n + 4 * n = omega arith in
+      omega (arith, D .fits, L′ .work-room, work-long o n room′ lt′ lw′ L′ right (R .answer), mul-le-mul (le-refl room′) one) in
+      let C = checks-longer (L .few) (D .some) (omega (arith, D .fits, L .limit)) k (enumerated n o room lt lw .table) (enumerated n o room lt lw .work) w₁ fits work (P .checks) in
+      let fine : relationsRow (longer k t) n N o 0 ≡ verdict.Fine = relations-longer k t n N o ∙ P .identity in
+      (zeroed (C .0), steps-enumerated o n room′ lt′ lw′ L′ right (R .answer) (R .table) refl (C .1) fine)
+
+module _ (table : List ℕ) (start : ℕ) (work orders : List ℕ) (n room : ℕ) (f : Factor) (t w table′ : List ℕ) (start′ : ℕ) (work′ : List ℕ) (room′ : ℕ) where
+  -- Nothing is asked but that the first call is accepted and that the second is lent enough for at least the same room.
   pub enumeration-roomier : enumerates table start work orders n room ≡ making (record { answer = verdict.Fine; factor = f }) t w
       → room ≤ room′ → lentRight (length table′) start′ (length work′) room′ n ≡ true
-      → Roomier orders n start room f t table′ start′ work′ room′
+      → Roomier n start room f t start′ room′ (enumerates table′ start′ work′ orders n room′)
   enumeration-roomier h more lent′ =
-      let B = begun table start work orders n room f t w h in
+      let B = enumeration.begun table start work orders n room f t w h in
       let b = by-build table start work n room (enumeratedIn (tableNeed n room) (workNeed n room) orders n room) (B .is) in
+      let L = limits table start work orders n room (B .generators) (B .right) (B .lent) in
+      let L′ = limits table′ start′ work′ orders n room′ (B .generators) (B .right) lent′ in
+      let R = enumerated-related orders n room (tableNeed n room) (workNeed n room) L (B .right) (b .3 .0) in
+      let E = enumerated-roomier orders n room (tableNeed n room) (workNeed n room) L (B .right) room′ (tableNeed n room′) (workNeed n room′) L′ more
+      (mul-le-mul more (le-refl (2 * n + 4))) (mul-le-mul more (le-refl (6 * n * n + 4 * n))) (b .3 .0) in
       roomier-at (b .3 .1 .0) (b .3 .1 .1 .0)
-      (built-roomier table start work orders n room table′ start′ work′ room′ (B .generators) (B .right) (B .lent) lent′ more (b .3 .0))
+      (lent-roomier table start n room (lent-table (length table) start (length work) room n (B .lent)) table′ start′ work′ room′
+      (lent-table (length table′) start′ (length work′) room′ n lent′) more (b .1) (E .0) (R .size-kept)
+      (enumerates-is-build table′ start′ work′ orders n room′ (B .generators) (B .right) lent′ ∙ ap (lentBack table′ start′ work′ n room′) (E .1)))
+
+-- Composed rows: two readings of the same numbers, within any rooms, leave the same in every cell.
+module _ {src back : ℕ → ℕ → ℕ} {n room size room′ size′ N : ℕ} {t t′ : List ℕ} (R : Read src n room size N t) (R′ : Read src n room′ size′ N t′)
+    (C : Columns n N src back) where
+  at : {i : ℕ} (j : ℕ) → i ≡ j → getD t′ j 0 ≡ getD t j 0 → getD t′ i 0 ≡ getD t i 0
+  at j q h = rw q h
+
+  first-same : (e : ℕ) → 0 < e → e < N → (parentOf t′ n e ≡ parentOf t n e) × (lastOf t′ n e ≡ lastOf t n e)
+  first-same e pos he = first-unique (R′ .appearance .first pos he) (R .appearance .first pos he)
+
+  parent-same : (e : ℕ) → e < N → parentOf t′ n e ≡ parentOf t n e
+  parent-same zero he = R′ .no-parent ∙ sym (R .no-parent)
+  parent-same (suc e) he = first-same (suc e) (omega arith) he .0
+
+  last-same : (e : ℕ) → e < N → lastOf t′ n e ≡ lastOf t n e
+  last-same zero he = R′ .no-last ∙ sym (R .no-last)
+  last-same (suc e) he = first-same (suc e) (omega arith) he .1
+
+  -- The four numbers at a row's end, then the others.
+  end-same : (e : ℕ) → e < N → (k : ℕ) → k < 4 → getD t′ (startOf n e + 2 * n + k) 0 ≡ getD t (startOf n e + 2 * n + k) 0
+  end-same e he zero hk = at (startOf n e + 2 * n) (omega arith) (parent-same e he)
+  end-same e he (suc zero) hk = at (startOf n e + 2 * n + 1) (omega arith) (last-same e he)
+  end-same e he (suc (suc zero)) hk = at (startOf n e + 2 * n + 2) (omega arith) (read-letters R′ e he ∙ sym (read-letters R e he))
+  end-same e he (suc (suc (suc zero))) hk = at (startOf n e + 2 * n + 3) (omega arith) (R′ .no-inverse he ∙ sym (R .no-inverse he))
+  end-same e he (suc (suc (suc (suc k)))) hk = absurd (omega arith)
+
+  row-same : (e j : ℕ) → e < N → j < 2 * n + 4 → getD t′ (startOf n e + j) 0 ≡ getD t (startOf n e + j) 0
+  row-same e j he hj = by (ltb j n) refl (ltb j (2 * n)) refl where
+    by : (a : Bool) → ltb j n ≡ a → (b : Bool) → ltb j (2 * n) ≡ b → getD t′ (startOf n e + j) 0 ≡ getD t (startOf n e + j) 0
+    by true p b q = let hg = ltb-true j n p in R′ .successor he hg ∙ sym (R .successor he hg)
+    by false p true q =
+        let lo = ltb-false j n p in
+        let hg : j - n < n = omega (arith, ltb-true j (2 * n) q) in
+        at (startOf n e + n + (j - n)) (omega arith) (read-stored R′ C .predecessor he hg ∙ sym (read-stored R C .predecessor he hg))
+    by false p false q =
+        let lo = ltb-false j (2 * n) q in
+        at (startOf n e + 2 * n + (j - 2 * n)) (omega arith) (end-same e he (j - 2 * n) (omega arith))
+
+  cells-same : (i : ℕ) → getD t′ i 0 ≡ getD t i 0
+  unfolding startOf
+  cells-same i = by (ltb i (N * (2 * n + 4))) refl where
+    by : (b : Bool) → ltb i (N * (2 * n + 4)) ≡ b → getD t′ i 0 ≡ getD t i 0
+    by true q =
+        let pos : 0 < 2 * n + 4 = omega arith in
+        at (startOf n (i / (2 * n + 4)) + i % (2 * n + 4)) (sym (div-add-mod' i (2 * n + 4)))
+        (row-same (i / (2 * n + 4)) (i % (2 * n + 4)) (div-lt-iff-lt-mul pos .1 (ltb-true i (N * (2 * n + 4)) q)) (mod-lt i pos))
+    by false q = let h = ltb-false i (N * (2 * n + 4)) q in R′ .beyond h ∙ sym (R .beyond h)
+
+  read-longer-same : size ≤ size′ → t′ ≡ longer (size′ - size) t
+  read-longer-same wider =
+      let k = size′ - size in
+      let long : length (longer k t) ≡ size′ = longer-length k t ∙ omega (arith, R .whole) in
+      ext-getD 0 t′ (longer k t) (R′ .whole ∙ sym long) (λ i h. cells-same i ∙ sym (longer-get k t i))
+
+module _ (rows : List ℕ) (n room size : ℕ) (w : List ℕ) (few : n ≤ 8) (lo : 1 ≤ room) (hi : room ≤ 65535) (fits : room * (2 * n + 4) ≤ size)
+    (work : room * (6 * n * n + 4 * n) ≤ length w) (room′ size′ : ℕ) (w′ : List ℕ) (hi′ : room′ ≤ 65535) (fits′ : room′ * (2 * n + 4) ≤ size′)
+    (work′ : room′ * (6 * n * n + 4 * n) ≤ length w′) (more : room ≤ room′) (wider : size ≤ size′) where
+  -- The build in its stretches: what was read is the same, then the checks.
+  composed-in-roomier : {N : ℕ} {t w₁ : List ℕ} → composedIn size w rows n room ≡ built (Count N) t w₁
+      → (w₂ : List ℕ) × (composedIn size′ w′ rows n room′ ≡ built (Count N) (longer (size′ - size) t) w₂)
+  unfolding composedIn
+  composed-in-roomier {N} {t} q =
+      let src = composedAt rows n in
+      let p = passed (readAll src n room (replicate size 0)) n w q in
+      let R = accepted-read src n room size few lo hi fits (p .count) in
+      let H = checked-holds rows n room size w few lo hi fits work R (p .checks) in
+      let lo′ : 1 ≤ room′ = omega arith in
+      let within-room : N ≤ room′ = omega (arith, R .within) in
+      let a = readable-accepted src n room′ size′ few lo′ hi′ fits′ (record { by-rule = R .by-rule; within = within-room; short = H .taken .readable .short }) in
+      let r = any-carrier .0 (H .taken .group) in
+      let same = read-longer-same R (accepted-read src n room′ size′ few lo′ hi′ fits′ (a .1)) (columns (r .group) (r .steps)) wider in
+      let C = checks-longer few (R .origin) (omega (arith, R .within)) (size′ - size) (p .before) w w′ (rows-fit rows n room size w few lo hi fits work (R .within) (R .whole))
+      (work-enough rows n room′ size′ w′ few lo′ hi′ fits′ work′ within-room) (p .checks) in
+      (zeroed (C .0), passes n w′ (a .1 ∙ ap (placed (Count N)) same) (C .1))
+
+module _ (table : List ℕ) (start : ℕ) (work rows : List ℕ) (n room : ℕ) (f : Factor) (t w table′ : List ℕ) (start′ : ℕ) (work′ : List ℕ) (room′ : ℕ) where
+  -- The same of the call on composed rows, which needs them for the larger room too.
+  pub composed-roomier : composed table start work rows n room ≡ making (record { answer = verdict.Fine; factor = f }) t w
+      → room ≤ room′ → lentRight (length table′) start′ (length work′) room′ n ≡ true → room′ * n ≤ length rows
+      → Roomier n start room f t start′ room′ (composed table′ start′ work′ rows n room′)
+  composed-roomier h more lent′ listed′ =
+      let B = rows-call.begun table start work rows n room f t w h in
+      let is = rows-call.composed-is-build table start work rows n room (B .generators) (B .lent) (B .listed) in
+      let b = by-build table start work n room (composedIn (tableNeed n room) (take (workNeed n room) work) rows n room) (sym is ∙ h) in
+      let lo = rows-call.lo table start work rows n room (B .generators) (B .lent) (B .listed) in
+      let hi = rows-call.hi table start work rows n room (B .generators) (B .lent) (B .listed) in
+      let lent = rows-call.work-lent table start work rows n room (B .generators) (B .lent) (B .listed) in
+      let hi′ = rows-call.hi table′ start′ work′ rows n room′ (B .generators) lent′ listed′ in
+      let lent₁ = rows-call.work-lent table′ start′ work′ rows n room′ (B .generators) lent′ listed′ in
+      let H = built-holds rows n room (tableNeed n room) (take (workNeed n room) work) (B .generators) lo hi (le-refl (tableNeed n room)) lent (b .3 .0) in
+      let E = composed-in-roomier rows n room (tableNeed n room) (take (workNeed n room) work) (B .generators) lo hi (le-refl (tableNeed n room)) lent
+      room′ (tableNeed n room′) (take (workNeed n room′) work′) hi′ (le-refl (tableNeed n room′)) lent₁ more (mul-le-mul more (le-refl (2 * n + 4))) (b .3 .0) in
+      roomier-at (b .3 .1 .0) (b .3 .1 .1 .0)
+      (lent-roomier table start n room (lent-table (length table) start (length work) room n (B .lent)) table′ start′ work′ room′
+      (lent-table (length table′) start′ (length work′) room′ n lent′) more (b .1) (E .0) (H .size-kept)
+      (rows-call.composed-is-build table′ start′ work′ rows n room′ (B .generators) lent′ listed′ ∙ ap (lentBack table′ start′ work′ n room′) (E .1)))
