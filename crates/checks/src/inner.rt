@@ -1,7 +1,10 @@
 // Each check looks at the places in document 01's order and answers the first refusal. They are total on any contents,
 // so that a build over an altered buffer is refused as well: 17 where a number is out of range.
 ghost use mathlib.Core.Path.{_≡_};
-ghost use Rattle.checks.specs.Checks.{missingRow, missing, check8, rangeRow, linksOf, ranges, wrongAt, wrongRow, wrong, check-table, wiped, arriveRow, arrivals, countsRight, invertOf, fillInverses, inversesRight, identityRow, columnsRow, spelledRow, spelled, leftOf, fillLeft, goesRow, allGo, Lefts, lefts, check-steps, Checked, check-rest, check-group};
+ghost use mathlib.Core.Bool.{true};
+ghost use Prim.Native.Nat.{_≤_};
+ghost use Rattle.checks.specs.Checks.{missingRow, missing, check8, rangeRow, linksOf, ranges, wrongAt, wrongRow, wrong, check-table, wiped, arriveRow, arrivals, countsRight, invertFrom, invertOf, fillInverses, inversesRight, identityRow, columnsRow, spelledRow, spelled, leftOf, fillLeft, goesRow, allGo, Lefts, lefts, check-steps, Checked, check-rest, check-group};
+ghost use Rattle.checks.specs.Undoing.{undoneRest, undoneMore};
 use egg::GroupElementId;
 use egg::Verdict;
 
@@ -203,13 +206,102 @@ fn counts_right(w: &[u32], n: u8, count: u32) -> Verdict
     Verdict::Fine
 }
 
+// An inverse on its way: the element reached, the element whose word is left, the letters left of it, how many numbers
+// the last two letters led on and back, and whether there is more to guess.
+pub struct Undone {
+    pub reached: u32,
+    pub at: u32,
+    pub left: u32,
+    pub jump: u32,
+    pub fall: u32,
+    pub more: bool,
+}
+
+fn guessed(x: u32, on: u32, at: u32, down: u32) -> bool
+    ensures { λ r. ⌜ (r ≡ true → (x ≡ on) × (at ≡ down)) ⌝ }
+{
+    if x != on {
+        return false;
+    }
+    at == down
+}
+
+// Two letters a turn, as long as they lead `jump` numbers on and `fall` numbers back: round a long relation they do, and a
+// processor that has the guess need not wait for the cells.
+fn undo_leg(t: &[u32], n: u8, from: u32, word: u32, letters: u32, jump: u32, fall: u32) -> Undone
+    ensures { λ r. ⌜ (undoneRest (now (t .entry)) n r ≡ invertFrom letters (now (t .entry)) n word from) × (undoneMore r ≤ letters) ⌝ }
+{
+    let mut x = from;
+    let mut at = word;
+    let mut left = letters;
+    while 1 < left {
+        let on = std::num::wrapping_add_u32(x, jump);
+        let down = std::num::wrapping_sub_u32(at, fall);
+        let y = egg::inner::back(t, n, x, egg::inner::last(t, n, GroupElementId(at)));
+        let p = egg::inner::parent(t, n, GroupElementId(at));
+        let z = egg::inner::back(t, n, y, egg::inner::last(t, n, GroupElementId(p)));
+        let q = egg::inner::parent(t, n, GroupElementId(p));
+        left -= 2;
+        if !guessed(z, on, q, down) {
+            return Undone {
+                reached: z,
+                at: q,
+                left,
+                jump: std::num::wrapping_sub_u32(z, x),
+                fall: std::num::wrapping_sub_u32(at, q),
+                more: true,
+            };
+        }
+        x = on;
+        at = down;
+    }
+    Undone {
+        reached: x,
+        at,
+        left,
+        jump,
+        fall,
+        more: false,
+    }
+}
+
+// The most of a long word, leg by leg. In a short one guesses fail too often.
+fn undo(t: &[u32], n: u8, e: u32, letters: u32) -> Undone
+    ensures { λ r. ⌜ undoneRest (now (t .entry)) n r ≡ invertFrom letters (now (t .entry)) n e 0 ⌝ }
+{
+    let mut x = 0;
+    let mut at = e;
+    let mut left = letters;
+    let mut jump = 0;
+    let mut fall = 0;
+    let mut more = 64 < letters;
+    while more {
+        let leg = undo_leg(t, n, x, at, left, jump, fall);
+        x = leg.reached;
+        at = leg.at;
+        left = leg.left;
+        jump = leg.jump;
+        fall = leg.fall;
+        more = leg.more;
+    }
+    Undone {
+        reached: x,
+        at,
+        left,
+        jump,
+        fall,
+        more,
+    }
+}
+
 // The inverse of e: its reversed word through predecessors, from the identity (002).
 fn invert(t: &[u32], n: u8, e: u32) -> u32
     ensures { λ r. ⌜ r ≡ invertOf (now (t .entry)) n e ⌝ }
 {
-    let mut x: u32 = 0;
-    let mut at = e;
-    let mut left = egg::inner::word_length(t, n, GroupElementId(e));
+    let rest = undo(t, n, e, egg::inner::word_length(t, n, GroupElementId(e)));
+    let mut x = rest.reached;
+    let mut at = rest.at;
+    let mut left = rest.left;
     while 0 < left {
         x = egg::inner::back(t, n, x, egg::inner::last(t, n, GroupElementId(at)));
         at = egg::inner::parent(t, n, GroupElementId(at));

@@ -10,15 +10,16 @@ use lib.Dec.{leb}
 use Rattle.egg.specs.declared.Factor.{Factor}
 use Rattle.egg.specs.Factor.{hasRoom, fitsIn}
 
+pub false-true : false ≡ true → ⊥
+false-true e = let q : _≡_ {A = ℕ} 0 1 = cc in omega arith
+
 pub and-first : (a b : Bool) → a && b ≡ true → a ≡ true
 and-first true b h = refl
 and-first false b h = h
 
 pub and-second : (a b : Bool) → a && b ≡ true → b ≡ true
 and-second true b h = h
-and-second false b h = let z : false ≡ true = h in absurd (bool-differ z) where
-  bool-differ : false ≡ true → ⊥
-  bool-differ e = let q : _≡_ {A = ℕ} 0 1 = cc in omega arith
+and-second false b h = absurd (false-true h)
 
 -- Both sides of a comparison of sums and differences are one test.
 leb-shift : (start need len : ℕ) → need ≤ len → leb start (len - need) ≡ leb (start + need) len

@@ -2,7 +2,6 @@
 -- Assumes nothing.
 use Prim.Native.Nat.{ℕ, suc, _+_, _*_, _-_, _%_, _≤_, _<_}
 use mathlib.Core.Path.{_≡_, refl, sym, ap, _∙_}
-use mathlib.Core.Bool.{true, false}
 use mathlib.Core.List.{List}
 use native.Mathlib.Nat.{mul-le-mul, add-mod-right, mod-add-mod}
 use native.Mathlib.Omega.{arith}
@@ -33,6 +32,3 @@ module _ (w o : List ℕ) (n : ℕ) (e : GroupElementId) (k : ℕ) where
   pub rows-end : length o ≤ k → addRowsFrom (length o - k) w o n e k ≡ w
   unfolding addRowsFrom
   rows-end h = let q : length o - k ≡ 0 = omega arith in rw q
-
-pub off : false ≡ true → ⊥
-off h = let q : _≡_ {A = ℕ} 0 1 = cc in omega arith

@@ -1,11 +1,19 @@
 -- The invariant: the letters that are left, from here, lead where the whole word leads. A turn is one step of `invertFrom`.
-use Prim.Native.Nat.{suc, _-_}
-use mathlib.Core.Path.{_≡_}
-use native.Mathlib.Omega.{arith}
-use borrow.Author.Needs.{needs}
+use Rattle.checks.proofs.Undoing.{undo-letter}
 use Rattle.checks.specs.Checks.{invertFrom, invertOf}
+use native.Mathlib.Omega.{arith}
+use mathlib.Core.Path.{_≡_, refl, sym, _∙_}
+use Prim.Native.Nat.{suc, _-_}
+use borrow.Author.Needs.{needs}
 use Rattle.checks.proofs.inner.invert.Statement.{statement}
 use Rattle.checks.proofs.inner.invert.Tie as tie
+use Rattle.checks.proofs.inner.invert.Reads as reads
+use Rattle.checks.proofs.inner.invert.Lts as lts
+use Rattle.checks.proofs.inner.undo.Reads as undo-reads
+use Rattle.egg.proofs.inner.back.Reads as back-reads
+use Rattle.egg.proofs.inner.last.Reads as last-reads
+use Rattle.egg.proofs.inner.parent.Reads as parent-reads
+use Rattle.egg.proofs.inner.word_length.Reads as word-length-reads
 
 abbrev Inv-loop : tie.InvT-loop
 Inv-loop t n e x₀ at₀ left₀ x at left = invertFrom left t n at x ≡ invertOf t n e
@@ -13,39 +21,46 @@ Inv-loop t n e x₀ at₀ left₀ x at left = invertFrom left t n at x ≡ inver
 abbrev μ-loop : tie.MeasureT-loop
 μ-loop t n e x₀ at₀ left₀ x at left = left
 
+-- src/inner.rt:301:30
 word-length-requires : tie.Need-word-length-requires Inv-loop μ-loop
 word-length-requires c κs = search needs
 
-loop-holds : tie.Need-loop-holds Inv-loop μ-loop
-loop-holds c = rw (c .word-length .ensures)
+-- src/inner.rt:301:9
+undo-requires : tie.Need-undo-requires Inv-loop μ-loop
+undo-requires c κs = search needs
 
+-- src/inner.rt:305:5
+loop-holds : tie.Need-loop-holds Inv-loop μ-loop
+loop-holds c = (c .undo .ensures) ∙ rw ((c .before .word-length .ensures))
+
+-- src/inner.rt:306:39
 last-requires : tie.Need-last-requires Inv-loop μ-loop
 last-requires c κs = search needs
 
+-- src/inner.rt:306:9
 back-requires : tie.Need-back-requires Inv-loop μ-loop
 back-requires c κs = search needs
 
+-- src/inner.rt:307:9
 parent-requires : tie.Need-parent-requires Inv-loop μ-loop
 parent-requires c κs = search needs
 
+-- src/inner.rt:308:9
 sub-left : tie.Need-sub-left Inv-loop μ-loop
 sub-left c = search needs
 
+-- src/inner.rt:305:5
 loop-less : tie.Need-loop-less Inv-loop μ-loop
 loop-less c = search needs
 
+-- src/inner.rt:305:5
 loop-again : tie.Need-loop-again Inv-loop μ-loop
-unfolding invertFrom
-loop-again c =
-    let k = c .before .before .before .before .loop .left in
-    let q : k ≡ suc (k - 1) = omega (arith, c .before .before .before .loop-test .taken) in
-    rw (c .parent .ensures, c .before .back .ensures, c .before .before .last .ensures) (rw q at (c .before .before .before .before .loop .inv))
+loop-again c = undo-letter ((c .before .before .before .before .before .before .before .before .args .t .now)) ((c .before .before .before .before .before .before .before .before .args .n)) ((c .before .before .before .before .loop .at)) ((c .before .before .before .before .loop .x)) ((c .before .before .before .before .loop .left)) ((c .before .before .before .loop-test .taken)) ((c .before .before .last .ensures)) ((c .before .back .ensures)) ((c .parent .ensures)) ∙ (c .before .before .before .before .loop .inv)
 
+-- src/inner.rt:298:1
 returns : tie.Need-returns Inv-loop μ-loop
 unfolding invertFrom
-returns c =
-    let q : c .before .loop .left ≡ 0 = omega arith in
-    rw q at (c .before .loop .inv)
+returns c = let q : (c .before .loop .left) ≡ 0 = omega arith in rw q at ((c .before .loop .inv))
 
 pub invert-spec : {M : Type 1} → statement M
 invert-spec =
@@ -54,6 +69,7 @@ invert-spec =
     Inv-loop
     μ-loop
     word-length-requires
+    undo-requires
     loop-holds
     last-requires
     back-requires

@@ -2,7 +2,7 @@ use Prim.Native.Nat.{_-_}
 use native.Mathlib.Omega.{arith}
 use borrow.Author.Tests.{ltb-true}
 use borrow.Author.Needs.{needs}
-use Rattle.rows.proofs.Laws.{off}
+use Rattle.egg.proofs.Rooms.{false-true}
 use Rattle.rows.proofs.inner.alike.Statement.{statement}
 use Rattle.rows.proofs.inner.alike.Tie as tie
 use Rattle.rows.proofs.inner.alike.Reads as reads
@@ -10,27 +10,27 @@ use Rattle.rows.proofs.inner.alike.Lts as lts
 
 -- src/inner.rt:271:9
 returns : tie.Need-returns
-returns c h = absurd (off h)
+returns c h = absurd (false-true h)
 
 -- src/inner.rt:274:9
 returns-2 : tie.Need-returns-2
-returns-2 c h = absurd (off h)
+returns-2 c h = absurd (false-true h)
 
 -- src/inner.rt:277:9
 returns-3 : tie.Need-returns-3
-returns-3 c h = absurd (off h)
+returns-3 c h = absurd (false-true h)
 
 -- src/inner.rt:280:9
 returns-4 : tie.Need-returns-4
-returns-4 c h = absurd (off h)
+returns-4 c h = absurd (false-true h)
 
 -- src/inner.rt:283:9
 returns-5 : tie.Need-returns-5
-returns-5 c h = absurd (off h)
+returns-5 c h = absurd (false-true h)
 
 -- src/inner.rt:286:9
 returns-6 : tie.Need-returns-6
-returns-6 c h = absurd (off h)
+returns-6 c h = absurd (false-true h)
 
 -- src/inner.rt:288:15
 sub-result : tie.Need-sub-result

@@ -1,0 +1,40 @@
+use Rattle.checks.specs.Checks.{invertFrom}
+use Rattle.egg.specs.Table.{pick}
+use mathlib.Core.Path.{_≡_, refl, sym, _∙_}
+use Prim.Native.Nat.{suc, _≤_, suc-le-suc}
+use borrow.Author.Needs.{needs}
+use Rattle.checks.proofs.inner.undo.Statement.{statement}
+use Rattle.checks.proofs.inner.undo.Tie as tie
+use Rattle.checks.proofs.inner.undo.Reads as reads
+use Rattle.checks.proofs.inner.undo.Lts as lts
+use Rattle.checks.proofs.inner.undo_leg.Reads as undo-leg-reads
+
+abbrev Inv-loop : tie.InvT-loop
+Inv-loop t n e letters x₀ at₀ left₀ jump₀ fall₀ more₀ x at left jump fall more = invertFrom left t n at x ≡ invertFrom letters t n e 0
+
+abbrev μ-loop : tie.MeasureT-loop
+μ-loop t n e letters x₀ at₀ left₀ jump₀ fall₀ more₀ x at left jump fall more = pick more (suc left) 0
+
+-- src/inner.rt:278:5
+loop-holds : tie.Need-loop-holds Inv-loop μ-loop
+loop-holds c = refl
+
+-- src/inner.rt:279:13
+undo-leg-requires : tie.Need-undo-leg-requires Inv-loop μ-loop
+undo-leg-requires c κs = search needs
+
+-- src/inner.rt:278:5
+loop-less : tie.Need-loop-less Inv-loop μ-loop
+loop-less c = rw ((c .before .loop-test .taken)) (suc-le-suc ((c .undo-leg .ensures .1)))
+
+-- src/inner.rt:278:5
+loop-again : tie.Need-loop-again Inv-loop μ-loop
+loop-again c = (c .undo-leg .ensures .0) ∙ (c .before .before .loop .inv)
+
+-- src/inner.rt:269:1
+returns : tie.Need-returns Inv-loop μ-loop
+returns c = (c .before .loop .inv)
+
+pub undo-spec : {M : Type 1} → statement M
+undo-spec =
+    tie.close (tie.spec Inv-loop μ-loop loop-holds undo-leg-requires loop-less loop-again returns)
