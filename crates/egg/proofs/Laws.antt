@@ -6,7 +6,7 @@ use mathlib.Core.Bool.{Bool, true, false}
 use mathlib.Core.List.{List, [], _++_, append-nil}
 use native.Mathlib.Nat.{mul-le-mul, lt-of-le-of-lt, le-of-lt}
 use native.Mathlib.Omega.{arith}
-use lib.ListN.{length, drop, replicate, set}
+use lib.ListN.{length, drop, getD, replicate, set}
 use lib.Seq.{drop-length, set-out}
 use lib.Dec.{ltb, lit<}
 use Rattle.egg.specs.Table.{pick, putAt}
@@ -30,3 +30,10 @@ pick-same false e = refl
 pub putAt-out : (l : List ℕ) (i v : ℕ) → length l ≤ i → putAt l i v ≡ l
 unfolding putAt
 putAt-out l i v h = pick-same (ltb v 4294967296) (set-out l i v h)
+
+-- What was read at a place, by the place's other name.
+pub got : (s : List ℕ) {x i j : ℕ} → x ≡ getD s i 0 → i ≡ j → x ≡ getD s j 0
+got s p q = p ∙ ap (λ (i : ℕ). getD s i 0) q
+
+pub got-from : (s : List ℕ) (k : ℕ) {x i j : ℕ} → x ≡ getD s (i + k) 0 → i ≡ j → x ≡ getD s (j + k) 0
+got-from s k p q = p ∙ ap (λ (i : ℕ). getD s (i + k) 0) q

@@ -48,6 +48,11 @@ module _ (n at : ℕ) (side : SideOfGap) (s : State) where
   unfolding wakes
   wake-met {row} {row′} a b h c d e = cc (woken-met row′ h)
 
+  pub wake-waits : {row row′ : RelationTableRow} {w₁ : List ℕ} → row ≡ readRow (s .work) at → row′ ≡ filled (s .table) n row
+      → (row′ .left ≡ row′ .right → ⊥) → w₁ ≡ waits (s .work) n at row′ side → state (s .table) w₁ (s .top) ≡ wakes n at side s
+  unfolding wakes
+  wake-waits {row} {row′} a b h c = cc (woken-waits row′ h)
+
   -- The loop over a list: `k` copies are left, from the link `at` on.
   pub wake-step : (k : ℕ) → (k ≡ 0 → ⊥) → (at ≡ 0 → ⊥)
       → wakesAll k n at side s ≡ wakesAll (k - 1) n (getD (s .work) (at - 1 + 5) 0) side (wakes n (at - 1) side s)

@@ -1,4 +1,5 @@
 -- The three passes one after the other are `refilled`; then what `finish` ensures.
+use mathlib.Core.Path.{_∙_}
 use Rattle.builder.specs.Refill.{refilled}
 use borrow.Author.Needs.{needs}
 use Rattle.builder.proofs.inner.complete.Statement.{statement}
@@ -24,7 +25,7 @@ same-length-2 c = search needs
 
 returns : tie.Need-returns
 unfolding refilled
-returns c = cc
+returns c = c .before .before .before .before .finish .ensures ∙ rw (c .before .before .before .before .before .before .before .before .before .clear-rest .ensures, c .before .before .before .before .before .before .before .before .before .before .before .before .before .refill .ensures, c .before .before .before .before .before .before .before .before .before .before .before .before .before .before .before .before .before .forget .ensures)
 
 pub complete-spec : {M : Type 1} → statement M
 complete-spec =

@@ -20,7 +20,7 @@ get-requires : tie.Need-get-requires
 get-requires c κs = search needs
 
 returns : tie.Need-returns
-returns c = cc
+returns c = c .get .ensures ∙ rw (c .before .start .ensures .at)
 
 pub cell-spec : {M : Type 1} → statement M
 cell-spec = tie.close (tie.spec start-requires add-get add-get-2 get-requires returns)

@@ -1,3 +1,4 @@
+use mathlib.Core.Path.{_∙_}
 use borrow.Author.Needs.{needs}
 use Rattle.egg.proofs.inner.last.Statement.{statement}
 use Rattle.egg.proofs.inner.last.Tie as tie
@@ -22,7 +23,7 @@ get-requires : tie.Need-get-requires
 get-requires c κs = search needs
 
 returns : tie.Need-returns
-returns c = cc
+returns c = c .get .ensures ∙ rw (c .before .start .ensures .at)
 
 pub last-spec : {M : Type 1} → statement M
 last-spec = tie.close (tie.spec start-requires mul-get add-get add-get-2 get-requires returns)

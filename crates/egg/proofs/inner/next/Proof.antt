@@ -1,3 +1,4 @@
+use Rattle.egg.proofs.Laws.{got}
 use Rattle.egg.proofs.Answers.{read-missing, read-beyond, read-element}
 use mathlib.Core.Path.{_≡_, refl, sym, ap, _∙_}
 use borrow.Author.Needs.{needs}
@@ -19,19 +20,19 @@ refuse-requires : tie.Need-refuse-requires
 refuse-requires c κs = search needs
 
 returns : tie.Need-returns
-returns c = c .refuse .ensures ∙ read-missing (c .before .before .before .before .before .args .s .now) _ _ _ _ (cc) (c .before .if1 .taken)
+returns c = c .refuse .ensures ∙ read-missing (c .before .before .before .before .before .args .s .now) _ _ _ _ (got (c .before .before .before .before .before .args .s .now) (c .before .before .get .ensures) (c .before .before .before .successor-at .ensures .at)) (c .before .if1 .taken)
 
 refuse-requires-2 : tie.Need-refuse-requires-2
 refuse-requires-2 c κs = search needs
 
 returns-2 : tie.Need-returns-2
-returns-2 c = c .refuse2 .ensures ∙ read-beyond (c .before .before .before .before .before .before .args .s .now) _ _ _ _ (cc) (c .before .before .if1 .left) (c .before .if2 .taken)
+returns-2 c = c .refuse2 .ensures ∙ read-beyond (c .before .before .before .before .before .before .args .s .now) _ _ _ _ (got (c .before .before .before .before .before .before .args .s .now) (c .before .before .before .get .ensures) (c .before .before .before .before .successor-at .ensures .at)) (c .before .before .if1 .left) (c .before .if2 .taken)
 
 sub-t11 : tie.Need-sub-t11
 sub-t11 c = search needs
 
 returns-3 : tie.Need-returns-3
-returns-3 c = read-element (c .before .before .before .before .before .args .s .now) _ _ _ _ (cc) (c .before .if1 .left) (c .if2 .left)
+returns-3 c = read-element (c .before .before .before .before .before .args .s .now) _ _ _ _ (got (c .before .before .before .before .before .args .s .now) (c .before .before .get .ensures) (c .before .before .before .successor-at .ensures .at)) (c .before .if1 .left) (c .if2 .left)
 
 pub next-spec : {M : Type 1} → statement M
 next-spec =

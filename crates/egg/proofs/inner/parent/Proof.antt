@@ -1,3 +1,4 @@
+use mathlib.Core.Path.{_∙_}
 use borrow.Author.Needs.{needs}
 use Rattle.egg.proofs.inner.parent.Statement.{statement}
 use Rattle.egg.proofs.inner.parent.Tie as tie
@@ -19,7 +20,7 @@ get-requires : tie.Need-get-requires
 get-requires c κs = search needs
 
 returns : tie.Need-returns
-returns c = cc
+returns c = c .get .ensures ∙ rw (c .before .start .ensures .at)
 
 pub parent-spec : {M : Type 1} → statement M
 parent-spec = tie.close (tie.spec start-requires mul-get add-get get-requires returns)

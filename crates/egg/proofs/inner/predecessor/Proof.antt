@@ -1,3 +1,4 @@
+use mathlib.Core.Path.{_∙_}
 use borrow.Author.Needs.{needs}
 use Rattle.egg.proofs.inner.predecessor.Statement.{statement}
 use Rattle.egg.proofs.inner.predecessor.Tie as tie
@@ -17,7 +18,7 @@ known-requires : tie.Need-known-requires
 known-requires c κs = search needs
 
 returns : tie.Need-returns
-returns c = cc
+returns c = c .known .ensures ∙ rw (c .before .get .ensures, c .before .before .predecessor-at .ensures .at)
 
 pub predecessor-spec : {M : Type 1} → statement M
 predecessor-spec = tie.close (tie.spec predecessor-at-requires get-requires known-requires returns)

@@ -21,7 +21,7 @@ element-requires : tie.Need-element-requires
 element-requires c κs = search needs
 
 returns : tie.Need-returns
-returns c = cc
+returns c = c .element .ensures ∙ rw (c .before .get .ensures, c .before .before .start .ensures .at)
 
 pub step-spec : {M : Type 1} → statement M
 step-spec = tie.close (tie.spec start-requires add-get get-requires element-requires returns)

@@ -1,3 +1,4 @@
+use mathlib.Core.Path.{_∙_}
 use borrow.Author.Needs.{needs}
 use Rattle.egg.proofs.inner.word_length.Statement.{statement}
 use Rattle.egg.proofs.inner.word_length.Tie as tie
@@ -22,7 +23,7 @@ get-requires : tie.Need-get-requires
 get-requires c κs = search needs
 
 returns : tie.Need-returns
-returns c = cc
+returns c = c .get .ensures ∙ rw (c .before .start .ensures .at)
 
 pub word-length-spec : {M : Type 1} → statement M
 word-length-spec =

@@ -34,13 +34,13 @@ same-length-2 : tie.Need-same-length-2
 same-length-2 c = search needs
 
 returns : tie.Need-returns
-returns c = sym (learns-new (c .before .before .before .before .before .before .before .before .before .before .before .before .args .n) (c .before .before .before .before .before .before .before .before .before .before .before .before .args .e) (c .before .before .before .before .before .before .before .before .before .before .before .before .args .g) (c .before .before .before .before .before .before .before .before .before .before .before .before .args .r) (c .before .before .before .before .before .before .before .before .before .before .before .before .args .t .now) (c .before .before .before .before .before .before .before .before .before .before .before .before .args .w .now) (c .before .before .before .before .before .before .before .before .before .before .before .before .args .top) (sym (c .before .before .before .before .before .before .before .before .set-successor .ensures .0) ∙ c .before .before .before .before .before .if1 .taken) ∙ cc)
+returns c = sym (learns-new (c .before .before .before .before .before .before .before .before .before .before .before .before .args .n) (c .before .before .before .before .before .before .before .before .before .before .before .before .args .e) (c .before .before .before .before .before .before .before .before .before .before .before .before .args .g) (c .before .before .before .before .before .before .before .before .before .before .before .before .args .r) (c .before .before .before .before .before .before .before .before .before .before .before .before .args .t .now) (c .before .before .before .before .before .before .before .before .before .before .before .before .args .w .now) (c .before .before .before .before .before .before .before .before .before .before .before .before .args .top) (sym (c .before .before .before .before .before .before .before .before .set-successor .ensures .0) ∙ c .before .before .before .before .before .if1 .taken) ∙ rw (c .before .before .before .before .before .before .before .before .set-successor .ensures .1, c .before .before .put .ensures, c .before .before .before .before .place-at .ensures .at))
 
 same-length-3 : tie.Need-same-length-3
 same-length-3 c = search needs
 
 returns-2 : tie.Need-returns-2
-returns-2 c = sym (learns-old (c .before .before .before .before .before .before .before .args .n) (c .before .before .before .before .before .before .before .args .e) (c .before .before .before .before .before .before .before .args .g) (c .before .before .before .before .before .before .before .args .r) (c .before .before .before .before .before .before .before .args .t .now) (c .before .before .before .before .before .before .before .args .w .now) (c .before .before .before .before .before .before .before .args .top) (sym (c .before .before .before .set-successor .ensures .0) ∙ c .if1 .left) ∙ cc)
+returns-2 c = sym (learns-old (c .before .before .before .before .before .before .before .args .n) (c .before .before .before .before .before .before .before .args .e) (c .before .before .before .before .before .before .before .args .g) (c .before .before .before .before .before .before .before .args .r) (c .before .before .before .before .before .before .before .args .t .now) (c .before .before .before .before .before .before .before .args .w .now) (c .before .before .before .before .before .before .before .args .top) (sym (c .before .before .before .set-successor .ensures .0) ∙ c .if1 .left) ∙ rw (c .before .before .before .set-successor .ensures .1))
 
 pub learn-spec : {M : Type 1} → statement M
 learn-spec =

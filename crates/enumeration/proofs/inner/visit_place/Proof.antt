@@ -1,5 +1,6 @@
 use mathlib.Core.Path.{sym, _∙_}
 use native.Mathlib.Omega.{arith}
+use Rattle.egg.proofs.Laws.{got}
 use Rattle.enumeration.proofs.RunLaws.{adds-room, visit-known, visit-refused, visit-new}
 use borrow.Author.Needs.{needs}
 use Rattle.enumeration.proofs.inner.visit_place.Statement.{statement}
@@ -21,7 +22,7 @@ same-length : tie.Need-same-length
 same-length c = search needs
 
 returns : tie.Need-returns
-returns c = visit-known (c .before .before .before .before .before .before .before .args .n) (c .before .before .before .before .before .before .before .args .orders .now) (c .before .before .before .before .before .before .before .args .room) (c .before .before .before .before .before .before .before .args .count) (c .before .before .before .before .before .before .before .args .e) (c .before .before .before .before .before .before .before .args .g) (c .before .before .before .before .before .before .before .args .t .now) (c .before .before .before .before .before .before .before .args .w .now) (cc) (c .if1 .taken)
+returns c = visit-known (c .before .before .before .before .before .before .before .args .n) (c .before .before .before .before .before .before .before .args .orders .now) (c .before .before .before .before .before .before .before .args .room) (c .before .before .before .before .before .before .before .args .count) (c .before .before .before .before .before .before .before .args .e) (c .before .before .before .before .before .before .before .args .g) (c .before .before .before .before .before .before .before .args .t .now) (c .before .before .before .before .before .before .before .args .w .now) (got (c .before .before .before .before .before .before .before .args .t .now) (c .before .get .ensures) (c .before .before .successor-at .ensures .at)) (c .if1 .taken)
 
 add-successor-requires : tie.Need-add-successor-requires
 add-successor-requires c κs = search needs
@@ -42,7 +43,7 @@ same-length-2 : tie.Need-same-length-2
 same-length-2 c = search needs
 
 returns-2 : tie.Need-returns-2
-returns-2 c = visit-refused (c .before .before .before .before .before .before .before .before .before .before .before .before .before .before .args .n) (c .before .before .before .before .before .before .before .before .before .before .before .before .before .before .args .orders .now) (c .before .before .before .before .before .before .before .before .before .before .before .before .before .before .args .room) (c .before .before .before .before .before .before .before .before .before .before .before .before .before .before .args .count) (c .before .before .before .before .before .before .before .before .before .before .before .before .before .before .args .e) (c .before .before .before .before .before .before .before .before .before .before .before .before .before .before .args .g) (c .before .before .before .before .before .before .before .before .before .before .before .before .before .before .args .t .now) (c .before .before .before .before .before .before .before .before .before .before .before .before .before .before .args .w .now) (cc) (c .before .before .before .before .before .before .before .if1 .left) (c .before .before .before .before .before .add-successor .ensures .0) (c .before .before .before .before .before .add-successor .ensures .1) (c .before .why .given .1)
+returns-2 c = visit-refused (c .before .before .before .before .before .before .before .before .before .before .before .before .before .before .args .n) (c .before .before .before .before .before .before .before .before .before .before .before .before .before .before .args .orders .now) (c .before .before .before .before .before .before .before .before .before .before .before .before .before .before .args .room) (c .before .before .before .before .before .before .before .before .before .before .before .before .before .before .args .count) (c .before .before .before .before .before .before .before .before .before .before .before .before .before .before .args .e) (c .before .before .before .before .before .before .before .before .before .before .before .before .before .before .args .g) (c .before .before .before .before .before .before .before .before .before .before .before .before .before .before .args .t .now) (c .before .before .before .before .before .before .before .before .before .before .before .before .before .before .args .w .now) (got (c .before .before .before .before .before .before .before .before .before .before .before .before .before .before .args .t .now) (c .before .before .before .before .before .before .before .before .get .ensures) (c .before .before .before .before .before .before .before .before .before .successor-at .ensures .at)) (c .before .before .before .before .before .before .before .if1 .left) (c .before .before .before .before .before .add-successor .ensures .0) (c .before .before .before .before .before .add-successor .ensures .1) (c .before .why .given .1)
 
 same-length-3 : tie.Need-same-length-3
 same-length-3 c = search needs
@@ -51,7 +52,7 @@ same-length-4 : tie.Need-same-length-4
 same-length-4 c = search needs
 
 returns-3 : tie.Need-returns-3
-returns-3 c = visit-new (c .before .before .before .before .before .before .before .before .before .before .before .before .before .before .before .before .before .before .before .before .before .args .n) (c .before .before .before .before .before .before .before .before .before .before .before .before .before .before .before .before .before .before .before .before .before .args .orders .now) (c .before .before .before .before .before .before .before .before .before .before .before .before .before .before .before .before .before .before .before .before .before .args .room) (c .before .before .before .before .before .before .before .before .before .before .before .before .before .before .before .before .before .before .before .before .before .args .count) (c .before .before .before .before .before .before .before .before .before .before .before .before .before .before .before .before .before .before .before .before .before .args .e) (c .before .before .before .before .before .before .before .before .before .before .before .before .before .before .before .before .before .before .before .before .before .args .g) (c .before .before .before .before .before .before .before .before .before .before .before .before .before .before .before .before .before .before .before .before .before .args .t .now) (c .before .before .before .before .before .before .before .before .before .before .before .before .before .before .before .before .before .before .before .before .before .args .w .now) (cc) (c .before .before .before .before .before .before .before .before .before .before .before .before .before .before .if1 .left) (c .before .before .before .before .before .before .before .before .before .before .before .before .add-successor .ensures .0) (c .before .before .before .before .before .before .before .before .before .before .before .before .add-successor .ensures .1) (c .before .before .before .before .before .before .before .before .new .given .1) (c .before .before .before .before .discover .ensures .0) (c .before .before .before .before .discover .ensures .1)
+returns-3 c = visit-new (c .before .before .before .before .before .before .before .before .before .before .before .before .before .before .before .before .before .before .before .before .before .args .n) (c .before .before .before .before .before .before .before .before .before .before .before .before .before .before .before .before .before .before .before .before .before .args .orders .now) (c .before .before .before .before .before .before .before .before .before .before .before .before .before .before .before .before .before .before .before .before .before .args .room) (c .before .before .before .before .before .before .before .before .before .before .before .before .before .before .before .before .before .before .before .before .before .args .count) (c .before .before .before .before .before .before .before .before .before .before .before .before .before .before .before .before .before .before .before .before .before .args .e) (c .before .before .before .before .before .before .before .before .before .before .before .before .before .before .before .before .before .before .before .before .before .args .g) (c .before .before .before .before .before .before .before .before .before .before .before .before .before .before .before .before .before .before .before .before .before .args .t .now) (c .before .before .before .before .before .before .before .before .before .before .before .before .before .before .before .before .before .before .before .before .before .args .w .now) (got (c .before .before .before .before .before .before .before .before .before .before .before .before .before .before .before .before .before .before .before .before .before .args .t .now) (c .before .before .before .before .before .before .before .before .before .before .before .before .before .before .before .get .ensures) (c .before .before .before .before .before .before .before .before .before .before .before .before .before .before .before .before .successor-at .ensures .at)) (c .before .before .before .before .before .before .before .before .before .before .before .before .before .before .if1 .left) (c .before .before .before .before .before .before .before .before .before .before .before .before .add-successor .ensures .0) (c .before .before .before .before .before .before .before .before .before .before .before .before .add-successor .ensures .1) (c .before .before .before .before .before .before .before .before .new .given .1) (c .before .before .before .before .discover .ensures .0) (c .before .before .before .before .discover .ensures .1)
 
 pub visit-place-spec : {M : Type 1} → statement M
 visit-place-spec =

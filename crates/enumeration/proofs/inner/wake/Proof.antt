@@ -1,5 +1,5 @@
-use Rattle.enumeration.specs.Facts.{state, wakes}
-use Rattle.enumeration.proofs.FactLaws.{wake-met, woken-waits}
+use Rattle.enumeration.specs.Facts.{state}
+use Rattle.enumeration.proofs.FactLaws.{wake-met, wake-waits}
 use borrow.Author.Needs.{needs}
 use Rattle.enumeration.proofs.inner.wake.Statement.{statement}
 use Rattle.enumeration.proofs.inner.wake.Tie as tie
@@ -45,8 +45,7 @@ same-length-4 : tie.Need-same-length-4
 same-length-4 c = search needs
 
 returns-2 : tie.Need-returns-2
-unfolding wakes
-returns-2 c = cc (woken-waits (c .before .before .before .before .before .before .before .before .before .before .before .before .args .n) (c .before .before .before .before .before .before .before .before .before .before .before .before .args .at) (c .before .before .before .before .before .before .before .before .before .before .before .before .args .side) (state (c .before .before .before .before .before .before .before .before .before .before .before .before .args .t .now) (c .before .before .before .before .before .before .before .before .before .before .before .before .args .w .now) (c .before .before .before .before .before .before .before .before .before .before .before .before .args .top)) (c .before .before .before .before .before .before .fill .result) (c .before .before .before .before .if1 .left))
+returns-2 c = wake-waits (c .before .before .before .before .before .before .before .before .before .before .before .before .args .n) (c .before .before .before .before .before .before .before .before .before .before .before .before .args .at) (c .before .before .before .before .before .before .before .before .before .before .before .before .args .side) (state (c .before .before .before .before .before .before .before .before .before .before .before .before .args .t .now) (c .before .before .before .before .before .before .before .before .before .before .before .before .args .w .now) (c .before .before .before .before .before .before .before .before .before .before .before .before .args .top)) (c .before .before .before .before .before .before .before .read-row .ensures) (c .before .before .before .before .before .before .fill .ensures) (c .before .before .before .before .if1 .left) (c .before .before .wait .ensures)
 
 pub wake-spec : {M : Type 1} → statement M
 wake-spec =

@@ -1,3 +1,4 @@
+use mathlib.Core.Path.{_∙_}
 use Rattle.rows.specs.Rows.{waits, addedRow}
 use borrow.Author.Needs.{needs}
 use Rattle.rows.proofs.inner.add_row.Statement.{statement}
@@ -43,7 +44,7 @@ same-length c = search needs
 
 returns : tie.Need-returns
 unfolding waits addedRow
-returns c = cc
+returns c = c .before .before .append2 .ensures ∙ rw (c .before .before .before .list-at2 .ensures .at, c .before .before .before .before .before .before .before .write-row2 .ensures, c .before .before .before .before .before .before .before .before .before .before .before .append .ensures, c .before .before .before .before .before .before .before .before .before .before .before .before .list-at .ensures .at, c .before .before .before .before .before .before .before .before .before .before .before .before .before .before .before .before .write-row .ensures)
 
 pub add-row-spec : {M : Type 1} → statement M
 add-row-spec =

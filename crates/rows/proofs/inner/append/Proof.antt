@@ -1,3 +1,4 @@
+use mathlib.Core.Path.{_∙_}
 use Rattle.rows.specs.Rows.{appended}
 use borrow.Author.Needs.{needs}
 use Rattle.rows.proofs.inner.append.Statement.{statement}
@@ -61,7 +62,7 @@ same-length c = search needs
 
 returns : tie.Need-returns
 unfolding appended
-returns c = cc
+returns c = c .before .before .put4 .ensures ∙ rw (c .before .before .before .before .before .before .put3 .ensures, c .before .before .before .before .before .before .before .before .before .before .put2 .ensures, c .before .before .before .before .before .before .before .before .before .before .before .before .before .before .put .ensures, c .before .before .before .before .before .before .before .before .before .before .before .before .before .before .before .before .before .before .link-at .ensures, c .before .before .before .before .before .before .before .before .before .before .before .before .before .before .before .before .before .before .before .get .ensures, c .before .before .before .before .before .before .before .before .before .before .before .before .before .before .before .before .get2 .ensures)
 
 pub append-spec : {M : Type 1} → statement M
 append-spec =

@@ -1,3 +1,4 @@
+use mathlib.Core.Path.{_∙_}
 use Rattle.rows.specs.Rows.{filled}
 use borrow.Author.Needs.{needs}
 use Rattle.rows.proofs.inner.fill.Statement.{statement}
@@ -15,7 +16,7 @@ forward-requires c κs = search needs
 
 returns : tie.Need-returns
 unfolding filled
-returns c = cc
+returns c = c .forward .ensures ∙ rw (c .before .back .ensures)
 
 pub fill-spec : {M : Type 1} → statement M
 fill-spec = tie.close (tie.spec back-requires forward-requires returns)

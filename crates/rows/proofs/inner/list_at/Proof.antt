@@ -1,3 +1,4 @@
+use mathlib.Core.Path.{_∙_}
 use native.Mathlib.Omega.{arith}
 use borrow.Author.Needs.{needs}
 use Rattle.rows.proofs.inner.list_at.Statement.{statement}
@@ -29,10 +30,10 @@ add-result : tie.Need-add-result
 add-result c = search needs
 
 returns : tie.Need-returns
-returns c = record { at = rw (c .before .before .enum-told .given .1) (cc); small = omega arith }
+returns c = record { at = rw (c .before .before .enum-told .given .1) (c .place-at .ensures .at ∙ rw (c .before .generator .ensures)); small = omega arith }
 
 returns-2 : tie.Need-returns-2
-returns-2 c = record { at = rw (c .before .before .enum-told2 .given .1) (cc); small = omega arith }
+returns-2 c = record { at = rw (c .before .before .enum-told2 .given .1, c .place-at2 .ensures .at, c .before .generator2 .ensures); small = omega arith }
 
 pub list-at-spec : {M : Type 1} → statement M
 list-at-spec =

@@ -1,3 +1,4 @@
+use mathlib.Core.Path.{refl}
 use Rattle.rows.specs.Rows.{readRow}
 use borrow.Author.Needs.{needs}
 use Rattle.rows.proofs.inner.read_row.Statement.{statement}
@@ -53,7 +54,7 @@ shared-slice-read-t20 c = search needs
 
 returns : tie.Need-returns
 unfolding readRow
-returns c = cc
+returns c = refl
 
 get-requires : tie.Need-get-requires
 get-requires c κs = search needs
@@ -84,7 +85,7 @@ get-requires-5 c κs = search needs
 
 returns-2 : tie.Need-returns-2
 unfolding readRow
-returns-2 c = cc
+returns-2 c = rw (c .before .before .before .before .get .ensures, c .before .before .before .get2 .ensures, c .before .before .get3 .ensures, c .before .get4 .ensures, c .get5 .ensures)
 
 pub read-row-spec : {M : Type 1} → statement M
 read-row-spec =

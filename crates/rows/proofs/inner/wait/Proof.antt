@@ -1,3 +1,4 @@
+use mathlib.Core.Path.{_∙_}
 use Rattle.rows.specs.Rows.{waits}
 use borrow.Author.Needs.{needs}
 use Rattle.rows.proofs.inner.wait.Statement.{statement}
@@ -22,7 +23,7 @@ same-length c = search needs
 
 returns : tie.Need-returns
 unfolding waits
-returns c = cc
+returns c = c .before .before .append .ensures ∙ rw (c .before .before .before .before .before .before .before .write-row .ensures, c .before .before .before .list-at .ensures .at)
 
 pub wait-spec : {M : Type 1} → statement M
 wait-spec =

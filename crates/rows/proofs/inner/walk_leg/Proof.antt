@@ -4,6 +4,7 @@ use native.Mathlib.Nat.{le-refl}
 use native.Mathlib.Omega.{arith}
 use borrow.Author.Needs.{needs}
 use Rattle.rows.specs.Walk.{walkFrom}
+use Rattle.egg.proofs.Laws.{got-from}
 use Rattle.rows.proofs.Walks.{walk-step, walk-stuck, walk-end}
 use Rattle.rows.proofs.inner.walk_leg.Statement.{statement}
 use Rattle.rows.proofs.inner.walk_leg.Tie as tie
@@ -36,7 +37,7 @@ get-requires : tie.Need-get-requires Inv-loop μ-loop
 get-requires c κs = search needs
 
 returns : tie.Need-returns Inv-loop μ-loop
-returns c = (sym (walk-stuck (c .before .before .before .before .before .before .before .args .t .now) (c .before .before .before .before .before .before .before .args .n) (c .before .before .before .before .before .loop .e) (c .before .before .before .before .before .before .before .args .here) (c .before .before .before .before .before .before .before .args .there) (c .before .before .before .before .before .loop .left) (cc) (c .if1 .taken)) ∙ c .before .before .before .before .before .loop .inv .0, zero-le)
+returns c = (sym (walk-stuck (c .before .before .before .before .before .before .before .args .t .now) (c .before .before .before .before .before .before .before .args .n) (c .before .before .before .before .before .loop .e) (c .before .before .before .before .before .before .before .args .here) (c .before .before .before .before .before .before .before .args .there) (c .before .before .before .before .before .loop .left) (got-from (c .before .before .before .before .before .before .before .args .t .now) (c .before .before .before .before .before .before .before .args .here) (c .before .get .ensures) (c .before .before .start .ensures .at)) (c .if1 .taken)) ∙ c .before .before .before .before .before .loop .inv .0, zero-le)
 
 sub-left : tie.Need-sub-left Inv-loop μ-loop
 sub-left c = search needs
@@ -45,7 +46,7 @@ sub-t17 : tie.Need-sub-t17 Inv-loop μ-loop
 sub-t17 c = search needs
 
 returns-2 : tie.Need-returns-2 Inv-loop μ-loop
-returns-2 c = (sym (walk-end (c .before .before .before .before .before .before .before .before .args .t .now) (c .before .before .before .before .before .before .before .before .args .n) (c .before .before .get .result - 1) (c .before .before .before .before .before .before .before .before .args .there) (c .before .before .before .before .before .before .before .before .args .here) (c .before .before .before .before .before .before .loop .left - 1) (c .if2 .taken)) ∙ sym (walk-step (c .before .before .before .before .before .before .before .before .args .t .now) (c .before .before .before .before .before .before .before .before .args .n) (c .before .before .before .before .before .before .loop .e) (c .before .before .before .before .before .before .before .before .args .here) (c .before .before .before .before .before .before .before .before .args .there) (c .before .before .before .before .before .before .loop .left) (c .before .before .before .before .before .loop-test .taken) (cc) (c .before .if1 .left)) ∙ c .before .before .before .before .before .before .loop .inv .0, zero-le)
+returns-2 c = (sym (walk-end (c .before .before .before .before .before .before .before .before .args .t .now) (c .before .before .before .before .before .before .before .before .args .n) (c .before .before .get .result - 1) (c .before .before .before .before .before .before .before .before .args .there) (c .before .before .before .before .before .before .before .before .args .here) (c .before .before .before .before .before .before .loop .left - 1) (c .if2 .taken)) ∙ sym (walk-step (c .before .before .before .before .before .before .before .before .args .t .now) (c .before .before .before .before .before .before .before .before .args .n) (c .before .before .before .before .before .before .loop .e) (c .before .before .before .before .before .before .before .before .args .here) (c .before .before .before .before .before .before .before .before .args .there) (c .before .before .before .before .before .before .loop .left) (c .before .before .before .before .before .loop-test .taken) (got-from (c .before .before .before .before .before .before .before .before .args .t .now) (c .before .before .before .before .before .before .before .before .args .here) (c .before .before .get .ensures) (c .before .before .before .start .ensures .at)) (c .before .if1 .left)) ∙ c .before .before .before .before .before .before .loop .inv .0, zero-le)
 
 sub-if4 : tie.Need-sub-if4 Inv-loop μ-loop
 sub-if4 c = search needs
@@ -63,7 +64,7 @@ sub-t19 : tie.Need-sub-t19 Inv-loop μ-loop
 sub-t19 c = search needs
 
 returns-3 : tie.Need-returns-3 Inv-loop μ-loop
-returns-3 c = (sym (walk-stuck (c .before .before .before .before .before .before .before .before .before .before .before .args .t .now) (c .before .before .before .before .before .before .before .before .before .before .before .args .n) (c .before .before .before .before .before .get .result - 1) (c .before .before .before .before .before .before .before .before .before .before .before .args .there) (c .before .before .before .before .before .before .before .before .before .before .before .args .here) (c .before .before .before .before .before .before .before .before .before .loop .left - 1) (cc) (c .if3 .taken)) ∙ sym (walk-step (c .before .before .before .before .before .before .before .before .before .before .before .args .t .now) (c .before .before .before .before .before .before .before .before .before .before .before .args .n) (c .before .before .before .before .before .before .before .before .before .loop .e) (c .before .before .before .before .before .before .before .before .before .before .before .args .here) (c .before .before .before .before .before .before .before .before .before .before .before .args .there) (c .before .before .before .before .before .before .before .before .before .loop .left) (c .before .before .before .before .before .before .before .before .loop-test .taken) (cc) (c .before .before .before .before .if1 .left)) ∙ c .before .before .before .before .before .before .before .before .before .loop .inv .0, zero-le)
+returns-3 c = (sym (walk-stuck (c .before .before .before .before .before .before .before .before .before .before .before .args .t .now) (c .before .before .before .before .before .before .before .before .before .before .before .args .n) (c .before .before .before .before .before .get .result - 1) (c .before .before .before .before .before .before .before .before .before .before .before .args .there) (c .before .before .before .before .before .before .before .before .before .before .before .args .here) (c .before .before .before .before .before .before .before .before .before .loop .left - 1) (got-from (c .before .before .before .before .before .before .before .before .before .before .before .args .t .now) (c .before .before .before .before .before .before .before .before .before .before .before .args .there) (c .before .get2 .ensures) (c .before .before .start2 .ensures .at)) (c .if3 .taken)) ∙ sym (walk-step (c .before .before .before .before .before .before .before .before .before .before .before .args .t .now) (c .before .before .before .before .before .before .before .before .before .before .before .args .n) (c .before .before .before .before .before .before .before .before .before .loop .e) (c .before .before .before .before .before .before .before .before .before .before .before .args .here) (c .before .before .before .before .before .before .before .before .before .before .before .args .there) (c .before .before .before .before .before .before .before .before .before .loop .left) (c .before .before .before .before .before .before .before .before .loop-test .taken) (got-from (c .before .before .before .before .before .before .before .before .before .before .before .args .t .now) (c .before .before .before .before .before .before .before .before .before .before .before .args .here) (c .before .before .before .before .before .get .ensures) (c .before .before .before .before .before .before .start .ensures .at)) (c .before .before .before .before .if1 .left)) ∙ c .before .before .before .before .before .before .before .before .before .loop .inv .0, zero-le)
 
 sub-left-2 : tie.Need-sub-left-2 Inv-loop μ-loop
 sub-left-2 c = search needs
@@ -81,13 +82,13 @@ wrapping-sub-u32-requires : tie.Need-wrapping-sub-u32-requires Inv-loop μ-loop
 wrapping-sub-u32-requires c κs = search needs
 
 returns-4 : tie.Need-returns-4 Inv-loop μ-loop
-returns-4 c = (sym (walk-step (c .before .before .before .before .before .before .before .before .before .before .before .before .before .args .t .now) (c .before .before .before .before .before .before .before .before .before .before .before .before .before .args .n) (c .before .before .before .before .before .before .before .get .result - 1) (c .before .before .before .before .before .before .before .before .before .before .before .before .before .args .there) (c .before .before .before .before .before .before .before .before .before .before .before .before .before .args .here) (c .before .before .before .before .before .before .before .before .before .before .before .loop .left - 1) (c .before .before .before .before .before .if2 .left) (cc) (c .before .before .if3 .left)) ∙ sym (walk-step (c .before .before .before .before .before .before .before .before .before .before .before .before .before .args .t .now) (c .before .before .before .before .before .before .before .before .before .before .before .before .before .args .n) (c .before .before .before .before .before .before .before .before .before .before .before .loop .e) (c .before .before .before .before .before .before .before .before .before .before .before .before .before .args .here) (c .before .before .before .before .before .before .before .before .before .before .before .before .before .args .there) (c .before .before .before .before .before .before .before .before .before .before .before .loop .left) (c .before .before .before .before .before .before .before .before .before .before .loop-test .taken) (cc) (c .before .before .before .before .before .before .if1 .left)) ∙ c .before .before .before .before .before .before .before .before .before .before .before .loop .inv .0, omega arith)
+returns-4 c = (sym (walk-step (c .before .before .before .before .before .before .before .before .before .before .before .before .before .args .t .now) (c .before .before .before .before .before .before .before .before .before .before .before .before .before .args .n) (c .before .before .before .before .before .before .before .get .result - 1) (c .before .before .before .before .before .before .before .before .before .before .before .before .before .args .there) (c .before .before .before .before .before .before .before .before .before .before .before .before .before .args .here) (c .before .before .before .before .before .before .before .before .before .before .before .loop .left - 1) (c .before .before .before .before .before .if2 .left) (got-from (c .before .before .before .before .before .before .before .before .before .before .before .before .before .args .t .now) (c .before .before .before .before .before .before .before .before .before .before .before .before .before .args .there) (c .before .before .before .get2 .ensures) (c .before .before .before .before .start2 .ensures .at)) (c .before .before .if3 .left)) ∙ sym (walk-step (c .before .before .before .before .before .before .before .before .before .before .before .before .before .args .t .now) (c .before .before .before .before .before .before .before .before .before .before .before .before .before .args .n) (c .before .before .before .before .before .before .before .before .before .before .before .loop .e) (c .before .before .before .before .before .before .before .before .before .before .before .before .before .args .here) (c .before .before .before .before .before .before .before .before .before .before .before .before .before .args .there) (c .before .before .before .before .before .before .before .before .before .before .before .loop .left) (c .before .before .before .before .before .before .before .before .before .before .loop-test .taken) (got-from (c .before .before .before .before .before .before .before .before .before .before .before .before .before .args .t .now) (c .before .before .before .before .before .before .before .before .before .before .before .before .before .args .here) (c .before .before .before .before .before .before .before .get .ensures) (c .before .before .before .before .before .before .before .before .start .ensures .at)) (c .before .before .before .before .before .before .if1 .left)) ∙ c .before .before .before .before .before .before .before .before .before .before .before .loop .inv .0, omega arith)
 
 loop-less : tie.Need-loop-less Inv-loop μ-loop
 loop-less c = omega arith
 
 loop-again : tie.Need-loop-again Inv-loop μ-loop
-loop-again c = (rw (c .if4 .left) (sym (walk-step (c .before .before .before .before .before .before .before .before .before .before .before .before .args .t .now) (c .before .before .before .before .before .before .before .before .before .before .before .before .args .n) (c .before .before .before .before .before .before .get .result - 1) (c .before .before .before .before .before .before .before .before .before .before .before .before .args .there) (c .before .before .before .before .before .before .before .before .before .before .before .before .args .here) (c .before .before .before .before .before .before .before .before .before .before .loop .left - 1) (c .before .before .before .before .if2 .left) (cc) (c .before .if3 .left)) ∙ sym (walk-step (c .before .before .before .before .before .before .before .before .before .before .before .before .args .t .now) (c .before .before .before .before .before .before .before .before .before .before .before .before .args .n) (c .before .before .before .before .before .before .before .before .before .before .loop .e) (c .before .before .before .before .before .before .before .before .before .before .before .before .args .here) (c .before .before .before .before .before .before .before .before .before .before .before .before .args .there) (c .before .before .before .before .before .before .before .before .before .before .loop .left) (c .before .before .before .before .before .before .before .before .before .loop-test .taken) (cc) (c .before .before .before .before .before .if1 .left)) ∙ c .before .before .before .before .before .before .before .before .before .before .loop .inv .0), omega arith)
+loop-again c = (rw (c .if4 .left) (sym (walk-step (c .before .before .before .before .before .before .before .before .before .before .before .before .args .t .now) (c .before .before .before .before .before .before .before .before .before .before .before .before .args .n) (c .before .before .before .before .before .before .get .result - 1) (c .before .before .before .before .before .before .before .before .before .before .before .before .args .there) (c .before .before .before .before .before .before .before .before .before .before .before .before .args .here) (c .before .before .before .before .before .before .before .before .before .before .loop .left - 1) (c .before .before .before .before .if2 .left) (got-from (c .before .before .before .before .before .before .before .before .before .before .before .before .args .t .now) (c .before .before .before .before .before .before .before .before .before .before .before .before .args .there) (c .before .before .get2 .ensures) (c .before .before .before .start2 .ensures .at)) (c .before .if3 .left)) ∙ sym (walk-step (c .before .before .before .before .before .before .before .before .before .before .before .before .args .t .now) (c .before .before .before .before .before .before .before .before .before .before .before .before .args .n) (c .before .before .before .before .before .before .before .before .before .before .loop .e) (c .before .before .before .before .before .before .before .before .before .before .before .before .args .here) (c .before .before .before .before .before .before .before .before .before .before .before .before .args .there) (c .before .before .before .before .before .before .before .before .before .before .loop .left) (c .before .before .before .before .before .before .before .before .before .loop-test .taken) (got-from (c .before .before .before .before .before .before .before .before .before .before .before .before .args .t .now) (c .before .before .before .before .before .before .before .before .before .before .before .before .args .here) (c .before .before .before .before .before .before .get .ensures) (c .before .before .before .before .before .before .before .start .ensures .at)) (c .before .before .before .before .before .if1 .left)) ∙ c .before .before .before .before .before .before .before .before .before .before .loop .inv .0), omega arith)
 
 returns-5 : tie.Need-returns-5 Inv-loop μ-loop
 returns-5 c = (sym (walk-end (c .before .before .before .args .t .now) (c .before .before .before .args .n) (c .before .loop .e) (c .before .before .before .args .here) (c .before .before .before .args .there) (c .before .loop .left) (c .loop-test .left)) ∙ c .before .loop .inv .0, zero-le)

@@ -1,3 +1,4 @@
+use mathlib.Core.Path.{_∙_}
 use Rattle.rows.specs.Rows.{writeRow}
 use borrow.Author.Needs.{needs}
 use Rattle.rows.proofs.inner.write_row.Statement.{statement}
@@ -53,7 +54,7 @@ same-length c = search needs
 
 returns : tie.Need-returns
 unfolding writeRow
-returns c = cc
+returns c = c .before .before .put5 .ensures ∙ rw (c .before .before .before .before .before .before .put4 .ensures, c .before .before .before .before .before .before .before .before .before .before .put3 .ensures, c .before .before .before .before .before .before .before .before .before .before .before .before .before .before .put2 .ensures, c .before .before .before .before .before .before .before .before .before .before .before .before .before .before .before .before .before .before .put .ensures)
 
 pub write-row-spec : {M : Type 1} → statement M
 write-row-spec =
