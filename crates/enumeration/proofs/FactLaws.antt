@@ -1,7 +1,7 @@
 -- Laws of the facts and the rows that they wake: one for each way that a branch or a turn of a loop goes, over plain values, so that a proof only hands over what its calls ensure.
 -- Assumes nothing.
 use Prim.Native.Nat.{ℕ, zero, suc, _+_, _-_, _≤_, zero-le, suc-le-suc}
-use mathlib.Core.Path.{_≡_, refl}
+use mathlib.Core.Path.{_≡_, refl, ap, _∙_}
 use mathlib.Core.Bool.{true, false}
 use mathlib.Core.List.{List}
 use borrow.Author.Tests.{eq-eqb, ne-eqb}
@@ -42,16 +42,20 @@ module _ (n at : ℕ) (side : SideOfGap) (s : State) where
     unfolding woken
     woken-waits h = simp (ne-eqb _ _ h)
 
-  pub wake-met : {row row′ : RelationTableRow} {g : GeneratorId} {s₁ s₂ : State} → row ≡ readRow (s .work) at → row′ ≡ filled (s .table) n row
-      → row′ .left ≡ row′ .right → g ≡ genOf (row′ .pair) (row′ .left) → s₁ ≡ learns n (row′ .from) g (row′ .to) s
-      → s₂ ≡ learns n (row′ .to) g (row′ .from) s₁ → s₂ ≡ wakes n at side s
-  unfolding wakes
-  wake-met {row} {row′} a b h c d e = cc (woken-met row′ h)
+    pub woken-table : {s₁ : State} → (r .left ≡ r .right → ⊥) → s₁ ≡ woken n at side r s → s₁ .table ≡ s .table
+    woken-table h q = ap (λ (x : State). x .table) (q ∙ woken-waits h)
 
-  pub wake-waits : {row row′ : RelationTableRow} {w₁ : List ℕ} → row ≡ readRow (s .work) at → row′ ≡ filled (s .table) n row
-      → (row′ .left ≡ row′ .right → ⊥) → w₁ ≡ waits (s .work) n at row′ side → state (s .table) w₁ (s .top) ≡ wakes n at side s
-  unfolding wakes
-  wake-waits {row} {row′} a b h c = cc (woken-waits row′ h)
+    pub wake-met : {g : GeneratorId} {s₁ s₂ : State} → r .left ≡ r .right → g ≡ genOf (r .pair) (r .left) → s₁ ≡ learns n (r .from) g (r .to) s
+        → s₂ ≡ learns n (r .to) g (r .from) s₁ → s₂ ≡ woken n at side r s
+    wake-met h c d e = cc (woken-met h)
+
+    pub wake-waits : {w₁ : List ℕ} → (r .left ≡ r .right → ⊥) → w₁ ≡ waits (s .work) n at r side → state (s .table) w₁ (s .top) ≡ woken n at side r s
+    wake-waits h c = cc (woken-waits h)
+
+    pub wakes-by : {row : RelationTableRow} {s₁ : State} → row ≡ readRow (s .work) at → r ≡ filled (s .table) n row → s₁ ≡ woken n at side r s
+        → s₁ ≡ wakes n at side s
+    unfolding wakes
+    wakes-by a b c = cc
 
   -- The loop over a list: `k` copies are left, from the link `at` on.
   pub wake-step : (k : ℕ) → (k ≡ 0 → ⊥) → (at ≡ 0 → ⊥)

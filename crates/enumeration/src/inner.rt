@@ -1,11 +1,12 @@
 // The machine of the enumeration: facts, one visit of a place, the run. Facts are places of the work stretch, on a stack
 // that is a list through the places themselves, since a place becomes a fact once at most.
 ghost use mathlib.Core.Path.{_≡_};
+ghost use mathlib.Core.Bool.{true};
 ghost use Prim.Native.Nat.{_+_, _<_, _≤_};
 ghost use lib.ListN.{length};
-ghost use Rattle.rows.specs.Rows.{Orders};
+ghost use Rattle.rows.specs.Rows.{Orders, filled};
 ghost use Rattle.rows.specs.Alike.{Moves};
-ghost use Rattle.enumeration.specs.Facts.{state, learns, wakes, wakesAll, emptied, updated, settled};
+ghost use Rattle.enumeration.specs.Facts.{state, learns, woken, wakesAll, emptied, updated, settled};
 ghost use Rattle.enumeration.specs.Carrying.{wakesRest, moreLeft};
 ghost use Rattle.enumeration.specs.Run.{discovered, visit, visits, advanced, outcome, runs, enumerated};
 ghost use Rattle.enumeration.specs.Calls.{ranCount, Relating, relates, enumeratedIn};
@@ -54,12 +55,19 @@ pub fn learn(
     }
 }
 
-// One copy of a row that a fact woke: what it gives when its ends have met, else it waits again.
-pub fn wake(t: &mut [u32], w: &mut [u32], n: u8, at: usize, side: SideOfGap, top: u32) -> u32
+// 000, `match row.fill(g)`: what a filled row gives where its ends have met, else the copy waits again.
+pub fn wake(
+    t: &mut [u32],
+    w: &mut [u32],
+    n: u8,
+    at: usize,
+    side: SideOfGap,
+    row: RelationTableRow,
+    top: u32,
+) -> u32
     requires { ⌜ at < 36028797018963968 ⌝ }
-    ensures { λ r. ⌜ state (now (t .exit)) (now (w .exit)) r ≡ wakes n at side (state (now (t .entry)) (now (w .entry)) top) ⌝ }
+    ensures { λ r. ⌜ state (now (t .exit)) (now (w .exit)) r ≡ woken n at side row (state (now (t .entry)) (now (w .entry)) top) ⌝ }
 {
-    let row = rows::inner::fill(&t[..], n, rows::inner::read_row(&w[..], at));
     if row.left == row.right {
         let g = rows::inner::generator(row.pair, row.left);
         let top1 = learn(t, w, n, row.from, g, row.to, top);
@@ -152,7 +160,17 @@ pub fn carry_leg(
     }
 }
 
-// The copies at the start of a list that stand alike, moved on with one filling, leg by leg. Only long lists have many.
+// Whether it is worth while to look for copies that stand as this row did: it waits again, and only long lists have many.
+pub fn worth_carrying(count: u32, after: RelationTableRow) -> bool
+    ensures { λ r. ⌜ (r ≡ true → after .left < after .right) ⌝ }
+{
+    if count <= 16 {
+        return false;
+    }
+    after.left < after.right
+}
+
+// The copies at the start of what is left of a list that stand as `before` stood, which was filled to `after`, leg by leg.
 pub fn carry(
     t: &[u32],
     w: &mut [u32],
@@ -160,28 +178,17 @@ pub fn carry(
     first: u32,
     count: u32,
     side: SideOfGap,
+    before: RelationTableRow,
+    after: RelationTableRow,
     top: u32,
 ) -> Carried
+    requires { ⌜ (after .left < after .right → after ≡ filled (now t) n before) ⌝ }
     ensures { λ r. ⌜ (wakesRest r n side (state (now (t .entry)) (now (w .exit)) top) ≡ wakesAll count n first side (state (now (t .entry)) (now (w .entry)) top)) × (r .left ≤ count) ⌝ }
 {
-    let none = Carried {
-        at: first,
-        left: count,
-        step: 0,
-        more: false,
-    };
-    if count <= 16 {
-        return none;
-    }
-    if first == 0 {
-        return none;
-    }
     let mut at = first;
     let mut left = count;
     let mut step = 0;
-    let before = rows::inner::read_row(&w[..], (first - 1) as usize);
-    let after = rows::inner::fill(t, n, before);
-    let mut more = after.left < after.right;
+    let mut more = worth_carrying(count, after);
     while more {
         let leg = carry_leg(t, w, n, at, left, side, before, after, step, top);
         at = leg.at;
@@ -213,18 +220,17 @@ pub fn wake_all(
     let mut left = count;
     let mut now_top = top;
     while left != 0 {
-        let rest = carry(&t[..], w, n, at, left, side, now_top);
-        if rest.left == 0 {
+        if at == 0 {
             return now_top;
         }
-        if rest.at == 0 {
-            return now_top;
-        }
-        let row = (rest.at - 1) as usize;
-        let next = egg::inner::get(&w[..], row + 5);
-        now_top = wake(t, w, n, row, side, now_top);
-        at = next;
-        left = rest.left - 1;
+        let place = (at - 1) as usize;
+        let next = egg::inner::get(&w[..], place + 5);
+        let before = rows::inner::read_row(&w[..], place);
+        let after = rows::inner::fill(&t[..], n, before);
+        now_top = wake(t, w, n, place, side, after, now_top);
+        let rest = carry(&t[..], w, n, next, left - 1, side, before, after, now_top);
+        at = rest.at;
+        left = rest.left;
     }
     now_top
 }

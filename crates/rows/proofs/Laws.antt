@@ -5,10 +5,13 @@ use mathlib.Core.Path.{_≡_, refl, sym, ap, _∙_}
 use mathlib.Core.List.{List}
 use native.Mathlib.Nat.{mul-le-mul, add-mod-right, mod-add-mod}
 use native.Mathlib.Omega.{arith}
-use lib.ListN.{getD, length}
+use borrow.Author.Tests.{lt-ltb}
+use lib.ListN.{getD, length, set}
 use Rattle.egg.specs.declared.GroupElementId.{GroupElementId}
 use Rattle.egg.specs.Pairs.{pairCode}
-use Rattle.rows.specs.Rows.{genOf, addRowsFrom, addedRow, rowsAt}
+use Rattle.egg.specs.Table.{putAt}
+use Rattle.rows.specs.declared.inner.RelationTableRow.{RelationTableRow}
+use Rattle.rows.specs.Rows.{writeRow, genOf, addRowsFrom, addedRow, rowsAt}
 
 -- 6n² for a byte n.
 pub square : (n : ℕ) → n < 256 → 6 * n * n ≤ 390150
@@ -32,3 +35,10 @@ module _ (w o : List ℕ) (n : ℕ) (e : GroupElementId) (k : ℕ) where
   pub rows-end : length o ≤ k → addRowsFrom (length o - k) w o n e k ≡ w
   unfolding addRowsFrom
   rows-end h = let q : length o - k ≡ 0 = omega arith in rw q
+
+-- Five stores of numbers of 32 bits write a row.
+pub stored-row : (w : List ℕ) (at : ℕ) (r : RelationTableRow) → r .pair < 4294967296 → r .left < 4294967296 → r .right < 4294967296
+    → r .from .0 < 4294967296 → r .to .0 < 4294967296
+    → set (set (set (set (set w at (r .pair)) (at + 1) (r .left)) (at + 2) (r .right)) (at + 3) (r .from .0)) (at + 4) (r .to .0) ≡ writeRow w at r
+unfolding writeRow putAt
+stored-row w at r a b c d e = simp (lt-ltb _ _ a, lt-ltb _ _ b, lt-ltb _ _ c, lt-ltb _ _ d, lt-ltb _ _ e)

@@ -117,6 +117,14 @@ pub fn write_row(w: &mut [u32], at: usize, row: RelationTableRow)
     let right = row.right;
     let from = row.from.0;
     let to = row.to.0;
+    if at + 5 < w.len() {
+        w[at] = pair;
+        w[at + 1] = left;
+        w[at + 2] = right;
+        w[at + 3] = from;
+        w[at + 4] = to;
+        return;
+    }
     egg::inner::put(w, at, pair as usize);
     egg::inner::put(w, at + 1, left as usize);
     egg::inner::put(w, at + 2, right as usize);

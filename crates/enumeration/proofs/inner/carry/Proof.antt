@@ -1,75 +1,52 @@
-use Rattle.enumeration.proofs.FactLaws.{pos}
 use Rattle.enumeration.specs.Facts.{state, wakesAll}
 use Rattle.egg.specs.Table.{pick}
 use lib.ListN.{length}
-use borrow.Author.Tests.{ltb-true}
 use native.Mathlib.Omega.{arith}
 use native.Mathlib.Nat.{le-refl}
 use mathlib.Core.Bool.{true}
-use mathlib.Core.Path.{_≡_, refl, sym, _∙_}
-use Prim.Native.Nat.{suc, _-_, _<_, _≤_, suc-le-suc}
+use mathlib.Core.Path.{_≡_, refl, _∙_}
+use Prim.Native.Nat.{suc, _<_, _≤_, suc-le-suc}
 use borrow.Author.Needs.{needs}
 use Rattle.enumeration.proofs.inner.carry.Statement.{statement}
 use Rattle.enumeration.proofs.inner.carry.Tie as tie
 use Rattle.enumeration.proofs.inner.carry.Reads as reads
 use Rattle.enumeration.proofs.inner.carry.Lts as lts
 use Rattle.enumeration.proofs.inner.carry_leg.Reads as carry-leg-reads
-use Rattle.rows.proofs.inner.fill.Reads as fill-reads
-use Rattle.rows.proofs.inner.read_row.Reads as read-row-reads
+use Rattle.enumeration.proofs.inner.worth_carrying.Reads as worth-carrying-reads
 
 abbrev Inv-loop : tie.InvT-loop
-Inv-loop t w₀ n first count side top at₀ left₀ step₀ before after more₀ w at left step more = (wakesAll left n at side (state t w top) ≡ wakesAll count n first side (state t w₀ top)) × ((left ≤ count) × ((length w ≡ length w₀) × (more ≡ true → after .left < after .right)))
+Inv-loop t w₀ n first count side before after top at₀ left₀ step₀ more₀ w at left step more = (wakesAll left n at side (state t w top) ≡ wakesAll count n first side (state t w₀ top)) × ((left ≤ count) × ((length w ≡ length w₀) × (more ≡ true → after .left < after .right)))
 
 abbrev μ-loop : tie.MeasureT-loop
-μ-loop t w₀ n first count side top at₀ left₀ step₀ before after more₀ w at left step more = pick more (suc left) 0
+μ-loop t w₀ n first count side before after top at₀ left₀ step₀ more₀ w at left step more = pick more (suc left) 0
 
--- src/inner.rt:174:9
-returns : tie.Need-returns Inv-loop μ-loop
-returns c = (refl, le-refl _)
+-- src/inner.rt:191:9
+worth-carrying-requires : tie.Need-worth-carrying-requires Inv-loop μ-loop
+worth-carrying-requires c κs = search needs
 
--- src/inner.rt:177:9
-returns-2 : tie.Need-returns-2 Inv-loop μ-loop
-returns-2 c = (refl, le-refl _)
-
--- src/inner.rt:182:49
-sub-read-row : tie.Need-sub-read-row Inv-loop μ-loop
-sub-read-row c = pos ((c .before .before .before .before .before .args .first)) ((c .before .if2 .left))
-
--- src/inner.rt:182:48
-cast-read-row : tie.Need-cast-read-row Inv-loop μ-loop
-cast-read-row c = search needs
-
--- src/inner.rt:182:9
-read-row-requires : tie.Need-read-row-requires Inv-loop μ-loop
-read-row-requires c κs = search needs
-
--- src/inner.rt:183:9
-fill-requires : tie.Need-fill-requires Inv-loop μ-loop
-fill-requires c κs = search needs
-
--- src/inner.rt:185:5
+-- src/inner.rt:192:5
 loop-holds : tie.Need-loop-holds Inv-loop μ-loop
-loop-holds c = (refl, (le-refl _, (refl, λ h. ltb-true _ _ h)))
+loop-holds c = (refl, (le-refl _, (refl, (c .worth-carrying .ensures))))
 
--- src/inner.rt:186:13
+-- src/inner.rt:193:13
 carry-leg-requires : tie.Need-carry-leg-requires Inv-loop μ-loop
-carry-leg-requires c κs = record { filling = (c .before .before .before .before .fill .ensures); apart = (c .before .before .loop .inv .1 .1 .1) ((c .before .loop-test .taken)) }
+carry-leg-requires c κs = record { filling = (c .before .before .before .before .before .before .pre) ((c .before .before .loop .inv .1 .1 .1) ((c .before .loop-test .taken))); apart = (c .before .before .loop .inv .1 .1 .1) ((c .before .loop-test .taken)) }
 
--- src/inner.rt:185:5
+-- src/inner.rt:192:5
 loop-less : tie.Need-loop-less Inv-loop μ-loop
 loop-less c = rw ((c .before .before .before .before .loop-test .taken)) (suc-le-suc ((c .before .before .carry-leg .ensures .1 .1)))
 
--- src/inner.rt:185:5
+-- src/inner.rt:192:5
 loop-again : tie.Need-loop-again Inv-loop μ-loop
 loop-again c = ((c .before .before .carry-leg .ensures .0) ∙ (c .before .before .before .before .before .loop .inv .0), (omega (arith, (c .before .before .carry-leg .ensures .1 .0), (c .before .before .before .before .before .loop .inv .1 .0)), ((c .before .before .carry-leg .kept .1 .0) ∙ (c .before .before .before .before .before .loop .inv .1 .1 .0), λ h. (c .before .before .before .before .before .loop .inv .1 .1 .1) ((c .before .before .before .before .loop-test .taken)))))
 
--- src/inner.rt:156:1
+-- src/inner.rt:174:1
 same-length : tie.Need-same-length Inv-loop μ-loop
 same-length c = (c .before .loop .inv .1 .1 .0)
 
--- src/inner.rt:156:1
-returns-3 : tie.Need-returns-3 Inv-loop μ-loop
-returns-3 c = ((c .before .loop .inv .0), (c .before .loop .inv .1 .0))
+-- src/inner.rt:174:1
+returns : tie.Need-returns Inv-loop μ-loop
+returns c = ((c .before .loop .inv .0), (c .before .loop .inv .1 .0))
 
 pub carry-spec : {M : Type 1} → statement M
 carry-spec =
@@ -77,15 +54,10 @@ carry-spec =
     (tie.spec
     Inv-loop
     μ-loop
-    returns
-    returns-2
-    sub-read-row
-    cast-read-row
-    read-row-requires
-    fill-requires
+    worth-carrying-requires
     loop-holds
     carry-leg-requires
     loop-less
     loop-again
     same-length
-    returns-3)
+    returns)

@@ -1,58 +1,54 @@
-use Rattle.enumeration.specs.Facts.{state}
 use Rattle.enumeration.proofs.FactLaws.{wake-met, wake-waits}
+use Rattle.enumeration.specs.Facts.{state}
 use borrow.Author.Needs.{needs}
 use Rattle.enumeration.proofs.inner.wake.Statement.{statement}
 use Rattle.enumeration.proofs.inner.wake.Tie as tie
 use Rattle.enumeration.proofs.inner.wake.Reads as reads
 use Rattle.enumeration.proofs.inner.wake.Lts as lts
 use Rattle.enumeration.proofs.inner.learn.Reads as learn-reads
-use Rattle.rows.proofs.inner.fill.Reads as fill-reads
 use Rattle.rows.proofs.inner.generator.Reads as generator-reads
-use Rattle.rows.proofs.inner.read_row.Reads as read-row-reads
 use Rattle.rows.proofs.inner.wait.Reads as wait-reads
 
-read-row-requires : tie.Need-read-row-requires
-read-row-requires c κs = search needs
-
-fill-requires : tie.Need-fill-requires
-fill-requires c κs = search needs
-
+-- src/inner.rt:72:13
 generator-requires : tie.Need-generator-requires
 generator-requires c κs = search needs
 
+-- src/inner.rt:73:13
 learn-requires : tie.Need-learn-requires
 learn-requires c κs = search needs
 
+-- src/inner.rt:74:9
 learn-requires-2 : tie.Need-learn-requires-2
 learn-requires-2 c κs = search needs
 
+-- src/inner.rt:76:9
 wait-requires : tie.Need-wait-requires
 wait-requires c κs = search needs
 
+-- src/inner.rt:59:1
 same-length : tie.Need-same-length
 same-length c = search needs
 
+-- src/inner.rt:59:1
 same-length-2 : tie.Need-same-length-2
 same-length-2 c = search needs
 
+-- src/inner.rt:59:1
 returns : tie.Need-returns
-returns c = wake-met (c .before .before .before .before .before .before .before .before .before .before .before .before .before .before .before .before .before .before .before .before .before .before .before .args .n) (c .before .before .before .before .before .before .before .before .before .before .before .before .before .before .before .before .before .before .before .before .before .before .before .args .at) (c .before .before .before .before .before .before .before .before .before .before .before .before .before .before .before .before .before .before .before .before .before .before .before .args .side) (state (c .before .before .before .before .before .before .before .before .before .before .before .before .before .before .before .before .before .before .before .before .before .before .before .args .t .now) (c .before .before .before .before .before .before .before .before .before .before .before .before .before .before .before .before .before .before .before .before .before .before .before .args .w .now) (c .before .before .before .before .before .before .before .before .before .before .before .before .before .before .before .before .before .before .before .before .before .before .before .args .top)) (c .before .before .before .before .before .before .before .before .before .before .before .before .before .before .before .before .before .before .read-row .ensures) (c .before .before .before .before .before .before .before .before .before .before .before .before .before .before .before .before .before .fill .ensures) (c .before .before .before .before .before .before .before .before .before .before .before .before .before .before .before .if1 .taken) (c .before .before .before .before .before .before .before .before .before .before .before .before .before .before .generator .ensures) (c .before .before .before .before .before .before .before .before .before .before .before .learn .ensures) (c .before .before .before .before .learn2 .ensures)
+returns c = wake-met ((c .before .before .before .before .before .before .before .before .before .before .before .before .before .before .before .before .before .before .before .args .n)) ((c .before .before .before .before .before .before .before .before .before .before .before .before .before .before .before .before .before .before .before .args .at)) ((c .before .before .before .before .before .before .before .before .before .before .before .before .before .before .before .before .before .before .before .args .side)) (state ((c .before .before .before .before .before .before .before .before .before .before .before .before .before .before .before .before .before .before .before .args .t .now)) ((c .before .before .before .before .before .before .before .before .before .before .before .before .before .before .before .before .before .before .before .args .w .now)) ((c .before .before .before .before .before .before .before .before .before .before .before .before .before .before .before .before .before .before .before .args .top))) ((c .before .before .before .before .before .before .before .before .before .before .before .before .before .before .before .before .before .before .before .args .row)) ((c .before .before .before .before .before .before .before .before .before .before .before .before .before .before .before .if1 .taken)) ((c .before .before .before .before .before .before .before .before .before .before .before .before .before .before .generator .ensures)) ((c .before .before .before .before .before .before .before .before .before .before .before .learn .ensures)) ((c .before .before .before .before .learn2 .ensures))
 
+-- src/inner.rt:59:1
 same-length-3 : tie.Need-same-length-3
 same-length-3 c = search needs
 
-same-length-4 : tie.Need-same-length-4
-same-length-4 c = search needs
-
+-- src/inner.rt:59:1
 returns-2 : tie.Need-returns-2
-returns-2 c = wake-waits (c .before .before .before .before .before .before .before .before .before .before .before .before .args .n) (c .before .before .before .before .before .before .before .before .before .before .before .before .args .at) (c .before .before .before .before .before .before .before .before .before .before .before .before .args .side) (state (c .before .before .before .before .before .before .before .before .before .before .before .before .args .t .now) (c .before .before .before .before .before .before .before .before .before .before .before .before .args .w .now) (c .before .before .before .before .before .before .before .before .before .before .before .before .args .top)) (c .before .before .before .before .before .before .before .read-row .ensures) (c .before .before .before .before .before .before .fill .ensures) (c .before .before .before .before .if1 .left) (c .before .before .wait .ensures)
+returns-2 c = wake-waits ((c .before .before .before .before .before .before .before .before .args .n)) ((c .before .before .before .before .before .before .before .before .args .at)) ((c .before .before .before .before .before .before .before .before .args .side)) (state ((c .before .before .before .before .before .before .before .before .args .t .now)) ((c .before .before .before .before .before .before .before .before .args .w .now)) ((c .before .before .before .before .before .before .before .before .args .top))) ((c .before .before .before .before .before .before .before .before .args .row)) ((c .before .before .before .before .if1 .left)) ((c .before .before .wait .ensures))
 
 pub wake-spec : {M : Type 1} → statement M
 wake-spec =
     tie.close
     (tie.spec
-    read-row-requires
-    fill-requires
     generator-requires
     learn-requires
     learn-requires-2
@@ -61,5 +57,4 @@ wake-spec =
     same-length-2
     returns
     same-length-3
-    same-length-4
     returns-2)
