@@ -2,6 +2,7 @@
 -- Assumes nothing.
 use Prim.Native.Nat.{ℕ, suc, _+_, _*_, _-_, _≤_, _<_}
 use mathlib.Core.Path.{_≡_, sym, ap, _∙_}
+use mathlib.Core.Logic.{_↔_}
 use mathlib.Core.List.{List}
 use native.Mathlib.Decide.{decLt}
 use native.Mathlib.Omega.{arith}
@@ -25,10 +26,10 @@ use Rattle.meaning.proofs.Arrivals.{counted-length, arrivals-right}
 module _ {n N : ℕ} {step back : ℕ → ℕ → ℕ} {parent last : ℕ → ℕ} {word : ℕ → List ℕ} {t : List ℕ}
     (S : Stored t n N step back parent last word) (T : Table n N step) (P : Parents n N step parent last) (R : Recorded N parent last word)
     (C : Columns n N step back) where
-  present : check8 t n N ≡ Fine
+  pub present : check8 t n N ≡ Fine
   present = check8-fine t n N .1 (λ e he g hg z. omega (arith, S .successor he hg), λ e he g hg z. omega (arith, S .predecessor he hg))
 
-  in-range : ((e : ℕ) → e < N → length (word e) ≤ 4096) → ranges t n N ≡ Fine
+  pub in-range : ((e : ℕ) → e < N → length (word e) ≤ 4096) → ranges t n N ≡ Fine
   in-range short = ranges-fine t n N .1 (λ e he. (
     λ k hk. cell e k he hk (decLt k n),
     (rw (S .lengths he) (short e he), λ pos. rw (S .parents pos he, S .letters pos he) (P .earlier pos he, P .generator pos he)),
@@ -67,12 +68,18 @@ module _ {n N : ℕ} {step back : ℕ → ℕ → ℕ} {parent last : ℕ → �
     (few : n ≤ 8) (small : N ≤ 65535) (room : N * (2 * n + 4) ≤ length t) (S : Stored t n N step back parent last word)
     (T : Table n N step) (P : Parents n N step parent last) (R : Recorded N parent last word) (C : Columns n N step back)
     (short : (e : ℕ) → e < N → length (word e) ≤ 4096) where
-  involution : RightRegular n N step → inversesRight (fillInverses N t n 0) n N ≡ Fine
-  involution G = inverses-fine (fillInverses N t n 0) n N .1 (λ e he.
-      rw (is e he, is (inverse back word e) (inverse-small T P R C he))
-      (inverse-involution (G .group) (G .steps) (recorded-spelled P R) C he)) where
-        is : (e : ℕ) → e < N → inverseOf (fillInverses N t n 0) n e ≡ inverse back word e
-        is e he = fill-inverse T P R C small N t room S 0 (omega arith) e (omega arith) (omega arith)
+  inverse-is : (e : ℕ) → e < N → inverseOf (fillInverses N t n 0) n e ≡ inverse back word e
+  inverse-is e he = fill-inverse T P R C small N t room S 0 (omega arith) e (omega arith) (omega arith)
+
+  -- 10 passes just where the inverse of an inverse is the element.
+  pub inverses-exactly : inversesRight (fillInverses N t n 0) n N ≡ Fine ↔ ((e : ℕ) → e < N → inverse back word (inverse back word e) ≡ e)
+  inverses-exactly =
+      let f = fillInverses N t n 0 in
+      let twice : (e : ℕ) → e < N → inverseOf f n (inverseOf f n e) ≡ inverse back word (inverse back word e) = λ e he.
+      ap (λ (x : ℕ). inverseOf f n x) (inverse-is e he) ∙ inverse-is (inverse back word e) (inverse-small T P R C he) in (
+        λ h e he. sym (twice e he) ∙ inverses-fine f n N .0 h e he,
+        λ h. inverses-fine f n N .1 (λ e he. twice e he ∙ h e he),
+      )
 
   pub checks-complete : (w : List ℕ) → (0 < n → N ≤ length w) → ((g : ℕ) → g < n → step 0 g ≡ suc g) → RightRegular n N step
       → (t₁ : List ℕ) × (w₁ : List ℕ) × (check-group t w n N ≡ checked Fine t₁ w₁)
@@ -83,7 +90,7 @@ module _ {n N : ℕ} {step back : ℕ → ℕ → ℕ} {parent last : ℕ → �
       let S₁ = stored-kept (fill-kept t n N) S in
       let a = table-fine t n N .1 (present S T P R C, (in-range S T P R C short, none-wrong S T P R C first G)) in
       let b = counts-fine t n N c .1 (arrivals-right few S C w work) in
-      let d = involution G in
+      let d = inverses-exactly .1 (λ e he. inverse-involution (G .group) (G .steps) (recorded-spelled P R) C he) in
       let s = right-steps S₁ T P R C first in
       let l = lefts-complete small S₁ T P R n c 0 (omega arith) (λ pos. omega (arith, work pos, counted-length t w n N))
       (complete (G .group) (G .steps) (recorded-spelled P R)) in

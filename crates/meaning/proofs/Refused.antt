@@ -1,7 +1,7 @@
--- Accepted exactly when some group has the table and its identity row is 1..n; 12 only when no group has it.
+-- Accepted exactly when some group has the table and its identity row is 1..n; 12 exactly when 8 to 11 pass and no group has it.
 -- Assumes nothing.
-use Prim.Native.Nat.{ℕ, suc, _+_, _*_, _≤_, _<_}
-use mathlib.Core.Path.{_≡_, refl, sym, _∙_}
+use Prim.Native.Nat.{ℕ, zero, suc, _+_, _*_, _≤_, _<_}
+use mathlib.Core.Path.{_≡_, refl, sym, ap, _∙_}
 use mathlib.Core.Logic.{_↔_}
 use mathlib.Core.List.{List}
 use native.Mathlib.Omega.{arith}
@@ -14,17 +14,21 @@ use Rattle.egg.specs.declared.Verdict.{Verdict}
 use Rattle.egg.specs.declared.Verdict.the-variants.{Fine, Refused}
 use Rattle.egg.specs.Scan.{refusedOf, andThen}
 use Rattle.checks.specs.Checks.{missing, missingRow, check8, ranges, rangeRow, linksOf, wrong, wrongRow, check-table, counted, countsRight}
-use Rattle.checks.specs.Checks.{fillInverses, inversesRight, identityRow, spelled, check-steps}
-use Rattle.checks.specs.Checks.{Checked, checked, thenChecked, check-rest, check-group}
+use Rattle.checks.specs.Checks.{fillInverses, inversesRight, identityRow, columnsRow, spelledRow, spelled, check-steps}
+use Rattle.checks.specs.Checks.{fillLeft, goesRow, allGo, Lefts, left, thenLeft, lefts}
+use Rattle.checks.specs.Checks.{Checked, checked, thenChecked, withTable, check-rest, check-group}
 use Rattle.theory.specs.Table.{Table, Columns}
 use Rattle.theory.specs.Words.{Parents, Recorded}
 use Rattle.theory.specs.Group.{RightRegular}
+use Rattle.theory.proofs.ColumnLaws.{arrivals-are}
 use Rattle.meaning.specs.Stored.{Stored}
+use Rattle.meaning.specs.Until12.{Until12}
 use Rattle.egg.proofs.Scans.{refused-fine, Says, says-fine, says-refused, says-pick, says-then, says-scan}
-use Rattle.meaning.proofs.Tests.{identity-fine}
+use Rattle.meaning.proofs.Tests.{table-fine, wrong-fine, counts-fine, identity-fine}
 use Rattle.meaning.proofs.Inverses.{fill-kept, stored-kept, step-is}
 use Rattle.meaning.proofs.Accepted.{checks-sound, checks-kept, sound-regular}
-use Rattle.meaning.proofs.Complete.{checks-complete}
+use Rattle.meaning.proofs.Arrivals.{arrivals-right}
+use Rattle.meaning.proofs.Complete.{present, in-range, inverses-exactly, checks-complete}
 
 -- Every check before those of 12 refuses with another number.
 abbrev Earlier : Refusal → Type 0
@@ -52,28 +56,95 @@ module _ (t : List ℕ) (n N : ℕ) where
   unfolding identityRow
   identity-earlier = search earlier
 
+-- 8 to 11 have passed, as the definitions test them; the table has its inverses from 10 on.
+pub record Before12 (t w : List ℕ) (n N : ℕ) : Type 0 where
+  pub table : check-table t n N ≡ Fine
+  pub counts : countsRight (counted t w n N) n N ≡ Fine
+  pub inverses : inversesRight (fillInverses N t n 0) n N ≡ Fine
+  pub identity : identityRow (fillInverses N t n 0) n ≡ Fine
+
 -- A check that did not refuse so was passed.
-go-on : (v : Verdict) (t w : List ℕ) (c : Checked) {r : Refusal} {t₁ w₁ : List ℕ} → Says Earlier v → r .number ≡ 12
-    → thenChecked v t w c ≡ checked (Refused r) t₁ w₁ → c ≡ checked (Refused r) t₁ w₁
-go-on Fine t w c s q h = h
-go-on (Refused s) t w c {r} p q h = absurd (p .of r (cc) q)
+passed-then : (v : Verdict) (t w : List ℕ) (c : Checked) {r : Refusal} {t₁ w₁ : List ℕ} → Says Earlier v → r .number ≡ 12
+    → thenChecked v t w c ≡ checked (Refused r) t₁ w₁ → (v ≡ Fine) × (c ≡ checked (Refused r) t₁ w₁)
+passed-then Fine t w c s q h = (refl, h)
+passed-then (Refused s) t w c {r} p q h = absurd (p .of r (cc) q)
 
-pass : (v : Verdict) (t w : List ℕ) (u : Verdict) (c : Checked) {r : Refusal} {t₁ w₁ : List ℕ} → Says Earlier v → r .number ≡ 12
+passed-first : (v : Verdict) (t w : List ℕ) (u : Verdict) (c : Checked) {r : Refusal} {t₁ w₁ : List ℕ} → Says Earlier v → r .number ≡ 12
     → thenChecked (andThen v u) t w c ≡ checked (Refused r) t₁ w₁ → v ≡ Fine
-pass Fine t w u c p q h = refl
-pass (Refused s) t w u c {r} p q h = absurd (p .of r (cc) q)
+passed-first Fine t w u c p q h = refl
+passed-first (Refused s) t w u c {r} p q h = absurd (p .of r (cc) q)
 
--- 12 comes after 11: the identity row is right.
-identity-right : (t w : List ℕ) (n N : ℕ) {r : Refusal} {t₁ w₁ : List ℕ} → check-group t w n N ≡ checked (Refused r) t₁ w₁ → r .number ≡ 12
-    → identityRow (fillInverses N t n 0) n ≡ Fine
+-- 12 comes after 11.
+pub before-12 : (t w : List ℕ) (n N : ℕ) {r : Refusal} {t₁ w₁ : List ℕ} → check-group t w n N ≡ checked (Refused r) t₁ w₁ → r .number ≡ 12
+    → Before12 t w n N
 unfolding check-group check-rest check-steps
-identity-right t w n N h q =
+before-12 t w n N h q =
     let f = fillInverses N t n 0 in
     let c = counted t w n N in
-    let a = go-on (check-table t n N) t w _ (table-earlier t n N) q h in
-    let b = go-on (countsRight c n N) t c _ (counts-earlier t n N c) q a in
-    let d = go-on (inversesRight f n N) f c _ (inverses-earlier f n N) q b in
-    pass (identityRow f n) f c (spelled f n N) _ (identity-earlier f n N) q d
+    let a = passed-then (check-table t n N) t w _ (table-earlier t n N) q h in
+    let b = passed-then (countsRight c n N) t c _ (counts-earlier t n N c) q (a .1) in
+    let d = passed-then (inversesRight f n N) f c _ (inverses-earlier f n N) q (b .1) in
+    record {
+      table = a .0;
+      counts = b .0;
+      inverses = d .0;
+      identity = passed-first (identityRow f n) f c (spelled f n N) _ (identity-earlier f n N) q (d .1);
+    }
+
+-- After 11 only 12 is given, and its places are zero.
+abbrev Twelve : Refusal → Type 0
+Twelve r = r ≡ record { number = 12; a = 0; b = 0; c = 0 }
+
+twelve : Says Twelve (refusedOf 12 0 0 0)
+twelve = says-refused refl
+
+ruleset late = (says-then, says-scan, says-pick, says-fine, twelve)
+
+module _ (t : List ℕ) (n N : ℕ) where
+  spelled-late : Says Twelve (spelled t n N)
+  unfolding spelled columnsRow spelledRow
+  spelled-late = search late depth 12
+
+  all-go-late : (w : List ℕ) → Says Twelve (allGo t w n N)
+  unfolding allGo goesRow
+  all-go-late w = search late
+
+abbrev leftVerdict : Lefts → Verdict
+leftVerdict (left v w) = v
+
+abbrev verdictOf : Checked → Verdict
+verdictOf (checked v t w) = v
+
+left-says : {Q : Refusal → Type 0} (v : Verdict) (w : List ℕ) (l : Lefts) → Says Q v → Says Q (leftVerdict l) → Says Q (leftVerdict (thenLeft v w l))
+left-says Fine w l p q = q
+left-says (Refused r) w l p q = p
+
+checked-says : {Q : Refusal → Type 0} (v : Verdict) (t w : List ℕ) (c : Checked) → Says Q v → Says Q (verdictOf c) → Says Q (verdictOf (thenChecked v t w c))
+checked-says Fine t w c p q = q
+checked-says (Refused r) t w c p q = p
+
+table-says : {Q : Refusal → Type 0} (t : List ℕ) (l : Lefts) → Says Q (leftVerdict l) → Says Q (verdictOf (withTable t l))
+table-says t (left v w) p = p
+
+lefts-late : (k : ℕ) (t : List ℕ) (n N : ℕ) (w : List ℕ) (s : ℕ) → Says Twelve (leftVerdict (lefts k t n N w s))
+unfolding lefts
+lefts-late zero t n N w s = says-fine
+lefts-late (suc k) t n N w s =
+    let v = fillLeft N t n s w 0 in
+    left-says (allGo t v n N) v (lefts k t n N v (s + 1)) (all-go-late t n N v) (lefts-late k t n N v (s + 1))
+
+after-11 : (t w : List ℕ) (n N : ℕ) → Before12 t w n N → Says Twelve (verdictOf (check-group t w n N))
+unfolding check-group check-rest check-steps
+after-11 t w n N B =
+    let f = fillInverses N t n 0 in
+    let c = counted t w n N in
+    rw (B .table, B .counts, B .inverses, B .identity)
+    (checked-says (spelled f n N) f c _ (spelled-late f n N) (table-says f (lefts n f n N c 0) (lefts-late n f n N c 0)))
+
+-- So a refusal by 12 has no places.
+pub places-12 : (t w : List ℕ) (n N : ℕ) {r : Refusal} {t₁ w₁ : List ℕ} → check-group t w n N ≡ checked (Refused r) t₁ w₁ → r .number ≡ 12
+    → r ≡ record { number = 12; a = 0; b = 0; c = 0 }
+places-12 t w n N {r} h q = after-11 t w n N (before-12 t w n N h q) .of r (ap verdictOf h)
 
 pub regular-same : {n N : ℕ} {step step′ : ℕ → ℕ → ℕ} → Table n N step → ((e g : ℕ) → e < N → g < n → step e g ≡ step′ e g) → RightRegular n N step
     → RightRegular n N step′
@@ -98,12 +169,38 @@ module _ {n N : ℕ} {step back : ℕ → ℕ → ℕ} {parent last : ℕ → �
       let q : checked (Refused r) _ _ ≡ checked Fine _ _ = sym h ∙ a .2 in
       refused-fine {r = r} (cc)
 
-  -- 12, "no group has these right steps".
-  pub refused-12 : {r : Refusal} {t₁ w₁ : List ℕ} → check-group t w n N ≡ checked (Refused r) t₁ w₁ → r .number ≡ 12 → RightRegular n N step → ⊥
-  refused-12 h q =
+  -- What it means that 8 to 11 pass.
+  pub until-12 : Before12 t w n N ↔ Until12 n N step back word
+  until-12 =
       let f = fillInverses N t n 0 in
-      let S₁ = stored-kept (fill-kept t n N) S in
-      refused-no-group h (λ g hg. omega (arith, identity-fine f n N .0 (identity-right t w n N h q) g hg, step-is S₁ (T .origin) hg))
+      let S₁ = stored-kept (fill-kept t n N) S in (
+        λ B.
+            let moving = wrong-fine t n N .0 (table-fine t n N .0 (B .table) .1 .1) in
+            record {
+              successors = T;
+              predecessors = C;
+              no-fixed-point = λ {e} {g} he hg z. moving e he g hg .0 (step-is S he hg ∙ z);
+              generator-row = λ {e} {g} pos he hg z. moving e he g hg .1 pos (step-is S he hg ∙ z ∙ sym (step-is S (T .origin) hg));
+              counts = λ he. arrivals-are C he;
+              inverse-of-inverse = λ {e} he. inverses-exactly few small room S T P R C short .0 (B .inverses) e he;
+              identity-row = λ g hg. omega (arith, identity-fine f n N .0 (B .identity) g hg, step-is S₁ (T .origin) hg);
+            },
+        λ U. record {
+          table = table-fine t n N .1 (
+            present S T P R C,
+            (
+              in-range S T P R C short,
+              wrong-fine t n N .1 (λ e he g hg. (
+                λ z. U .no-fixed-point he hg (sym (step-is S he hg) ∙ z),
+                λ pos z. U .generator-row pos he hg (sym (step-is S he hg) ∙ z ∙ step-is S (T .origin) hg),
+              )),
+            ),
+          );
+          counts = counts-fine t n N (counted t w n N) .1 (arrivals-right few S C w work);
+          inverses = inverses-exactly few small room S T P R C short .1 (λ e he. U .inverse-of-inverse he);
+          identity = identity-fine f n N .1 (λ g hg. omega (arith, step-is S₁ (T .origin) hg, U .identity-row g hg));
+        },
+      )
 
   pub accepted-exactly : ((t₁ : List ℕ) × (w₁ : List ℕ) × (check-group t w n N ≡ checked Fine t₁ w₁))
       ↔ (RightRegular n N step × ((g : ℕ) → g < n → step 0 g ≡ suc g))
@@ -114,3 +211,15 @@ module _ {n N : ℕ} {step back : ℕ → ℕ → ℕ} {parent last : ℕ → �
         (regular-same (F .table) (λ e g he hg. step-is S₁ he hg) (sound-regular F), λ g hg. sym (step-is S₁ (T .origin) hg) ∙ F .identity-row hg),
     λ b. checks-complete few small room S T P R C short w work (b .1) (b .0),
   )
+
+  -- 12, "no group has these right steps": given exactly when 8 to 11 pass and none has.
+  pub refused-12 : ((r : Refusal) × (t₁ : List ℕ) × (w₁ : List ℕ) × (check-group t w n N ≡ checked (Refused r) t₁ w₁) × (r .number ≡ 12))
+      ↔ (Until12 n N step back word × (RightRegular n N step → ⊥))
+  refused-12 = (
+    λ a. let U = until-12 .0 (before-12 t w n N (a .3) (a .4)) in (U, refused-no-group (a .3) (U .identity-row)),
+    λ b. go (b .1) (check-group t w n N) refl (after-11 t w n N (until-12 .1 (b .0))),
+  ) where
+    go : (RightRegular n N step → ⊥) → (c : Checked) → check-group t w n N ≡ c → Says Twelve (verdictOf c)
+        → (r : Refusal) × (t₁ : List ℕ) × (w₁ : List ℕ) × (check-group t w n N ≡ checked (Refused r) t₁ w₁) × (r .number ≡ 12)
+    go none (checked Fine t₁ w₁) q s = absurd (none (accepted-exactly .0 (t₁, w₁, q) .0))
+    go none (checked (Refused r) t₁ w₁) q s = (r, t₁, w₁, q, ap (λ (x : Refusal). x .number) (s .of r refl))

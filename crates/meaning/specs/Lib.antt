@@ -1,2 +1,3 @@
 pub mod Stored
 pub mod Sound
+pub mod Until12

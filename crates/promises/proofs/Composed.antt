@@ -10,18 +10,21 @@ use borrow.Author.Tests.{le-leb, le-ltb, leb-true, ltb-false}
 use lib.Dec.{leb, ltb}
 use lib.ListN.{length, take, replicate}
 use lib.Seq.{length-take-le}
+use Rattle.egg.specs.declared.Refusal.{Refusal}
 use Rattle.egg.specs.declared.Factor.{Factor}
 use Rattle.egg.specs.declared.Verdict.the-variants as verdict
 use Rattle.egg.specs.Table.{pick}
+use Rattle.egg.specs.Scan.{refusedOf}
 use Rattle.egg.specs.Factor.{hasRoom, stretch}
 use Rattle.egg.proofs.Rooms.{and-first, and-second, positive, limited}
 use Rattle.builder.specs.Finish.{Built}
-use Rattle.builder.specs.Lending.{tableNeed, workNeed, lentRight, within, making, lentBack, refusedMade, Making}
+use Rattle.builder.specs.Lending.{tableNeed, workNeed, lentRight, within, noFactor, making, lentBack, refusedMade, Making}
 use Rattle.builder.proofs.Lending.{lent-table, lent-enough}
 use Rattle.factor.specs.Composed.{composedAt, composedIn, composed}
-use Rattle.promises.specs.Composed.{Taken, Holding, Given}
-use Rattle.promises.proofs.Lent.{refused-making, handle, lentTable, by-build, stretch-part, fits-still}
+use Rattle.promises.specs.Composed.{Taken, Groupless, Holding, Given}
+use Rattle.promises.proofs.Lent.{refused-making, handle, lentTable, by-build, by-refused, stretch-part, fits-still}
 use Rattle.promises.proofs.Built.{built-holds, built-work, taken-built}
+use Rattle.promises.proofs.Twelve.{built-12, groupless-built}
 
 -- Where the call is accepted, 1 and 4 have passed.
 pub record Begun (table : List ℕ) (start : ℕ) (work rows : List ℕ) (n room : ℕ) : Type 0 where
@@ -126,7 +129,35 @@ module _ (table : List ℕ) (start : ℕ) (work rows : List ℕ) (n room : ℕ) 
         ),
   )
 
--- The same, whatever the arguments: an accepted call has passed 1 and 4.
+  refused-groupless : {r : Refusal} {f : Factor} {t w : List ℕ}
+      → composed table start work rows n room ≡ making (record { answer = verdict.Refused r; factor = f }) t w → r .number ≡ 12
+      → (r ≡ record { number = 12; a = 0; b = 0; c = 0 }) × ((N : ℕ) × Groupless (composedAt rows n) n room N)
+  refused-groupless q number =
+      let b = by-refused table start work n room build (sym composed-is-build ∙ q) in
+      built-12 rows n room (tableNeed n room) (take (workNeed n room) work) hn lo hi (le-refl (tableNeed n room)) work-lent (b .2) number
+
+  -- Refused by 12 exactly when reading and 8 to 11 pass and "no group has these right steps".
+  pub composed-12 : ((f : Factor) × (t : List ℕ) × (w : List ℕ)
+      × (composed table start work rows n room ≡ making (record { answer = refusedOf 12 0 0 0; factor = f }) t w))
+      ↔ ((N : ℕ) × Groupless (composedAt rows n) n room N)
+  composed-12 = (
+    λ a. refused-groupless (a .3) refl .1,
+    λ g.
+        let b = groupless-built rows n room (tableNeed n room) (take (workNeed n room) work) hn lo hi (le-refl (tableNeed n room)) work-lent (g .1) in (
+          noFactor,
+          within table start (start + tableNeed n room) (b .0),
+          within work 0 (workNeed n room) (b .1),
+          composed-is-build ∙ ap (lentBack table start work n room) (b .2),
+        ),
+  )
+
+  -- "Each carries three places, zero where none is listed": no other 12 is given.
+  pub composed-12-places : {r : Refusal} {f : Factor} {t w : List ℕ}
+      → composed table start work rows n room ≡ making (record { answer = verdict.Refused r; factor = f }) t w → r .number ≡ 12
+      → r ≡ record { number = 12; a = 0; b = 0; c = 0 }
+  composed-12-places q number = refused-groupless q number .0
+
+-- What an accepted call gives, whatever the arguments: it has passed 1 and 4.
 module _ (table : List ℕ) (start : ℕ) (work rows : List ℕ) (n room : ℕ) (f : Factor) (t w : List ℕ) where
   pub composed-given : composed table start work rows n room ≡ making (record { answer = verdict.Fine; factor = f }) t w
       → Given table start work rows n room f t w

@@ -16,7 +16,7 @@ use Rattle.egg.specs.declared.Counted.the-variants.{Count, Refused}
 use Rattle.egg.specs.Factor.{hasRoom, fitsIn, stretch}
 use Rattle.egg.proofs.Rooms.{within-length}
 use Rattle.builder.specs.Finish.{Built, built}
-use Rattle.builder.specs.Lending.{tableNeed, workNeed, within, madeOf, making, lentBack}
+use Rattle.builder.specs.Lending.{tableNeed, workNeed, within, noFactor, madeOf, making, lentBack}
 
 -- A list with a part of itself replaced by one as long: its length, the part, and the part's numbers.
 module _ (l : List ℕ) (a k : ℕ) (fits : a + k ≤ length l) (p : List ℕ) (size : length p ≡ k) where
@@ -75,3 +75,14 @@ module _ (table : List ℕ) (start : ℕ) (work : List ℕ) (n room : ℕ) where
       let m : madeOf start room n (Count N) ≡ record { answer = verdict.Fine; factor = f } = cc in
       (N, s, v, (refl, (sym (ap (λ (x : Made). x .factor) m), (cc, cc))))
   by-build (built (Refused r) s v) q = absurd (refused-making q)
+
+  -- And a refused call whose stretches were lent is a refused build.
+  pub by-refused : (b : Built) {r : Refusal} {f : Factor} {t w : List ℕ}
+      → lentBack table start work n room b ≡ making (record { answer = verdict.Refused r; factor = f }) t w
+      → (s : List ℕ) × (v : List ℕ) × (b ≡ built (Refused r) s v)
+  by-refused (built (Count N) s v) q = absurd (refused-making (sym q))
+  by-refused (built (Refused s) t₁ v) {r} {f} q =
+      let m : _≡_ {A = Made} (record { answer = verdict.Refused s; factor = noFactor }) (record { answer = verdict.Refused r; factor = f }) = cc in
+      let a : verdict.Refused s ≡ verdict.Refused r = ap (λ (x : Made). x .answer) m in
+      let e : s ≡ r = cc in
+      (t₁, v, ap (λ (x : Refusal). built (Refused x) t₁ v) e)

@@ -1,5 +1,6 @@
 pub mod Lent
 pub mod Built
+pub mod Twelve
 pub mod Composed
 pub mod Unique
 pub mod Derived

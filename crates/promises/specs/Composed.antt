@@ -1,4 +1,4 @@
--- Demand 2 for composed rows: what is accepted, and what an accepted call gives.
+-- Demand 2 for composed rows: what is accepted, what an accepted call gives, and what is refused by 12.
 -- Assumes nothing.
 use Prim.Native.Nat.{ℕ, _+_, _*_, _≤_, _<_}
 use mathlib.Core.Path.{_≡_}
@@ -10,8 +10,10 @@ use Rattle.egg.specs.Factor.{stretch}
 use Rattle.builder.specs.Lending.{tableNeed, workNeed, within}
 use Rattle.factor.specs.Composed.{composedAt}
 use Rattle.theory.specs.Numbering.{IdentityRow}
+use Rattle.theory.specs.Appearance.{recorded}
 use Rattle.theory.specs.AnyGroup.{SomeGroup}
 use Rattle.meaning.specs.Sound.{Sound}
+use Rattle.meaning.specs.Until12.{Until12}
 use Rattle.numbering.specs.Read.{Readable}
 use Rattle.answers.specs.Accepted.{Accepted, factorStep}
 
@@ -21,6 +23,14 @@ pub record Taken (src : ℕ → ℕ → ℕ) (n room N : ℕ) : Type 1 where
   pub readable : Readable src n room N
   pub identity-row : IdentityRow n src
   pub group : SomeGroup n N src
+
+-- Where 12 is given, "no group has these right steps": the numbers follow the numbering rule with N elements within the room and no recorded word over
+-- 4,096, so that reading takes them; of them and their recorded words 8 to 11 pass; and they are the right steps of no group, whatever its carrier.
+pub record Groupless (src : ℕ → ℕ → ℕ) (n room N : ℕ) : Type 1 where
+  pub readable : Readable src n room N
+  pub back : ℕ → ℕ → ℕ
+  pub until-12 : Until12 n N src back (recorded n src)
+  pub no-group : ¬ SomeGroup n N src
 
 -- What a stretch of that size holds after acceptance: a sound table, whose steps are the rows', and zeros beyond its last row.
 pub record Holding (src : ℕ → ℕ → ℕ) (n room size N : ℕ) (t : List ℕ) : Type 1 where

@@ -1,0 +1,134 @@
+-- A build from composed rows in its stretches: refused by 12 exactly when reading and 8 to 11 pass and no group has these right steps.
+-- Assumes nothing.
+use Prim.Native.Nat.{ℕ, _+_, _*_, _≤_, _<_}
+use mathlib.Core.Path.{_≡_, refl, sym, ap, _∙_, subst}
+use mathlib.Core.Logic.{_↔_, _⊎_, inl, inr}
+use mathlib.Core.List.{List, [], _∷_, _++_}
+use native.Mathlib.Omega.{arith}
+use lib.ListN.{length, getD, replicate}
+use Rattle.egg.specs.declared.Refusal.{Refusal}
+use Rattle.egg.specs.declared.Verdict.the-variants as verdict
+use Rattle.egg.specs.declared.Counted.the-variants.{Count, Refused}
+use Rattle.egg.specs.Table.{startOf, parentOf, lastOf, backOf}
+use Rattle.checks.specs.Checks.{Checked, checked, check-group}
+use Rattle.builder.specs.Finish.{built, zeroed, settledBy, finished}
+use Rattle.factor.specs.Reading.{Placed, placed, readAll}
+use Rattle.factor.specs.Composed.{composedAt, finishedPlaced, composedIn}
+use Rattle.theory.specs.Table.{Columns}
+use Rattle.theory.specs.Words.{Recorded}
+use Rattle.theory.specs.Appearance.{recorded}
+use Rattle.theory.specs.Group.{RightRegular}
+use Rattle.theory.proofs.AnyCarrier.{any-carrier}
+use Rattle.theory.proofs.ColumnLaws.{columns-by-back}
+use Rattle.theory.proofs.Counting.{numbered-table}
+use Rattle.theory.proofs.FirstPlaces.{first-parents}
+use Rattle.theory.proofs.Recording.{word-of-recorded}
+use Rattle.meaning.specs.Stored.{Stored}
+use Rattle.meaning.specs.Until12.{Until12}
+use Rattle.meaning.proofs.Tests.{table-fine, check8-fine}
+use Rattle.meaning.proofs.Refused.{before-12, places-12, refused-12}
+use Rattle.numbering.specs.Read.{Read}
+use Rattle.numbering.proofs.Readings.{accepted-read, refused-read, refused-number, readable-accepted, read-words, read-letters, read-readable}
+use Rattle.promises.specs.Composed.{Groupless}
+use Rattle.promises.proofs.Built.{read-stored, work-enough, rows-fit}
+
+-- A refused build has a refused reading or a refused check.
+abbrev CheckRefused : Placed → ℕ → List ℕ → Refusal → Type 0
+CheckRefused p n w r =
+    (N : ℕ) × (t₀ : List ℕ) × (t₁ : List ℕ) × (w₁ : List ℕ) × (p ≡ placed (Count N) t₀) × (check-group t₀ w n N ≡ checked (verdict.Refused r) t₁ w₁)
+
+check-refused : (c : ℕ) {r : Refusal} {t w₁ : List ℕ} (k : Checked) → settledBy c k ≡ built (Refused r) t w₁
+    → (t₁ : List ℕ) × (w₂ : List ℕ) × (k ≡ checked (verdict.Refused r) t₁ w₂)
+check-refused c {r} {t} {w₁} (checked verdict.Fine t₁ w₂) q = absurd (never q) where
+  never : built (Count c) t₁ (zeroed w₂) ≡ built (Refused r) t w₁ → ⊥
+  never h = let z : _≡_ {A = ℕ} 0 1 = cc in omega arith
+check-refused c {r} (checked (verdict.Refused s) t₁ w₂) q = let e : s ≡ r = cc in (t₁, w₂, cc)
+
+build-refused : (p : Placed) (n : ℕ) (w : List ℕ) {r : Refusal} {t w₁ : List ℕ} → finishedPlaced p n w ≡ built (Refused r) t w₁
+    → ((t₀ : List ℕ) × (p ≡ placed (Refused r) t₀)) ⊎ CheckRefused p n w r
+unfolding finished
+build-refused (placed (Count c) t₀) n w q = let b = check-refused c (check-group t₀ w n c) q in inr (c, t₀, b .0, b .1, refl, b .2)
+build-refused (placed (Refused s) t₀) n w {r} q = let e : s ≡ r = cc in inl (t₀, ap (λ (x : Refusal). placed (Refused x) t₀) e)
+
+refused-build : {p : Placed} (n : ℕ) {N : ℕ} (w : List ℕ) {r : Refusal} {t₀ t₁ w₁ : List ℕ} → p ≡ placed (Count N) t₀
+    → check-group t₀ w n N ≡ checked (verdict.Refused r) t₁ w₁ → finishedPlaced p n w ≡ built (Refused r) (zeroed t₁) (zeroed w₁)
+unfolding finished
+refused-build n w a b = rw (a, b)
+
+-- Reading refuses by another number.
+reading-earlier : {k : ℕ} → (k ≡ 7) ⊎ ((k ≡ 5) ⊎ (k ≡ 6)) → k ≡ 12 → ⊥
+reading-earlier (inl a) q = omega arith
+reading-earlier (inr (inl a)) q = omega arith
+reading-earlier (inr (inr a)) q = omega arith
+
+-- What reading stored, with the words that the numbers record.
+module _ {src : ℕ → ℕ → ℕ} {n room size N : ℕ} {t : List ℕ} (R : Read src n room size N t) where
+  read-recorded : Recorded N (parentOf t n) (lastOf t n) (recorded n src)
+  read-recorded =
+      let W = word-of-recorded (first-parents (R .appearance)) in
+      record {
+        start = sym (read-words R 0 (R .origin)) ∙ W .start;
+        grow = λ {e} pos he.
+            sym (read-words R e he) ∙ W .grow pos he
+            ∙ ap (λ (l : List ℕ). l ++ lastOf t n e ∷ []) (read-words R (parentOf t n e) (omega (arith, R .appearance .first pos he .earlier)));
+      }
+
+  words-stored : {back : ℕ → ℕ → ℕ} → Columns n N src back → Stored t n N src back (parentOf t n) (lastOf t n) (recorded n src)
+  words-stored C =
+      let S = read-stored R C in
+      record { successor = S .successor; predecessor = S .predecessor; parents = S .parents; letters = S .letters; lengths = λ {e} he. read-letters R e he }
+
+  -- Where no predecessor is missing, those that reading stored make the columns permutations.
+  read-columns : ((e : ℕ) → e < N → (g : ℕ) → g < n → getD t (startOf n e + n + g) 0 ≡ 0 → ⊥) → Columns n N src (backOf t n)
+  read-columns all = columns-by-back (numbered-table (R .by-rule)) (λ e g he hg. R .predecessor he hg (omega (arith, all e he g hg)))
+
+module _ (rows : List ℕ) (n room size : ℕ) (w : List ℕ) (few : n ≤ 8) (least : 1 ≤ room) (most : room ≤ 65535) (fits : room * (2 * n + 4) ≤ size)
+    (work : room * (6 * n * n + 4 * n) ≤ length w) where
+  -- The checks' 12 after this reading.
+  read-12 : {N : ℕ} {t₀ : List ℕ} {back : ℕ → ℕ → ℕ} → Read (composedAt rows n) n room size N t₀ → Columns n N (composedAt rows n) back
+      → ((r : Refusal) × (t₁ : List ℕ) × (w₁ : List ℕ) × (check-group t₀ w n N ≡ checked (verdict.Refused r) t₁ w₁) × (r .number ≡ 12))
+      ↔ (Until12 n N (composedAt rows n) back (recorded n (composedAt rows n)) × (RightRegular n N (composedAt rows n) → ⊥))
+  read-12 R C =
+      refused-12 few (omega (arith, R .within)) (rows-fit rows n room size w few least most fits work (R .within) (R .whole)) (words-stored R C)
+      (numbered-table (R .by-rule)) (first-parents (R .appearance)) (read-recorded R) C (λ e he. read-readable R .short he) w
+      (work-enough rows n room size w few least most fits work (R .within))
+
+  -- So what they refused by 12 is no group's.
+  checked-12 : {N : ℕ} {t₀ : List ℕ} {r : Refusal} {t₁ w₁ : List ℕ} → Read (composedAt rows n) n room size N t₀
+      → check-group t₀ w n N ≡ checked (verdict.Refused r) t₁ w₁ → r .number ≡ 12
+      → (r ≡ record { number = 12; a = 0; b = 0; c = 0 }) × Groupless (composedAt rows n) n room N
+  checked-12 {N} {t₀} {r} {t₁} {w₁} R h number =
+      let B = before-12 t₀ w n N h number in
+      let C = read-columns R (check8-fine t₀ n N .0 (table-fine t₀ n N .0 (B .table) .0) .1) in
+      let u = read-12 R C .0 (r, t₁, w₁, h, number) in (
+        places-12 t₀ w n N h number,
+        record { readable = read-readable R; back = backOf t₀ n; until-12 = u .0; no-group = λ g. u .1 (any-carrier .0 g) },
+      )
+
+  -- And reading refuses by no 12.
+  either-12 : {r : Refusal}
+      → ((t₀ : List ℕ) × (readAll (composedAt rows n) n room (replicate size 0) ≡ placed (Refused r) t₀))
+      ⊎ CheckRefused (readAll (composedAt rows n) n room (replicate size 0)) n w r
+      → r .number ≡ 12 → (r ≡ record { number = 12; a = 0; b = 0; c = 0 }) × ((N : ℕ) × Groupless (composedAt rows n) n room N)
+  either-12 (inl (t₀, q)) number = absurd (reading-earlier (refused-number (refused-read (composedAt rows n) n room size few least most fits q)) number)
+  either-12 (inr (N, t₀, t₁, w₁, q, h)) number =
+      let a = checked-12 (accepted-read (composedAt rows n) n room size few least most fits q) h number in (a .0, (N, a .1))
+
+  pub built-12 : {r : Refusal} {t w₁ : List ℕ} → composedIn size w rows n room ≡ built (Refused r) t w₁ → r .number ≡ 12
+      → (r ≡ record { number = 12; a = 0; b = 0; c = 0 }) × ((N : ℕ) × Groupless (composedAt rows n) n room N)
+  unfolding composedIn
+  built-12 q number = either-12 (build-refused (readAll (composedAt rows n) n room (replicate size 0)) n w q) number
+
+  pub groupless-built : {N : ℕ} → Groupless (composedAt rows n) n room N
+      → (t : List ℕ) × (w₁ : List ℕ) × (composedIn size w rows n room ≡ built (Refused (record { number = 12; a = 0; b = 0; c = 0 })) t w₁)
+  unfolding composedIn
+  groupless-built {N} G =
+      let src = composedAt rows n in
+      let a = readable-accepted src n room size few least most fits (G .readable) in
+      let R = accepted-read src n room size few least most fits (a .1) in
+      let b = read-12 R (G .until-12 .predecessors) .1 (G .until-12, λ g. G .no-group (any-carrier .1 g)) in
+      let e = places-12 (a .0) w n N (b .3) (b .4) in (
+        zeroed (b .1),
+        zeroed (b .2),
+        refused-build n w (a .1) (subst (λ (r : Refusal). check-group (a .0) w n N ≡ checked (verdict.Refused r) (b .1) (b .2)) e (b .3)),
+      )
