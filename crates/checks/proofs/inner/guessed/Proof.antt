@@ -5,11 +5,9 @@ use Rattle.checks.proofs.inner.guessed.Tie as tie
 use Rattle.checks.proofs.inner.guessed.Reads as reads
 use Rattle.checks.proofs.inner.guessed.Lts as lts
 
--- src/inner.rt:224:9
 returns : tie.Need-returns
 returns c = λ h. absurd (false-true h)
 
--- src/inner.rt:220:1
 returns-2 : tie.Need-returns-2
 returns-2 c = λ h. ((c .if1 .left), eqb-true _ _ h)
 

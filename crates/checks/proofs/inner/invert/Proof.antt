@@ -21,43 +21,33 @@ Inv-loop t n e x₀ at₀ left₀ x at left = invertFrom left t n at x ≡ inver
 abbrev μ-loop : tie.MeasureT-loop
 μ-loop t n e x₀ at₀ left₀ x at left = left
 
--- src/inner.rt:301:30
 word-length-requires : tie.Need-word-length-requires Inv-loop μ-loop
 word-length-requires c κs = search needs
 
--- src/inner.rt:301:9
 undo-requires : tie.Need-undo-requires Inv-loop μ-loop
 undo-requires c κs = search needs
 
--- src/inner.rt:305:5
 loop-holds : tie.Need-loop-holds Inv-loop μ-loop
 loop-holds c = (c .undo .ensures) ∙ rw ((c .before .word-length .ensures))
 
--- src/inner.rt:306:39
 last-requires : tie.Need-last-requires Inv-loop μ-loop
 last-requires c κs = search needs
 
--- src/inner.rt:306:9
 back-requires : tie.Need-back-requires Inv-loop μ-loop
 back-requires c κs = search needs
 
--- src/inner.rt:307:9
 parent-requires : tie.Need-parent-requires Inv-loop μ-loop
 parent-requires c κs = search needs
 
--- src/inner.rt:308:9
 sub-left : tie.Need-sub-left Inv-loop μ-loop
 sub-left c = search needs
 
--- src/inner.rt:305:5
 loop-less : tie.Need-loop-less Inv-loop μ-loop
 loop-less c = search needs
 
--- src/inner.rt:305:5
 loop-again : tie.Need-loop-again Inv-loop μ-loop
 loop-again c = undo-letter ((c .before .before .before .before .before .before .before .before .args .t .now)) ((c .before .before .before .before .before .before .before .before .args .n)) ((c .before .before .before .before .loop .at)) ((c .before .before .before .before .loop .x)) ((c .before .before .before .before .loop .left)) ((c .before .before .before .loop-test .taken)) ((c .before .before .last .ensures)) ((c .before .back .ensures)) ((c .parent .ensures)) ∙ (c .before .before .before .before .loop .inv)
 
--- src/inner.rt:298:1
 returns : tie.Need-returns Inv-loop μ-loop
 unfolding invertFrom
 returns c = let q : (c .before .loop .left) ≡ 0 = omega arith in rw q at ((c .before .loop .inv))

@@ -15,23 +15,18 @@ Inv-loop t n e letters x₀ at₀ left₀ jump₀ fall₀ more₀ x at left jump
 abbrev μ-loop : tie.MeasureT-loop
 μ-loop t n e letters x₀ at₀ left₀ jump₀ fall₀ more₀ x at left jump fall more = pick more (suc left) 0
 
--- src/inner.rt:278:5
 loop-holds : tie.Need-loop-holds Inv-loop μ-loop
 loop-holds c = refl
 
--- src/inner.rt:279:13
 undo-leg-requires : tie.Need-undo-leg-requires Inv-loop μ-loop
 undo-leg-requires c κs = search needs
 
--- src/inner.rt:278:5
 loop-less : tie.Need-loop-less Inv-loop μ-loop
 loop-less c = rw ((c .before .loop-test .taken)) (suc-le-suc ((c .undo-leg .ensures .1)))
 
--- src/inner.rt:278:5
 loop-again : tie.Need-loop-again Inv-loop μ-loop
 loop-again c = (c .undo-leg .ensures .0) ∙ (c .before .before .loop .inv)
 
--- src/inner.rt:269:1
 returns : tie.Need-returns Inv-loop μ-loop
 returns c = (c .before .loop .inv)
 

@@ -23,71 +23,54 @@ Inv-loop t n from word letters jump fall x₀ at₀ left₀ x at left = (invertF
 abbrev μ-loop : tie.MeasureT-loop
 μ-loop t n from word letters jump fall x₀ at₀ left₀ x at left = left
 
--- src/inner.rt:237:5
 loop-holds : tie.Need-loop-holds Inv-loop μ-loop
 loop-holds c = (refl, le-refl _)
 
--- src/inner.rt:238:13
 wrapping-add-u32-requires : tie.Need-wrapping-add-u32-requires Inv-loop μ-loop
 wrapping-add-u32-requires c κs = search needs
 
--- src/inner.rt:239:13
 wrapping-sub-u32-requires : tie.Need-wrapping-sub-u32-requires Inv-loop μ-loop
 wrapping-sub-u32-requires c κs = search needs
 
--- src/inner.rt:240:43
 last-requires : tie.Need-last-requires Inv-loop μ-loop
 last-requires c κs = search needs
 
--- src/inner.rt:240:13
 back-requires : tie.Need-back-requires Inv-loop μ-loop
 back-requires c κs = search needs
 
--- src/inner.rt:241:13
 parent-requires : tie.Need-parent-requires Inv-loop μ-loop
 parent-requires c κs = search needs
 
--- src/inner.rt:242:43
 last-requires-2 : tie.Need-last-requires-2 Inv-loop μ-loop
 last-requires-2 c κs = search needs
 
--- src/inner.rt:242:13
 back-requires-2 : tie.Need-back-requires-2 Inv-loop μ-loop
 back-requires-2 c κs = search needs
 
--- src/inner.rt:243:13
 parent-requires-2 : tie.Need-parent-requires-2 Inv-loop μ-loop
 parent-requires-2 c κs = search needs
 
--- src/inner.rt:244:9
 sub-left : tie.Need-sub-left Inv-loop μ-loop
 sub-left c = search needs
 
--- src/inner.rt:245:13
 guessed-requires : tie.Need-guessed-requires Inv-loop μ-loop
 guessed-requires c κs = search needs
 
--- src/inner.rt:250:23
 wrapping-sub-u32-requires-2 : tie.Need-wrapping-sub-u32-requires-2 Inv-loop μ-loop
 wrapping-sub-u32-requires-2 c κs = search needs
 
--- src/inner.rt:251:23
 wrapping-sub-u32-requires-3 : tie.Need-wrapping-sub-u32-requires-3 Inv-loop μ-loop
 wrapping-sub-u32-requires-3 c κs = search needs
 
--- src/inner.rt:246:13
 returns : tie.Need-returns Inv-loop μ-loop
 returns c = (undo-two ((c .before .before .before .before .before .before .before .before .before .before .before .before .before .before .before .args .t .now)) ((c .before .before .before .before .before .before .before .before .before .before .before .before .before .before .before .args .n)) ((c .before .before .before .before .before .before .before .before .before .before .before .before .before .loop .at)) ((c .before .before .before .before .before .before .before .before .before .before .before .before .before .loop .x)) ((c .before .before .before .before .before .before .before .before .before .before .before .before .before .loop .left)) ((c .before .before .before .before .before .before .before .before .before .before .before .before .loop-test .taken)) ((c .before .before .before .before .before .before .before .before .before .last .ensures)) ((c .before .before .before .before .before .before .before .before .back .ensures)) ((c .before .before .before .before .before .before .before .parent .ensures)) ((c .before .before .before .before .before .before .last2 .ensures)) ((c .before .before .before .before .before .back2 .ensures)) ((c .before .before .before .before .parent2 .ensures)) ∙ (c .before .before .before .before .before .before .before .before .before .before .before .before .before .loop .inv .0), omega (arith, (c .before .before .before .before .before .before .before .before .before .before .before .before .before .loop .inv .1), (c .before .before .before .before .before .before .before .before .before .before .before .before .loop-test .taken)))
 
--- src/inner.rt:237:5
 loop-less : tie.Need-loop-less Inv-loop μ-loop
 loop-less c = omega (arith, (c .before .before .before .before .before .before .before .before .before .before .loop-test .taken))
 
--- src/inner.rt:237:5
 loop-again : tie.Need-loop-again Inv-loop μ-loop
 loop-again c = (rw (sym ((c .before .guessed .ensures) (not-false _ ((c .if1 .left))) .0), sym ((c .before .guessed .ensures) (not-false _ ((c .if1 .left))) .1)) (undo-two ((c .before .before .before .before .before .before .before .before .before .before .before .before .before .args .t .now)) ((c .before .before .before .before .before .before .before .before .before .before .before .before .before .args .n)) ((c .before .before .before .before .before .before .before .before .before .before .before .loop .at)) ((c .before .before .before .before .before .before .before .before .before .before .before .loop .x)) ((c .before .before .before .before .before .before .before .before .before .before .before .loop .left)) ((c .before .before .before .before .before .before .before .before .before .before .loop-test .taken)) ((c .before .before .before .before .before .before .before .last .ensures)) ((c .before .before .before .before .before .before .back .ensures)) ((c .before .before .before .before .before .parent .ensures)) ((c .before .before .before .before .last2 .ensures)) ((c .before .before .before .back2 .ensures)) ((c .before .before .parent2 .ensures)) ∙ (c .before .before .before .before .before .before .before .before .before .before .before .loop .inv .0)), omega (arith, (c .before .before .before .before .before .before .before .before .before .before .before .loop .inv .1)))
 
--- src/inner.rt:231:1
 returns-2 : tie.Need-returns-2 Inv-loop μ-loop
 returns-2 c = ((c .before .loop .inv .0), zero-le)
 

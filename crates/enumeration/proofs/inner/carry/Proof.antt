@@ -20,31 +20,24 @@ Inv-loop t w₀ n first count side before after top at₀ left₀ step₀ more�
 abbrev μ-loop : tie.MeasureT-loop
 μ-loop t w₀ n first count side before after top at₀ left₀ step₀ more₀ w at left step more = pick more (suc left) 0
 
--- src/inner.rt:191:9
 worth-carrying-requires : tie.Need-worth-carrying-requires Inv-loop μ-loop
 worth-carrying-requires c κs = search needs
 
--- src/inner.rt:192:5
 loop-holds : tie.Need-loop-holds Inv-loop μ-loop
 loop-holds c = (refl, (le-refl _, (refl, (c .worth-carrying .ensures))))
 
--- src/inner.rt:193:13
 carry-leg-requires : tie.Need-carry-leg-requires Inv-loop μ-loop
 carry-leg-requires c κs = record { filling = (c .before .before .before .before .before .before .pre) ((c .before .before .loop .inv .1 .1 .1) ((c .before .loop-test .taken))); apart = (c .before .before .loop .inv .1 .1 .1) ((c .before .loop-test .taken)) }
 
--- src/inner.rt:192:5
 loop-less : tie.Need-loop-less Inv-loop μ-loop
 loop-less c = rw ((c .before .before .before .before .loop-test .taken)) (suc-le-suc ((c .before .before .carry-leg .ensures .1 .1)))
 
--- src/inner.rt:192:5
 loop-again : tie.Need-loop-again Inv-loop μ-loop
 loop-again c = ((c .before .before .carry-leg .ensures .0) ∙ (c .before .before .before .before .before .loop .inv .0), (omega (arith, (c .before .before .carry-leg .ensures .1 .0), (c .before .before .before .before .before .loop .inv .1 .0)), ((c .before .before .carry-leg .kept .1 .0) ∙ (c .before .before .before .before .before .loop .inv .1 .1 .0), λ h. (c .before .before .before .before .before .loop .inv .1 .1 .1) ((c .before .before .before .before .loop-test .taken)))))
 
--- src/inner.rt:174:1
 same-length : tie.Need-same-length Inv-loop μ-loop
 same-length c = (c .before .loop .inv .1 .1 .0)
 
--- src/inner.rt:174:1
 returns : tie.Need-returns Inv-loop μ-loop
 returns c = ((c .before .loop .inv .0), (c .before .loop .inv .1 .0))
 

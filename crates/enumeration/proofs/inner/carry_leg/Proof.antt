@@ -30,115 +30,87 @@ Inv-loop t w₀ n first count before after step top list forth back at₀ left�
 abbrev μ-loop : tie.MeasureT-loop
 μ-loop t w₀ n first count before after step top list forth back at₀ left₀ w at left = left
 
--- src/inner.rt:99:9
 list-at-requires : tie.Need-list-at-requires Inv-loop μ-loop
 list-at-requires c κs = search needs
 
--- src/inner.rt:100:17
 sub-forth : tie.Need-sub-forth Inv-loop μ-loop
 sub-forth c = moves-forth ((c .before .before .before .before .before .args .t .now)) ((c .before .before .before .before .before .args .n)) ((c .before .before .before .before .before .pre))
 
--- src/inner.rt:101:16
 sub-back : tie.Need-sub-back Inv-loop μ-loop
 sub-back c = moves-back ((c .before .before .before .before .before .before .before .args .t .now)) ((c .before .before .before .before .before .before .before .args .n)) ((c .before .before .before .before .before .before .before .pre))
 
--- src/inner.rt:104:5
 loop-holds : tie.Need-loop-holds Inv-loop μ-loop
 loop-holds c = (λ side h. refl, (le-refl _, (refl, search needs)))
 
--- src/inner.rt:105:13
 wrapping-add-u32-requires : tie.Need-wrapping-add-u32-requires Inv-loop μ-loop
 wrapping-add-u32-requires c κs = search needs
 
--- src/inner.rt:107:13
 same-length : tie.Need-same-length Inv-loop μ-loop
 same-length c = (c .before .before .before .loop .inv .1 .1 .0)
 
--- src/inner.rt:107:13
 returns : tie.Need-returns Inv-loop μ-loop
 returns c = ((c .before .before .before .loop .inv .0) ((c .before .before .before .before .before .before .before .before .before .before .before .args .side)) ((c .before .before .before .before .before .before .before .before .list-at .ensures .at)), ((c .before .before .before .loop .inv .1 .0), zero-le))
 
--- src/inner.rt:114:22
 sub-place : tie.Need-sub-place Inv-loop μ-loop
 sub-place c = pos ((c .before .before .before .loop .at)) ((c .if1 .left))
 
--- src/inner.rt:114:21
 cast-place : tie.Need-cast-place Inv-loop μ-loop
 cast-place c = omega arith
 
--- src/inner.rt:115:13
 read-row-requires : tie.Need-read-row-requires Inv-loop μ-loop
 read-row-requires c κs = omega arith
 
--- src/inner.rt:116:45
 add-alike : tie.Need-add-alike Inv-loop μ-loop
 add-alike c = omega (arith, moves-forth ((c .before .before .before .before .before .before .before .before .before .before .before .before .before .args .t .now)) ((c .before .before .before .before .before .before .before .before .before .before .before .before .before .args .n)) ((c .before .before .before .before .before .before .before .before .before .before .before .before .before .pre)), moves-back ((c .before .before .before .before .before .before .before .before .before .before .before .before .before .args .t .now)) ((c .before .before .before .before .before .before .before .before .before .before .before .before .before .args .n)) ((c .before .before .before .before .before .before .before .before .before .before .before .before .before .pre)), (c .before .before .before .before .before .before .before .before .before .before .before .before .before .pre .apart))
 
--- src/inner.rt:116:13
 alike-requires : tie.Need-alike-requires Inv-loop μ-loop
 alike-requires c κs = search needs
 
--- src/inner.rt:117:13
 same-length-2 : tie.Need-same-length-2 Inv-loop μ-loop
 same-length-2 c = (c .before .before .before .before .before .before .before .loop .inv .1 .1 .0)
 
--- src/inner.rt:117:13
 returns-2 : tie.Need-returns-2 Inv-loop μ-loop
 returns-2 c = ((c .before .before .before .before .before .before .before .loop .inv .0) ((c .before .before .before .before .before .before .before .before .before .before .before .before .before .before .before .args .side)) ((c .before .before .before .before .before .before .before .before .before .before .before .before .list-at .ensures .at)), ((c .before .before .before .before .before .before .before .loop .inv .1 .0), zero-le))
 
--- src/inner.rt:124:44
 add-get : tie.Need-add-get Inv-loop μ-loop
 add-get c = omega arith
 
--- src/inner.rt:124:13
 get-requires : tie.Need-get-requires Inv-loop μ-loop
 get-requires c κs = search needs
 
--- src/inner.rt:129:19
 add-t24 : tie.Need-add-t24 Inv-loop μ-loop
 add-t24 c = omega (arith, (c .before .before .before .before .before .before .alike .ensures) (not-false _ ((c .before .before .before .before .before .if2 .left))) .wide)
 
--- src/inner.rt:130:20
 sub-t31 : tie.Need-sub-t31 Inv-loop μ-loop
 sub-t31 c = omega (arith, (c .before .before .before .before .before .before .before .alike .ensures) (not-false _ ((c .before .before .before .before .before .before .if2 .left))) .wide)
 
--- src/inner.rt:134:9
 write-row-requires : tie.Need-write-row-requires Inv-loop μ-loop
 write-row-requires c κs = omega arith
 
--- src/inner.rt:135:9
 append-requires : tie.Need-append-requires Inv-loop μ-loop
 append-requires c κs = (omega (arith, (c .before .before .before .before .before .before .before .before .before .before .before .before .before .before .before .before .before .before .before .before .before .before .before .list-at .ensures .small)), omega arith)
 
--- src/inner.rt:136:9
 sub-left : tie.Need-sub-left Inv-loop μ-loop
 sub-left c = pos ((c .before .before .before .before .before .before .before .before .before .before .before .before .before .before .before .before .before .before .before .before .before .loop .left)) ((c .before .before .before .before .before .before .before .before .before .before .before .before .before .before .before .before .before .before .before .before .loop-test .taken))
 
--- src/inner.rt:141:23
 wrapping-sub-u32-requires : tie.Need-wrapping-sub-u32-requires Inv-loop μ-loop
 wrapping-sub-u32-requires c κs = search needs
 
--- src/inner.rt:138:13
 same-length-3 : tie.Need-same-length-3 Inv-loop μ-loop
 same-length-3 c = (c .before .before .before .before .append .kept .0) ∙ (c .before .before .before .before .before .before .before .before .write-row .kept .0) ∙ (c .before .before .before .before .before .before .before .before .before .before .before .before .before .before .before .before .before .before .before .before .before .before .before .loop .inv .1 .1 .0)
 
--- src/inner.rt:138:13
 returns-3 : tie.Need-returns-3 Inv-loop μ-loop
 returns-3 c = (carry-turn ((c .before .before .before .before .before .before .before .before .before .before .before .before .before .before .before .before .before .before .before .before .before .before .before .before .before .before .before .before .before .before .before .args .t .now)) ((c .before .before .before .before .before .before .before .before .before .before .before .before .before .before .before .before .before .before .before .before .before .before .before .loop .w)) ((c .before .before .before .before .before .before .before .before .before .before .before .before .before .before .before .before .before .before .before .before .before .before .before .before .before .before .before .before .before .before .before .args .n)) ((c .before .before .before .before .before .before .before .before .before .before .before .before .before .before .before .before .before .before .before .before .before .before .before .before .before .before .before .before .before .before .before .args .top)) ((c .before .before .before .before .before .before .before .before .before .before .before .before .before .before .before .before .before .before .before .before .before .before .before .before .before .before .before .before .before .before .before .args .side)) ((c .before .before .before .before .before .before .before .before .before .before .before .before .before .before .before .before .before .before .before .before .before .before .before .before .before .before .before .before .before .before .before .args .before)) ((c .before .before .before .before .before .before .before .before .before .before .before .before .before .before .before .before .before .before .before .before .before .before .before .before .before .before .before .before .before .before .before .args .after)) ((c .before .before .before .before .before .before .before .before .before .before .before .before .before .before .before .before .before .before .before .before .before .before .before .before .before .before .before .before .before .before .before .pre)) ((c .before .before .before .before .before .before .before .before .before .before .before .before .before .before .before .before .before .before .before .before .before .before .before .loop .at)) ((c .before .before .before .before .before .before .before .before .before .before .before .before .before .before .before .before .before .before .before .before .before .before .before .loop .left)) ((c .before .before .before .before .before .before .before .before .before .before .before .before .before .before .before .before .before .before .before .before .before .before .before .before .before .before .before .before .list-at .ensures .at)) ((c .before .before .before .before .before .before .before .before .before .before .before .before .before .before .before .before .before .before .before .before .before .before .loop-test .taken)) ((c .before .before .before .before .before .before .before .before .before .before .before .before .before .before .before .before .before .before .before .before .if1 .left)) ((c .before .before .before .before .before .before .before .before .before .before .before .before .before .before .before .before .before .before .read-row .ensures)) ((c .before .before .before .before .before .before .before .before .before .before .before .before .before .before .before .before .before .alike .ensures) (not-false _ ((c .before .before .before .before .before .before .before .before .before .before .before .before .before .before .before .before .if2 .left)))) ((c .before .before .before .before .before .before .before .before .before .before .before .before .before .before .get .ensures)) ((c .before .before .before .before .before .before .before .before .write-row .ensures)) ((c .before .before .before .before .append .ensures)) ∙ (c .before .before .before .before .before .before .before .before .before .before .before .before .before .before .before .before .before .before .before .before .before .before .before .loop .inv .0) ((c .before .before .before .before .before .before .before .before .before .before .before .before .before .before .before .before .before .before .before .before .before .before .before .before .before .before .before .before .before .before .before .args .side)) ((c .before .before .before .before .before .before .before .before .before .before .before .before .before .before .before .before .before .before .before .before .before .before .before .before .before .before .before .before .list-at .ensures .at)), (omega (arith, (c .before .before .before .before .before .before .before .before .before .before .before .before .before .before .before .before .before .before .before .before .before .before .before .loop .inv .1 .0)), omega (arith, (c .before .before .before .before .before .before .before .before .before .before .before .before .before .before .before .before .before .before .before .before .before .before .before .loop .inv .1 .0), pos ((c .before .before .before .before .before .before .before .before .before .before .before .before .before .before .before .before .before .before .before .before .before .before .before .loop .left)) ((c .before .before .before .before .before .before .before .before .before .before .before .before .before .before .before .before .before .before .before .before .before .before .loop-test .taken)))))
 
--- src/inner.rt:104:5
 loop-less : tie.Need-loop-less Inv-loop μ-loop
 loop-less c = omega (arith, pos ((c .before .before .before .before .before .before .before .before .before .before .before .before .before .before .before .before .before .before .before .before .before .before .loop .left)) ((c .before .before .before .before .before .before .before .before .before .before .before .before .before .before .before .before .before .before .before .before .before .loop-test .taken)))
 
--- src/inner.rt:104:5
 loop-again : tie.Need-loop-again Inv-loop μ-loop
 loop-again c = (λ side h. carry-turn ((c .before .before .before .before .before .before .before .before .before .before .before .before .before .before .before .before .before .before .before .before .before .before .before .before .before .before .before .before .before .before .args .t .now)) ((c .before .before .before .before .before .before .before .before .before .before .before .before .before .before .before .before .before .before .before .before .before .before .loop .w)) ((c .before .before .before .before .before .before .before .before .before .before .before .before .before .before .before .before .before .before .before .before .before .before .before .before .before .before .before .before .before .before .args .n)) ((c .before .before .before .before .before .before .before .before .before .before .before .before .before .before .before .before .before .before .before .before .before .before .before .before .before .before .before .before .before .before .args .top)) side ((c .before .before .before .before .before .before .before .before .before .before .before .before .before .before .before .before .before .before .before .before .before .before .before .before .before .before .before .before .before .before .args .before)) ((c .before .before .before .before .before .before .before .before .before .before .before .before .before .before .before .before .before .before .before .before .before .before .before .before .before .before .before .before .before .before .args .after)) ((c .before .before .before .before .before .before .before .before .before .before .before .before .before .before .before .before .before .before .before .before .before .before .before .before .before .before .before .before .before .before .pre)) ((c .before .before .before .before .before .before .before .before .before .before .before .before .before .before .before .before .before .before .before .before .before .before .loop .at)) ((c .before .before .before .before .before .before .before .before .before .before .before .before .before .before .before .before .before .before .before .before .before .before .loop .left)) h ((c .before .before .before .before .before .before .before .before .before .before .before .before .before .before .before .before .before .before .before .before .before .loop-test .taken)) ((c .before .before .before .before .before .before .before .before .before .before .before .before .before .before .before .before .before .before .before .if1 .left)) ((c .before .before .before .before .before .before .before .before .before .before .before .before .before .before .before .before .before .read-row .ensures)) ((c .before .before .before .before .before .before .before .before .before .before .before .before .before .before .before .before .alike .ensures) (not-false _ ((c .before .before .before .before .before .before .before .before .before .before .before .before .before .before .before .if2 .left)))) (sym ((c .if3 .left)) ∙ (c .before .before .before .before .before .before .before .before .before .before .before .before .before .get .ensures)) ((c .before .before .before .before .before .before .before .write-row .ensures)) ((c .before .before .before .append .ensures)) ∙ (c .before .before .before .before .before .before .before .before .before .before .before .before .before .before .before .before .before .before .before .before .before .before .loop .inv .0) side h, (omega (arith, (c .before .before .before .before .before .before .before .before .before .before .before .before .before .before .before .before .before .before .before .before .before .before .loop .inv .1 .0)), ((c .before .before .before .append .kept .0) ∙ (c .before .before .before .before .before .before .before .write-row .kept .0) ∙ (c .before .before .before .before .before .before .before .before .before .before .before .before .before .before .before .before .before .before .before .before .before .before .loop .inv .1 .1 .0), (c .before .before .before .before .before .before .before .before .before .before .before .before .before .before .before .before .before .before .before .before .wrapping-add-u32 .ok))))
 
--- src/inner.rt:84:1
 same-length-4 : tie.Need-same-length-4 Inv-loop μ-loop
 same-length-4 c = (c .before .loop .inv .1 .1 .0)
 
--- src/inner.rt:84:1
 returns-4 : tie.Need-returns-4 Inv-loop μ-loop
 returns-4 c = ((c .before .loop .inv .0) ((c .before .before .before .before .before .before .before .before .before .args .side)) ((c .before .before .before .before .before .before .list-at .ensures .at)), ((c .before .loop .inv .1 .0), zero-le))
 

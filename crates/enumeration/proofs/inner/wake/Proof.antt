@@ -9,39 +9,30 @@ use Rattle.enumeration.proofs.inner.learn.Reads as learn-reads
 use Rattle.rows.proofs.inner.generator.Reads as generator-reads
 use Rattle.rows.proofs.inner.wait.Reads as wait-reads
 
--- src/inner.rt:72:13
 generator-requires : tie.Need-generator-requires
 generator-requires c κs = search needs
 
--- src/inner.rt:73:13
 learn-requires : tie.Need-learn-requires
 learn-requires c κs = search needs
 
--- src/inner.rt:74:9
 learn-requires-2 : tie.Need-learn-requires-2
 learn-requires-2 c κs = search needs
 
--- src/inner.rt:76:9
 wait-requires : tie.Need-wait-requires
 wait-requires c κs = search needs
 
--- src/inner.rt:59:1
 same-length : tie.Need-same-length
 same-length c = search needs
 
--- src/inner.rt:59:1
 same-length-2 : tie.Need-same-length-2
 same-length-2 c = search needs
 
--- src/inner.rt:59:1
 returns : tie.Need-returns
 returns c = wake-met ((c .before .before .before .before .before .before .before .before .before .before .before .before .before .before .before .before .before .before .before .args .n)) ((c .before .before .before .before .before .before .before .before .before .before .before .before .before .before .before .before .before .before .before .args .at)) ((c .before .before .before .before .before .before .before .before .before .before .before .before .before .before .before .before .before .before .before .args .side)) (state ((c .before .before .before .before .before .before .before .before .before .before .before .before .before .before .before .before .before .before .before .args .t .now)) ((c .before .before .before .before .before .before .before .before .before .before .before .before .before .before .before .before .before .before .before .args .w .now)) ((c .before .before .before .before .before .before .before .before .before .before .before .before .before .before .before .before .before .before .before .args .top))) ((c .before .before .before .before .before .before .before .before .before .before .before .before .before .before .before .before .before .before .before .args .row)) ((c .before .before .before .before .before .before .before .before .before .before .before .before .before .before .before .if1 .taken)) ((c .before .before .before .before .before .before .before .before .before .before .before .before .before .before .generator .ensures)) ((c .before .before .before .before .before .before .before .before .before .before .before .learn .ensures)) ((c .before .before .before .before .learn2 .ensures))
 
--- src/inner.rt:59:1
 same-length-3 : tie.Need-same-length-3
 same-length-3 c = search needs
 
--- src/inner.rt:59:1
 returns-2 : tie.Need-returns-2
 returns-2 c = wake-waits ((c .before .before .before .before .before .before .before .before .args .n)) ((c .before .before .before .before .before .before .before .before .args .at)) ((c .before .before .before .before .before .before .before .before .args .side)) (state ((c .before .before .before .before .before .before .before .before .args .t .now)) ((c .before .before .before .before .before .before .before .before .args .w .now)) ((c .before .before .before .before .before .before .before .before .args .top))) ((c .before .before .before .before .before .before .before .before .args .row)) ((c .before .before .before .before .if1 .left)) ((c .before .before .wait .ensures))
 

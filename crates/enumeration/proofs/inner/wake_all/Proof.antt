@@ -23,75 +23,57 @@ Inv-loop t₀ w₀ n first count side top at₀ left₀ now-top₀ t w at left n
 abbrev μ-loop : tie.MeasureT-loop
 μ-loop t₀ w₀ n first count side top at₀ left₀ now-top₀ t w at left now-top = left
 
--- src/inner.rt:222:5
 loop-holds : tie.Need-loop-holds Inv-loop μ-loop
 loop-holds c = (refl, (refl, (refl, search needs)))
 
--- src/inner.rt:224:13
 same-length : tie.Need-same-length Inv-loop μ-loop
 same-length c = (c .before .before .loop .inv .1 .0)
 
--- src/inner.rt:224:13
 same-length-2 : tie.Need-same-length-2 Inv-loop μ-loop
 same-length-2 c = (c .before .before .loop .inv .1 .1 .0)
 
--- src/inner.rt:224:13
 returns : tie.Need-returns Inv-loop μ-loop
 returns c = sym (wake-end ((c .before .before .before .before .before .args .n)) ((c .before .before .loop .at)) ((c .before .before .before .before .before .args .side)) (state ((c .before .before .loop .t)) ((c .before .before .loop .w)) ((c .before .before .loop .now-top))) ((c .before .before .loop .left)) ((c .if1 .taken))) ∙ (c .before .before .loop .inv .0)
 
--- src/inner.rt:226:22
 sub-place : tie.Need-sub-place Inv-loop μ-loop
 sub-place c = pos ((c .before .before .loop .at)) ((c .if1 .left))
 
--- src/inner.rt:226:21
 cast-place : tie.Need-cast-place Inv-loop μ-loop
 cast-place c = omega (arith, (c .before .before .loop .inv .1 .1 .1))
 
--- src/inner.rt:227:44
 add-get : tie.Need-add-get Inv-loop μ-loop
 add-get c = omega (arith, (c .before .before .before .loop .inv .1 .1 .1))
 
--- src/inner.rt:227:13
 get-requires : tie.Need-get-requires Inv-loop μ-loop
 get-requires c κs = search needs
 
--- src/inner.rt:228:13
 read-row-requires : tie.Need-read-row-requires Inv-loop μ-loop
 read-row-requires c κs = omega (arith, (c .before .before .before .before .before .loop .inv .1 .1 .1))
 
--- src/inner.rt:229:13
 fill-requires : tie.Need-fill-requires Inv-loop μ-loop
 fill-requires c κs = search needs
 
--- src/inner.rt:230:9
 wake-requires : tie.Need-wake-requires Inv-loop μ-loop
 wake-requires c κs = omega (arith, (c .before .before .before .before .before .before .before .before .before .before .loop .inv .1 .1 .1))
 
--- src/inner.rt:231:46
 sub-carry : tie.Need-sub-carry Inv-loop μ-loop
 sub-carry c = pos ((c .before .before .before .before .before .before .before .before .before .before .before .before .before .before .before .before .before .loop .left)) ((c .before .before .before .before .before .before .before .before .before .before .before .before .before .before .before .before .loop-test .taken))
 
--- src/inner.rt:231:13
 carry-requires : tie.Need-carry-requires Inv-loop μ-loop
 carry-requires c κs = λ h. (c .before .before .before .before .before .before .before .before .before .fill .ensures) ∙ ap (λ (l : List ℕ). filled l ((c .before .before .before .before .before .before .before .before .before .before .before .before .before .before .before .before .before .before .before .before .args .n)) ((c .before .before .before .before .before .before .before .before .before .before .before .read-row .result))) (sym (woken-table ((c .before .before .before .before .before .before .before .before .before .before .before .before .before .before .before .before .before .before .before .before .args .n)) ((c .before .before .before .before .before .before .before .before .before .before .before .before .before .before .before .before .before .loop .at) - 1) ((c .before .before .before .before .before .before .before .before .before .before .before .before .before .before .before .before .before .before .before .before .args .side)) (state ((c .before .before .before .before .before .before .before .before .before .before .before .before .before .before .before .before .before .loop .t)) ((c .before .before .before .before .before .before .before .before .before .before .before .before .before .before .before .before .before .loop .w)) ((c .before .before .before .before .before .before .before .before .before .before .before .before .before .before .before .before .before .loop .now-top))) ((c .before .before .before .before .before .before .before .before .before .fill .result)) (λ e. omega (arith, h, e)) ((c .before .before .before .before .before .before .wake .ensures))))
 
--- src/inner.rt:222:5
 loop-less : tie.Need-loop-less Inv-loop μ-loop
 loop-less c = omega (arith, (c .before .before .carry .ensures .1), pos ((c .before .before .before .before .before .before .before .before .before .before .before .before .before .before .before .before .before .before .before .before .loop .left)) ((c .before .before .before .before .before .before .before .before .before .before .before .before .before .before .before .before .before .before .before .loop-test .taken)))
 
--- src/inner.rt:222:5
 loop-again : tie.Need-loop-again Inv-loop μ-loop
 loop-again c = ((c .before .before .carry .ensures .0) ∙ wake-turn ((c .before .before .before .before .before .before .before .before .before .before .before .before .before .before .before .before .before .before .before .before .before .before .before .args .n)) ((c .before .before .before .before .before .before .before .before .before .before .before .before .before .before .before .before .before .before .before .before .loop .at)) ((c .before .before .before .before .before .before .before .before .before .before .before .before .before .before .before .before .before .before .before .before .before .before .before .args .side)) (state ((c .before .before .before .before .before .before .before .before .before .before .before .before .before .before .before .before .before .before .before .before .loop .t)) ((c .before .before .before .before .before .before .before .before .before .before .before .before .before .before .before .before .before .before .before .before .loop .w)) ((c .before .before .before .before .before .before .before .before .before .before .before .before .before .before .before .before .before .before .before .before .loop .now-top))) ((c .before .before .before .before .before .before .before .before .before .before .before .before .before .before .before .before .before .before .before .before .loop .left)) ((c .before .before .before .before .before .before .before .before .before .before .before .before .before .before .before .before .before .before .before .loop-test .taken)) ((c .before .before .before .before .before .before .before .before .before .before .before .before .before .before .before .before .before .before .if1 .left)) ((c .before .before .before .before .before .before .before .before .before .before .before .before .before .before .before .before .get .ensures)) (wakes-by ((c .before .before .before .before .before .before .before .before .before .before .before .before .before .before .before .before .before .before .before .before .before .before .before .args .n)) ((c .before .before .before .before .before .before .before .before .before .before .before .before .before .before .before .before .before .before .before .before .loop .at) - 1) ((c .before .before .before .before .before .before .before .before .before .before .before .before .before .before .before .before .before .before .before .before .before .before .before .args .side)) (state ((c .before .before .before .before .before .before .before .before .before .before .before .before .before .before .before .before .before .before .before .before .loop .t)) ((c .before .before .before .before .before .before .before .before .before .before .before .before .before .before .before .before .before .before .before .before .loop .w)) ((c .before .before .before .before .before .before .before .before .before .before .before .before .before .before .before .before .before .before .before .before .loop .now-top))) ((c .before .before .before .before .before .before .before .before .before .before .before .before .fill .result)) ((c .before .before .before .before .before .before .before .before .before .before .before .before .before .before .read-row .ensures)) ((c .before .before .before .before .before .before .before .before .before .before .before .before .fill .ensures)) ((c .before .before .before .before .before .before .before .before .before .wake .ensures))) ∙ (c .before .before .before .before .before .before .before .before .before .before .before .before .before .before .before .before .before .before .before .before .loop .inv .0), ((c .before .before .before .before .before .before .before .before .before .wake .kept .0) ∙ (c .before .before .before .before .before .before .before .before .before .before .before .before .before .before .before .before .before .before .before .before .loop .inv .1 .0), ((c .before .before .carry .kept .1 .0) ∙ (c .before .before .before .before .before .before .before .before .before .wake .kept .1 .0) ∙ (c .before .before .before .before .before .before .before .before .before .before .before .before .before .before .before .before .before .before .before .before .loop .inv .1 .1 .0), search needs)))
 
--- src/inner.rt:208:1
 same-length-3 : tie.Need-same-length-3 Inv-loop μ-loop
 same-length-3 c = (c .before .loop .inv .1 .0)
 
--- src/inner.rt:208:1
 same-length-4 : tie.Need-same-length-4 Inv-loop μ-loop
 same-length-4 c = (c .before .loop .inv .1 .1 .0)
 
--- src/inner.rt:208:1
 returns-2 : tie.Need-returns-2 Inv-loop μ-loop
 returns-2 c = sym (wake-spent ((c .before .before .before .before .args .n)) ((c .before .loop .at)) ((c .before .before .before .before .args .side)) (state ((c .before .loop .t)) ((c .before .loop .w)) ((c .before .loop .now-top))) ((c .before .loop .left)) ((c .loop-test .left))) ∙ (c .before .loop .inv .0)
 

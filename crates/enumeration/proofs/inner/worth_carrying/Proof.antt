@@ -5,11 +5,9 @@ use Rattle.enumeration.proofs.inner.worth_carrying.Tie as tie
 use Rattle.enumeration.proofs.inner.worth_carrying.Reads as reads
 use Rattle.enumeration.proofs.inner.worth_carrying.Lts as lts
 
--- src/inner.rt:168:9
 returns : tie.Need-returns
 returns c = λ h. absurd (false-true h)
 
--- src/inner.rt:164:1
 returns-2 : tie.Need-returns-2
 returns-2 c = search needs
 

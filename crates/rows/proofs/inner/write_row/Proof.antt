@@ -10,135 +10,102 @@ use Rattle.rows.proofs.inner.write_row.Reads as reads
 use Rattle.rows.proofs.inner.write_row.Lts as lts
 use Rattle.egg.proofs.inner.put.Reads as put-reads
 
--- src/inner.rt:120:8
 add-if1 : tie.Need-add-if1
 add-if1 c = search needs
 
--- src/inner.rt:121:9
 mul-w : tie.Need-mul-w
 mul-w c = search needs
 
--- src/inner.rt:121:9
 slice-write-w : tie.Need-slice-write-w
 slice-write-w c = search needs
 
--- src/inner.rt:122:11
 add-w : tie.Need-add-w
 add-w c = search needs
 
--- src/inner.rt:122:9
 mul-w-2 : tie.Need-mul-w-2
 mul-w-2 c = search needs
 
--- src/inner.rt:122:9
 slice-write-w-2 : tie.Need-slice-write-w-2
 slice-write-w-2 c = simp length-set (omega (arith, (c .if1 .taken)))
 
--- src/inner.rt:123:11
 add-w-2 : tie.Need-add-w-2
 add-w-2 c = search needs
 
--- src/inner.rt:123:9
 mul-w-3 : tie.Need-mul-w-3
 mul-w-3 c = search needs
 
--- src/inner.rt:123:9
 slice-write-w-3 : tie.Need-slice-write-w-3
 slice-write-w-3 c = simp length-set (omega (arith, (c .if1 .taken)))
 
--- src/inner.rt:124:11
 add-w-3 : tie.Need-add-w-3
 add-w-3 c = search needs
 
--- src/inner.rt:124:9
 mul-w-4 : tie.Need-mul-w-4
 mul-w-4 c = search needs
 
--- src/inner.rt:124:9
 slice-write-w-4 : tie.Need-slice-write-w-4
 slice-write-w-4 c = simp length-set (omega (arith, (c .if1 .taken)))
 
--- src/inner.rt:125:11
 add-w-4 : tie.Need-add-w-4
 add-w-4 c = search needs
 
--- src/inner.rt:125:9
 mul-w-5 : tie.Need-mul-w-5
 mul-w-5 c = search needs
 
--- src/inner.rt:125:9
 slice-write-w-5 : tie.Need-slice-write-w-5
 slice-write-w-5 c = simp length-set (omega (arith, (c .if1 .taken)))
 
--- src/inner.rt:126:9
 same-length : tie.Need-same-length
 same-length c = search needs
 
--- src/inner.rt:126:9
 returns : tie.Need-returns
 returns c = stored-row ((c .before .before .args .w .now)) ((c .before .before .args .at)) ((c .before .before .args .row)) (omega arith) (omega arith) (omega arith) (omega arith) (omega arith)
 
--- src/inner.rt:128:28
 cast-put : tie.Need-cast-put
 cast-put c = search needs
 
--- src/inner.rt:128:5
 put-requires : tie.Need-put-requires
 put-requires c κs = search needs
 
--- src/inner.rt:129:24
 add-put : tie.Need-add-put
 add-put c = search needs
 
--- src/inner.rt:129:32
 cast-put-2 : tie.Need-cast-put-2
 cast-put-2 c = search needs
 
--- src/inner.rt:129:5
 put-requires-2 : tie.Need-put-requires-2
 put-requires-2 c κs = search needs
 
--- src/inner.rt:130:24
 add-put-2 : tie.Need-add-put-2
 add-put-2 c = search needs
 
--- src/inner.rt:130:32
 cast-put-3 : tie.Need-cast-put-3
 cast-put-3 c = search needs
 
--- src/inner.rt:130:5
 put-requires-3 : tie.Need-put-requires-3
 put-requires-3 c κs = search needs
 
--- src/inner.rt:131:24
 add-put-3 : tie.Need-add-put-3
 add-put-3 c = search needs
 
--- src/inner.rt:131:32
 cast-put-4 : tie.Need-cast-put-4
 cast-put-4 c = search needs
 
--- src/inner.rt:131:5
 put-requires-4 : tie.Need-put-requires-4
 put-requires-4 c κs = search needs
 
--- src/inner.rt:132:24
 add-put-4 : tie.Need-add-put-4
 add-put-4 c = search needs
 
--- src/inner.rt:132:32
 cast-put-5 : tie.Need-cast-put-5
 cast-put-5 c = search needs
 
--- src/inner.rt:132:5
 put-requires-5 : tie.Need-put-requires-5
 put-requires-5 c κs = search needs
 
--- src/inner.rt:111:1
 same-length-2 : tie.Need-same-length-2
 same-length-2 c = search needs
 
--- src/inner.rt:111:1
 returns-2 : tie.Need-returns-2
 unfolding writeRow
 returns-2 c = (c .before .before .put5 .ensures) ∙ rw ((c .before .before .before .before .before .before .put4 .ensures), (c .before .before .before .before .before .before .before .before .before .before .put3 .ensures), (c .before .before .before .before .before .before .before .before .before .before .before .before .before .before .put2 .ensures), (c .before .before .before .before .before .before .before .before .before .before .before .before .before .before .before .before .before .before .put .ensures))
