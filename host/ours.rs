@@ -350,6 +350,10 @@ impl Ours {
             "compose" => library::compose(t, h, number(w, 1)?, number(w, 2)?)?.to_string(),
             "conjugate" => library::conjugate(t, h, number(w, 1)?, number(w, 2)?)?.to_string(),
             "inverse" => library::inverse(t, h, number(w, 1)?)?.to_string(),
+            "checked" => {
+                library::check(t, h, &numbers(&w[1..])?)?;
+                "ok".into()
+            }
             "word" => {
                 let list = self.word(b, number(w, 1)?)?;
                 format!("ok{}", list.iter().map(|x| format!(" {x}")).collect::<String>())

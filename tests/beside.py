@@ -4,7 +4,8 @@
 First the recorded list is replayed by `ours` (host/ours.rs) alone: where document 01 puts an input inside the domain of
 equality its answer must be the recorded one of the Rust, and elsewhere the refusal that tests/recorded/model.py, written
 from document 01, expects. Then fresh tables and pair orders, from a seed that is printed (or the first argument), go to
-the model, the oracle and `ours`. Last, altered tables and forged handles: an answer or 14 or 17, never anything else.
+the model, the oracle and `ours`. Last, altered tables and forged handles: an answer or a refusal that is due, 14 or 17
+(of a check against orders 1, 2, 3, 13 or 17), never anything else.
 """
 
 import pathlib
@@ -141,13 +142,15 @@ def garbage(seed):
         for question in ("step", "compose", "conjugate"):
             commands.append("%s %d %d" % (question, rng.choice((0, 1, 5, number())), rng.choice((0, 1, 2, 255))))
         commands += ["inverse %d" % number(), "inverse 3", "word 2", "gens"]
+        commands += ["checked", "checked %d" % rng.choice((3, 2, number())), "checked 3 2 3", "checked 3 %d 3" % rng.choice((2, 7))]
     for command, lines in cases(run(commands, OURS)):
         if command.split()[0] in ("clear", "factor", "prod", "alter", "forge"):
             continue
         words = lines[0].split()
-        fine = words[0] == "ok" or words[0].isdigit() or words[:2] in (["refused", "14"], ["refused", "17"])
+        due = ("1", "2", "3", "13", "17") if command.startswith("checked") else ("14", "17")
+        fine = words[0] == "ok" or words[0].isdigit() or words[0] == "refused" and words[1] in due
         if len(lines) != 1 or not fine:
-            differs("altered, seed %s" % seed, command, ["an answer, 14 or 17"], lines)
+            differs("altered, seed %s" % seed, command, ["an answer or one of", *due], lines)
     print("altered: %d questions, seed %s" % (len(commands), seed))
 
 
