@@ -4,7 +4,8 @@ ghost use mathlib.Core.Path.{_≡_};
 ghost use mathlib.Core.Bool.{true};
 ghost use Prim.Native.Nat.{_≤_};
 ghost use Rattle.checks.specs.Checks.{missingRow, missing, check8, rangeRow, linksOf, ranges, wrongAt, wrongRow, wrong, check-table, wiped, arriveRow, arrivals, countsRight, invertFrom, invertOf, fillInverses, inversesRight, identityRow, columnsRow, spelledRow, spelled, leftOf, fillLeft, goesRow, allGo, Lefts, lefts, check-steps, Checked, check-rest, check-group};
-ghost use Rattle.checks.specs.Undoing.{undoneRest, undoneMore};
+ghost use Rattle.checks.specs.Undoing.{undoneRest};
+ghost use Rattle.egg.specs.Table.{stillLeft};
 use egg::GroupElementId;
 use egg::Verdict;
 
@@ -229,7 +230,7 @@ fn guessed(x: u32, on: u32, at: u32, down: u32) -> bool
 // Two letters a turn, as long as they lead `jump` numbers on and `fall` numbers back: round a long relation they do, and a
 // processor that has the guess need not wait for the cells.
 fn undo_leg(t: &[u32], n: u8, from: u32, word: u32, letters: u32, jump: u32, fall: u32) -> Undone
-    ensures { λ r. ⌜ (undoneRest (now (t .entry)) n r ≡ invertFrom letters (now (t .entry)) n word from) × (undoneMore r ≤ letters) ⌝ }
+    ensures { λ r. ⌜ (undoneRest (now (t .entry)) n r ≡ invertFrom letters (now (t .entry)) n word from) × (stillLeft (r .more) (r .left) ≤ letters) ⌝ }
 {
     let mut x = from;
     let mut at = word;

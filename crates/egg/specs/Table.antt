@@ -1,6 +1,6 @@
 -- The element-by-generator table as a list of numbers. Document 01: "a build with n generators and room R needs exactly R(2n+4) entries of table".
 -- Assumes nothing.
-use Prim.Native.Nat.{ℕ, _+_, _*_, _-_, _<_}
+use Prim.Native.Nat.{ℕ, suc, _+_, _*_, _-_, _<_}
 use mathlib.Core.Path.{_≡_}
 use mathlib.Core.List.{List}
 use mathlib.Core.Bool.{Bool, true, false}
@@ -15,6 +15,10 @@ use Rattle.egg.specs.declared.inner.Found.the-variants.{Element, Unknown
 abbrev pub pick : {A : Type 0} → Bool → A → A → A
 pick true a b = a
 pick false a b = b
+
+-- The measure of what is done in legs: one more than is left, where there is more of it, else 0.
+abbrev pub stillLeft : Bool → ℕ → ℕ
+stillLeft more left = pick more (suc left) 0
 
 -- v stored at i, where i is within the list and v has 32 bits ("Lent buffers of 32-bit numbers"); else the list as it was. So a store is defined for every
 -- index and number, and no caller owes a proof of them.

@@ -4,10 +4,11 @@ ghost use mathlib.Core.Path.{_≡_};
 ghost use mathlib.Core.Bool.{true};
 ghost use Prim.Native.Nat.{_+_, _<_, _≤_};
 ghost use lib.ListN.{length};
+ghost use Rattle.egg.specs.Table.{stillLeft};
 ghost use Rattle.rows.specs.Rows.{Orders, filled};
 ghost use Rattle.rows.specs.Alike.{Moves};
 ghost use Rattle.enumeration.specs.Facts.{state, learns, woken, wakesAll, emptied, updated, settled};
-ghost use Rattle.enumeration.specs.Carrying.{wakesRest, moreLeft};
+ghost use Rattle.enumeration.specs.Carrying.{wakesRest};
 ghost use Rattle.enumeration.specs.Run.{discovered, visit, visits, advanced, outcome, runs, enumerated};
 ghost use Rattle.enumeration.specs.Calls.{ranCount, Relating, relates, enumeratedIn};
 ghost use Rattle.builder.specs.Finish.{Built};
@@ -102,7 +103,7 @@ pub fn carry_leg(
     top: u32,
 ) -> Carried
     requires { ⌜ Moves (now t) n before after ⌝ }
-    ensures { λ r. ⌜ (wakesRest r n side (state (now (t .entry)) (now (w .exit)) top) ≡ wakesAll count n first side (state (now (t .entry)) (now (w .entry)) top)) × ((r .left ≤ count) × (moreLeft r ≤ count)) ⌝ }
+    ensures { λ r. ⌜ (wakesRest r n side (state (now (t .entry)) (now (w .exit)) top) ≡ wakesAll count n first side (state (now (t .entry)) (now (w .entry)) top)) × ((r .left ≤ count) × (stillLeft (r .more) (r .left) ≤ count)) ⌝ }
 {
     let list = rows::inner::list_at(n, after, side);
     let forth = after.left - before.left;

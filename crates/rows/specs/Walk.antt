@@ -20,7 +20,3 @@ walkFrom (suc k) t n e a b =
 -- What a walk comes to from the end of a leg: it goes on by the same columns where there is more of it, else it has ended there.
 abbrev pub onward : List ℕ → ℕ → ℕ → ℕ → Leg → Walked
 onward t n a b l = pick (l .more) (walkFrom (l .left) t n (l .element) a b) (walkOf (l .element) (l .left))
-
--- One more than the steps that it has left then, else 0.
-abbrev pub onwardLeft : Leg → ℕ
-onwardLeft l = pick (l .more) (suc (l .left)) 0

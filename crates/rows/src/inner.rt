@@ -4,9 +4,9 @@
 // next). A link is a place in the stretch + 1, and 0 is none, so that a block never used is zero.
 ghost use mathlib.Core.Path.{_≡_};
 ghost use Prim.Native.Nat.{_+_, _*_, _<_, _≤_};
-ghost use Rattle.egg.specs.Table.{Place};
+ghost use Rattle.egg.specs.Table.{Place, stillLeft};
 ghost use Rattle.rows.specs.Rows.{workWidth, placeAt, rowsAt, genOf, readRow, writeRow, backed, forwarded, filled, linkAt, appended, listAt, waits, addedRow, addedRows, Orders};
-ghost use Rattle.rows.specs.Walk.{walkFrom, onward, onwardLeft};
+ghost use Rattle.rows.specs.Walk.{walkFrom, onward};
 ghost use Rattle.rows.specs.Alike.{Alike};
 ghost use mathlib.Core.Bool.{true};
 use egg::GeneratorId;
@@ -144,7 +144,7 @@ pub fn walk_leg(
     jump: u32,
 ) -> Leg
     requires { ⌜ (here < 4294967296) × (there < 4294967296) ⌝ }
-    ensures { λ r. ⌜ (onward (now (t .entry)) n here there r ≡ walkFrom steps (now (t .entry)) n element here there) × (onwardLeft r ≤ steps) ⌝ }
+    ensures { λ r. ⌜ (onward (now (t .entry)) n here there r ≡ walkFrom steps (now (t .entry)) n element here there) × (stillLeft (r .more) (r .left) ≤ steps) ⌝ }
 {
     let mut e = element;
     let mut left = steps;

@@ -1,5 +1,5 @@
 use Rattle.checks.specs.Checks.{invertFrom}
-use Rattle.egg.specs.Table.{pick}
+use Rattle.egg.specs.Table.{stillLeft}
 use mathlib.Core.Path.{_≡_, refl, sym, _∙_}
 use Prim.Native.Nat.{suc, _≤_, suc-le-suc}
 use borrow.Author.Needs.{needs}
@@ -13,7 +13,7 @@ abbrev Inv-loop : tie.InvT-loop
 Inv-loop t n e letters x₀ at₀ left₀ jump₀ fall₀ more₀ x at left jump fall more = invertFrom left t n at x ≡ invertFrom letters t n e 0
 
 abbrev μ-loop : tie.MeasureT-loop
-μ-loop t n e letters x₀ at₀ left₀ jump₀ fall₀ more₀ x at left jump fall more = pick more (suc left) 0
+μ-loop t n e letters x₀ at₀ left₀ jump₀ fall₀ more₀ x at left jump fall more = stillLeft more left
 
 loop-holds : tie.Need-loop-holds Inv-loop μ-loop
 loop-holds c = refl

@@ -1,5 +1,5 @@
 use Rattle.enumeration.specs.Facts.{state, wakesAll}
-use Rattle.egg.specs.Table.{pick}
+use Rattle.egg.specs.Table.{stillLeft}
 use lib.ListN.{length}
 use native.Mathlib.Omega.{arith}
 use native.Mathlib.Nat.{le-refl}
@@ -18,7 +18,7 @@ abbrev Inv-loop : tie.InvT-loop
 Inv-loop t w₀ n first count side before after top at₀ left₀ step₀ more₀ w at left step more = (wakesAll left n at side (state t w top) ≡ wakesAll count n first side (state t w₀ top)) × ((left ≤ count) × ((length w ≡ length w₀) × (more ≡ true → after .left < after .right)))
 
 abbrev μ-loop : tie.MeasureT-loop
-μ-loop t w₀ n first count side before after top at₀ left₀ step₀ more₀ w at left step more = pick more (suc left) 0
+μ-loop t w₀ n first count side before after top at₀ left₀ step₀ more₀ w at left step more = stillLeft more left
 
 worth-carrying-requires : tie.Need-worth-carrying-requires Inv-loop μ-loop
 worth-carrying-requires c κs = search needs

@@ -1,7 +1,7 @@
 use Prim.Native.Nat.{suc, suc-le-suc}
 use mathlib.Core.Path.{_≡_, refl, sym, _∙_}
 use borrow.Author.Needs.{needs}
-use Rattle.egg.specs.Table.{pick}
+use Rattle.egg.specs.Table.{pick, stillLeft}
 use Rattle.rows.specs.Walk.{walkOf, walkFrom}
 use Rattle.rows.proofs.inner.walk.Statement.{statement}
 use Rattle.rows.proofs.inner.walk.Tie as tie
@@ -13,7 +13,7 @@ abbrev Inv-loop : tie.InvT-loop
 Inv-loop t n here there element steps e₀ left₀ jump₀ more₀ e left jump more = pick more (walkFrom left t n e here there) (walkOf e left) ≡ walkFrom steps t n element here there
 
 abbrev μ-loop : tie.MeasureT-loop
-μ-loop t n here there element steps e₀ left₀ jump₀ more₀ e left jump more = pick more (suc left) 0
+μ-loop t n here there element steps e₀ left₀ jump₀ more₀ e left jump more = stillLeft more left
 
 loop-holds : tie.Need-loop-holds Inv-loop μ-loop
 loop-holds c = refl
