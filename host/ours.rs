@@ -3,8 +3,9 @@
 //! Beyond the oracle's commands (oracle/README.md): `digest 0|1` adds, after each build, a line with a digest of every
 //! lent buffer: the needed stretch of the table, the excess around it, the needed work and its excess. `short table`,
 //! `short work`, `short rows` lend the next build one number less. `alter I V` stores V at the I-th number of the current
-//! factor's table buffer, and `forge START ROOM N COUNT` puts another handle in the place of its own. `bench
-//! enum ..` prints the seconds of an enumeration, the least of three. What this program cannot answer yet it says with `unsupported`.
+//! factor's table buffer, and `forge START ROOM N COUNT` puts another handle in the place of its own. `checked ORDERS..`
+//! checks the current factor, as it stands, against pair orders. `bench enum ..` prints the seconds of an enumeration, the
+//! least of three. What this program cannot answer yet it says with `unsupported`.
 //! Whatever a call leaves in the buffers is held to document 01 after every build; a fault ends the program.
 use std::io::{BufRead, BufWriter, Write};
 

@@ -27,11 +27,10 @@ def seconds(size, orders, *program):
 
 def least(size, orders):
     """Ours and the Rust's."""
-    ours, rust, turns = [], [], 0
-    while turns == 0 or turns < 5 and rust[0] < 1:
+    ours, rust = [], []
+    while not rust or len(rust) < 5 and rust[0] < 1:
         ours.append(seconds(size, orders, OURS))
         rust.append(seconds(size, orders))
-        turns += 1
     return min(ours), min(rust)
 
 
