@@ -26,6 +26,7 @@ module _ {t : List ℕ} {f : Factor} (A : Accepted t f) where
       generators = λ hg. generator-answer A hg ∙ ap reach (sym (A .sound .identity-row hg));
       steps = λ he hg. step-answer A he hg ∙ ap reach (sound-right-steps (A .sound) .step-is he hg);
       composes = compose-answer A;
+      walks = compose-answer A;
       inverts = inverse-answer A;
       conjugates = conjugate-answer A;
       lengths = length-answer A;

@@ -1,20 +1,24 @@
--- One read step, and the walk along a recorded word, are the table's own.
+-- One read step, and the walk along a recorded word, forward and back, are the table's own.
 -- Assumes nothing.
-use Prim.Native.Nat.{ℕ, zero, suc, _<_}
-use mathlib.Core.Path.{_≡_, refl, sym, ap}
+use Prim.Native.Nat.{ℕ, zero, suc, _≤_, _<_}
+use mathlib.Core.Bool.{Bool, true, false}
+use mathlib.Core.Path.{_≡_, refl, sym, ap, _∙_}
 use mathlib.Core.List.{List, [], _∷_}
 use native.Mathlib.Omega.{arith}
 use borrow.Author.Tests.{le-ltb, lt-leb}
+use lib.Dec.{ltb}
 use lib.ListN.{length}
-use Rattle.egg.specs.Table.{parentOf, lengthOf, stepOf, backOf}
+use Rattle.egg.specs.Table.{pick, parentOf, lastOf, lengthOf, inverseOf, stepOf, backOf}
+use Rattle.egg.specs.declared.Reached.{Reached}
 use Rattle.egg.specs.Factor.{readStep}
 use Rattle.egg.proofs.Answers.{read-element}
-use Rattle.factor.specs.Questions.{along, composeIn, inverseIn, conjugateIn, generatorIn}
-use Rattle.theory.specs.Words.{walk}
+use Rattle.factor.proofs.Questions.{back-element}
+use Rattle.factor.specs.Questions.{along, readBack, backAlong, composeIn, inverseIn, conjugateIn, generatorIn}
+use Rattle.theory.specs.Words.{walk, retrace}
 use Rattle.theory.specs.Regular.{compose, inverse}
 use Rattle.theory.specs.Group.{conjugate}
-use Rattle.theory.proofs.Walking.{walk-closed}
-use Rattle.theory.proofs.Recording.{walk-grow, length-grow}
+use Rattle.theory.proofs.Walking.{walk-closed, retrace-closed, walk-retrace}
+use Rattle.theory.proofs.Recording.{walk-grow, retrace-grow, length-grow}
 use Rattle.meaning.specs.Stored.{wordOf}
 use Rattle.meaning.specs.Sound.{Sound}
 use Rattle.meaning.proofs.Accepted.{sound-group}
@@ -23,6 +27,10 @@ use Rattle.answers.specs.Accepted.{reach}
 pub no-letters : (w : List ℕ) → 0 ≡ length w → w ≡ []
 no-letters [] q = refl
 no-letters (g ∷ w) q = absurd (omega arith)
+
+either : {x y z : Reached} (v : Bool) → x ≡ z → y ≡ z → pick v x y ≡ z
+either true p q = p
+either false p q = q
 
 module _ {s : List ℕ} {n N : ℕ} (S : Sound s n N) where
   pub read-step : {e g : ℕ} → e < N → g < n → readStep s n N e g ≡ reach (stepOf s n e g)
@@ -57,6 +65,27 @@ module _ {s : List ℕ} {n N : ℕ} (S : Sound s n N) where
       )
       (ap reach (sym (walk-grow (S .recorded) (stepOf s n) a pos he)))
 
+  pub read-back : {e g : ℕ} → e < N → g < n → readBack s n N e g ≡ reach (backOf s n e g)
+  read-back {e} {g} he hg =
+      let q = S .stored .predecessor he hg in
+      sym (back-element s n N e g refl (omega arith) (omega (arith, S .columns .closed he hg)))
+
+  pub back-word : (k a : ℕ) {e : ℕ} → a < N → e < N → k ≡ length (wordOf s n e)
+      → backAlong k s n N a e ≡ reach (retrace (backOf s n) a (wordOf s n e))
+  unfolding backAlong
+  back-word zero a {e} ha he q = rw (no-letters (wordOf s n e) q)
+  back-word (suc k) a {e} ha he q =
+      let pos = not-first e q in
+      let up = parent-below pos he in
+      let last = S .parents .generator pos he in
+      simp (
+        lt-leb _ _ up,
+        lt-leb _ _ last,
+        read-back ha last,
+        back-word k (backOf s n a (lastOf s n e)) (S .columns .closed ha last) up (parent-length pos he q),
+      )
+      (ap reach (sym (retrace-grow (S .recorded) (backOf s n) a pos he)))
+
   pub inverse-in : {a : ℕ} → a < N → inverseIn s n N a ≡ reach (inverse (backOf s n) (wordOf s n) a)
   unfolding inverseIn
   inverse-in {a} ha =
@@ -67,9 +96,26 @@ module _ {s : List ℕ} {n N : ℕ} (S : Sound s n N) where
   unfolding generatorIn
   generator-in {g} hg = simp (lt-leb _ _ hg, read-step (S .table .origin) hg, S .identity-row hg)
 
+  -- Back along the word of b's inverse is to b's product: going forward along it again leads to a.
+  pub back-is-product : {a b : ℕ} → a < N → b < N
+      → retrace (backOf s n) a (wordOf s n (inverse (backOf s n) (wordOf s n) b)) ≡ compose (stepOf s n) (wordOf s n) a b
+  back-is-product {a} {b} ha hb =
+      let G = sound-group S in
+      let i = G .inv-closed hb in
+      let over = S .spelled .over i in
+      let y = retrace-closed (S .columns) ha over in
+      let forth : compose (stepOf s n) (wordOf s n) (retrace (backOf s n) a (wordOf s n (inverse (backOf s n) (wordOf s n) b))) (inverse (backOf s n) (wordOf s n) b) ≡ a
+      = walk-retrace (S .columns) ha over in
+      cc (forth, G .assoc y i hb, G .left-inverse hb, G .right-identity y)
+
   pub compose-in : {a b : ℕ} → a < N → b < N → composeIn s n N a b ≡ reach (compose (stepOf s n) (wordOf s n) a b)
   unfolding composeIn
-  compose-in {a} {b} ha hb = simp (le-ltb _ _ (S .short hb)) (along-word (lengthOf s n b) a ha hb (S .stored .lengths hb))
+  compose-in {a} {b} ha hb =
+      let small : inverse (backOf s n) (wordOf s n) b < N = sound-group S .inv-closed hb in
+      simp (le-ltb _ _ (S .short hb), S .inverses hb, lt-leb _ _ small)
+      (either (ltb (lengthOf s n b) (lengthOf s n (inverse (backOf s n) (wordOf s n) b)))
+      (along-word (lengthOf s n b) a ha hb (S .stored .lengths hb))
+      (back-word (lengthOf s n (inverse (backOf s n) (wordOf s n) b)) a ha small (S .stored .lengths small) ∙ ap reach (back-is-product ha hb)))
 
   pub conjugate-in : {a b : ℕ} → a < N → b < N
       → conjugateIn s n N a b ≡ reach (conjugate (compose (stepOf s n) (wordOf s n)) (inverse (backOf s n) (wordOf s n)) a b)

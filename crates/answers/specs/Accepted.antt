@@ -64,6 +64,9 @@ pub record AnswersOf (t : List ℕ) (f : Factor) (op : ℕ → ℕ → ℕ) (inv
   pub steps : {e g : ℕ} → e < f .elements → g < f .generators
       → stepAnswer t f (record { 0 = e }) (record { 0 = g }) ≡ reach (op e (generator (factorStep t f) g))
   pub composes : {a b : ℕ} → a < f .elements → b < f .elements → composeAnswer t f (record { 0 = a }) (record { 0 = b }) ≡ reach (op a b)
+  -- "`compose` walks the word of the second from the first": whichever way the answer is found, it is where the recorded word leads.
+  pub walks : {a b : ℕ} → a < f .elements → b < f .elements
+      → composeAnswer t f (record { 0 = a }) (record { 0 = b }) ≡ reach (walk (factorStep t f) a (factorWord t f b))
   pub inverts : {a : ℕ} → a < f .elements → inverseAnswer t f (record { 0 = a }) ≡ reach (inv a)
   pub conjugates : {a b : ℕ} → a < f .elements → b < f .elements
       → conjugateAnswer t f (record { 0 = a }) (record { 0 = b }) ≡ reach (conjugate op inv a b)

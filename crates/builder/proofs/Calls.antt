@@ -28,7 +28,7 @@ use Rattle.builder.specs.declared.Begun.{Begun}
 use Rattle.builder.specs.declared.Grown.{Grown}
 use Rattle.builder.specs.declared.Stored.{Stored}
 use Rattle.builder.specs.declared.Stored.the-variants as stored
-use Rattle.builder.specs.Build.{isNew, setStep, adds}
+use Rattle.reading.specs.Build.{isNew, setStep, adds}
 use Rattle.builder.specs.Finish.{built, finished}
 use Rattle.builder.specs.Refill.{refilled}
 use Rattle.builder.specs.Lending.{tableNeed, workNeed, within, Ends, noFactor, refusedMade, madeOf, making}

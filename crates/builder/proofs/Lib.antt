@@ -1,4 +1,3 @@
-pub mod Laws
 pub mod Finishing
 pub mod Refilling
 pub mod Lending

@@ -7,6 +7,7 @@ use lib.ListN.{length, replicate}
 use Rattle.egg.specs.declared.Verdict.the-variants as verdict
 use Rattle.egg.specs.declared.Counted.{Counted}
 use Rattle.egg.specs.declared.Counted.the-variants.{Count, Refused}
+use Rattle.reading.specs.Reading.{Placed, placed}
 use Rattle.checks.specs.Checks.{Checked, check-group}
 
 -- So many zeros as the list has numbers.
@@ -26,3 +27,7 @@ settledBy count (Checked.checked (verdict.Refused r) t w) = built (Refused r) (z
 unfoldable pub finished : Counted → ℕ → List ℕ → List ℕ → Built
 finished (Count count) n t w = settledBy count (check-group t w n count)
 finished (Refused r) n t w = built (Refused r) (zeroed t) (zeroed w)
+
+-- What a reading left, then the checks.
+abbrev pub finishedPlaced : Placed → ℕ → List ℕ → Built
+finishedPlaced (placed c t) n w = finished c n t w

@@ -1,4 +1,3 @@
-pub mod Build
 pub mod Finish
 pub mod Refill
 pub mod Lending

@@ -5,7 +5,7 @@ ghost use Prim.Native.Nat.{_≤_};
 ghost use lib.ListN.{length};
 ghost use Rattle.egg.specs.declared.Counted.the-variants.{Count};
 ghost use Rattle.egg.specs.Factor.{hasRoom};
-ghost use Rattle.builder.specs.Build.{isNew, setStep, setWord, adds};
+ghost use Rattle.reading.specs.Build.{isNew, setStep, setWord, adds};
 ghost use Rattle.builder.specs.Finish.{Built, finished};
 ghost use Rattle.builder.specs.Refill.{forgottenRow, forgotten, backStep, backRow, backRows, restCleared, refilled};
 ghost use Rattle.builder.specs.Lending.{tableNeed, workNeed, lentRight, Ends, noFactor, madeOf, refusedMade};
@@ -21,81 +21,6 @@ use egg::Made;
 use egg::Reached;
 use egg::Refusal;
 use egg::Verdict;
-
-// Sets the step both ways; says whether it was not known before.
-pub fn set_successor(
-    t: &mut [u32],
-    n: u8,
-    e: GroupElementId,
-    g: GeneratorId,
-    r: GroupElementId,
-) -> bool
-    ensures { λ x. ⌜ (x ≡ isNew (now (t .entry)) n e g) × (now (t .exit) ≡ setStep (now (t .entry)) n e g r) ⌝ }
-{
-    let at = egg::inner::successor_at(n, e, g);
-    let back = egg::inner::predecessor_at(n, r, g);
-    let old = egg::inner::get(&t[..], at);
-    let from = e.0;
-    let to = r.0;
-    egg::inner::put(t, at, (to as usize) + 1);
-    egg::inner::put(t, back, (from as usize) + 1);
-    old == 0
-}
-
-// Records the word of a new element: its parent's word and one generator.
-pub fn record_word(
-    t: &mut [u32],
-    n: u8,
-    new: GroupElementId,
-    e: GroupElementId,
-    g: GeneratorId,
-    len: u32,
-)
-    ensures { λ x. ⌜ now (t .exit) ≡ setWord (now (t .entry)) n new e g len ⌝ }
-{
-    let at = egg::inner::start(n, new) + 2 * (n as usize);
-    let x = e.0;
-    let k = g.0;
-    egg::inner::put(t, at, x as usize);
-    egg::inner::put(t, at + 1, k as usize);
-    egg::inner::put(t, at + 2, len as usize);
-}
-
-// A new element, reached from e by g: 5 beyond the room, 6 where its word would pass 4,096.
-pub fn add_successor(
-    t: &mut [u32],
-    n: u8,
-    room: u32,
-    count: u32,
-    e: GroupElementId,
-    g: GeneratorId,
-) -> Reached
-    ensures { λ x. ⌜ (x ≡ adds (now (t .entry)) n room count e g .answer) × (now (t .exit) ≡ adds (now (t .entry)) n room count e g .table) ⌝ }
-{
-    let x = e.0;
-    let k = g.0;
-    if count >= room {
-        return Reached::Refused(Refusal {
-            number: 5,
-            a: x,
-            b: k as u32,
-            c: 0,
-        });
-    }
-    let len = egg::inner::word_length(&t[..], n, e);
-    if len >= 4096 {
-        return Reached::Refused(Refusal {
-            number: 6,
-            a: x,
-            b: k as u32,
-            c: 0,
-        });
-    }
-    let new = GroupElementId(count);
-    record_word(t, n, new, e, g, len + 1);
-    set_successor(t, n, e, g, new);
-    Reached::Element(new)
-}
 
 // The end of every build: 8 to 12, and the stretches as document 01 wants them left.
 pub fn finish(t: &mut [u32], w: &mut [u32], n: u8, read: Counted) -> Counted
@@ -319,7 +244,7 @@ pub fn grow(t: &mut [u32], f: Factor, e: GroupElementId, g: GeneratorId) -> Grow
     requires { ⌜ f .elements ≤ 65535 ⌝ }
     ensures { λ x. ⌜ Leaving.leaving x (now (t .exit)) ≡ grown (now (t .entry)) f e g ⌝ }
 {
-    match add_successor(t, f.generators, f.room, f.elements, e, g) {
+    match reading::inner::add_successor(t, f.generators, f.room, f.elements, e, g) {
         Reached::Refused(why) => {
             egg::inner::clear(t);
             Grown {

@@ -91,7 +91,7 @@ pub fn set_successor(
         Verdict::Fine => {
             let a = f.start;
             let end = inner::stretch_end(table.len(), a, f.room, f.generators);
-            if inner::set_successor(&mut table[a..end], f.generators, e, g, r) {
+            if reading::inner::set_successor(&mut table[a..end], f.generators, e, g, r) {
                 Stored::New
             } else {
                 Stored::Known

@@ -13,7 +13,7 @@ use Rattle.theory.proofs.BoundedTests.{below-suc}
 use Rattle.egg.specs.declared.GroupElementId.{GroupElementId}
 use Rattle.egg.specs.declared.GeneratorId.{GeneratorId}
 use Rattle.egg.specs.Table.{pick, putAt, startOf, parentOf, lastOf}
-use Rattle.builder.specs.Build.{setStep, setWord}
+use Rattle.reading.specs.Build.{setStep, setWord}
 use Rattle.rows.specs.declared.inner.RelationTableRow.{RelationTableRow}
 use Rattle.derived.specs.Invariant.{Step, Marked, Worded, TableOk, RowOk, WorkOk}
 use Rattle.egg.proofs.Cells.{inside, put-same, put-other, put-length}

@@ -10,7 +10,7 @@ use Rattle.theory.proofs.BoundedTests.{below-suc}
 use Rattle.egg.specs.declared.GroupElementId.{GroupElementId}
 use Rattle.egg.specs.declared.GeneratorId.{GeneratorId}
 use Rattle.egg.specs.Table.{putAt, startOf, succAt, predAt, parentOf, lastOf}
-use Rattle.builder.specs.Build.{setStep}
+use Rattle.reading.specs.Build.{setStep}
 use Rattle.derived.specs.Invariant.{Known, Made, TableOk}
 use Rattle.egg.proofs.Cells.{inside, put-same}
 use Rattle.derived.proofs.Cells.{put-keeps}

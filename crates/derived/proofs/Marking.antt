@@ -8,7 +8,7 @@ use lib.ListN.{length}
 use Rattle.egg.specs.declared.GroupElementId.{GroupElementId}
 use Rattle.egg.specs.declared.GeneratorId.{GeneratorId}
 use Rattle.egg.specs.Table.{putAt, startOf, succAt, predAt, parentOf, lastOf}
-use Rattle.builder.specs.Build.{setStep}
+use Rattle.reading.specs.Build.{setStep}
 use Rattle.derived.specs.Invariant.{Step, Marked, Worded, TableOk}
 use Rattle.egg.proofs.Cells.{same-row, same-cell, put-other, put-length}
 use Rattle.derived.proofs.Cells.{put-keeps}

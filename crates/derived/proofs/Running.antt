@@ -18,7 +18,7 @@ use Rattle.egg.specs.declared.Reached.the-variants as reached
 use Rattle.egg.specs.declared.Counted.{Counted}
 use Rattle.egg.specs.declared.Counted.the-variants as counted
 use Rattle.egg.specs.Table.{pick, putAt, startOf, lengthOf}
-use Rattle.builder.specs.Build.{isNew, setStep, numbered, adds}
+use Rattle.reading.specs.Build.{isNew, setStep, numbered, adds}
 use Rattle.rows.specs.Rows.{workWidth, placeAt, addedRows}
 use Rattle.enumeration.specs.Facts.{state, link, belowAt}
 use Rattle.enumeration.specs.Run.{discovered, Visit, visit, onAdds, visits, advanced, Outcome, outcome, onVisit, after, runs, first, enumerated}

@@ -6,7 +6,7 @@ use mathlib.Core.List.{[], _∷_}
 use native.Mathlib.Omega.{arith}
 use lib.ListN.{getD}
 use Rattle.egg.specs.Table.{putAt, startOf}
-use Rattle.builder.specs.Build.{setStep, setWord, adds}
+use Rattle.reading.specs.Build.{setStep, setWord, adds}
 use Rattle.egg.specs.Pairs
 use Rattle.rows.specs.Rows
 use Rattle.enumeration.specs.Facts

@@ -13,7 +13,7 @@ use Rattle.theory.specs.Presentation.{order-of}
 use Rattle.egg.specs.declared.GroupElementId.{GroupElementId}
 use Rattle.egg.specs.declared.GeneratorId.{GeneratorId}
 use Rattle.egg.specs.Table.{pick, putAt, startOf}
-use Rattle.builder.specs.Build.{setStep}
+use Rattle.reading.specs.Build.{setStep}
 use Rattle.rows.specs.Rows.{workWidth, placeAt, addedRows}
 use Rattle.enumeration.specs.Facts.{State, state, link, belowAt, updated, settleFrom}
 use Rattle.enumeration.specs.Run.{discovered}

@@ -16,7 +16,7 @@ use Rattle.theory.proofs.BoundedTests.{below-suc}
 use Rattle.egg.specs.declared.GroupElementId.{GroupElementId}
 use Rattle.egg.specs.declared.GeneratorId.{GeneratorId}
 use Rattle.egg.specs.Table.{pick, putAt, startOf, succAt}
-use Rattle.builder.specs.Build.{isNew, setStep}
+use Rattle.reading.specs.Build.{isNew, setStep}
 use Rattle.rows.specs.Rows.{workWidth, placeAt}
 use Rattle.enumeration.specs.Facts.{State, state, link, belowAt, learns}
 use Rattle.derived.specs.Invariant.{Known, Spot, in-place}

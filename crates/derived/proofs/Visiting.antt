@@ -16,7 +16,7 @@ use Rattle.egg.specs.declared.Reached.the-variants as reached
 use Rattle.egg.specs.declared.Counted.{Counted}
 use Rattle.egg.specs.declared.Counted.the-variants as counted
 use Rattle.egg.specs.Table.{pick}
-use Rattle.builder.specs.Build.{isNew, adds}
+use Rattle.reading.specs.Build.{isNew, adds}
 use Rattle.rows.specs.Rows.{addedRows}
 use Rattle.enumeration.specs.Run.{discovered, Visit, visit, onReached, visits, advanced, Outcome, outcome, onVisit, runs, first, enumerated}
 use Rattle.enumeration.specs.declared.inner.Run.{Run}

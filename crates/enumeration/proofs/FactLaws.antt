@@ -10,7 +10,7 @@ use lib.ListN.{getD}
 use Rattle.egg.specs.declared.GroupElementId.{GroupElementId}
 use Rattle.egg.specs.declared.GeneratorId.{GeneratorId}
 use Rattle.egg.specs.Table.{putAt}
-use Rattle.builder.specs.Build.{isNew, setStep}
+use Rattle.reading.specs.Build.{isNew, setStep}
 use Rattle.rows.specs.declared.inner.RelationTableRow.{RelationTableRow}
 use Rattle.rows.specs.declared.inner.SideOfGap.{SideOfGap}
 use Rattle.rows.specs.declared.inner.SideOfGap.the-variants.{Left, Right}

@@ -16,8 +16,8 @@ use Rattle.egg.specs.declared.Reached.the-variants as reached
 use Rattle.egg.specs.declared.Counted.{Counted}
 use Rattle.egg.specs.declared.Counted.the-variants as counted
 use Rattle.egg.specs.Table.{putAt, succAt}
-use Rattle.builder.specs.Build.{setStep, Adds, adds}
-use Rattle.builder.proofs.Laws.{adds-full}
+use Rattle.reading.specs.Build.{setStep, Adds, adds}
+use Rattle.reading.proofs.Laws.{adds-full}
 use Rattle.rows.specs.Rows.{placeAt, addedRows}
 use Rattle.enumeration.specs.declared.inner.Run.{Run}
 use Rattle.enumeration.specs.declared.inner.Ran.{Ran}

@@ -12,7 +12,7 @@ use Rattle.egg.specs.declared.Reached.the-variants as reached
 use Rattle.egg.specs.declared.Counted.{Counted}
 use Rattle.egg.specs.declared.Counted.the-variants as counted
 use Rattle.egg.specs.Table.{pick, putAt}
-use Rattle.builder.specs.Build.{isNew, setStep, Adds, adds}
+use Rattle.reading.specs.Build.{isNew, setStep, Adds, adds}
 use Rattle.rows.specs.Rows.{placeAt, addedRows}
 use Rattle.enumeration.specs.Facts.{State, state, link, belowAt, settled}
 use Rattle.enumeration.specs.declared.inner.Run.{Run}

@@ -47,7 +47,7 @@ pub fn learn(
 ) -> u32
     ensures { λ x. ⌜ state (now (t .exit)) (now (w .exit)) x ≡ learns n e g r (state (now (t .entry)) (now (w .entry)) top) ⌝ }
 {
-    if builder::inner::set_successor(t, n, e, g, r) {
+    if reading::inner::set_successor(t, n, e, g, r) {
         let at = rows::inner::place_at(n, e, g);
         egg::inner::put(w, at + 6, top as usize);
         ((at + 1) % 4294967296) as u32
@@ -296,7 +296,7 @@ pub fn discover(
     ensures { λ x. ⌜ (now (t .exit) ≡ discovered n (now (orders .entry)) e g new (now (t .entry)) (now (w .entry)) .table)
         × (now (w .exit) ≡ discovered n (now (orders .entry)) e g new (now (t .entry)) (now (w .entry)) .work) ⌝ }
 {
-    builder::inner::set_successor(t, n, new, g, e);
+    reading::inner::set_successor(t, n, new, g, e);
     rows::inner::add_rows(w, orders, n, new);
     let place = rows::inner::place_at(n, e, g);
     egg::inner::put(w, place + 6, 0);
@@ -320,7 +320,7 @@ pub fn visit_place(
     if egg::inner::get(&t[..], egg::inner::successor_at(n, e, g)) != 0 {
         return Counted::Count(count);
     }
-    match builder::inner::add_successor(t, n, room, count, e, g) {
+    match reading::inner::add_successor(t, n, room, count, e, g) {
         Reached::Refused(why) => Counted::Refused(why),
         Reached::Element(new) => {
             discover(t, w, orders, n, e, g, new);

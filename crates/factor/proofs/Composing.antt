@@ -12,11 +12,11 @@ use lib.ListN.{length, take, drop, replicate}
 use Rattle.egg.specs.declared.Made.{Made}
 use Rattle.egg.specs.declared.Counted.{Counted}
 use Rattle.egg.specs.Factor.{hasRoom}
-use Rattle.builder.specs.Finish.{Built, built, finished}
+use Rattle.builder.specs.Finish.{Built, built, finished, finishedPlaced}
 use Rattle.builder.specs.Lending.{tableNeed, workNeed, lentRight, Ends, refusedMade, madeOf, Making, making, lentBack}
 use Rattle.builder.proofs.Lending.{part-length, build-back}
-use Rattle.factor.specs.Reading.{Placed, placed, readAll}
-use Rattle.factor.specs.Composed.{composedAt, finishedPlaced, composedIn, composed}
+use Rattle.reading.specs.Reading.{Placed, placed, readAll}
+use Rattle.factor.specs.Composed.{composedAt, composedIn, composed}
 
 -- The build: a zeroed table, read into, and finished.
 pub composed-in : (size : ℕ) (w rows : List ℕ) (n room : ℕ) {t₀ t : List ℕ} {c : Counted} {b : Built} → t₀ ≡ replicate size 0

@@ -7,17 +7,13 @@ use mathlib.Core.Bool.{_&&_}
 use lib.ListN.{length, getD, take, replicate}
 use lib.Dec.{ltb, leb}
 use Rattle.egg.specs.Table.{pick}
-use Rattle.builder.specs.Finish.{Built, finished}
+use Rattle.builder.specs.Finish.{Built, finishedPlaced}
 use Rattle.builder.specs.Lending.{tableNeed, workNeed, lentRight, refusedMade, Making, making, lentBack}
-use Rattle.factor.specs.Reading.{Placed, placed, readAll}
+use Rattle.reading.specs.Reading.{readAll}
 
 -- The number at (e, g) of a list of rows of n numbers.
 abbrev pub composedAt : List ℕ → ℕ → ℕ → ℕ → ℕ
 composedAt rows n e g = getD rows (e * n + g) 0
-
--- What a reading left, then the checks.
-abbrev pub finishedPlaced : Placed → ℕ → List ℕ → Built
-finishedPlaced (placed c t) n w = finished c n t w
 
 -- The build in its stretches: the table's is zeroed first, and read into; then the checks.
 unfoldable pub composedIn : ℕ → List ℕ → List ℕ → ℕ → ℕ → Built

@@ -1,4 +1,4 @@
-pub mod Reading
 pub mod Composed
 pub mod Questions
 pub mod Relations
+pub mod Legs

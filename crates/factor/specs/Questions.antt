@@ -5,7 +5,7 @@ use Prim.Native.Nat.{ℕ, zero, suc, _+_, _*_, _-_, _%_}
 use mathlib.Core.List.{List}
 use mathlib.Core.Bool.{Bool, true, false, _&&_}
 use lib.ListN.{length, getD, take, set}
-use lib.Dec.{ltb, leb}
+use lib.Dec.{eqb, ltb, leb}
 use Rattle.egg.specs.declared.Refusal.{Refusal}
 use Rattle.egg.specs.declared.Factor.{Factor}
 use Rattle.egg.specs.declared.GroupElementId.{GroupElementId}
@@ -16,7 +16,7 @@ use Rattle.egg.specs.declared.Reached.{Reached}
 use Rattle.egg.specs.declared.Reached.the-variants.{Element, Refused}
 use Rattle.egg.specs.declared.Counted.{Counted}
 use Rattle.egg.specs.declared.Counted.the-variants as counted
-use Rattle.egg.specs.Table.{pick, parentOf, lastOf, lengthOf, inverseOf}
+use Rattle.egg.specs.Table.{pick, startOf, parentOf, lastOf, lengthOf, inverseOf}
 use Rattle.egg.specs.Scan.{refusedOf}
 use Rattle.egg.specs.Factor.{fitsIn, stretch, refusedReach, readStep}
 
@@ -48,9 +48,29 @@ along (suc k) s n count from e =
     (pick (leb n (lastOf s n e)) (refusedReach 17 0)
     (onReached (along k s n count from (parentOf s n e)) (λ x. readStep s n count x (lastOf s n e))))
 
--- "`compose` walks the word of the second from the first"; a length over 4,096 is 17.
+-- A stored step back read for an answer, as `readStep` reads a step.
+unfoldable pub readBack : List ℕ → ℕ → ℕ → ℕ → ℕ → Reached
+readBack s n count e g =
+    pick (eqb (getD s (startOf n e + n + g) 0) 0) (refusedReach 17 0)
+    (pick (ltb count (getD s (startOf n e + n + g) 0)) (refusedReach 17 0) (Element (record { 0 = getD s (startOf n e + n + g) 0 - 1 })))
+
+-- From an element back along the last k letters of the recorded word that ends at e, the last letter first.
+unfoldable pub backAlong : ℕ → List ℕ → ℕ → ℕ → ℕ → ℕ → Reached
+backAlong zero s n count from e = Element (record { 0 = from })
+backAlong (suc k) s n count from e =
+    pick (leb count (parentOf s n e)) (refusedReach 17 0)
+    (pick (leb n (lastOf s n e)) (refusedReach 17 0)
+    (onReached (readBack s n count from (lastOf s n e)) (λ x. backAlong k s n count x (parentOf s n e))))
+
+-- "`compose` walks the word of the second from the first": forward along the word of the second, or back along the word of its inverse where that is no
+-- longer; on an accepted factor both lead to the same element. An inverse beyond the elements is 17, and so is a length over 4,096.
 unfoldable pub composeIn : List ℕ → ℕ → ℕ → ℕ → ℕ → Reached
-composeIn s n count a b = pick (ltb 4096 (lengthOf s n b)) (refusedReach 17 0) (along (lengthOf s n b) s n count a b)
+composeIn s n count a b =
+    pick (ltb 4096 (lengthOf s n b)) (refusedReach 17 0)
+    (pick (leb count (inverseOf s n b)) (refusedReach 17 0)
+    (pick (ltb (lengthOf s n b) (lengthOf s n (inverseOf s n b)))
+    (along (lengthOf s n b) s n count a b)
+    (backAlong (lengthOf s n (inverseOf s n b)) s n count a (inverseOf s n b))))
 
 -- The inverse was found when the table was built, and stands in the row.
 unfoldable pub inverseIn : List ℕ → ℕ → ℕ → ℕ → Reached

@@ -5,9 +5,11 @@ ghost use Prim.Native.Nat.{_+_, _*_, _<_, _≤_};
 ghost use lib.ListN.{length, set};
 ghost use Rattle.egg.specs.Factor.{fitsIn, refusedReach};
 ghost use Rattle.builder.specs.Finish.{Built};
-ghost use Rattle.factor.specs.Reading.{Placed, readPlace, readRow, readAll};
+ghost use Rattle.reading.specs.Reading.{Placed, readPlace, readRow, readAll};
 ghost use Rattle.factor.specs.Composed.{composedAt, composedIn};
-ghost use Rattle.factor.specs.Questions.{admits, along, composeIn, inverseIn, conjugateIn, generatorIn, lengthIn, readable, spell, writeIn, writtenBy};
+ghost use Rattle.factor.specs.Questions.{admits, along, readBack, backAlong, composeIn, inverseIn, conjugateIn, generatorIn, lengthIn, readable, spell, writeIn, writtenBy};
+ghost use Rattle.egg.specs.Table.{stillLeft};
+ghost use Rattle.factor.specs.Legs.{retracedRest, OneBack};
 ghost use Rattle.factor.specs.Relations.{turned, relationAt, doubledRow, pairsRow, relationsRow, relations};
 use egg::Counted;
 use egg::Factor;
@@ -17,28 +19,6 @@ use egg::Reached;
 use egg::Refusal;
 use egg::Verdict;
 
-// One place of a reading, whatever the numbers come from: 7, then 5, then 6.
-pub fn place(t: &mut [u32], n: u8, room: u32, count: u32, e: u32, g: u8, v: u32) -> Counted
-    ensures { λ r. ⌜ Placed.placed r (now (t .exit)) ≡ readPlace (now (t .entry)) n room count e g v ⌝ }
-{
-    if count < v {
-        return Counted::Refused(Refusal {
-            number: 7,
-            a: e,
-            b: g as u32,
-            c: v,
-        });
-    }
-    if v < count {
-        builder::inner::set_successor(t, n, GroupElementId(e), GeneratorId(g), GroupElementId(v));
-        return Counted::Count(count);
-    }
-    match builder::inner::add_successor(t, n, room, count, GroupElementId(e), GeneratorId(g)) {
-        Reached::Refused(why) => Counted::Refused(why),
-        Reached::Element(_) => Counted::Count(count + 1),
-    }
-}
-
 fn read_row(t: &mut [u32], rows: &[u32], n: u8, room: u32, e: u32, first: u32) -> Counted
     ensures { λ r. ⌜ Placed.placed r (now (t .exit)) ≡ readRow n (composedAt (now (rows .entry)) n) n room e 0 first (now (t .entry)) ⌝ }
 {
@@ -46,7 +26,7 @@ fn read_row(t: &mut [u32], rows: &[u32], n: u8, room: u32, e: u32, first: u32) -
     let mut count = first;
     while g < n {
         let v = egg::inner::get(rows, (e as usize) * (n as usize) + (g as usize));
-        let c = place(t, n, room, count, e, g, v);
+        let c = reading::inner::place(t, n, room, count, e, g, v);
         let Counted::Count(k) = c else {
             return c;
         };
@@ -116,12 +96,196 @@ pub fn along(s: &[u32], n: u8, count: u32, from: u32, e: u32, left: u32) -> Reac
     if (n as u32) <= g {
         return egg::inner::refuse(17, 0);
     }
-    match along(s, n, count, from, p, left - 1) {
+    match along(&s[..], n, count, from, p, left - 1) {
         Reached::Refused(why) => Reached::Refused(why),
         Reached::Element(x) => egg::inner::next(s, n, count, x.0, (g % 256) as u8),
     }
 }
 
+// The step back in the stretch of a factor, or 17.
+pub fn previous(s: &[u32], n: u8, count: u32, e: u32, g: u8) -> Reached
+    ensures { λ r. ⌜ r ≡ readBack (now (s .entry)) n count e g ⌝ }
+{
+    let x = egg::inner::get(
+        s,
+        egg::inner::predecessor_at(n, GroupElementId(e), GeneratorId(g)),
+    );
+    if x == 0 {
+        return egg::inner::refuse(17, 0);
+    }
+    if count < x {
+        return egg::inner::refuse(17, 0);
+    }
+    Reached::Element(GroupElementId(x - 1))
+}
+
+// How far a walk back along a word has come: the element that it has reached, the element at which the word that is left
+// ends, and how many letters that has; how far the last two letters led, and whether there may be more legs.
+pub struct Retraced {
+    pub reached: u32,
+    pub at: u32,
+    pub left: u32,
+    pub jump: u32,
+    pub fall: u32,
+    pub more: bool,
+}
+
+fn guessed(x: u32, on: u32, at: u32, down: u32) -> bool
+    ensures { λ r. ⌜ (r ≡ true → (x ≡ on) × (at ≡ down)) ⌝ }
+{
+    if x != on {
+        return false;
+    }
+    at == down
+}
+
+// The element to which the last letter of the word that ends at `at` leads back from x; where a number is out of range,
+// the count or more.
+fn retrace_letter(s: &[u32], n: u8, count: u32, x: u32, at: u32) -> u32
+    ensures { λ r. ⌜ (r < count → OneBack (now (s .entry)) n count x at r) ⌝ }
+{
+    if count <= egg::inner::parent(s, n, GroupElementId(at)) {
+        return count;
+    }
+    let letter = egg::inner::last(s, n, GroupElementId(at));
+    if (n as u32) <= letter {
+        return count;
+    }
+    let y = egg::inner::cell(s, n, x, n, letter);
+    if y == 0 {
+        return count;
+    }
+    y - 1
+}
+
+// Two letters a turn, as long as they lead `jump` numbers on and `fall` numbers back: round a long relation they do, and a
+// processor that has the guess need not wait for the cells. A number out of range ends the leg before it.
+fn retrace_leg(
+    s: &[u32],
+    n: u8,
+    count: u32,
+    from: u32,
+    word: u32,
+    letters: u32,
+    jump: u32,
+    fall: u32,
+) -> Retraced
+    ensures { λ r. ⌜ (retracedRest (now (s .entry)) n count r ≡ backAlong letters (now (s .entry)) n count from word) × (stillLeft (r .more) (r .left) ≤ letters) ⌝ }
+{
+    let mut x = from;
+    let mut at = word;
+    let mut left = letters;
+    while 1 < left {
+        let on = std::num::wrapping_add_u32(x, jump);
+        let down = std::num::wrapping_sub_u32(at, fall);
+        let y = retrace_letter(s, n, count, x, at);
+        let p = egg::inner::parent(s, n, GroupElementId(at));
+        let z = retrace_letter(s, n, count, y, p);
+        let q = egg::inner::parent(s, n, GroupElementId(p));
+        if count <= y {
+            return Retraced {
+                reached: x,
+                at,
+                left,
+                jump,
+                fall,
+                more: false,
+            };
+        }
+        if count <= z {
+            return Retraced {
+                reached: x,
+                at,
+                left,
+                jump,
+                fall,
+                more: false,
+            };
+        }
+        left -= 2;
+        if !guessed(z, on, q, down) {
+            return Retraced {
+                reached: z,
+                at: q,
+                left,
+                jump: std::num::wrapping_sub_u32(z, x),
+                fall: std::num::wrapping_sub_u32(at, q),
+                more: true,
+            };
+        }
+        x = on;
+        at = down;
+    }
+    Retraced {
+        reached: x,
+        at,
+        left,
+        jump,
+        fall,
+        more: false,
+    }
+}
+
+// The most of a long word, leg by leg. In a short one guesses fail too often.
+fn retrace_most(s: &[u32], n: u8, count: u32, from: u32, e: u32, letters: u32) -> Retraced
+    ensures { λ r. ⌜ retracedRest (now (s .entry)) n count r ≡ backAlong letters (now (s .entry)) n count from e ⌝ }
+{
+    let mut x = from;
+    let mut at = e;
+    let mut left = letters;
+    let mut jump = 0;
+    let mut fall = 0;
+    let mut more = 64 < letters;
+    while more {
+        let leg = retrace_leg(s, n, count, x, at, left, jump, fall);
+        x = leg.reached;
+        at = leg.at;
+        left = leg.left;
+        jump = leg.jump;
+        fall = leg.fall;
+        more = leg.more;
+    }
+    Retraced {
+        reached: x,
+        at,
+        left,
+        jump,
+        fall,
+        more,
+    }
+}
+
+// From an element back along the last `letters` letters of the word that ends at e. (`&s[..]`: a slice that is itself
+// passed on is copied at the start of its function, and a call would wait there for the one before it.)
+pub fn back_along(s: &[u32], n: u8, count: u32, from: u32, e: u32, letters: u32) -> Reached
+    ensures { λ r. ⌜ r ≡ backAlong letters (now (s .entry)) n count from e ⌝ }
+{
+    let rest = retrace_most(&s[..], n, count, from, e, letters);
+    let mut x = rest.reached;
+    let mut at = rest.at;
+    let mut left = rest.left;
+    while 0 < left {
+        let p = egg::inner::parent(s, n, GroupElementId(at));
+        if count <= p {
+            return egg::inner::refuse(17, 0);
+        }
+        let letter = egg::inner::last(s, n, GroupElementId(at));
+        if (n as u32) <= letter {
+            return egg::inner::refuse(17, 0);
+        }
+        let back = previous(s, n, count, x, (letter % 256) as u8);
+        let Reached::Element(y) = back else {
+            return back;
+        };
+        x = y.0;
+        at = p;
+        left -= 1;
+    }
+    Reached::Element(GroupElementId(x))
+}
+
+// Back along the word of the inverse the letters come in the order in which they are walked, so that nothing waits for
+// a return; where that word is longer, along the element's own.
 pub fn compose_elements(s: &[u32], n: u8, count: u32, a: u32, b: u32) -> Reached
     ensures { λ r. ⌜ r ≡ composeIn (now (s .entry)) n count a b ⌝ }
 {
@@ -129,7 +293,15 @@ pub fn compose_elements(s: &[u32], n: u8, count: u32, a: u32, b: u32) -> Reached
     if 4096 < len {
         return egg::inner::refuse(17, 0);
     }
-    along(s, n, count, a, b, len)
+    let i = egg::inner::get(s, egg::inner::inverse_at(n, GroupElementId(b)));
+    if count <= i {
+        return egg::inner::refuse(17, 0);
+    }
+    let back = egg::inner::word_length(s, n, GroupElementId(i));
+    if len < back {
+        return along(&s[..], n, count, a, b, len);
+    }
+    back_along(s, n, count, a, i, back)
 }
 
 pub fn inverse_in(s: &[u32], n: u8, count: u32, a: u32) -> Reached
@@ -185,7 +357,7 @@ pub fn length_in(s: &[u32], n: u8, e: u32) -> Counted
 }
 
 // Whether every letter of the word can be read, so that nothing is written where one cannot.
-fn readable(s: &[u32], n: u8, count: u32, e: u32, len: u32) -> bool
+pub fn readable(s: &[u32], n: u8, count: u32, e: u32, len: u32) -> bool
     ensures { λ r. ⌜ r ≡ readable len (now (s .entry)) n count e ⌝ }
 {
     let mut at = e;
@@ -204,7 +376,7 @@ fn readable(s: &[u32], n: u8, count: u32, e: u32, len: u32) -> bool
 }
 
 // Stores a byte; nothing past the end.
-fn put_byte(out: &mut [u8], i: usize, v: u8)
+pub fn put_byte(out: &mut [u8], i: usize, v: u8)
     ensures { λ r. ⌜ now (out .exit) ≡ set (now (out .entry)) i v ⌝ }
 {
     if i < out.len() {

@@ -7,17 +7,17 @@ use Rattle.egg.specs.Pairs.{pairCode, pairCount, ordersRight}
 use Rattle.egg.specs.Factor.{hasRoom, fitsIn, stretch, readStep, stepAnswer}
 use Rattle.checks.specs.Checks.{missingRow, missing, check8, rangeRow, linksOf, ranges, wrongRow, wrong, check-table, wiped, arriveRow, arrivals, countsRight}
 use Rattle.checks.specs.Checks.{invertFrom, fillInverses, inversesRight, identityRow, columnsRow, spelledRow, spelled, check-steps, fillLeft, goesRow, allGo, lefts, check-rest, check-group}
-use Rattle.builder.specs.Build.{setStep, setWord, adds}
+use Rattle.reading.specs.Build.{setStep, setWord, adds}
 use Rattle.builder.specs.Finish.{finished}
 use Rattle.builder.specs.Lending.{lentRight, within}
-use Rattle.factor.specs.Reading.{readPlace, readRow, readFrom}
+use Rattle.reading.specs.Reading.{readPlace, readRow, readFrom}
 use Rattle.factor.specs.Composed.{composedIn, composed}
-use Rattle.factor.specs.Questions.{admits, along, composeIn, inverseIn, conjugateIn, composeAnswer, inverseAnswer, conjugateAnswer, readable, spell, writeIn, writeAnswer, written}
+use Rattle.factor.specs.Questions.{admits, along, readBack, backAlong, composeIn, inverseIn, conjugateIn, composeAnswer, inverseAnswer, conjugateAnswer, readable, spell, writeIn, writeAnswer, written}
 use Rattle.factor.specs.Relations.{turned, doubledRow, pairsRow, relations, checkAnswer}
 use Rattle.known.specs.Factors.{KnownFactors}
 
 pub known-factors : KnownFactors
-unfolding putAt startOf scan pairCode pairCount ordersRight hasRoom fitsIn stretch readStep stepAnswer missingRow missing check8 rangeRow linksOf ranges wrongRow wrong check-table wiped arriveRow arrivals countsRight invertFrom fillInverses inversesRight identityRow columnsRow spelledRow spelled check-steps fillLeft goesRow allGo lefts check-rest check-group setStep setWord adds finished lentRight within readPlace readRow readFrom composedIn composed admits along composeIn inverseIn conjugateIn composeAnswer inverseAnswer conjugateAnswer readable spell writeIn writeAnswer written turned doubledRow pairsRow relations checkAnswer
+unfolding putAt startOf scan pairCode pairCount ordersRight hasRoom fitsIn stretch readStep stepAnswer missingRow missing check8 rangeRow linksOf ranges wrongRow wrong check-table wiped arriveRow arrivals countsRight invertFrom fillInverses inversesRight identityRow columnsRow spelledRow spelled check-steps fillLeft goesRow allGo lefts check-rest check-group setStep setWord adds finished lentRight within readPlace readRow readFrom composedIn composed admits along readBack backAlong composeIn inverseIn conjugateIn composeAnswer inverseAnswer conjugateAnswer readable spell writeIn writeAnswer written turned doubledRow pairsRow relations checkAnswer
 known-factors = record {
   none = refl;
   rows-1-1 = refl;

@@ -20,10 +20,10 @@ use Rattle.egg.proofs.Scans.{refused-fine}
 use Rattle.checks.specs.Checks.{missingRow, missing, check8, rangeRow, linksOf, ranges, wrongRow, wrong, check-table, wiped, arriveRow, arrivals, countsRight}
 use Rattle.checks.specs.Checks.{invertFrom, fillInverses, inversesRight, identityRow, columnsRow, spelledRow, spelled, check-steps, fillLeft, goesRow, allGo}
 use Rattle.checks.specs.Checks.{lefts, check-rest, check-group}
-use Rattle.builder.specs.Build.{setStep, setWord, adds}
+use Rattle.reading.specs.Build.{setStep, setWord, adds}
 use Rattle.builder.specs.Finish.{finished}
 use Rattle.builder.specs.Lending.{lentRight, within, Making, making}
-use Rattle.factor.specs.Reading.{readPlace, readRow, readFrom}
+use Rattle.reading.specs.Reading.{readPlace, readRow, readFrom}
 use Rattle.factor.specs.Composed.{composedIn, composed}
 use Rattle.factor.specs.Questions.{admits, lengthIn, lengthAnswer}
 use Rattle.known.specs.Factors.{madeBy, tableBy, workBy, call, element, factorOf}

@@ -92,7 +92,7 @@ before-12 t w n N h q =
     }
 
 -- After 11 only 12 is given, and its places are zero.
-abbrev Twelve : Refusal → Type 0
+abbrev pub Twelve : Refusal → Type 0
 Twelve r = r ≡ record { number = 12; a = 0; b = 0; c = 0 }
 
 twelve : Says Twelve (refusedOf 12 0 0 0)
@@ -109,7 +109,7 @@ module _ (t : List ℕ) (n N : ℕ) where
   unfolding allGo goesRow
   all-go-late w = search late
 
-abbrev leftVerdict : Lefts → Verdict
+abbrev pub leftVerdict : Lefts → Verdict
 leftVerdict (left v w) = v
 
 abbrev verdictOf : Checked → Verdict
@@ -126,7 +126,7 @@ checked-says (Refused r) t w c p q = p
 table-says : {Q : Refusal → Type 0} (t : List ℕ) (l : Lefts) → Says Q (leftVerdict l) → Says Q (verdictOf (withTable t l))
 table-says t (left v w) p = p
 
-lefts-late : (k : ℕ) (t : List ℕ) (n N : ℕ) (w : List ℕ) (s : ℕ) → Says Twelve (leftVerdict (lefts k t n N w s))
+pub lefts-late : (k : ℕ) (t : List ℕ) (n N : ℕ) (w : List ℕ) (s : ℕ) → Says Twelve (leftVerdict (lefts k t n N w s))
 unfolding lefts
 lefts-late zero t n N w s = says-fine
 lefts-late (suc k) t n N w s =

@@ -10,8 +10,8 @@ use lib.ListN.{length, replicate}
 use Rattle.egg.specs.Table.{parentOf, lastOf, lengthOf, stepOf}
 use Rattle.egg.specs.declared.Refusal.{Refusal}
 use Rattle.egg.specs.declared.Counted.the-variants.{Count, Refused}
-use Rattle.builder.specs.Build.{numbered}
-use Rattle.factor.specs.Reading.{Placed, placed, readAll}
+use Rattle.reading.specs.Build.{numbered}
+use Rattle.reading.specs.Reading.{Placed, placed, readAll}
 use Rattle.theory.specs.Words.{word-of}
 use Rattle.theory.specs.Numbering.{Numbered, Skips}
 use Rattle.theory.specs.Appearance.{column, FirstAppearance, recorded}

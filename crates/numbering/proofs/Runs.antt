@@ -10,7 +10,7 @@ use lib.ListN.{length, getD, replicate, length-replicate, getD-replicate, List·
 use Rattle.egg.specs.Table.{startOf, parentOf, lastOf, lengthOf}
 use Rattle.egg.specs.declared.Refusal.{Refusal}
 use Rattle.egg.specs.declared.Counted.the-variants.{Count, Refused}
-use Rattle.factor.specs.Reading.{Placed, placed, thenPlaced, readPlace, readRow, readFrom, readAll}
+use Rattle.reading.specs.Reading.{Placed, placed, thenPlaced, readPlace, readRow, readFrom, readAll}
 use Rattle.theory.specs.Numbering.{start, next-row}
 use Rattle.theory.specs.Appearance.{Ahead, row, parent-of, last-of, recorded}
 use Rattle.theory.proofs.Places.{ahead-row, nothing-ahead}

@@ -14,8 +14,8 @@ use lib.ListN.{length, getD}
 use Rattle.egg.specs.Table.{startOf, lengthOf}
 use Rattle.egg.specs.declared.Refusal.{Refusal}
 use Rattle.egg.specs.declared.Counted.the-variants.{Count, Refused}
-use Rattle.builder.specs.Build.{numbered, adds}
-use Rattle.factor.specs.Reading.{Placed, placed, readPlace}
+use Rattle.reading.specs.Build.{numbered, adds}
+use Rattle.reading.specs.Reading.{Placed, placed, readPlace}
 use Rattle.theory.specs.Numbering.{old, new}
 use Rattle.theory.specs.Appearance.{recorded}
 use Rattle.theory.proofs.BoundedTests.{below-suc}

@@ -7,7 +7,7 @@ use mathlib.Core.List.{List}
 use native.Mathlib.Omega.{arith}
 use lib.ListN.{length, getD}
 use Rattle.egg.specs.Table.{startOf, putAt}
-use Rattle.builder.specs.Build.{setStep, setWord}
+use Rattle.reading.specs.Build.{setStep, setWord}
 use Rattle.egg.proofs.Cells.{put-same, put-other, put-length, same-row, same-cell, cell-inside}
 
 abbrev pub cell : List ℕ → ℕ → ℕ → ℕ → ℕ

@@ -7,7 +7,7 @@ use mathlib.Core.List.{List}
 use lib.ListN.{length, getD}
 use Rattle.egg.specs.Table.{startOf, parentOf, lastOf, lengthOf, inverseOf}
 use Rattle.egg.specs.declared.Refusal.{Refusal}
-use Rattle.builder.specs.Build.{numbered}
+use Rattle.reading.specs.Build.{numbered}
 use Rattle.theory.specs.Numbering.{Known, Numbered}
 use Rattle.theory.specs.Appearance.{FirstAppearance, recorded}
 

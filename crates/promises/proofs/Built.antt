@@ -1,4 +1,4 @@
--- A build from composed rows in its stretches: accepted exactly when the rows are taken, and then the table holds them.
+-- A build from the numbers of a source in its stretches: accepted exactly when the rows are taken, and then the table holds them.
 -- Assumes nothing.
 use Prim.Native.Nat.{ℕ, zero, suc, _+_, _*_, _≤_, _<_}
 use mathlib.Core.Path.{_≡_, refl, sym, ap, _∙_, subst}
@@ -13,9 +13,8 @@ use Rattle.egg.specs.declared.Counted.{Counted}
 use Rattle.egg.specs.declared.Counted.the-variants.{Count, Refused}
 use Rattle.egg.specs.Table.{startOf, parentOf, lastOf, lengthOf, stepOf}
 use Rattle.checks.specs.Checks.{Checked, checked, check-group}
-use Rattle.builder.specs.Finish.{Built, built, zeroed, settledBy, finished}
-use Rattle.factor.specs.Reading.{Placed, placed, readAll}
-use Rattle.factor.specs.Composed.{composedAt, finishedPlaced, composedIn}
+use Rattle.builder.specs.Finish.{Built, built, zeroed, settledBy, finished, finishedPlaced}
+use Rattle.reading.specs.Reading.{Placed, placed, readAll}
 use Rattle.theory.specs.Table.{Table, Columns}
 use Rattle.theory.specs.Words.{Parents, Recorded}
 use Rattle.theory.specs.Group.{RightRegular}
@@ -92,7 +91,7 @@ module _ {src back : ℕ → ℕ → ℕ} {n room size N : ℕ} {t : List ℕ} (
     lengths = λ {e} he. read-letters R e he ∙ ap length (sym (read-words R e he));
   }
 
-module _ (rows : List ℕ) (n room size : ℕ) (w : List ℕ) (few : n ≤ 8) (lo : 1 ≤ room) (hi : room ≤ 65535) (fits : room * (2 * n + 4) ≤ size)
+module _ (src : ℕ → ℕ → ℕ) (n room size : ℕ) (w : List ℕ) (few : n ≤ 8) (lo : 1 ≤ room) (hi : room ≤ 65535) (fits : room * (2 * n + 4) ≤ size)
     (work : room * (6 * n * n + 4 * n) ≤ length w) where
   -- The work has a number for each element.
   pub work-enough : {N : ℕ} → N ≤ room → 0 < n → N ≤ length w
@@ -103,13 +102,13 @@ module _ (rows : List ℕ) (n room size : ℕ) (w : List ℕ) (few : n ≤ 8) (l
   pub rows-fit : {N k : ℕ} → N ≤ room → k ≡ size → N * (2 * n + 4) ≤ k
   rows-fit h e = omega (arith, mul-le-mul h (le-refl (2 * n + 4)))
 
-  module _ {N : ℕ} {t₀ : List ℕ} (R : Read (composedAt rows n) n room size N t₀) where
+  module _ {N : ℕ} {t₀ : List ℕ} (R : Read src n room size N t₀) where
     -- What the checks accepted after this reading.
-    pub checked-holds : {t w₁ : List ℕ} → check-group t₀ w n N ≡ checked verdict.Fine t w₁ → Holding (composedAt rows n) n room size N t
+    pub checked-holds : {t w₁ : List ℕ} → check-group t₀ w n N ≡ checked verdict.Fine t w₁ → Holding src n room size N t
     checked-holds {t} {w₁} h =
         let K = checks-kept t₀ w n N h in
         let S = checks-sound t₀ w n N h (R .origin) (omega (arith, R .within)) (rows-fit (R .within) (R .whole)) in
-        let same : (e g : ℕ) → e < N → g < n → stepOf t n e g ≡ composedAt rows n e g = λ e g he hg. K .step-same e hg ∙ read-steps R e g he hg in
+        let same : (e g : ℕ) → e < N → g < n → stepOf t n e g ≡ src e g = λ e g he hg. K .step-same e hg ∙ read-steps R e g he hg in
         record {
           taken = record {
             readable = read-readable R;
@@ -123,7 +122,7 @@ module _ (rows : List ℕ) (n room size : ℕ) (w : List ℕ) (few : n ≤ 8) (l
         }
 
     -- And a group's rows are accepted.
-    pub taken-checked : Taken (composedAt rows n) n room N → (t : List ℕ) × (w₁ : List ℕ) × (check-group t₀ w n N ≡ checked verdict.Fine t w₁)
+    pub taken-checked : Taken src n room N → (t : List ℕ) × (w₁ : List ℕ) × (check-group t₀ w n N ≡ checked verdict.Fine t w₁)
     taken-checked G =
         let r = any-carrier .0 (G .group) in
         let C = columns (r .group) (r .steps) in
@@ -131,23 +130,20 @@ module _ (rows : List ℕ) (n room size : ℕ) (w : List ℕ) (few : n ≤ 8) (l
         (first-parents (R .appearance)) (word-of-recorded (first-parents (R .appearance))) C
         (λ e he. rw (read-words R e he) (G .readable .short he)) w (work-enough (R .within)) (G .identity-row) r
 
-  pub built-holds : {N : ℕ} {t w₁ : List ℕ} → composedIn size w rows n room ≡ built (Count N) t w₁ → Holding (composedAt rows n) n room size N t
-  unfolding composedIn
+  pub built-holds : {N : ℕ} {t w₁ : List ℕ} → finishedPlaced (readAll src n room (replicate size 0)) n w ≡ built (Count N) t w₁ → Holding src n room size N t
   built-holds q =
-      let p = passed (readAll (composedAt rows n) n room (replicate size 0)) n w q in
-      checked-holds (accepted-read (composedAt rows n) n room size few lo hi fits (p .count)) (p .checks)
+      let p = passed (readAll src n room (replicate size 0)) n w q in
+      checked-holds (accepted-read src n room size few lo hi fits (p .count)) (p .checks)
 
   -- Then the work is zero.
-  pub built-work : {N : ℕ} {t w₁ : List ℕ} → composedIn size w rows n room ≡ built (Count N) t w₁ → w₁ ≡ replicate (length w) 0
-  unfolding composedIn
+  pub built-work : {N : ℕ} {t w₁ : List ℕ} → finishedPlaced (readAll src n room (replicate size 0)) n w ≡ built (Count N) t w₁ → w₁ ≡ replicate (length w) 0
   built-work {N} q =
-      let p = passed (readAll (composedAt rows n) n room (replicate size 0)) n w q in
+      let p = passed (readAll src n room (replicate size 0)) n w q in
       p .wiped ∙ ap (λ (k : ℕ). replicate k 0) (checks-work (p .before) w n N (p .checks))
 
-  pub taken-built : {N : ℕ} → Taken (composedAt rows n) n room N → (t : List ℕ) × (w₁ : List ℕ) × (composedIn size w rows n room ≡ built (Count N) t w₁)
-  unfolding composedIn
+  pub taken-built : {N : ℕ} → Taken src n room N → (t : List ℕ) × (w₁ : List ℕ) × (finishedPlaced (readAll src n room (replicate size 0)) n w ≡ built (Count N) t w₁)
   taken-built G =
-      let a = readable-accepted (composedAt rows n) n room size few lo hi fits (G .readable) in
-      let R = accepted-read (composedAt rows n) n room size few lo hi fits (a .1) in
+      let a = readable-accepted src n room size few lo hi fits (G .readable) in
+      let R = accepted-read src n room size few lo hi fits (a .1) in
       let b = taken-checked R G in
       (b .0, zeroed (b .1), passes n w (a .1) (b .2))

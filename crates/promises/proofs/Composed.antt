@@ -107,10 +107,11 @@ module _ (table : List ℕ) (start : ℕ) (work rows : List ℕ) (n room : ℕ) 
   accepted-given : {f : Factor} {t w : List ℕ}
       → composed table start work rows n room ≡ making (record { answer = verdict.Fine; factor = f }) t w
       → Given table start work rows n room f t w
+  unfolding composedIn
   accepted-given {f} {t} {w} q =
       let b = by-build table start work n room build (sym composed-is-build ∙ q) in
-      let H = built-holds rows n room (tableNeed n room) (take (workNeed n room) work) hn lo hi (le-refl (tableNeed n room)) work-lent (b .3 .0) in
-      let z = built-work rows n room (tableNeed n room) (take (workNeed n room) work) hn lo hi (le-refl (tableNeed n room)) work-lent (b .3 .0) in
+      let H = built-holds (composedAt rows n) n room (tableNeed n room) (take (workNeed n room) work) hn lo hi (le-refl (tableNeed n room)) work-lent (b .3 .0) in
+      let z = built-work (composedAt rows n) n room (tableNeed n room) (take (workNeed n room) work) hn lo hi (le-refl (tableNeed n room)) work-lent (b .3 .0) in
       given-at (b .3 .1 .0) (b .3 .1 .1 .0) (b .3 .1 .1 .1) (given H (z ∙ ap (λ (k : ℕ). replicate k 0) work-taken))
 
   -- Accepted exactly when: "a table within 01's limits and the given room is accepted exactly when some group has it as its right steps under the
@@ -118,10 +119,11 @@ module _ (table : List ℕ) (start : ℕ) (work rows : List ℕ) (n room : ℕ) 
   pub composed-exactly : ((f : Factor) × (t : List ℕ) × (w : List ℕ)
       × (composed table start work rows n room ≡ making (record { answer = verdict.Fine; factor = f }) t w))
       ↔ ((N : ℕ) × Taken (composedAt rows n) n room N)
+  unfolding composedIn
   composed-exactly = (
     λ a. (a .0 .elements, accepted-given (a .3) .taken),
     λ g.
-        let b = taken-built rows n room (tableNeed n room) (take (workNeed n room) work) hn lo hi (le-refl (tableNeed n room)) work-lent (g .1) in (
+        let b = taken-built (composedAt rows n) n room (tableNeed n room) (take (workNeed n room) work) hn lo hi (le-refl (tableNeed n room)) work-lent (g .1) in (
           record { start = start; room = room; generators = n; elements = g .0 },
           within table start (start + tableNeed n room) (b .0),
           within work 0 (workNeed n room) (b .1),
@@ -132,18 +134,20 @@ module _ (table : List ℕ) (start : ℕ) (work rows : List ℕ) (n room : ℕ) 
   refused-groupless : {r : Refusal} {f : Factor} {t w : List ℕ}
       → composed table start work rows n room ≡ making (record { answer = verdict.Refused r; factor = f }) t w → r .number ≡ 12
       → (r ≡ record { number = 12; a = 0; b = 0; c = 0 }) × ((N : ℕ) × Groupless (composedAt rows n) n room N)
+  unfolding composedIn
   refused-groupless q number =
       let b = by-refused table start work n room build (sym composed-is-build ∙ q) in
-      built-12 rows n room (tableNeed n room) (take (workNeed n room) work) hn lo hi (le-refl (tableNeed n room)) work-lent (b .2) number
+      built-12 (composedAt rows n) n room (tableNeed n room) (take (workNeed n room) work) hn lo hi (le-refl (tableNeed n room)) work-lent (b .2) number
 
   -- Refused by 12 exactly when reading and 8 to 11 pass and "no group has these right steps".
   pub composed-12 : ((f : Factor) × (t : List ℕ) × (w : List ℕ)
       × (composed table start work rows n room ≡ making (record { answer = refusedOf 12 0 0 0; factor = f }) t w))
       ↔ ((N : ℕ) × Groupless (composedAt rows n) n room N)
+  unfolding composedIn
   composed-12 = (
     λ a. refused-groupless (a .3) refl .1,
     λ g.
-        let b = groupless-built rows n room (tableNeed n room) (take (workNeed n room) work) hn lo hi (le-refl (tableNeed n room)) work-lent (g .1) in (
+        let b = groupless-built (composedAt rows n) n room (tableNeed n room) (take (workNeed n room) work) hn lo hi (le-refl (tableNeed n room)) work-lent (g .1) in (
           noFactor,
           within table start (start + tableNeed n room) (b .0),
           within work 0 (workNeed n room) (b .1),

@@ -21,12 +21,12 @@ use Rattle.egg.specs.declared.Reached.the-variants.{Element, Refused}
 use Rattle.egg.specs.Factor.{readStep, hasRoom}
 use Rattle.egg.proofs.Cells.{put-length, inside}
 use Rattle.checks.specs.Checks.{checked, check-group, invertFrom, invertOf, fillInverses}
-use Rattle.builder.specs.Finish.{built, zeroed}
+use Rattle.builder.specs.Finish.{built, zeroed, finishedPlaced}
 use Rattle.builder.specs.Lending.{tableNeed, workNeed, lentRight, within, making, lentBack, Making}
 use Rattle.builder.proofs.Lending.{lent-table}
 use Rattle.factor.specs.Questions.{onReached}
 use Rattle.factor.specs.Relations.{turned, doubledRow, pairsRow, relationsRow}
-use Rattle.factor.specs.Reading.{placed, readAll}
+use Rattle.reading.specs.Reading.{placed, readAll}
 use Rattle.factor.specs.Composed.{composedAt, composedIn, composed}
 use Rattle.enumeration.specs.Run.{enumerated}
 use Rattle.enumeration.specs.Calls.{enumeratedIn, enumerates}
@@ -231,25 +231,23 @@ module _ {src back : ℕ → ℕ → ℕ} {n room size room′ size′ N : ℕ} 
       let long : length (longer k t) ≡ size′ = longer-length k t ∙ omega (arith, R .whole) in
       ext-getD 0 t′ (longer k t) (R′ .whole ∙ sym long) (λ i h. cells-same i ∙ sym (longer-get k t i))
 
-module _ (rows : List ℕ) (n room size : ℕ) (w : List ℕ) (few : n ≤ 8) (lo : 1 ≤ room) (hi : room ≤ 65535) (fits : room * (2 * n + 4) ≤ size)
+module _ (src : ℕ → ℕ → ℕ) (n room size : ℕ) (w : List ℕ) (few : n ≤ 8) (lo : 1 ≤ room) (hi : room ≤ 65535) (fits : room * (2 * n + 4) ≤ size)
     (work : room * (6 * n * n + 4 * n) ≤ length w) (room′ size′ : ℕ) (w′ : List ℕ) (hi′ : room′ ≤ 65535) (fits′ : room′ * (2 * n + 4) ≤ size′)
     (work′ : room′ * (6 * n * n + 4 * n) ≤ length w′) (more : room ≤ room′) (wider : size ≤ size′) where
   -- The build in its stretches: what was read is the same, then the checks.
-  composed-in-roomier : {N : ℕ} {t w₁ : List ℕ} → composedIn size w rows n room ≡ built (Count N) t w₁
-      → (w₂ : List ℕ) × (composedIn size′ w′ rows n room′ ≡ built (Count N) (longer (size′ - size) t) w₂)
-  unfolding composedIn
-  composed-in-roomier {N} {t} q =
-      let src = composedAt rows n in
+  pub built-roomier : {N : ℕ} {t w₁ : List ℕ} → finishedPlaced (readAll src n room (replicate size 0)) n w ≡ built (Count N) t w₁
+      → (w₂ : List ℕ) × (finishedPlaced (readAll src n room′ (replicate size′ 0)) n w′ ≡ built (Count N) (longer (size′ - size) t) w₂)
+  built-roomier {N} {t} q =
       let p = passed (readAll src n room (replicate size 0)) n w q in
       let R = accepted-read src n room size few lo hi fits (p .count) in
-      let H = checked-holds rows n room size w few lo hi fits work R (p .checks) in
+      let H = checked-holds src n room size w few lo hi fits work R (p .checks) in
       let lo′ : 1 ≤ room′ = omega arith in
       let within-room : N ≤ room′ = omega (arith, R .within) in
       let a = readable-accepted src n room′ size′ few lo′ hi′ fits′ (record { by-rule = R .by-rule; within = within-room; short = H .taken .readable .short }) in
       let r = any-carrier .0 (H .taken .group) in
       let same = read-longer-same R (accepted-read src n room′ size′ few lo′ hi′ fits′ (a .1)) (columns (r .group) (r .steps)) wider in
-      let C = checks-longer few (R .origin) (omega (arith, R .within)) (size′ - size) (p .before) w w′ (rows-fit rows n room size w few lo hi fits work (R .within) (R .whole))
-      (work-enough rows n room′ size′ w′ few lo′ hi′ fits′ work′ within-room) (p .checks) in
+      let C = checks-longer few (R .origin) (omega (arith, R .within)) (size′ - size) (p .before) w w′ (rows-fit src n room size w few lo hi fits work (R .within) (R .whole))
+      (work-enough src n room′ size′ w′ few lo′ hi′ fits′ work′ within-room) (p .checks) in
       (zeroed (C .0), passes n w′ (a .1 ∙ ap (placed (Count N)) same) (C .1))
 
 module _ (table : List ℕ) (start : ℕ) (work rows : List ℕ) (n room : ℕ) (f : Factor) (t w table′ : List ℕ) (start′ : ℕ) (work′ : List ℕ) (room′ : ℕ) where
@@ -257,6 +255,7 @@ module _ (table : List ℕ) (start : ℕ) (work rows : List ℕ) (n room : ℕ) 
   pub composed-roomier : composed table start work rows n room ≡ making (record { answer = verdict.Fine; factor = f }) t w
       → room ≤ room′ → lentRight (length table′) start′ (length work′) room′ n ≡ true → room′ * n ≤ length rows
       → Roomier n start room f t start′ room′ (composed table′ start′ work′ rows n room′)
+  unfolding composedIn
   composed-roomier h more lent′ listed′ =
       let B = rows-call.begun table start work rows n room f t w h in
       let is = rows-call.composed-is-build table start work rows n room (B .generators) (B .lent) (B .listed) in
@@ -266,8 +265,8 @@ module _ (table : List ℕ) (start : ℕ) (work rows : List ℕ) (n room : ℕ) 
       let lent = rows-call.work-lent table start work rows n room (B .generators) (B .lent) (B .listed) in
       let hi′ = rows-call.hi table′ start′ work′ rows n room′ (B .generators) lent′ listed′ in
       let lent₁ = rows-call.work-lent table′ start′ work′ rows n room′ (B .generators) lent′ listed′ in
-      let H = built-holds rows n room (tableNeed n room) (take (workNeed n room) work) (B .generators) lo hi (le-refl (tableNeed n room)) lent (b .3 .0) in
-      let E = composed-in-roomier rows n room (tableNeed n room) (take (workNeed n room) work) (B .generators) lo hi (le-refl (tableNeed n room)) lent
+      let H = built-holds (composedAt rows n) n room (tableNeed n room) (take (workNeed n room) work) (B .generators) lo hi (le-refl (tableNeed n room)) lent (b .3 .0) in
+      let E = built-roomier (composedAt rows n) n room (tableNeed n room) (take (workNeed n room) work) (B .generators) lo hi (le-refl (tableNeed n room)) lent
       room′ (tableNeed n room′) (take (workNeed n room′) work′) hi′ (le-refl (tableNeed n room′)) lent₁ more (mul-le-mul more (le-refl (2 * n + 4))) (b .3 .0) in
       roomier-at (b .3 .1 .0) (b .3 .1 .1 .0)
       (lent-roomier table start n room (lent-table (length table) start (length work) room n (B .lent)) table′ start′ work′ room′

@@ -1,4 +1,4 @@
--- A build from composed rows in its stretches: refused by 12 exactly when reading and 8 to 11 pass and no group has these right steps.
+-- A build from the numbers of a source in its stretches: refused by 12 exactly when reading and 8 to 11 pass and no group has these right steps.
 -- Assumes nothing.
 use Prim.Native.Nat.{ℕ, _+_, _*_, _≤_, _<_}
 use mathlib.Core.Path.{_≡_, refl, sym, ap, _∙_, subst}
@@ -11,9 +11,8 @@ use Rattle.egg.specs.declared.Verdict.the-variants as verdict
 use Rattle.egg.specs.declared.Counted.the-variants.{Count, Refused}
 use Rattle.egg.specs.Table.{startOf, parentOf, lastOf, backOf}
 use Rattle.checks.specs.Checks.{Checked, checked, check-group}
-use Rattle.builder.specs.Finish.{built, zeroed, settledBy, finished}
-use Rattle.factor.specs.Reading.{Placed, placed, readAll}
-use Rattle.factor.specs.Composed.{composedAt, finishedPlaced, composedIn}
+use Rattle.builder.specs.Finish.{built, zeroed, settledBy, finished, finishedPlaced}
+use Rattle.reading.specs.Reading.{Placed, placed, readAll}
 use Rattle.theory.specs.Table.{Columns}
 use Rattle.theory.specs.Words.{Recorded}
 use Rattle.theory.specs.Appearance.{recorded}
@@ -82,21 +81,21 @@ module _ {src : ℕ → ℕ → ℕ} {n room size N : ℕ} {t : List ℕ} (R : R
   read-columns : ((e : ℕ) → e < N → (g : ℕ) → g < n → getD t (startOf n e + n + g) 0 ≡ 0 → ⊥) → Columns n N src (backOf t n)
   read-columns all = columns-by-back (numbered-table (R .by-rule)) (λ e g he hg. R .predecessor he hg (omega (arith, all e he g hg)))
 
-module _ (rows : List ℕ) (n room size : ℕ) (w : List ℕ) (few : n ≤ 8) (least : 1 ≤ room) (most : room ≤ 65535) (fits : room * (2 * n + 4) ≤ size)
+module _ (src : ℕ → ℕ → ℕ) (n room size : ℕ) (w : List ℕ) (few : n ≤ 8) (least : 1 ≤ room) (most : room ≤ 65535) (fits : room * (2 * n + 4) ≤ size)
     (work : room * (6 * n * n + 4 * n) ≤ length w) where
   -- The checks' 12 after this reading.
-  read-12 : {N : ℕ} {t₀ : List ℕ} {back : ℕ → ℕ → ℕ} → Read (composedAt rows n) n room size N t₀ → Columns n N (composedAt rows n) back
+  read-12 : {N : ℕ} {t₀ : List ℕ} {back : ℕ → ℕ → ℕ} → Read src n room size N t₀ → Columns n N src back
       → ((r : Refusal) × (t₁ : List ℕ) × (w₁ : List ℕ) × (check-group t₀ w n N ≡ checked (verdict.Refused r) t₁ w₁) × (r .number ≡ 12))
-      ↔ (Until12 n N (composedAt rows n) back (recorded n (composedAt rows n)) × (RightRegular n N (composedAt rows n) → ⊥))
+      ↔ (Until12 n N src back (recorded n src) × (RightRegular n N src → ⊥))
   read-12 R C =
-      refused-12 few (omega (arith, R .within)) (rows-fit rows n room size w few least most fits work (R .within) (R .whole)) (words-stored R C)
+      refused-12 few (omega (arith, R .within)) (rows-fit src n room size w few least most fits work (R .within) (R .whole)) (words-stored R C)
       (numbered-table (R .by-rule)) (first-parents (R .appearance)) (read-recorded R) C (λ e he. read-readable R .short he) w
-      (work-enough rows n room size w few least most fits work (R .within))
+      (work-enough src n room size w few least most fits work (R .within))
 
   -- So what they refused by 12 is no group's.
-  checked-12 : {N : ℕ} {t₀ : List ℕ} {r : Refusal} {t₁ w₁ : List ℕ} → Read (composedAt rows n) n room size N t₀
+  checked-12 : {N : ℕ} {t₀ : List ℕ} {r : Refusal} {t₁ w₁ : List ℕ} → Read src n room size N t₀
       → check-group t₀ w n N ≡ checked (verdict.Refused r) t₁ w₁ → r .number ≡ 12
-      → (r ≡ record { number = 12; a = 0; b = 0; c = 0 }) × Groupless (composedAt rows n) n room N
+      → (r ≡ record { number = 12; a = 0; b = 0; c = 0 }) × Groupless src n room N
   checked-12 {N} {t₀} {r} {t₁} {w₁} R h number =
       let B = before-12 t₀ w n N h number in
       let C = read-columns R (check8-fine t₀ n N .0 (table-fine t₀ n N .0 (B .table) .0) .1) in
@@ -107,23 +106,20 @@ module _ (rows : List ℕ) (n room size : ℕ) (w : List ℕ) (few : n ≤ 8) (l
 
   -- And reading refuses by no 12.
   either-12 : {r : Refusal}
-      → ((t₀ : List ℕ) × (readAll (composedAt rows n) n room (replicate size 0) ≡ placed (Refused r) t₀))
-      ⊎ CheckRefused (readAll (composedAt rows n) n room (replicate size 0)) n w r
-      → r .number ≡ 12 → (r ≡ record { number = 12; a = 0; b = 0; c = 0 }) × ((N : ℕ) × Groupless (composedAt rows n) n room N)
-  either-12 (inl (t₀, q)) number = absurd (reading-earlier (refused-number (refused-read (composedAt rows n) n room size few least most fits q)) number)
+      → ((t₀ : List ℕ) × (readAll src n room (replicate size 0) ≡ placed (Refused r) t₀))
+      ⊎ CheckRefused (readAll src n room (replicate size 0)) n w r
+      → r .number ≡ 12 → (r ≡ record { number = 12; a = 0; b = 0; c = 0 }) × ((N : ℕ) × Groupless src n room N)
+  either-12 (inl (t₀, q)) number = absurd (reading-earlier (refused-number (refused-read src n room size few least most fits q)) number)
   either-12 (inr (N, t₀, t₁, w₁, q, h)) number =
-      let a = checked-12 (accepted-read (composedAt rows n) n room size few least most fits q) h number in (a .0, (N, a .1))
+      let a = checked-12 (accepted-read src n room size few least most fits q) h number in (a .0, (N, a .1))
 
-  pub built-12 : {r : Refusal} {t w₁ : List ℕ} → composedIn size w rows n room ≡ built (Refused r) t w₁ → r .number ≡ 12
-      → (r ≡ record { number = 12; a = 0; b = 0; c = 0 }) × ((N : ℕ) × Groupless (composedAt rows n) n room N)
-  unfolding composedIn
-  built-12 q number = either-12 (build-refused (readAll (composedAt rows n) n room (replicate size 0)) n w q) number
+  pub built-12 : {r : Refusal} {t w₁ : List ℕ} → finishedPlaced (readAll src n room (replicate size 0)) n w ≡ built (Refused r) t w₁ → r .number ≡ 12
+      → (r ≡ record { number = 12; a = 0; b = 0; c = 0 }) × ((N : ℕ) × Groupless src n room N)
+  built-12 q number = either-12 (build-refused (readAll src n room (replicate size 0)) n w q) number
 
-  pub groupless-built : {N : ℕ} → Groupless (composedAt rows n) n room N
-      → (t : List ℕ) × (w₁ : List ℕ) × (composedIn size w rows n room ≡ built (Refused (record { number = 12; a = 0; b = 0; c = 0 })) t w₁)
-  unfolding composedIn
+  pub groupless-built : {N : ℕ} → Groupless src n room N
+      → (t : List ℕ) × (w₁ : List ℕ) × (finishedPlaced (readAll src n room (replicate size 0)) n w ≡ built (Refused (record { number = 12; a = 0; b = 0; c = 0 })) t w₁)
   groupless-built {N} G =
-      let src = composedAt rows n in
       let a = readable-accepted src n room size few least most fits (G .readable) in
       let R = accepted-read src n room size few least most fits (a .1) in
       let b = read-12 R (G .until-12 .predecessors) .1 (G .until-12, λ g. G .no-group (any-carrier .1 g)) in

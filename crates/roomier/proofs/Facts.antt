@@ -11,7 +11,7 @@ use lib.Dec.{eqb}
 use Rattle.egg.specs.declared.GroupElementId.{GroupElementId}
 use Rattle.egg.specs.declared.GeneratorId.{GeneratorId}
 use Rattle.egg.specs.Table.{pick, putAt, startOf}
-use Rattle.builder.specs.Build.{isNew, setStep}
+use Rattle.reading.specs.Build.{isNew, setStep}
 use Rattle.rows.specs.declared.inner.RelationTableRow.{RelationTableRow}
 use Rattle.rows.specs.declared.inner.SideOfGap.{SideOfGap}
 use Rattle.rows.specs.declared.inner.SideOfGap.the-variants.{Left, Right}

@@ -5,7 +5,7 @@ use Rattle.enumeration.proofs.inner.discover.Statement.{statement}
 use Rattle.enumeration.proofs.inner.discover.Tie as tie
 use Rattle.enumeration.proofs.inner.discover.Reads as reads
 use Rattle.enumeration.proofs.inner.discover.Lts as lts
-use Rattle.builder.proofs.inner.set_successor.Reads as set-successor-reads
+use Rattle.reading.proofs.inner.set_successor.Reads as set-successor-reads
 use Rattle.egg.proofs.inner.put.Reads as put-reads
 use Rattle.enumeration.proofs.inner.settle.Reads as settle-reads
 use Rattle.rows.proofs.inner.add_rows.Reads as add-rows-reads

@@ -5,7 +5,7 @@ use Rattle.enumeration.proofs.inner.learn.Statement.{statement}
 use Rattle.enumeration.proofs.inner.learn.Tie as tie
 use Rattle.enumeration.proofs.inner.learn.Reads as reads
 use Rattle.enumeration.proofs.inner.learn.Lts as lts
-use Rattle.builder.proofs.inner.set_successor.Reads as set-successor-reads
+use Rattle.reading.proofs.inner.set_successor.Reads as set-successor-reads
 use Rattle.egg.proofs.inner.put.Reads as put-reads
 use Rattle.rows.proofs.inner.place_at.Reads as place-at-reads
 

@@ -7,7 +7,7 @@ use Rattle.enumeration.proofs.inner.visit_place.Statement.{statement}
 use Rattle.enumeration.proofs.inner.visit_place.Tie as tie
 use Rattle.enumeration.proofs.inner.visit_place.Reads as reads
 use Rattle.enumeration.proofs.inner.visit_place.Lts as lts
-use Rattle.builder.proofs.inner.add_successor.Reads as add-successor-reads
+use Rattle.reading.proofs.inner.add_successor.Reads as add-successor-reads
 use Rattle.egg.proofs.inner.get.Reads as get-reads
 use Rattle.egg.proofs.inner.successor_at.Reads as successor-at-reads
 use Rattle.enumeration.proofs.inner.discover.Reads as discover-reads

@@ -5,9 +5,9 @@ use native.Mathlib.Omega.{arith}
 use borrow.Author.Needs.{needs}
 use lib.ListN.{length}
 use Rattle.egg.proofs.Laws.{product-small}
-use Rattle.factor.specs.Reading.{readRow}
+use Rattle.reading.specs.Reading.{readRow}
 use Rattle.factor.specs.Composed.{composedAt}
-use Rattle.factor.proofs.Readings.{row-next, row-stop, row-end}
+use Rattle.reading.proofs.Readings.{row-next, row-stop, row-end}
 use Rattle.factor.proofs.inner.read_row.Statement.{statement}
 use Rattle.factor.proofs.inner.read_row.Tie as tie
 

@@ -4,9 +4,9 @@ use mathlib.Core.Path.{_≡_, refl, sym, ap, _∙_}
 use native.Mathlib.Omega.{arith}
 use borrow.Author.Needs.{needs}
 use lib.ListN.{length}
-use Rattle.factor.specs.Reading.{readFrom}
+use Rattle.reading.specs.Reading.{readFrom}
 use Rattle.factor.specs.Composed.{composedAt}
-use Rattle.factor.proofs.Readings.{rows-done, rows-next, rows-stop, rows-end}
+use Rattle.reading.proofs.Readings.{rows-done, rows-next, rows-stop, rows-end}
 use Rattle.factor.proofs.inner.read_rows.Statement.{statement}
 use Rattle.factor.proofs.inner.read_rows.Tie as tie
 

@@ -1,8 +1,8 @@
 -- The three stores one after the other are `setWord`'s.
-use Rattle.builder.proofs.Laws.{word-stored}
+use Rattle.reading.proofs.Laws.{word-stored}
 use borrow.Author.Needs.{needs}
-use Rattle.builder.proofs.inner.record_word.Statement.{statement}
-use Rattle.builder.proofs.inner.record_word.Tie as tie
+use Rattle.reading.proofs.inner.record_word.Statement.{statement}
+use Rattle.reading.proofs.inner.record_word.Tie as tie
 
 start-requires : tie.Need-start-requires
 start-requires c κs = search needs

@@ -1,9 +1,9 @@
 -- One law for each answer of a place; an element is added only within the room, so that the next count fits.
 use native.Mathlib.Omega.{arith}
-use Rattle.factor.proofs.Readings.{added-within, place-beyond, place-known, place-refused, place-new}
+use Rattle.reading.proofs.Readings.{added-within, place-beyond, place-known, place-refused, place-new}
 use borrow.Author.Needs.{needs}
-use Rattle.factor.proofs.inner.place.Statement.{statement}
-use Rattle.factor.proofs.inner.place.Tie as tie
+use Rattle.reading.proofs.inner.place.Statement.{statement}
+use Rattle.reading.proofs.inner.place.Tie as tie
 
 returns : tie.Need-returns
 returns c = let a = (c .before .before .args) in place-beyond (a .t .now) (a .n) (a .room) (a .count) (a .e) (a .g) (a .v) (c .if1 .taken)

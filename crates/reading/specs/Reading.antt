@@ -12,7 +12,7 @@ use Rattle.egg.specs.declared.Reached.the-variants as reached
 use Rattle.egg.specs.declared.Counted.{Counted}
 use Rattle.egg.specs.declared.Counted.the-variants.{Count, Refused}
 use Rattle.egg.specs.Table.{pick}
-use Rattle.builder.specs.Build.{setStep, numbered, Adds, adds}
+use Rattle.reading.specs.Build.{setStep, numbered, Adds, adds}
 
 -- The count of elements, or a refusal, and the table.
 pub data Placed : Type 0 where

@@ -1,9 +1,9 @@
 -- One law of `adds` for each answer, by the tests that lead to it.
 use native.Mathlib.Omega.{arith}
-use Rattle.builder.proofs.Laws.{adds-full, adds-long, adds-new, parts}
+use Rattle.reading.proofs.Laws.{adds-full, adds-long, adds-new, parts}
 use borrow.Author.Needs.{needs}
-use Rattle.builder.proofs.inner.add_successor.Statement.{statement}
-use Rattle.builder.proofs.inner.add_successor.Tie as tie
+use Rattle.reading.proofs.inner.add_successor.Statement.{statement}
+use Rattle.reading.proofs.inner.add_successor.Tie as tie
 
 cast-t12 : tie.Need-cast-t12
 cast-t12 c = search needs

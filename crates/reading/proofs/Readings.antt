@@ -14,9 +14,9 @@ use Rattle.egg.specs.declared.Reached.{Reached}
 use Rattle.egg.specs.declared.Reached.the-variants as reached
 use Rattle.egg.specs.declared.Counted.{Counted}
 use Rattle.egg.specs.declared.Counted.the-variants.{Count, Refused}
-use Rattle.builder.specs.Build.{setStep, numbered, adds}
-use Rattle.builder.proofs.Laws.{adds-full, parts}
-use Rattle.factor.specs.Reading.{placed, readPlace, readRow, readFrom}
+use Rattle.reading.specs.Build.{setStep, numbered, adds}
+use Rattle.reading.proofs.Laws.{adds-full, parts}
+use Rattle.reading.specs.Reading.{placed, readPlace, readRow, readFrom}
 
 -- An element is added only within the room.
 pub added-within : (t : List ℕ) (n room count : ℕ) (e : GroupElementId) (g : GeneratorId) {a : Reached} {x : GroupElementId}

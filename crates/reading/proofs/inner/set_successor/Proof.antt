@@ -1,8 +1,8 @@
 -- The two stores are `setStep`'s; what was read before them tells whether the place was new.
-use Rattle.builder.proofs.Laws.{step-stored}
+use Rattle.reading.proofs.Laws.{step-stored}
 use borrow.Author.Needs.{needs}
-use Rattle.builder.proofs.inner.set_successor.Statement.{statement}
-use Rattle.builder.proofs.inner.set_successor.Tie as tie
+use Rattle.reading.proofs.inner.set_successor.Statement.{statement}
+use Rattle.reading.proofs.inner.set_successor.Tie as tie
 
 successor-at-requires : tie.Need-successor-at-requires
 successor-at-requires c κs = search needs

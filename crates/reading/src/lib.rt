@@ -1,0 +1,2 @@
+// builder.rs and abstract_group.rs: the stores of a build, and the reading of a table, one place after the other.
+pub mod inner;
