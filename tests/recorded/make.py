@@ -8,6 +8,8 @@ lines of the oracle's answer:
   = ok               inside the domain of equality: another program must give
                      the same answer
   = refused K A B C  document 01's refusal with its places, whatever the Rust does
+  = LINE             each line of the answer that document 01 expects, where the
+                     Rust gives another
   = oracle           a question to the oracle alone
 
 The expectations come from model.py, written from document 01. Wherever the
@@ -322,6 +324,77 @@ def tables():
     yield rows_command(1, 4098, [[(e + 1) % 4098] for e in range(4098)])
 
 
+# ---------------------------------------------------------------- the builder
+
+
+def sets(n, rows):
+    """All steps of the rows, set in order."""
+    return [spaced("set", e, g, rows[e][g]) for e in range(len(rows)) for g in range(n)]
+
+
+def grown(rng, rows, in_order):
+    """A builder's commands for these rows: elements are added where they first
+    appear, or else in any order, which numbers them anew; steps between known
+    elements are set in between, in any order."""
+    n = len(rows[0])
+    number, todo = {0: 0}, [(e, g) for e in range(len(rows)) for g in range(n)]
+    yield spaced("builder", n)
+    while todo:
+        news = [(e, g) for e, g in todo if e in number and rows[e][g] not in number]
+        olds = [(e, g) for e, g in todo if e in number and rows[e][g] in number]
+        if news and (not olds or rng.random() < 0.5):
+            e, g = news[0] if in_order else rng.choice(news)
+            number[rows[e][g]] = len(number)
+            yield spaced("add", number[e], g)
+        elif olds:
+            e, g = rng.choice(olds)
+            yield spaced("set", number[e], g, number[rows[e][g]])
+        else:
+            return  # what is left is never reached
+        todo.remove((e, g))
+
+
+def spoilt(rng, lines):
+    """The same with steps overwritten, left out, added or out of range."""
+    lines = list(lines)
+    count = 1 + sum(line.startswith("add") for line in lines)
+    n = int(lines[0].split()[1])
+    for _ in range(rng.randint(1, 3)):
+        k, way = rng.randrange(1, len(lines) + 1), rng.randrange(5)
+        e, g, r = rng.randrange(count + 1), rng.randrange(n), rng.randrange(count + 1)
+        if way == 0 and k < len(lines) and lines[k].startswith("set"):
+            del lines[k]
+        elif way == 1:
+            lines.insert(k, spaced("add", e, g))
+        elif way == 2:  # overwritten, and set right again
+            again = [line for line in lines if line.startswith(spaced("set", e, g, ""))]
+            lines += [spaced("set", e, g, r), *again[-1:]]
+        elif way == 3:
+            lines.insert(k, spaced("set", e, rng.choice((g, n, 255)), r))
+        else:
+            lines.append(spaced("set", e, g, r))
+    return lines
+
+
+def built(rng, most):
+    """A build in order, one in another order, and spoilt ones."""
+    rows = random_group(rng)
+    while len(rows) > most:
+        rows = random_group(rng)
+    yield from [*grown(rng, rows, True), "build", *grown(rng, rows, False), "build"]
+    for worse in (rows, *damaged(rng, rows)):
+        yield from [*spoilt(rng, grown(rng, worse, rng.random() < 0.7)), "build"]
+
+
+def builders():
+    rng = random.Random(13)
+    yield "# Builds element by element."
+    yield from ["builder 0", "add 0 0", "build", "builder 9", "room 0", "builder 1", "room 1", "builder 1"]
+    yield from ["add 0 0", "add 0 0", "build", "room 65536", "builder 1", "room 130"]
+    for _ in range(40):
+        yield from built(rng, 12)
+
+
 # --------------------------------------------------------- products, subgroups
 
 FACTORS = ["enum 0", Z2, "enum 2 2", S3, "enum 2 4", "enum 2 5", "enum 3 2 2 2", "enum 3 3 2 3"]
@@ -455,6 +528,24 @@ def differences():
             "A repeated generator",
             ["table 2 2 1 1 0 0", "factor table 2 2 1 1 0 0", "prod", "gens", "step 0 1"],
         ),
+        (
+            "A builder whose steps were overwritten",
+            ["builder 2", "add 0 1", "add 0 0", *sets(2, [[1, 2], [2, 0], [0, 1]]), "build"],
+        ),
+        (
+            "A builder whose numbers skip",
+            ["builder 2", "add 0 0", "add 0 1", "add 2 0", "add 1 1", "add 4 0"]
+            + [*sets(2, [[1, 2], [0, 4], [3, 0], [2, 5], [5, 1], [4, 3]]), "build"],
+        ),
+        (
+            "A builder's element that nothing reaches",
+            ["builder 1", "add 0 0", "add 1 0", "add 2 0"]
+            + [*sets(1, [[1], [0], [3], [2]]), "build"],
+        ),
+        (
+            "A builder's arguments out of range",
+            ["builder 1", "add 1 0", "add 0 1", "set 0 0 1", "add 0 0", "set 0 0 2", "build"],
+        ),
         ("The room before the number", ["table 1 1 2", "table 1 2 1 3"]),
         (
             "Elements out of range",
@@ -522,6 +613,7 @@ FILES = {
     "known": known,
     "enum": enumerations,
     "table": tables,
+    "builder": builders,
     "product": products,
     "subgroup": subgroups,
     "differences": differences,
@@ -537,6 +629,8 @@ def allowed(command, refused, answer):
     read = spaced("last-read", a, b)
     if k in (1, 4, 6, 14, 15):
         return True  # limits of document 01 that the Rust does not have
+    if command in ("add", "set") or command == "build" and (refused.stale or k in (7, 8, 17)):
+        return True  # the Rust looks at no order of numbers, nor from where an element is reached
     if k == 2:
         return said == "bad order list length"
     if k == 3:  # 1 and 0, or from 32,768 on, which wraps
@@ -584,10 +678,15 @@ def commands(lines):
             if not line.startswith("enum 2"):
                 yield "check " + line, "oracle", None
         else:
+            stale = line == "build" and model.builder and model.builder.stale()
             try:
                 answer = model.answer(line)
-                yield line, "oracle" if answer is None else "ok", answer
+                if stale:
+                    yield line, answer, None
+                else:
+                    yield line, "oracle" if answer is None else "ok", answer
             except Refused as refused:
+                refused.stale = stale
                 yield line, refused, None
                 if refused.number == 5 and line.startswith("enum"):
                     yield place, "oracle", refused.places
@@ -596,6 +695,8 @@ def commands(lines):
 def agree(line, expect, said, answer):
     """Whether the model and the oracle agree, so far as both speak."""
     words = line.split()
+    if isinstance(expect, list):
+        return True
     if isinstance(expect, Refused):
         return allowed(words[words[0] == "factor"], expect, answer)
     if words[0] == "place" and said:
@@ -624,7 +725,8 @@ def record(name, theme):
             )
         text.append("> " + line)
         if answer:
-            text += ["= %s" % expect, *answer]
+            lines = expect if isinstance(expect, list) else [expect]
+            text += [*("= %s" % x for x in lines), *answer]
     (HERE / (name + ".txt")).write_text("\n".join(text) + "\n")
     print("%s.txt: %d cases" % (name, sum(line.startswith("= ") for line in text)))
 

@@ -69,24 +69,30 @@ def new_element(words, e, g, room):
     words.append(words[e] + (g,))
 
 
-def read(n, room, number):
-    """Reads number(e, g) at each place in order: 7, 5, 6, and then `build`."""
+def read(n, room, number, count=1, image=False):
+    """Reads number(e, g) at each place in order: 7, 5, 6, and then `build`. A
+    builder's number may be missing (None), and its `count` of elements may be
+    more than are reached; an image's is 16 then, before 8."""
     rows, words = [], [()]
     while len(rows) < len(words):
         e, row = len(rows), []
         for g in range(n):
             v = number(e, g)
-            if v > len(words):
+            if v is not None and v > len(words):
                 raise Refused(7, e, g, v)
             if v == len(words):
                 new_element(words, e, g, room)
             row.append(v)
         rows.append(row)
-    return build(n, rows, words)
+    if image and len(rows) < count:
+        raise Refused(16)
+    return build(n, rows, words, count)
 
 
-def build(n, rows, words):
-    """Refusals 8 to 12 on the rows that were reached."""
+def build(n, rows, words, known=1):
+    """Refusals 8 to 12 on the rows that were reached. Rows never reached are
+    no part of the table, so the first element that was not reached has no
+    predecessor."""
     count = len(rows)
     back = [[None] * n for _ in rows]
     for e, g in places(count, n):
@@ -96,6 +102,8 @@ def build(n, rows, words):
         for e, g in places(count, n):
             if table[e][g] is None:
                 raise Refused(8, e, g)
+    if count < known:
+        raise Refused(8, count, 0)
     arrivals = [0] * count
     for e, g in places(count, n):
         v = rows[e][g]
@@ -142,6 +150,113 @@ def table(n, room, numbers):
     """A composed table with `room`, from a lent list."""
     check_room(n, room, len(numbers))
     return read(n, room, lambda e, g: numbers[e * n + g])
+
+
+# ------------------------------------------------------------------- builder
+
+
+class Builder:
+    """A table built element by element. `lengths` is None once the build has
+    ended: its handle then fits no buffer. `made` has the place where each
+    element was added, and `overwritten` says whether a step was set anew."""
+
+    def __init__(self, n, room):
+        check_room(n, room)
+        self.n, self.room = n, room
+        self.rows, self.lengths, self.made = [[None] * n], [0], [None]
+        self.overwritten = False
+
+    def place(self, *arguments):
+        if self.lengths is None:
+            raise Refused(17)
+        bounds = (len(self.rows), self.n, len(self.rows))
+        check_arguments(zip(arguments, bounds))
+
+    def add(self, e, g):
+        self.place(e, g)
+        if len(self.rows) == self.room or self.lengths[e] == WORD_LIMIT:
+            full = len(self.rows) == self.room
+            self.lengths = None
+            raise Refused(5 if full else 6, e, g)
+        self.rows.append([None] * self.n)
+        self.lengths.append(self.lengths[e] + 1)
+        self.overwritten |= self.rows[e][g] is not None
+        self.made.append((e, g))
+        self.rows[e][g] = len(self.rows) - 1
+        return len(self.rows) - 1
+
+    def stale(self):
+        """Whether a word or a predecessor that the Rust keeps may not be what
+        the successors say: a step was set anew, or an element was not added at
+        the place where it first appears."""
+        first = {}
+        for e, g in places(len(self.rows), self.n):
+            first.setdefault(self.rows[e][g], (e, g))
+        made = enumerate(self.made[1:], 1)
+        return self.overwritten or any(first.get(x) != place for x, place in made)
+
+    def set(self, e, g, r):
+        self.place(e, g, r)
+        new = self.rows[e][g] is None
+        self.overwritten |= self.rows[e][g] not in (None, r)
+        self.rows[e][g] = r
+        return "new" if new else "known"
+
+    def build(self):
+        """What its successors say, read in order."""
+        self.place()
+        rows, self.lengths = self.rows, None
+        return read(self.n, self.room, lambda e, g: rows[e][g], len(rows))
+
+
+# ----------------------------------------------------------------- the image
+
+
+def image_of(f):
+    body = bytes([1, f.n]) + f.count.to_bytes(2, "big")
+    body += b"".join(v.to_bytes(2, "big") for row in f.rows for v in row)
+    return len(body).to_bytes(4, "big") + body
+
+
+def image_head(data):
+    """n, N and the successors by (e, g): total size, length, version (16), n
+    (1), N not 0 and the length formula (16)."""
+    if len(data) < 8 or int.from_bytes(data[:4], "big") != len(data) - 4 or data[4] != 1:
+        raise Refused(16)
+    n, count = data[5], int.from_bytes(data[6:8], "big")
+    if n > MOST_GENERATORS:
+        raise Refused(1, n)
+    if count == 0 or len(data) != 8 + 2 * n * count:
+        raise Refused(16)
+    return n, count, lambda e, g: int.from_bytes(data[8 + 2 * (e * n + g) :][:2], "big")
+
+
+def read_image(data):
+    n, count, number = image_head(data)
+    return read(n, count, number, count, image=True)
+
+
+def check_image(data):
+    """What the C function returns: the refusal's number, or 0."""
+    try:
+        read_image(data)
+    except Refused as refused:
+        return refused.number
+    return 0
+
+
+def walk_image(data, start, word):
+    """The element reached, or 65,536 and the refusal's number."""
+    try:
+        n, count, number = image_head(data)
+        check_arguments([(start, count), *((g, n) for g in word)])
+        for g in word:
+            start = number(start, g)
+            if start >= count:
+                raise Refused(17)
+    except Refused as refused:
+        return 65536 + refused.number
+    return start
 
 
 # --------------------------------------------------------------- enumeration
@@ -413,6 +528,8 @@ class Model:
         self.room, self.quiet = MOST_ELEMENTS, False
         self.clear()
 
+        self.builder = None
+
     def clear(self):
         self.factors, self.product, self.sub = [], Product([]), None
         self.refused = False  # a factor or the product was
@@ -432,6 +549,24 @@ class Model:
             return []
         if name in ("enum", "table"):
             return self.show(self.make([name] + rest))
+        if name == "image":
+            return [spaced("ok", image_of(self.make(rest)).hex())]
+        if name in ("unimage", "imgcheck", "imgwalk"):
+            data = bytes.fromhex(rest[0].replace("-", ""))
+            if name == "unimage":
+                return self.show(read_image(data))
+            if name == "imgcheck":
+                return [str(check_image(data))]
+            return [str(walk_image(data, int(rest[1]), [int(g) for g in rest[2:]]))]
+        if name == "builder":
+            self.builder = None
+            self.builder = Builder(int(rest[0]), self.room)
+            return ["ok"]
+        if name in ("add", "set", "build"):
+            if self.builder is None:
+                return None
+            made = getattr(self.builder, name)(*(int(x) for x in rest))
+            return self.show(made) if name == "build" else [str(made)]
         if name == "against":
             bar = rest.index("|")
             against(self.make(rest[:bar]), [int(x) for x in rest[bar + 1 :]])

@@ -130,6 +130,7 @@ struct Oracle {
     factors: Vec<Group>,
     group: Group,
     sub: Option<SubgroupAction<NoPoint>>,
+    builder: Option<AbstractGroupLutBuilder>,
 }
 
 impl Oracle {
@@ -222,16 +223,7 @@ impl Oracle {
                 let g = factor(w)?;
                 self.say_factor(&g);
             }
-            "bench" => {
-                let mut least = f64::MAX;
-                let mut count = 0;
-                for _ in 0..3 {
-                    let start = std::time::Instant::now();
-                    count = factor(&w[1..])?.element_count();
-                    least = least.min(start.elapsed().as_secs_f64());
-                }
-                self.say(format!("{count} {least:.6}"));
-            }
+            "bench" => self.bench(&w[1..])?,
             "place" => self.place(w)?,
             "check" => self.check(&w[1..])?,
             "against" => self.against(&w[1..])?,
@@ -245,6 +237,17 @@ impl Oracle {
                 let (n, count) = (self.group.generators().len(), self.group.element_count());
                 self.say(format!("ok {n} {count}"));
             }
+            "builder" => {
+                let n = number(w, 1)?;
+                self.builder = Some(guard(|| AbstractGroupLutBuilder::new("", n))?);
+                self.say("ok");
+            }
+            "add" | "set" => self.grow(w)?,
+            "build" => {
+                let b = self.builder.take().ok_or("no builder")?;
+                let g = guard(|| b.build())?;
+                self.say_factor(&g);
+            }
             "flatten" => {
                 let flat = guard(|| self.group.flatten())?;
                 match flat.direct_product_decomposition().first() {
@@ -253,18 +256,7 @@ impl Oracle {
                 }
             }
             "sub" | "subpred" => {
-                let act = guard(|| action_of(&self.group))?;
-                let s = if w[0] == "sub" {
-                    let gens = (1..w.len())
-                        .map(|i| element(w, i))
-                        .collect::<Answer<Vec<_>>>()?;
-                    guard(|| SubgroupAction::new(&act, &gens.into()))?
-                } else {
-                    let member: Vec<u8> = numbers(&w[1..])?;
-                    guard(|| {
-                        SubgroupAction::from_subgroup_predicate(&act, |e| member[e.0 as usize] != 0)
-                    })?
-                };
+                let s = self.make_subgroup(w)?;
                 self.say_subgroup(&s);
                 self.sub = Some(s);
             }
@@ -282,6 +274,91 @@ impl Oracle {
             _ => self.question(w)?,
         }
         Ok(())
+    }
+
+    /// `add e g` and `set e g r`, by the original builder. They are tried on a
+    /// copy, so that one that panics leaves the builder as it was; an error
+    /// ends the build.
+    fn grow(&mut self, w: &[&str]) -> Answer<()> {
+        let (e, g) = (element(w, 1)?, GeneratorId(number(w, 2)?));
+        let mut b = self.builder.clone().ok_or("no builder")?;
+        if w[0] == "set" {
+            let r = element(w, 3)?;
+            let new = guard(|| Ok(b.set_successor(e, g, r)))?;
+            self.builder = Some(b);
+            self.say(if new { "new" } else { "known" });
+            return Ok(());
+        }
+        match guard(|| b.add_successor(e, g)) {
+            Ok(x) => {
+                self.builder = Some(b);
+                self.say(x);
+                Ok(())
+            }
+            Err(line) => {
+                if line.starts_with("err") {
+                    self.builder = None;
+                }
+                Err(line)
+            }
+        }
+    }
+
+    /// The least seconds of three, and a number that the same work gives again:
+    /// of a factor its size, of a subgroup or a flattened product too, of
+    /// questions the sum of their answers.
+    fn bench(&mut self, w: &[&str]) -> Answer<()> {
+        let mut least = f64::MAX;
+        let mut given = 0;
+        let asked = match w[0] {
+            "enum" | "table" | "sub" | "subpred" | "flatten" => vec![],
+            _ => pairs(number(w, 1)?),
+        };
+        for _ in 0..3 {
+            let start = std::time::Instant::now();
+            given = match w[0] {
+                "enum" | "table" => factor(w)?.element_count() as u32,
+                "sub" | "subpred" => {
+                    let s = self.make_subgroup(w)?;
+                    s.subgroup_action.group().element_count() as u32
+                }
+                "flatten" => guard(|| self.group.flatten())?.element_count() as u32,
+                _ => self.ask_often(w[0], &asked)?,
+            };
+            least = least.min(start.elapsed().as_secs_f64());
+        }
+        self.say(format!("{given} {least:.9}"));
+        Ok(())
+    }
+    /// The sum of the answers to one question, over many arguments.
+    fn ask_often(&self, name: &str, asked: &[(u32, u32)]) -> Answer<u32> {
+        let g = &self.group;
+        let (n, count) = (g.generators().len() as u32, g.element_count() as u32);
+        let e = |x: u32| GroupElementId(x % count);
+        let sum = |f: &dyn Fn(u32, u32) -> u32| {
+            asked.iter().fold(0u32, |s, &(a, b)| s.wrapping_add(f(a, b)))
+        };
+        Ok(match name {
+            "step" => sum(&|a, b| g.compose_elem_generator(e(a), GeneratorId((b % n) as u8)).0),
+            "compose" => sum(&|a, b| g.compose(e(a), e(b)).0),
+            "conjugate" => sum(&|a, b| g.conjugate(e(a), e(b)).0),
+            "inverse" => sum(&|a, _| g.inverse(e(a)).0),
+            "powi" => sum(&|a, b| g.powi(e(a), b as i32).0),
+            "period" => sum(&|a, _| g.period(e(a)) as u32),
+            "word" => sum(&|a, _| g.factorization(e(a)).map(|k| k.0 as u32 + 1).sum()),
+            x => return Err(format!("no question {x}")),
+        })
+    }
+    fn make_subgroup(&self, w: &[&str]) -> Answer<SubgroupAction<NoPoint>> {
+        let act = guard(|| action_of(&self.group))?;
+        if w[0] == "sub" {
+            let gens = (1..w.len())
+                .map(|i| element(w, i))
+                .collect::<Answer<Vec<_>>>()?;
+            return guard(|| SubgroupAction::new(&act, &gens.into()));
+        }
+        let member: Vec<u8> = numbers(&w[1..])?;
+        guard(|| SubgroupAction::from_subgroup_predicate(&act, |e| member[e.0 as usize] != 0))
     }
 
     /// Questions about the current product and subgroup.
@@ -424,6 +501,16 @@ impl Oracle {
     }
 }
 
+/// Arguments for `bench`, the same each time.
+fn pairs(count: usize) -> Vec<(u32, u32)> {
+    let mut x = 1u64;
+    let mut next = || {
+        x = x.wrapping_mul(6364136223846793005).wrapping_add(1442695040888963407);
+        (x >> 32) as u32
+    };
+    (0..count).map(|_| (next(), next())).collect()
+}
+
 /// Whether `period` would run for ever: then no power comes to the identity
 /// within as many steps as there are elements.
 fn never_ends(g: &Group, a: GroupElementId) -> bool {
@@ -448,6 +535,7 @@ pub fn main() {
         factors: vec![],
         group: Group::trivial(),
         sub: None,
+        builder: None,
     };
     for line in std::io::stdin().lock().lines() {
         let line = line.unwrap();
