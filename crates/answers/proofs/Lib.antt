@@ -4,3 +4,7 @@ pub mod Codes
 pub mod Relators
 pub mod Handles
 pub mod Answers
+pub mod FirstWords
+pub mod Unaltered
+pub mod Refuses
+pub mod Papers

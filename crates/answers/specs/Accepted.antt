@@ -24,13 +24,15 @@ use Rattle.theory.specs.Words.{walk}
 use Rattle.theory.specs.Group.{GroupOn, RightSteps, conjugate}
 use Rattle.theory.specs.Presentation.{order-of, alternate, Relator, Holds}
 use Rattle.meaning.specs.Stored.{wordOf}
-use Rattle.meaning.specs.Sound.{Sound}
+use Rattle.meaning.specs.Sound.{Sound, Ruled}
 
--- A factor that was accepted: its handle fits the buffer, and its stretch is an accepted table. Document 01: "its handle and its needed
--- stretch of table come unaltered from the call that accepted it".
+-- A factor that was accepted, whichever call made it: its handle fits the buffer, its stretch holds a table that the checks let through, and that table
+-- follows the numbering rule, with the parent and last generator of each element's first appearance. Document 01: "its handle and its needed stretch of
+-- table come unaltered from the call that accepted it".
 pub record Accepted (t : List ℕ) (f : Factor) : Type 0 where
   pub fits : fitsIn (length t) f ≡ true
   pub sound : Sound (stretch t f) (f .generators) (f .elements)
+  pub ruled : Ruled (stretch t f) (f .generators) (f .elements)
 
 -- The step, the step back and the recorded word that the factor's stretch holds.
 abbrev pub factorStep : List ℕ → Factor → ℕ → ℕ → ℕ

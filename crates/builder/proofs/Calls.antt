@@ -1,13 +1,16 @@
 -- One law for each answer of the builder's calls, by the tests that lead to it.
 -- Assumes nothing.
-use Prim.Native.Nat.{ℕ, _+_, _-_, _≤_, _<_}
+use Prim.Native.Nat.{ℕ, _+_, _*_, _-_, _≤_, _<_}
 use mathlib.Core.Path.{_≡_, refl, sym, ap, _∙_}
 use mathlib.Core.Bool.{Bool, true, false}
 use mathlib.Core.List.{List, _++_}
+use native.Mathlib.Nat.{mul-le-mul}
 use native.Mathlib.Omega.{arith}
 use borrow.Author.Tests.{lt-ltb, le-ltb, le-leb, lt-leb}
 use borrow.Rule.Slice.PartMut.{midOf, putMid}
+use lib.Dec.{ltb}
 use lib.ListN.{length, take, drop, replicate}
+use lib.Seq.{length-take-le}
 use Rattle.egg.specs.declared.GroupElementId.{GroupElementId}
 use Rattle.egg.specs.declared.GeneratorId.{GeneratorId}
 use Rattle.egg.specs.declared.Refusal.{Refusal}
@@ -18,10 +21,10 @@ use Rattle.egg.specs.declared.Verdict.the-variants as verdict
 use Rattle.egg.specs.declared.Reached.{Reached}
 use Rattle.egg.specs.declared.Reached.the-variants as reached
 use Rattle.egg.specs.declared.Counted.{Counted}
-use Rattle.egg.specs.declared.Counted.the-variants.{Count}
 use Rattle.egg.specs.Scan.{refusedOf}
 use Rattle.egg.proofs.Scans.{andThen-fine}
-use Rattle.egg.specs.Factor.{hasRoom, fitsIn, stretch}
+use Rattle.egg.specs.Table.{lengthOf}
+use Rattle.egg.specs.Factor.{hasRoom, fitsIn, stretch, refusedReach}
 use Rattle.egg.proofs.Rooms.{has, room-enough, limited}
 use Rattle.builder.specs.declared.Builder.{Builder}
 use Rattle.builder.specs.declared.Begun.{Begun}
@@ -29,10 +32,10 @@ use Rattle.builder.specs.declared.Grown.{Grown}
 use Rattle.builder.specs.declared.Stored.{Stored}
 use Rattle.builder.specs.declared.Stored.the-variants as stored
 use Rattle.reading.specs.Build.{isNew, setStep, adds}
-use Rattle.builder.specs.Finish.{built, finished}
-use Rattle.builder.specs.Refill.{refilled}
+use Rattle.builder.specs.Finish.{built}
+use Rattle.builder.specs.Own.{ownIn}
 use Rattle.builder.specs.Lending.{tableNeed, workNeed, within, Ends, noFactor, refusedMade, madeOf, making}
-use Rattle.builder.specs.Calls.{Leaving, leaving, builderOf, refusedBegun, begins, placed, placedStep, grown, growsBy, grows, newOr, stores, builds}
+use Rattle.builder.specs.Calls.{Leaving, leaving, builderOf, refusedBegun, begins, placed, placedStep, overLong, grown, growsBy, grows, newOr, stores, builds}
 use Rattle.builder.proofs.Lending.{part-length, part-back, stretch-lent, build-back}
 
 module _ (table : List ℕ) (start room n : ℕ) where
@@ -97,17 +100,32 @@ pub end-fits : (len : ℕ) (f : Factor) (e : GroupElementId) (g : GeneratorId) (
 unfolding placedStep
 end-fits len f e g r q h = place-fits len f e g refl (andThen-fine (placed len f e g) _ .0 (sym q ∙ h) .0)
 
-module _ (s : List ℕ) (f : Factor) (e : GroupElementId) (g : GeneratorId) {x : Reached} {s₁ : List ℕ}
-    (a : (x ≡ adds s (f .generators) (f .room) (f .elements) e g .answer) × (s₁ ≡ adds s (f .generators) (f .room) (f .elements) e g .table)) where
-  pub grow-refused : {why : Refusal} {s₂ : List ℕ} {none : Factor} → x ≡ reached.Refused why → s₂ ≡ replicate (length s₁) 0 → none ≡ noFactor
-      → leaving (record { answer = reached.Refused why; builder = record { 0 = none } }) s₂ ≡ grown s f e g
-  unfolding grown
-  grow-refused h z k = rw (← a .0, ← a .1, h, z, k)
+module _ (s : List ℕ) (f : Factor) (e : GroupElementId) where
+  pub long-full : f .room ≤ f .elements → false ≡ overLong s f e
+  unfolding overLong
+  long-full h = simp (le-ltb _ _ h)
 
-  pub grow-new : {y : GroupElementId} → x ≡ reached.Element y
-      → leaving (record { answer = reached.Element y; builder = builderOf (f .start) (f .room) (f .generators) (f .elements + 1) }) s₁ ≡ grown s f e g
+  pub long-read : {x : ℕ} → f .elements < f .room → x ≡ lengthOf s (f .generators) (e .0) → ltb 4096 x ≡ overLong s f e
+  unfolding overLong
+  long-read h q = rw q (simp (lt-ltb _ _ h))
+
+module _ (s : List ℕ) (f : Factor) (e : GroupElementId) (g : GeneratorId) {long : Bool} (o : long ≡ overLong s f e) where
+  pub grow-altered : {x : Reached} {s₁ : List ℕ} {none : Factor} → long ≡ true → s₁ ≡ replicate (length s) 0 → x ≡ refusedReach 17 0 → none ≡ noFactor
+      → leaving (record { answer = x; builder = record { 0 = none } }) s₁ ≡ grown s f e g
   unfolding grown
-  grow-new h = rw (← a .0, ← a .1, h)
+  grow-altered h z q k = rw (← o, h, z, q, k)
+
+  module _ {x : Reached} {s₁ : List ℕ} (h : long ≡ false)
+      (a : (x ≡ adds s (f .generators) (f .room) (f .elements) e g .answer) × (s₁ ≡ adds s (f .generators) (f .room) (f .elements) e g .table)) where
+    pub grow-refused : {why : Refusal} {s₂ : List ℕ} {none : Factor} → x ≡ reached.Refused why → s₂ ≡ replicate (length s₁) 0 → none ≡ noFactor
+        → leaving (record { answer = reached.Refused why; builder = record { 0 = none } }) s₂ ≡ grown s f e g
+    unfolding grown
+    grow-refused p z k = rw (← o, h, ← a .0, ← a .1, p, z, k)
+
+    pub grow-new : {y : GroupElementId} → x ≡ reached.Element y
+        → leaving (record { answer = reached.Element y; builder = builderOf (f .start) (f .room) (f .generators) (f .elements + 1) }) s₁ ≡ grown s f e g
+    unfolding grown
+    grow-new p = rw (← o, h, ← a .0, ← a .1, p)
 
 -- A factor whose handle fits has few elements.
 pub few-elements : (len : ℕ) (f : Factor) → fitsIn len f ≡ true → f .elements ≤ 65535
@@ -145,6 +163,14 @@ module _ (t : List ℕ) (b : Builder) (e : GroupElementId) (g : GeneratorId) {v 
         let u : new ≡ isNew (stretch t (b .0)) (b .0 .generators) e g = k .0 ∙ ap (λ (l : List ℕ). isNew l (b .0 .generators) e g) m in
         ap (λ (l : List ℕ). leaving x l) (part-back t (b .0 .start) (tableNeed (b .0 .generators) (b .0 .room)) p s) ∙ rw (← q, h, z, ← u, ← y)
 
+-- A work that is long enough for a build has a number for each successor.
+pub work-copies : (len : ℕ) (f : Factor) (w : List ℕ) {d : ℕ} → fitsIn len f ≡ true → d ≡ workNeed (f .generators) (f .room) → d ≤ length w
+    → f .elements * f .generators ≤ length (take d w)
+work-copies len f w {d} h q k =
+    let n = f .generators in
+    let a : n ≤ 6 * n * n + 4 * n = omega arith in
+    omega (arith, length-take-le d w k, mul-le-mul (room-enough len f h) a)
+
 module _ (t : List ℕ) (b : Builder) (w : List ℕ) where
   pub builds-handle : {m : Made} → m ≡ refusedMade 17 0 → fitsIn (length t) (b .0) ≡ false → making m t w ≡ builds t b w
   unfolding builds
@@ -157,13 +183,11 @@ module _ (t : List ℕ) (b : Builder) (w : List ℕ) where
 
     pub builds-done : {x : ℕ} {c : Counted} {t₁ w₁ : List ℕ} {m : Made} → d ≤ length w
         → Ends x (b .0 .start) (tableNeed (b .0 .generators) (b .0 .room)) (length t)
-        → built c t₁ w₁ ≡ finished (Count (b .0 .elements)) (b .0 .generators)
-        (refilled (b .0 .generators) (b .0 .elements) (midOf (b .0 .start) (x - b .0 .start) t)) (take d w)
+        → built c t₁ w₁ ≡ ownIn (midOf (b .0 .start) (x - b .0 .start) t) (take d w) (b .0 .generators) (b .0 .room) (b .0 .elements)
         → m ≡ madeOf (b .0 .start) (b .0 .room) (b .0 .generators) c
         → making m (putMid (b .0 .start) (x - b .0 .start) t t₁) (w₁ ++ drop d w) ≡ builds t b w
     unfolding builds
     builds-done {x} h p z q =
         build-back t (b .0 .start) w (b .0 .generators) (b .0 .room) p k q
-        (z ∙ ap (λ (l : List ℕ). finished (Count (b .0 .elements)) (b .0 .generators) (refilled (b .0 .generators) (b .0 .elements) l) (take d w))
-        (stretch-lent t (b .0) p))
+        (z ∙ ap (λ (l : List ℕ). ownIn l (take d w) (b .0 .generators) (b .0 .room) (b .0 .elements)) (stretch-lent t (b .0) p))
         ∙ rw (fits, ← k) (simp (le-leb _ _ h))

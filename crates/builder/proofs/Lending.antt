@@ -4,7 +4,6 @@ use Prim.Native.Nat.{ℕ, _+_, _*_, _-_, _≤_, _<_}
 use mathlib.Core.Path.{_≡_, ap, _∙_}
 use mathlib.Core.Bool.{Bool, true, false}
 use mathlib.Core.List.{List, _++_}
-use native.Mathlib.Nat.{mul-le-mul}
 use native.Mathlib.Omega.{arith}
 use borrow.Rule.Slice.PartMut.{midOf, putMid, post-is, mid-len}
 use lib.Dec.{leb}
@@ -16,13 +15,6 @@ use Rattle.egg.specs.Factor.{hasRoom, stretch}
 use Rattle.egg.proofs.Rooms.{and-first, and-second}
 use Rattle.builder.specs.Finish.{Built, built}
 use Rattle.builder.specs.Lending.{tableNeed, workNeed, lentRight, within, Ends, making, madeOf, lentBack}
-
--- What one element needs of the work is small.
-pub work-square : {n : ℕ} → n < 256 → 6 * n * n ≤ 390150
-work-square {n} h = let p : 6 * n ≤ 1530 = omega arith in let q : n ≤ 255 = omega arith in omega (arith, mul-le-mul p q)
-
-pub work-width : {n : ℕ} → n < 256 → 6 * n * n + 4 * n < 524288
-work-width {n} h = omega (arith, work-square h)
 
 module _ (table start work room n : ℕ) where
   module _ {b : Bool} (q : b ≡ hasRoom table start room n) where

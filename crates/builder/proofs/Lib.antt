@@ -1,4 +1,5 @@
 pub mod Finishing
-pub mod Refilling
+pub mod Copying
+pub mod Owning
 pub mod Lending
 pub mod Calls

@@ -3,7 +3,7 @@
 -- Assumes nothing.
 use Prim.Native.Nat.{ℕ, _+_}
 use mathlib.Core.List.{List}
-use mathlib.Core.Bool.{Bool, true, false}
+use mathlib.Core.Bool.{Bool, true, false, _&&_}
 use lib.ListN.{length, take, replicate}
 use lib.Dec.{ltb, leb}
 use Rattle.egg.specs.declared.GroupElementId.{GroupElementId}
@@ -13,18 +13,17 @@ use Rattle.egg.specs.declared.Verdict.{Verdict}
 use Rattle.egg.specs.declared.Verdict.the-variants as verdict
 use Rattle.egg.specs.declared.Reached.{Reached}
 use Rattle.egg.specs.declared.Reached.the-variants as reached
-use Rattle.egg.specs.declared.Counted.the-variants.{Count}
-use Rattle.egg.specs.Table.{pick}
+use Rattle.egg.specs.Table.{pick, lengthOf}
 use Rattle.egg.specs.Scan.{refusedOf, andThen}
-use Rattle.egg.specs.Factor.{Paper, refusalPaper, hasRoom, fitsIn, stretch}
+use Rattle.egg.specs.Factor.{Paper, refusalPaper, hasRoom, fitsIn, stretch, refusedReach}
 use Rattle.builder.specs.declared.Builder.{Builder}
 use Rattle.builder.specs.declared.Begun.{Begun}
 use Rattle.builder.specs.declared.Grown.{Grown}
 use Rattle.builder.specs.declared.Stored.{Stored}
 use Rattle.builder.specs.declared.Stored.the-variants as stored
 use Rattle.reading.specs.Build.{isNew, setStep, adds}
-use Rattle.builder.specs.Finish.{zeroed, finished}
-use Rattle.builder.specs.Refill.{refilled}
+use Rattle.builder.specs.Finish.{zeroed}
+use Rattle.builder.specs.Own.{ownIn}
 use Rattle.builder.specs.Lending.{tableNeed, workNeed, within, noFactor, refusedMade, Making, making, lentBack}
 
 -- Document 01's number and values for what storing a step answers: 1 for a new step, 0 for one that was known, or a refusal.
@@ -71,15 +70,21 @@ placed len f e g =
 unfoldable pub placedStep : ℕ → Factor → GroupElementId → GeneratorId → GroupElementId → Verdict
 placedStep len f e g r = andThen (placed len f e g) (pick (leb (f .elements) (r .0)) (refusedOf 14 2 0 0) verdict.Fine)
 
--- A new element's builder knows one element more; 5 and 6 refuse the build: zeros in its stretch, and no builder.
+-- 17, "a number read from it is out of range": there is room, since 5 comes before, and the recorded word of e is longer than any word may be.
+unfoldable pub overLong : List ℕ → Factor → GroupElementId → Bool
+overLong s f e = ltb (f .elements) (f .room) && ltb 4096 (lengthOf s (f .generators) (e .0))
+
+-- A new element's builder knows one element more; a refusal ends the build: zeros in its stretch, and no builder.
 abbrev pub grownBy : Factor → Reached → List ℕ → Leaving Grown
 grownBy f (reached.Element e) s =
     leaving (record { answer = reached.Element e; builder = builderOf (f .start) (f .room) (f .generators) (f .elements + 1) }) s
 grownBy f (reached.Refused r) s = leaving (record { answer = reached.Refused r; builder = noBuilder }) (zeroed s)
 
+-- 5, 17, 6, or the new element.
 unfoldable pub grown : List ℕ → Factor → GroupElementId → GeneratorId → Leaving Grown
 grown s f e g =
-    grownBy f (adds s (f .generators) (f .room) (f .elements) e g .answer) (adds s (f .generators) (f .room) (f .elements) e g .table)
+    pick (overLong s f e) (grownBy f (refusedReach 17 0) s)
+    (grownBy f (adds s (f .generators) (f .room) (f .elements) e g .answer) (adds s (f .generators) (f .room) (f .elements) e g .table))
 
 -- 17 in the handle and 14 change nothing, and the builder stands.
 abbrev pub growsBy : List ℕ → Factor → Verdict → Leaving Grown → Leaving Grown
@@ -105,13 +110,12 @@ stores t b e g r =
     storesBy t (placedStep (length t) (b .0) e g r) (isNew (stretch t (b .0)) (b .0 .generators) e g)
     (withStretch t (b .0) (setStep (stretch t (b .0)) (b .0 .generators) e g r))
 
--- `build`: 17 in the handle, 4 for the work, then the predecessors afresh and zeros beyond the elements, and 8 to 12.
+-- `build`: 17 in the handle, 4 for the work, then the reading of the builder's own successors, and 8 to 12.
 unfoldable pub builds : List ℕ → Builder → List ℕ → Making
 builds t b w =
     pick (fitsIn (length t) (b .0))
     (pick (leb (workNeed (b .0 .generators) (b .0 .room)) (length w))
     (lentBack t (b .0 .start) w (b .0 .generators) (b .0 .room)
-    (finished (Count (b .0 .elements)) (b .0 .generators) (refilled (b .0 .generators) (b .0 .elements) (stretch t (b .0)))
-    (take (workNeed (b .0 .generators) (b .0 .room)) w)))
+    (ownIn (stretch t (b .0)) (take (workNeed (b .0 .generators) (b .0 .room)) w) (b .0 .generators) (b .0 .room) (b .0 .elements)))
     (making (refusedMade 4 0) t w))
     (making (refusedMade 17 0) t w)

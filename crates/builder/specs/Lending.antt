@@ -14,6 +14,7 @@ use Rattle.egg.specs.declared.Counted.{Counted}
 use Rattle.egg.specs.declared.Counted.the-variants.{Count, Refused}
 use Rattle.egg.specs.Factor.{hasRoom}
 use Rattle.egg.specs.Scan.{refusedOf}
+use Rattle.egg.specs.Table.{workOf}
 use Rattle.builder.specs.Finish.{Built, built}
 
 -- "A build with n generators and room R needs exactly R(2n+4) entries of table and R(6n²+4n) of work."
@@ -21,7 +22,7 @@ abbrev pub tableNeed : ℕ → ℕ → ℕ
 tableNeed n room = room * (2 * n + 4)
 
 abbrev pub workNeed : ℕ → ℕ → ℕ
-workNeed n room = room * (6 * n * n + 4 * n)
+workNeed n room = room * workOf n
 
 -- Where this fails it is 4, "room 0 or above 65,535, or a lent buffer short". (`hasRoom` also asks for at most 8 generators, which 1 has shown by then.)
 unfoldable pub lentRight : ℕ → ℕ → ℕ → ℕ → ℕ → Bool

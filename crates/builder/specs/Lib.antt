@@ -1,4 +1,4 @@
 pub mod Finish
-pub mod Refill
+pub mod Own
 pub mod Lending
 pub mod Calls

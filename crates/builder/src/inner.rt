@@ -1,15 +1,14 @@
-// The stores of a build, in the stretch that it was lent, and what its calls need to be lent and answer.
+// The work of the builder's calls in the stretches that were lent, and what they need to be lent and answer.
 ghost use mathlib.Core.Path.{_≡_};
 ghost use mathlib.Core.Bool.{true};
-ghost use Prim.Native.Nat.{_≤_};
-ghost use lib.ListN.{length};
-ghost use Rattle.egg.specs.declared.Counted.the-variants.{Count};
+ghost use Prim.Native.Nat.{_*_, _≤_};
+ghost use lib.ListN.{length, set};
 ghost use Rattle.egg.specs.Factor.{hasRoom};
-ghost use Rattle.reading.specs.Build.{isNew, setStep, setWord, adds};
+ghost use Rattle.reading.specs.Reading.{Placed};
 ghost use Rattle.builder.specs.Finish.{Built, finished};
-ghost use Rattle.builder.specs.Refill.{forgottenRow, forgotten, backStep, backRow, backRows, restCleared, refilled};
+ghost use Rattle.builder.specs.Own.{ownPlace, ownRow, ownAll, reachesAll, ownIn, copyAt, copiedRow, copied};
 ghost use Rattle.builder.specs.Lending.{tableNeed, workNeed, lentRight, Ends, noFactor, madeOf, refusedMade};
-ghost use Rattle.builder.specs.Calls.{Leaving, placed, placedStep, grown, refusedBegun};
+ghost use Rattle.builder.specs.Calls.{Leaving, placed, placedStep, overLong, grown, refusedBegun};
 use super::Begun;
 use super::Builder;
 use super::Grown;
@@ -46,79 +45,151 @@ pub fn finish(t: &mut [u32], w: &mut [u32], n: u8, read: Counted) -> Counted
     }
 }
 
-// Forgets the predecessors of e.
-fn forget_row(t: &mut [u32], n: u8, e: u32)
-    ensures { λ r. ⌜ now (t .exit) ≡ forgottenRow n (now (t .entry)) n e 0 ⌝ }
+// Stores x at i; nothing past the end.
+fn keep(w: &mut [u32], i: usize, x: u32)
+    ensures { λ r. ⌜ now (w .exit) ≡ set (now (w .entry)) i x ⌝ }
+{
+    if i < w.len() {
+        w[i] = x;
+    }
+}
+
+fn copy_row(t: &[u32], w: &mut [u32], n: u8, e: u32)
+    ensures { λ r. ⌜ now (w .exit) ≡ copiedRow n (now (t .entry)) n e 0 (now (w .entry)) ⌝ }
 {
     let mut g: u8 = 0;
     while g < n {
-        let at = egg::inner::predecessor_at(n, GroupElementId(e), GeneratorId(g));
-        egg::inner::put(t, at, 0);
+        let at = egg::inner::successor_at(n, GroupElementId(e), GeneratorId(g));
+        let x = egg::inner::get(t, at);
+        keep(w, (e as usize) * (n as usize) + (g as usize), x);
         g += 1;
     }
 }
 
-// Forgets the predecessors of all elements.
-fn forget(t: &mut [u32], n: u8, count: u32)
-    ensures { λ r. ⌜ now (t .exit) ≡ forgotten count (now (t .entry)) n 0 ⌝ }
+// The successors of all elements to the front of the work, so that nothing is read from what is being written.
+fn copy_rows(t: &[u32], w: &mut [u32], n: u8, elements: u32)
+    ensures { λ r. ⌜ now (w .exit) ≡ copied elements (now (t .entry)) n 0 (now (w .entry)) ⌝ }
 {
     let mut e: u32 = 0;
-    while e < count {
-        forget_row(t, n, e);
+    while e < elements {
+        copy_row(t, w, n, e);
         e += 1;
     }
 }
 
-// Stores the step from e by g the other way; a step that is missing or leads beyond the elements is left to the checks.
-fn refill_step(t: &mut [u32], n: u8, count: u32, e: u32, g: u8)
-    ensures { λ r. ⌜ now (t .exit) ≡ backStep (now (t .entry)) n count e g ⌝ }
+// One place of the builder's own rows: a missing step is left to 8, and a number that is no element's is 17.
+fn own_place(
+    t: &mut [u32],
+    n: u8,
+    room: u32,
+    elements: u32,
+    count: u32,
+    e: GroupElementId,
+    g: GeneratorId,
+    x: u32,
+) -> Counted
+    ensures { λ r. ⌜ Placed.placed r (now (t .exit)) ≡ ownPlace (now (t .entry)) n room elements count (e .0) (g .0) x ⌝ }
 {
-    let reached = egg::inner::next(&t[..], n, count, e, g);
-    let Reached::Element(x) = reached else {
-        return;
+    if x == 0 {
+        return Counted::Count(count);
+    }
+    if elements < x {
+        return Counted::Refused(Refusal {
+            number: 17,
+            a: 0,
+            b: 0,
+            c: 0,
+        });
+    }
+    reading::inner::place(t, n, room, count, e, g, x - 1)
+}
+
+fn own_row(t: &mut [u32], w: &[u32], n: u8, room: u32, elements: u32, e: u32, first: u32) -> Counted
+    ensures { λ r. ⌜ Placed.placed r (now (t .exit)) ≡ ownRow n (copyAt (now (w .entry)) n) n room elements e 0 first (now (t .entry)) ⌝ }
+{
+    let mut g: u8 = 0;
+    let mut count = first;
+    while g < n {
+        let x = egg::inner::get(w, (e as usize) * (n as usize) + (g as usize));
+        let c = own_place(
+            t,
+            n,
+            room,
+            elements,
+            count,
+            GroupElementId(e),
+            GeneratorId(g),
+            x,
+        );
+        let Counted::Count(k) = c else {
+            return c;
+        };
+        count = k;
+        g += 1;
+    }
+    Counted::Count(count)
+}
+
+// Rows in the order of their elements, as long as there is a next element.
+fn own_rows(t: &mut [u32], w: &[u32], n: u8, room: u32, elements: u32) -> Counted
+    ensures { λ r. ⌜ Placed.placed r (now (t .exit)) ≡ ownAll (copyAt (now (w .entry)) n) n room elements (now (t .entry)) ⌝ }
+{
+    let mut e: u32 = 0;
+    let mut count: u32 = 1;
+    while e < elements {
+        if count <= e {
+            return Counted::Count(count);
+        }
+        let c = own_row(t, w, n, room, elements, e, count);
+        let Counted::Count(k) = c else {
+            return c;
+        };
+        count = k;
+        e += 1;
+    }
+    Counted::Count(count)
+}
+
+// 8 where an element is not reached: the first of them has no predecessor among the rows that were read.
+fn reached_all(t: &[u32], n: u8, elements: u32, read: Counted) -> Counted
+    ensures { λ r. ⌜ Placed.placed r (now (t .entry)) ≡ reachesAll n elements (Placed.placed read (now (t .entry))) ⌝ }
+{
+    let Counted::Count(count) = read else {
+        return read;
     };
-    let back = egg::inner::predecessor_at(n, x, GeneratorId(g));
-    egg::inner::put(t, back, (e as usize) + 1);
-}
-
-fn refill_row(t: &mut [u32], n: u8, count: u32, e: u32)
-    ensures { λ r. ⌜ now (t .exit) ≡ backRow n (now (t .entry)) n count e 0 ⌝ }
-{
-    let mut g: u8 = 0;
-    while g < n {
-        refill_step(t, n, count, e, g);
-        g += 1;
+    if elements <= count {
+        return Counted::Count(count);
+    }
+    if n == 0 {
+        return Counted::Refused(Refusal {
+            number: 17,
+            a: 0,
+            b: 0,
+            c: 0,
+        });
+    }
+    match checks::inner::check8(t, n, count) {
+        Verdict::Refused(why) => Counted::Refused(why),
+        Verdict::Fine => Counted::Refused(Refusal {
+            number: 8,
+            a: count,
+            b: 0,
+            c: 0,
+        }),
     }
 }
 
-fn refill(t: &mut [u32], n: u8, count: u32)
-    ensures { λ r. ⌜ now (t .exit) ≡ backRows count (now (t .entry)) n count 0 ⌝ }
+// The end of a build by steps, which may have been overwritten: the table afresh from its successors, then `finish`.
+pub fn complete(t: &mut [u32], w: &mut [u32], n: u8, room: u32, elements: u32) -> Counted
+    requires { ⌜ elements * n ≤ length (now w) ⌝ }
+    ensures { λ r. ⌜ Built.built r (now (t .exit)) (now (w .exit)) ≡ ownIn (now (t .entry)) (now (w .entry)) n room elements ⌝ }
 {
-    let mut e: u32 = 0;
-    while e < count {
-        refill_row(t, n, count, e);
-        e += 1;
-    }
-}
-
-// Clears the rows after the last element: a stale handle may have stored there.
-fn clear_rest(t: &mut [u32], n: u8, count: u32)
-    ensures { λ r. ⌜ now (t .exit) ≡ restCleared (now (t .entry)) n count ⌝ }
-{
-    let k = egg::inner::start(n, GroupElementId(count));
-    if k < t.len() {
-        egg::inner::clear(&mut t[k..]);
-    }
-}
-
-// The end of a build by steps, which may have been overwritten: the predecessors afresh, nothing beyond the elements, then `finish`.
-pub fn complete(t: &mut [u32], w: &mut [u32], n: u8, count: u32) -> Counted
-    ensures { λ r. ⌜ Built.built r (now (t .exit)) (now (w .exit)) ≡ finished (Count count) n (refilled n count (now (t .entry))) (now (w .entry)) ⌝ }
-{
-    forget(t, n, count);
-    refill(t, n, count);
-    clear_rest(t, n, count);
-    finish(t, w, n, Counted::Count(count))
+    copy_rows(&t[..], w, n, elements);
+    egg::inner::clear(t);
+    let read = own_rows(t, &w[..], n, room, elements);
+    egg::inner::clear(w);
+    let whole = reached_all(&t[..], n, elements, read);
+    finish(t, w, n, whole)
 }
 
 pub fn table_need(n: u8, room: u32) -> usize
@@ -130,11 +201,10 @@ pub fn table_need(n: u8, room: u32) -> usize
 pub fn work_need(n: u8, room: u32) -> usize
     ensures { λ r. ⌜ r ≡ workNeed n room ⌝ }
 {
-    let m = n as usize;
-    (room as usize) * (6 * m * m + 4 * m)
+    (room as usize) * egg::inner::work_width(n)
 }
 
-// No 4: the room is within its limits and neither table nor work is short.
+// 4 is not given: the room is within its limits, and neither table nor work is short.
 pub fn lent_right(table: usize, start: usize, work: usize, room: u32, n: u8) -> bool
     ensures { λ r. ⌜ r ≡ lentRight table start work room n ⌝ }
 {
@@ -239,11 +309,28 @@ pub fn place_step(
     Verdict::Fine
 }
 
+// Whether there is room, and the recorded word of e is longer than any word may be.
+fn over_long(t: &[u32], f: Factor, e: GroupElementId) -> bool
+    ensures { λ r. ⌜ r ≡ overLong (now (t .entry)) f e ⌝ }
+{
+    if f.room <= f.elements {
+        return false;
+    }
+    4096 < egg::inner::word_length(t, f.generators, e)
+}
+
 // A new element in the stretch of a build, and the builder that knows it.
 pub fn grow(t: &mut [u32], f: Factor, e: GroupElementId, g: GeneratorId) -> Grown
     requires { ⌜ f .elements ≤ 65535 ⌝ }
     ensures { λ x. ⌜ Leaving.leaving x (now (t .exit)) ≡ grown (now (t .entry)) f e g ⌝ }
 {
+    if over_long(&t[..], f, e) {
+        egg::inner::clear(t);
+        return Grown {
+            answer: egg::inner::refuse(17, 0),
+            builder: Builder(no_factor()),
+        };
+    }
     match reading::inner::add_successor(t, f.generators, f.room, f.elements, e, g) {
         Reached::Refused(why) => {
             egg::inner::clear(t);

@@ -12,7 +12,7 @@ use egg::Verdict;
 
 pub mod inner;
 
-// The handle of a build that goes on: a factor's numbers, kept apart, so that no question is asked of a table that is not checked.
+// The handle of a build that goes on: a factor's numbers under a name of their own, since its table is not checked yet.
 pub struct Builder(pub Factor);
 
 // What beginning answers; the handle fits no buffer where it was refused.
@@ -57,7 +57,7 @@ pub fn begin(table: &mut [u32], start: usize, room: u32, n: u8) -> Begun
     }
 }
 
-// A new element, reached from e by g: 17 and 14 touch nothing, 5 and 6 end the build.
+// A new element, reached from e by g: 17 in the handle and 14 touch nothing; 5, 17 in the length that is read, and 6 end the build.
 pub fn add_successor(table: &mut [u32], b: Builder, e: GroupElementId, g: GeneratorId) -> Grown
     ensures { λ r. ⌜ Leaving.leaving r (now (table .exit)) ≡ grows (now (table .entry)) b e g ⌝ }
 {
@@ -100,7 +100,7 @@ pub fn set_successor(
     }
 }
 
-// Works the predecessors out afresh, for steps may have been overwritten, checks what was built, 8 to 12, and makes it a factor.
+// Reads the builder's own successors as composed rows are read, for steps may have been overwritten; checks what was read, 8 to 12, and makes it a factor.
 pub fn build(table: &mut [u32], b: Builder, work: &mut [u32]) -> Made
     ensures { λ r. ⌜ Making.making r (now (table .exit)) (now (work .exit)) ≡ builds (now (table .entry)) b (now (work .entry)) ⌝ }
 {
@@ -118,6 +118,7 @@ pub fn build(table: &mut [u32], b: Builder, work: &mut [u32]) -> Made
         &mut table[a..end],
         &mut work[..need],
         f.generators,
+        f.room,
         f.elements,
     );
     inner::made(a, f.room, f.generators, count)

@@ -27,7 +27,7 @@ unfoldable pub check8 : List ℕ → ℕ → ℕ → Verdict
 check8 t n count = andThen (missing t n count 0) (missing t n count n)
 
 -- 17, "a number read from it is out of range": a stored step beyond the elements, a word over 4,096 letters, a parent that is no earlier element, a letter
--- that is no generator. No reading and no enumeration leaves such a table; a builder's buffer that was altered may hold one. It is tested after 8 and
+-- that is no generator. No reading and no enumeration leaves such a table; the checks do not rest on that. It is tested after 8 and
 -- before 9, so that all tests below read numbers in range.
 abbrev pub rangeAt : List ℕ → ℕ → ℕ → ℕ → ℕ → Verdict
 rangeAt t n count e k = pick (ltb count (getD t (startOf n e + 0 + k) 0)) (refusedOf 17 0 0 0) Fine
@@ -103,7 +103,7 @@ unfoldable pub identityRow : List ℕ → ℕ → Verdict
 identityRow t n = scan n (λ g. pick (eqb (stepOf t n 0 g) (g + 1)) Fine (refusedOf 11 g 0 0)) 0
 
 -- 12, "no group has these right steps". First that the columns are permutations and that each recorded word leads to its element. So it is after every
--- reading and enumeration that has passed 8; a builder whose steps were overwritten, or an altered buffer, may break it.
+-- reading and enumeration that has passed 8; the checks do not rest on that.
 unfoldable pub columnsRow : List ℕ → ℕ → ℕ → Verdict
 columnsRow t n e = scan n (λ g. pick (eqb (stepOf t n (backOf t n e g) g) e) Fine (refusedOf 12 0 0 0)) 0
 
@@ -138,6 +138,9 @@ allGo t w n count = scan count (λ x. goesRow t w n x) 0
 pub data Lefts : Type 0 where
   left : Verdict → List ℕ → Lefts
 
+abbrev pub leftVerdict : Lefts → Verdict
+leftVerdict (left v w) = v
+
 -- The verdict with the work, or what comes after it.
 abbrev pub thenLeft : Verdict → List ℕ → Lefts → Lefts
 thenLeft Fine w l = l
@@ -152,6 +155,9 @@ lefts (suc k) t n count w s =
 -- All of it: the verdict, and what both stretches hold then.
 pub data Checked : Type 0 where
   checked : Verdict → List ℕ → List ℕ → Checked
+
+abbrev pub verdictOf : Checked → Verdict
+verdictOf (checked v t w) = v
 
 abbrev pub thenChecked : Verdict → List ℕ → List ℕ → Checked → Checked
 thenChecked Fine t w c = c

@@ -7,4 +7,4 @@ use Rattle.checks.specs.Checks.{invertFrom}
 
 -- Where the letters lead that are left.
 abbrev pub undoneRest : List ℕ → ℕ → Undone → ℕ
-undoneRest t n u = invertFrom (u .left) t n (u .at) (u .reached)
+undoneRest t n u = invertFrom (u .left) t n (u .at .0) (u .reached .0)

@@ -6,17 +6,18 @@ ghost use Prim.Native.Nat.{_≤_};
 ghost use Rattle.checks.specs.Checks.{missingRow, missing, check8, rangeRow, linksOf, ranges, wrongAt, wrongRow, wrong, check-table, wiped, arriveRow, arrivals, countsRight, invertFrom, invertOf, fillInverses, inversesRight, identityRow, columnsRow, spelledRow, spelled, leftOf, fillLeft, goesRow, allGo, Lefts, lefts, check-steps, Checked, check-rest, check-group};
 ghost use Rattle.checks.specs.Undoing.{undoneRest};
 ghost use Rattle.egg.specs.Table.{stillLeft};
+use egg::GeneratorId;
 use egg::GroupElementId;
 use egg::Verdict;
 
 // 8 in one row: the first generator whose number, from `shift` on, is not known.
-fn missing_row(t: &[u32], n: u8, shift: u8, e: u32) -> Verdict
-    ensures { λ r. ⌜ r ≡ missingRow (now (t .entry)) n shift e ⌝ }
+fn missing_row(t: &[u32], n: u8, shift: u8, e: GroupElementId) -> Verdict
+    ensures { λ r. ⌜ r ≡ missingRow (now (t .entry)) n shift (e .0) ⌝ }
 {
-    let mut g: u32 = 0;
-    while g < (n as u32) {
-        if egg::inner::cell(t, n, e, shift, g) == 0 {
-            return egg::inner::refused(8, e, g, 0);
+    let mut g: u8 = 0;
+    while g < n {
+        if egg::inner::cell(t, n, e, shift, g as u32) == 0 {
+            return egg::inner::refused(8, e.0, g as u32, 0);
         }
         g += 1;
     }
@@ -28,7 +29,7 @@ fn missing(t: &[u32], n: u8, count: u32, shift: u8) -> Verdict
 {
     let mut e: u32 = 0;
     while e < count {
-        let v = missing_row(t, n, shift, e);
+        let v = missing_row(t, n, shift, GroupElementId(e));
         let Verdict::Fine = v else {
             return v;
         };
@@ -49,8 +50,8 @@ pub fn check8(t: &[u32], n: u8, count: u32) -> Verdict
 }
 
 // 17 in one row: a step or a step back beyond the elements.
-fn range_row(t: &[u32], n: u8, count: u32, e: u32) -> Verdict
-    ensures { λ r. ⌜ r ≡ rangeRow (now (t .entry)) n count e ⌝ }
+fn range_row(t: &[u32], n: u8, count: u32, e: GroupElementId) -> Verdict
+    ensures { λ r. ⌜ r ≡ rangeRow (now (t .entry)) n count (e .0) ⌝ }
 {
     let mut k: u32 = 0;
     while k < 2 * (n as u32) {
@@ -63,19 +64,19 @@ fn range_row(t: &[u32], n: u8, count: u32, e: u32) -> Verdict
 }
 
 // 17 in the record of a word: it is not too long, its parent is an earlier element, its last letter a generator.
-fn links(t: &[u32], n: u8, e: u32) -> Verdict
-    ensures { λ r. ⌜ r ≡ linksOf (now (t .entry)) n e ⌝ }
+fn links(t: &[u32], n: u8, e: GroupElementId) -> Verdict
+    ensures { λ r. ⌜ r ≡ linksOf (now (t .entry)) n (e .0) ⌝ }
 {
-    if 4096 < egg::inner::word_length(t, n, GroupElementId(e)) {
+    if 4096 < egg::inner::word_length(t, n, e) {
         return egg::inner::refused(17, 0, 0, 0);
     }
-    if e == 0 {
+    if e.0 == 0 {
         return Verdict::Fine;
     }
-    if e <= egg::inner::parent(t, n, GroupElementId(e)) {
+    if e.0 <= egg::inner::parent(t, n, e) {
         return egg::inner::refused(17, 0, 0, 0);
     }
-    if (n as u32) <= egg::inner::last(t, n, GroupElementId(e)) {
+    if (n as u32) <= egg::inner::last(t, n, e) {
         return egg::inner::refused(17, 0, 0, 0);
     }
     Verdict::Fine
@@ -86,11 +87,11 @@ fn ranges(t: &[u32], n: u8, count: u32) -> Verdict
 {
     let mut e: u32 = 0;
     while e < count {
-        let v = range_row(t, n, count, e);
+        let v = range_row(t, n, count, GroupElementId(e));
         let Verdict::Fine = v else {
             return v;
         };
-        let u = links(t, n, e);
+        let u = links(t, n, GroupElementId(e));
         let Verdict::Fine = u else {
             return u;
         };
@@ -100,28 +101,28 @@ fn ranges(t: &[u32], n: u8, count: u32) -> Verdict
 }
 
 // 9 at one place (003): a step that stays, or that only the identity may have.
-fn wrong_at(t: &[u32], n: u8, e: u32, g: u32) -> Verdict
-    ensures { λ r. ⌜ r ≡ wrongAt (now (t .entry)) n e g ⌝ }
+fn wrong_at(t: &[u32], n: u8, e: GroupElementId, g: GeneratorId) -> Verdict
+    ensures { λ r. ⌜ r ≡ wrongAt (now (t .entry)) n (e .0) (g .0) ⌝ }
 {
     let r = egg::inner::step(t, n, e, g);
-    if r == e {
-        return egg::inner::refused(9, e, g, 0);
+    if r.0 == e.0 {
+        return egg::inner::refused(9, e.0, g.0 as u32, 0);
     }
-    if e == 0 {
+    if e.0 == 0 {
         return Verdict::Fine;
     }
-    if r == egg::inner::step(t, n, 0, g) {
-        return egg::inner::refused(9, e, g, 0);
+    if r.0 == egg::inner::step(t, n, GroupElementId(0), g).0 {
+        return egg::inner::refused(9, e.0, g.0 as u32, 0);
     }
     Verdict::Fine
 }
 
-fn wrong_row(t: &[u32], n: u8, e: u32) -> Verdict
-    ensures { λ r. ⌜ r ≡ wrongRow (now (t .entry)) n e ⌝ }
+fn wrong_row(t: &[u32], n: u8, e: GroupElementId) -> Verdict
+    ensures { λ r. ⌜ r ≡ wrongRow (now (t .entry)) n (e .0) ⌝ }
 {
-    let mut g: u32 = 0;
-    while g < (n as u32) {
-        let v = wrong_at(t, n, e, g);
+    let mut g: u8 = 0;
+    while g < n {
+        let v = wrong_at(t, n, e, GeneratorId(g));
         let Verdict::Fine = v else {
             return v;
         };
@@ -135,7 +136,7 @@ fn wrong(t: &[u32], n: u8, count: u32) -> Verdict
 {
     let mut e: u32 = 0;
     while e < count {
-        let v = wrong_row(t, n, e);
+        let v = wrong_row(t, n, GroupElementId(e));
         let Verdict::Fine = v else {
             return v;
         };
@@ -170,12 +171,12 @@ fn wipe(w: &mut [u32], count: u32)
     }
 }
 
-fn arrive_row(t: &[u32], w: &mut [u32], n: u8, e: u32)
-    ensures { λ r. ⌜ now (w .exit) ≡ arriveRow n (now (t .entry)) n e (now (w .entry)) 0 ⌝ }
+fn arrive_row(t: &[u32], w: &mut [u32], n: u8, e: GroupElementId)
+    ensures { λ r. ⌜ now (w .exit) ≡ arriveRow n (now (t .entry)) n (e .0) (now (w .entry)) 0 ⌝ }
 {
-    let mut g: u32 = 0;
-    while g < (n as u32) {
-        let r = egg::inner::step(t, n, e, g) as usize;
+    let mut g: u8 = 0;
+    while g < n {
+        let r = egg::inner::step(t, n, e, GeneratorId(g)).0 as usize;
         let was = egg::inner::get(&w[..], r) as usize;
         egg::inner::put(w, r, was + 1);
         g += 1;
@@ -188,7 +189,7 @@ fn arrivals(t: &[u32], w: &mut [u32], n: u8, count: u32)
 {
     let mut e: u32 = 0;
     while e < count {
-        arrive_row(t, w, n, e);
+        arrive_row(t, w, n, GroupElementId(e));
         e += 1;
     }
 }
@@ -210,8 +211,8 @@ fn counts_right(w: &[u32], n: u8, count: u32) -> Verdict
 // An inverse on its way: the element reached, the element whose word is left, the letters left of it, how many numbers
 // the last two letters led on and back, and whether there is more to guess.
 pub struct Undone {
-    pub reached: u32,
-    pub at: u32,
+    pub reached: GroupElementId,
+    pub at: GroupElementId,
     pub left: u32,
     pub jump: u32,
     pub fall: u32,
@@ -229,26 +230,34 @@ fn guessed(x: u32, on: u32, at: u32, down: u32) -> bool
 
 // Two letters a turn, as long as they lead `jump` numbers on and `fall` numbers back: round a long relation they do, and a
 // processor that has the guess need not wait for the cells.
-fn undo_leg(t: &[u32], n: u8, from: u32, word: u32, letters: u32, jump: u32, fall: u32) -> Undone
-    ensures { λ r. ⌜ (undoneRest (now (t .entry)) n r ≡ invertFrom letters (now (t .entry)) n word from) × (stillLeft (r .more) (r .left) ≤ letters) ⌝ }
+fn undo_leg(
+    t: &[u32],
+    n: u8,
+    from: GroupElementId,
+    word: GroupElementId,
+    letters: u32,
+    jump: u32,
+    fall: u32,
+) -> Undone
+    ensures { λ r. ⌜ (undoneRest (now (t .entry)) n r ≡ invertFrom letters (now (t .entry)) n (word .0) (from .0)) × (stillLeft (r .more) (r .left) ≤ letters) ⌝ }
 {
-    let mut x = from;
-    let mut at = word;
+    let mut x = from.0;
+    let mut at = word.0;
     let mut left = letters;
     while 1 < left {
         let on = std::num::wrapping_add_u32(x, jump);
         let down = std::num::wrapping_sub_u32(at, fall);
-        let y = egg::inner::back(t, n, x, egg::inner::last(t, n, GroupElementId(at)));
+        let y = egg::inner::back_last(t, n, GroupElementId(x), GroupElementId(at));
         let p = egg::inner::parent(t, n, GroupElementId(at));
-        let z = egg::inner::back(t, n, y, egg::inner::last(t, n, GroupElementId(p)));
+        let z = egg::inner::back_last(t, n, y, GroupElementId(p));
         let q = egg::inner::parent(t, n, GroupElementId(p));
         left -= 2;
-        if !guessed(z, on, q, down) {
+        if !guessed(z.0, on, q, down) {
             return Undone {
                 reached: z,
-                at: q,
+                at: GroupElementId(q),
                 left,
-                jump: std::num::wrapping_sub_u32(z, x),
+                jump: std::num::wrapping_sub_u32(z.0, x),
                 fall: std::num::wrapping_sub_u32(at, q),
                 more: true,
             };
@@ -257,8 +266,8 @@ fn undo_leg(t: &[u32], n: u8, from: u32, word: u32, letters: u32, jump: u32, fal
         at = down;
     }
     Undone {
-        reached: x,
-        at,
+        reached: GroupElementId(x),
+        at: GroupElementId(at),
         left,
         jump,
         fall,
@@ -267,27 +276,35 @@ fn undo_leg(t: &[u32], n: u8, from: u32, word: u32, letters: u32, jump: u32, fal
 }
 
 // The most of a long word, leg by leg. In a short one guesses fail too often.
-fn undo(t: &[u32], n: u8, e: u32, letters: u32) -> Undone
-    ensures { λ r. ⌜ undoneRest (now (t .entry)) n r ≡ invertFrom letters (now (t .entry)) n e 0 ⌝ }
+fn undo(t: &[u32], n: u8, e: GroupElementId, letters: u32) -> Undone
+    ensures { λ r. ⌜ undoneRest (now (t .entry)) n r ≡ invertFrom letters (now (t .entry)) n (e .0) 0 ⌝ }
 {
     let mut x = 0;
-    let mut at = e;
+    let mut at = e.0;
     let mut left = letters;
     let mut jump = 0;
     let mut fall = 0;
     let mut more = 64 < letters;
     while more {
-        let leg = undo_leg(t, n, x, at, left, jump, fall);
-        x = leg.reached;
-        at = leg.at;
+        let leg = undo_leg(
+            t,
+            n,
+            GroupElementId(x),
+            GroupElementId(at),
+            left,
+            jump,
+            fall,
+        );
+        x = leg.reached.0;
+        at = leg.at.0;
         left = leg.left;
         jump = leg.jump;
         fall = leg.fall;
         more = leg.more;
     }
     Undone {
-        reached: x,
-        at,
+        reached: GroupElementId(x),
+        at: GroupElementId(at),
         left,
         jump,
         fall,
@@ -296,19 +313,19 @@ fn undo(t: &[u32], n: u8, e: u32, letters: u32) -> Undone
 }
 
 // The inverse of e: its reversed word through predecessors, from the identity (002).
-fn invert(t: &[u32], n: u8, e: u32) -> u32
-    ensures { λ r. ⌜ r ≡ invertOf (now (t .entry)) n e ⌝ }
+fn invert(t: &[u32], n: u8, e: GroupElementId) -> GroupElementId
+    ensures { λ r. ⌜ r .0 ≡ invertOf (now (t .entry)) n (e .0) ⌝ }
 {
-    let rest = undo(t, n, e, egg::inner::word_length(t, n, GroupElementId(e)));
-    let mut x = rest.reached;
-    let mut at = rest.at;
+    let rest = undo(t, n, e, egg::inner::word_length(t, n, e));
+    let mut x = rest.reached.0;
+    let mut at = rest.at.0;
     let mut left = rest.left;
     while 0 < left {
-        x = egg::inner::back(t, n, x, egg::inner::last(t, n, GroupElementId(at)));
+        x = egg::inner::back_last(t, n, GroupElementId(x), GroupElementId(at)).0;
         at = egg::inner::parent(t, n, GroupElementId(at));
         left -= 1;
     }
-    x
+    GroupElementId(x)
 }
 
 fn fill_inverses(t: &mut [u32], n: u8, count: u32)
@@ -316,7 +333,7 @@ fn fill_inverses(t: &mut [u32], n: u8, count: u32)
 {
     let mut e: u32 = 0;
     while e < count {
-        let x = invert(&t[..], n, e);
+        let x = invert(&t[..], n, GroupElementId(e)).0;
         egg::inner::put(t, egg::inner::inverse_at(n, GroupElementId(e)), x as usize);
         e += 1;
     }
@@ -342,10 +359,10 @@ fn inverses_right(t: &[u32], n: u8, count: u32) -> Verdict
 fn identity_row(t: &[u32], n: u8) -> Verdict
     ensures { λ r. ⌜ r ≡ identityRow (now (t .entry)) n ⌝ }
 {
-    let mut g: u32 = 0;
-    while g < (n as u32) {
-        if egg::inner::step(t, n, 0, g) != g + 1 {
-            return egg::inner::refused(11, g, 0, 0);
+    let mut g: u8 = 0;
+    while g < n {
+        if egg::inner::step(t, n, GroupElementId(0), GeneratorId(g)).0 != (g as u32) + 1 {
+            return egg::inner::refused(11, g as u32, 0, 0);
         }
         g += 1;
     }
@@ -353,12 +370,13 @@ fn identity_row(t: &[u32], n: u8) -> Verdict
 }
 
 // 12, first part: each step back is undone by the step, so that the columns are permutations.
-fn columns_row(t: &[u32], n: u8, e: u32) -> Verdict
-    ensures { λ r. ⌜ r ≡ columnsRow (now (t .entry)) n e ⌝ }
+fn columns_row(t: &[u32], n: u8, e: GroupElementId) -> Verdict
+    ensures { λ r. ⌜ r ≡ columnsRow (now (t .entry)) n (e .0) ⌝ }
 {
-    let mut g: u32 = 0;
-    while g < (n as u32) {
-        if egg::inner::step(t, n, egg::inner::back(t, n, e, g), g) != e {
+    let mut g: u8 = 0;
+    while g < n {
+        let from = egg::inner::back(t, n, e, GeneratorId(g));
+        if egg::inner::step(t, n, from, GeneratorId(g)).0 != e.0 {
             return egg::inner::refused(12, 0, 0, 0);
         }
         g += 1;
@@ -367,22 +385,21 @@ fn columns_row(t: &[u32], n: u8, e: u32) -> Verdict
 }
 
 // 12, second part: the recorded word leads to its element.
-fn spelled_row(t: &[u32], n: u8, e: u32) -> Verdict
-    ensures { λ r. ⌜ r ≡ spelledRow (now (t .entry)) n e ⌝ }
+fn spelled_row(t: &[u32], n: u8, e: GroupElementId) -> Verdict
+    ensures { λ r. ⌜ r ≡ spelledRow (now (t .entry)) n (e .0) ⌝ }
 {
-    let len = egg::inner::word_length(t, n, GroupElementId(e));
-    if e == 0 {
+    let len = egg::inner::word_length(t, n, e);
+    if e.0 == 0 {
         if len != 0 {
             return egg::inner::refused(12, 0, 0, 0);
         }
         return Verdict::Fine;
     }
-    let p = egg::inner::parent(t, n, GroupElementId(e));
-    let g = egg::inner::last(t, n, GroupElementId(e));
-    if egg::inner::step(t, n, p, g) != e {
+    let p = GroupElementId(egg::inner::parent(t, n, e));
+    if egg::inner::step_last(t, n, p, e).0 != e.0 {
         return egg::inner::refused(12, 0, 0, 0);
     }
-    let before = egg::inner::word_length(t, n, GroupElementId(p));
+    let before = egg::inner::word_length(t, n, p);
     if (len as usize) != (before as usize) + 1 {
         return egg::inner::refused(12, 0, 0, 0);
     }
@@ -394,11 +411,11 @@ fn spelled(t: &[u32], n: u8, count: u32) -> Verdict
 {
     let mut e: u32 = 0;
     while e < count {
-        let v = columns_row(t, n, e);
+        let v = columns_row(t, n, GroupElementId(e));
         let Verdict::Fine = v else {
             return v;
         };
-        let u = spelled_row(t, n, e);
+        let u = spelled_row(t, n, GroupElementId(e));
         let Verdict::Fine = u else {
             return u;
         };
@@ -408,38 +425,38 @@ fn spelled(t: &[u32], n: u8, count: u32) -> Verdict
 }
 
 // What generator s on the left makes of x, where the work has it for the elements before x.
-fn left_of(t: &[u32], w: &[u32], n: u8, s: u32, x: u32) -> u32
-    ensures { λ r. ⌜ r ≡ leftOf (now (t .entry)) n s (now (w .entry)) x ⌝ }
+fn left_of(t: &[u32], w: &[u32], n: u8, s: GeneratorId, x: GroupElementId) -> GroupElementId
+    ensures { λ r. ⌜ r .0 ≡ leftOf (now (t .entry)) n (s .0) (now (w .entry)) (x .0) ⌝ }
 {
-    if 0 < x {
-        let p = egg::inner::parent(t, n, GroupElementId(x));
+    if 0 < x.0 {
+        let p = egg::inner::parent(t, n, x);
         let from = egg::inner::get(w, p as usize);
-        return egg::inner::step(t, n, from, egg::inner::last(t, n, GroupElementId(x)));
+        return egg::inner::step_last(t, n, GroupElementId(from), x);
     }
-    egg::inner::step(t, n, 0, s)
+    egg::inner::step(t, n, GroupElementId(0), s)
 }
 
 // Multiplication on the left by generator s, into the start of the work.
-fn fill_left(t: &[u32], w: &mut [u32], n: u8, count: u32, s: u32)
-    ensures { λ r. ⌜ now (w .exit) ≡ fillLeft count (now (t .entry)) n s (now (w .entry)) 0 ⌝ }
+fn fill_left(t: &[u32], w: &mut [u32], n: u8, count: u32, s: GeneratorId)
+    ensures { λ r. ⌜ now (w .exit) ≡ fillLeft count (now (t .entry)) n (s .0) (now (w .entry)) 0 ⌝ }
 {
     let mut x: u32 = 0;
     while x < count {
-        let y = left_of(t, &w[..], n, s, x);
+        let y = left_of(t, &w[..], n, s, GroupElementId(x)).0;
         egg::inner::put(w, x as usize, y as usize);
         x += 1;
     }
 }
 
 // 12, last part: multiplication on the left commutes with every step from x.
-fn goes_row(t: &[u32], w: &[u32], n: u8, x: u32) -> Verdict
-    ensures { λ r. ⌜ r ≡ goesRow (now (t .entry)) (now (w .entry)) n x ⌝ }
+fn goes_row(t: &[u32], w: &[u32], n: u8, x: GroupElementId) -> Verdict
+    ensures { λ r. ⌜ r ≡ goesRow (now (t .entry)) (now (w .entry)) n (x .0) ⌝ }
 {
-    let left = egg::inner::get(w, x as usize);
-    let mut g: u32 = 0;
-    while g < (n as u32) {
-        let y = egg::inner::step(t, n, x, g);
-        if egg::inner::get(w, y as usize) != egg::inner::step(t, n, left, g) {
+    let left = GroupElementId(egg::inner::get(w, x.0 as usize));
+    let mut g: u8 = 0;
+    while g < n {
+        let y = egg::inner::step(t, n, x, GeneratorId(g)).0;
+        if egg::inner::get(w, y as usize) != egg::inner::step(t, n, left, GeneratorId(g)).0 {
             return egg::inner::refused(12, 0, 0, 0);
         }
         g += 1;
@@ -452,7 +469,7 @@ fn all_go(t: &[u32], w: &[u32], n: u8, count: u32) -> Verdict
 {
     let mut x: u32 = 0;
     while x < count {
-        let v = goes_row(t, w, n, x);
+        let v = goes_row(t, w, n, GroupElementId(x));
         let Verdict::Fine = v else {
             return v;
         };
@@ -464,9 +481,9 @@ fn all_go(t: &[u32], w: &[u32], n: u8, count: u32) -> Verdict
 fn check12(t: &[u32], w: &mut [u32], n: u8, count: u32) -> Verdict
     ensures { λ r. ⌜ Lefts.left r (now (w .exit)) ≡ lefts n (now (t .entry)) n count (now (w .entry)) 0 ⌝ }
 {
-    let mut s: u32 = 0;
-    while s < (n as u32) {
-        fill_left(t, w, n, count, s);
+    let mut s: u8 = 0;
+    while s < n {
+        fill_left(t, w, n, count, GeneratorId(s));
         let v = all_go(t, &w[..], n, count);
         let Verdict::Fine = v else {
             return v;

@@ -27,6 +27,9 @@ traced {n} {word} {count} {t} W (suc k) (suc x) h b =
     let p = W .earlier (suc x) (omega arith) b in
     ap (λ (u : List ℕ). u ++ lastOf t n (suc x) ∷ []) (traced W k (parentOf t n (suc x)) (omega arith) (omega arith)) ∙ sym (W .grow (suc x) (omega arith) b)
 
+pub words-traced : {n : ℕ} {word : ℕ → List ℕ} {count : ℕ} {t : List ℕ} → Worded n word count t → (x : ℕ) → x < count → words n t x ≡ word x
+words-traced W x h = traced W x x (le-refl x) h
+
 -- What is right at any place of a run, as the table records it.
 pub run-sound : {n : ℕ} {o : List ℕ} {room lt lw N : ℕ} {t w : List ℕ} → RunOk n (order-of o) room lt lw N t w → Sound n o room lt N t
 run-sound {n} {N = N} {t} I = record {
@@ -41,7 +44,7 @@ run-sound {n} {N = N} {t} I = record {
   back = λ e g r h v. step-more (le-refl N) agree (I .table .marks (startOf n e + n + g) .back e g r h refl v);
 } where
   agree : (x : ℕ) → x < N → words n t x ≡ I .word x
-  agree x h = traced (I .table .words) x x (le-refl x) h
+  agree = words-traced (I .table .words)
 
   zero-beyond : (e k : ℕ) → N ≤ e → k < 2 * n + 4 → getD t (startOf n e + k) 0 ≡ 0
   zero-beyond e k h hk = by (ℕ-discrete (getD t (startOf n e + k) 0) 0) where

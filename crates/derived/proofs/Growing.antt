@@ -60,7 +60,7 @@ module _ (word : ℕ → List ℕ) (count : ℕ) (last : List ℕ) where
   unfolding extended
   extended-old x h = let d : x ≡ count → ⊥ = omega arith in simp (ne-eqb _ _ d)
 
-  extended-new : extended word count last count ≡ last
+  pub extended-new : extended word count last count ≡ last
   unfolding extended
   extended-new = simp (eq-eqb count count refl)
 

@@ -18,11 +18,11 @@ use Rattle.derived.proofs.Marking.{set-parent, set-last}
 use Rattle.derived.proofs.Growing.{written, parent-old, last-old, parent-new, last-new, other-row, word-length}
 
 -- A store of another number than 0 leaves what is known.
-put-known : (t : List ℕ) (i v : ℕ) → (v ≡ 0 → ⊥) → (j : ℕ) → (getD t j 0 ≡ 0 → ⊥) → getD (putAt t i v) j 0 ≡ 0 → ⊥
+pub put-known : (t : List ℕ) (i v : ℕ) → (v ≡ 0 → ⊥) → (j : ℕ) → (getD t j 0 ≡ 0 → ⊥) → getD (putAt t i v) j 0 ≡ 0 → ⊥
 put-known t i v d j h = put-keeps t i v (λ x y. x ≡ j → y ≡ 0 → ⊥) (λ _. d) (λ x q. rw q h) j refl
 
 module _ (n : ℕ) (t : List ℕ) (e : GroupElementId) (g : GeneratorId) (r : GroupElementId) where
-  set-keeps : (j : ℕ) → (getD t j 0 ≡ 0 → ⊥) → getD (setStep t n e g r) j 0 ≡ 0 → ⊥
+  pub set-keeps : (j : ℕ) → (getD t j 0 ≡ 0 → ⊥) → getD (setStep t n e g r) j 0 ≡ 0 → ⊥
   unfolding setStep
   set-keeps j k = put-known (putAt t (succAt n e g) (r .0 + 1)) (predAt n r g) (e .0 + 1) (omega arith) j (put-known t (succAt n e g) (r .0 + 1) (omega arith) j k)
 

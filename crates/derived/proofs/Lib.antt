@@ -14,4 +14,8 @@ pub mod Ending
 pub mod Stacking
 pub mod Emptying
 pub mod Settled
+pub mod Keeping
+pub mod Since
+pub mod Going
+pub mod Moving
 pub mod Sample

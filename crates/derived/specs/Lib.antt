@@ -1,3 +1,4 @@
 pub mod Invariant
 pub mod Recorded
 pub mod Stack
+pub mod Going

@@ -22,6 +22,10 @@ cong1 e z = omega arith
 pub product-small : (a b : ℕ) → a < 4294967296 → b < 524288 → a * b < 4503599627370496
 product-small a b ha hb = lt-of-le-of-lt (mul-le-mul (le-of-lt ha) (le-of-lt hb)) (lit< tt)
 
+-- The square in the width of the work, for a byte.
+pub square : (n : ℕ) → n < 256 → 6 * n * n ≤ 390150
+square n h = mul-le-mul {n₁ = 6 * n} {m₁ = n} {n₂ = 1530} {m₂ = 255} (omega arith) (omega arith)
+
 pub pick-same : {A : Type 0} {a b : A} (t : Bool) → a ≡ b → pick t a b ≡ b
 pick-same true e = e
 pick-same false e = refl

@@ -30,6 +30,10 @@ putAt l i v = pick (ltb v 4294967296) (set l i v) l
 unfoldable pub startOf : ℕ → ℕ → ℕ
 startOf n e = e * (2 * n + 4)
 
+-- "R(6n²+4n) of work": so many numbers for each element.
+abbrev pub workOf : ℕ → ℕ
+workOf n = 6 * n * n + 4 * n
+
 -- Where the successor and the predecessor of e by g stand. Each is stored as one more than its number, so that 0 is "not known" and an unused row is zero.
 abbrev pub succAt : ℕ → GroupElementId → GeneratorId → ℕ
 succAt n e g = startOf n (e .0) + g .0

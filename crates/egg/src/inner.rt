@@ -6,7 +6,7 @@ ghost use mathlib.Core.Path.{_≡_};
 ghost use mathlib.Core.Bool.{true};
 ghost use Prim.Native.Nat.{_+_, _*_, _<_, _-_};
 ghost use lib.ListN.{length, getD, replicate};
-ghost use Rattle.egg.specs.Table.{putAt, startOf, succAt, predAt, foundOf, stepOf, backOf, Place};
+ghost use Rattle.egg.specs.Table.{putAt, startOf, succAt, predAt, foundOf, lastOf, stepOf, backOf, workOf, Place};
 ghost use Rattle.egg.specs.Pairs.{pairCode, pairCount, ordersRight};
 ghost use Rattle.egg.specs.Scan.{refusedOf};
 ghost use Rattle.egg.specs.Factor.{fitsIn, stretch, refusedReach, readStep};
@@ -57,6 +57,14 @@ pub fn width(n: u8) -> usize
     2 * (n as usize) + 4
 }
 
+// The numbers of work that an element has.
+pub fn work_width(n: u8) -> usize
+    ensures { λ r. ⌜ Place r (workOf n) 524288 ⌝ }
+{
+    let m = n as usize;
+    6 * m * m + 4 * m
+}
+
 pub fn start(n: u8, e: GroupElementId) -> usize
     ensures { λ r. ⌜ Place r (startOf n (e .0)) 4503599627370496 ⌝ }
 {
@@ -101,34 +109,37 @@ pub fn predecessor(t: &[u32], n: u8, e: GroupElementId, g: GeneratorId) -> Found
 }
 
 // A number of the row of e: the k-th from `shift` on.
-pub fn cell(t: &[u32], n: u8, e: u32, shift: u8, k: u32) -> u32
-    ensures { λ r. ⌜ r ≡ getD (now (t .entry)) (startOf n e + shift + k) 0 ⌝ }
+pub fn cell(t: &[u32], n: u8, e: GroupElementId, shift: u8, k: u32) -> u32
+    ensures { λ r. ⌜ r ≡ getD (now (t .entry)) (startOf n (e .0) + shift + k) 0 ⌝ }
 {
-    get(
-        t,
-        start(n, GroupElementId(e)) + (shift as usize) + (k as usize),
-    )
+    get(t, start(n, e) + (shift as usize) + (k as usize))
 }
 
 // What a stored step stands for where nothing is missing: "not known" counts as the identity.
-pub fn element(x: u32) -> u32
-    ensures { λ r. ⌜ r ≡ x - 1 ⌝ }
+pub fn element(x: u32) -> GroupElementId
+    ensures { λ r. ⌜ r .0 ≡ x - 1 ⌝ }
 {
-    if x == 0 { 0 } else { x - 1 }
+    if x == 0 {
+        GroupElementId(0)
+    } else {
+        GroupElementId(x - 1)
+    }
 }
 
 // The step of a table with nothing missing.
-pub fn step(t: &[u32], n: u8, e: u32, g: u32) -> u32
-    ensures { λ r. ⌜ r ≡ stepOf (now (t .entry)) n e g ⌝ }
+pub fn step(t: &[u32], n: u8, e: GroupElementId, g: GeneratorId) -> GroupElementId
+    ensures { λ r. ⌜ r .0 ≡ stepOf (now (t .entry)) n (e .0) (g .0) ⌝ }
 {
-    element(get(t, start(n, GroupElementId(e)) + (g as usize)))
+    let k = g.0;
+    element(get(t, start(n, e) + (k as usize)))
 }
 
 // The step back of a table with nothing missing.
-pub fn back(t: &[u32], n: u8, e: u32, g: u32) -> u32
-    ensures { λ r. ⌜ r ≡ backOf (now (t .entry)) n e g ⌝ }
+pub fn back(t: &[u32], n: u8, e: GroupElementId, g: GeneratorId) -> GroupElementId
+    ensures { λ r. ⌜ r .0 ≡ backOf (now (t .entry)) n (e .0) (g .0) ⌝ }
 {
-    element(cell(t, n, e, n, g))
+    let k = g.0;
+    element(cell(t, n, e, n, k as u32))
 }
 
 pub fn parent(t: &[u32], n: u8, e: GroupElementId) -> u32
@@ -141,6 +152,20 @@ pub fn last(t: &[u32], n: u8, e: GroupElementId) -> u32
     ensures { λ r. ⌜ r ≡ getD (now (t .entry)) (startOf n (e .0) + 2 * n + 1) 0 ⌝ }
 {
     get(t, start(n, e) + 2 * (n as usize) + 1)
+}
+
+// The step from x by the last letter of the word of e, and the step back. A letter is a number that was stored, and no
+// generator's before it has been looked at.
+pub fn step_last(t: &[u32], n: u8, x: GroupElementId, e: GroupElementId) -> GroupElementId
+    ensures { λ r. ⌜ r .0 ≡ stepOf (now (t .entry)) n (x .0) (lastOf (now (t .entry)) n (e .0)) ⌝ }
+{
+    element(get(t, start(n, x) + (last(t, n, e) as usize)))
+}
+
+pub fn back_last(t: &[u32], n: u8, x: GroupElementId, e: GroupElementId) -> GroupElementId
+    ensures { λ r. ⌜ r .0 ≡ backOf (now (t .entry)) n (x .0) (lastOf (now (t .entry)) n (e .0)) ⌝ }
+{
+    element(cell(t, n, x, n, last(t, n, e)))
 }
 
 pub fn word_length(t: &[u32], n: u8, e: GroupElementId) -> u32
@@ -168,10 +193,10 @@ pub fn refuse(number: u32, a: u32) -> Reached
 }
 
 // The one read that every question is built on: the step in the stretch of a factor, or 17.
-pub fn next(s: &[u32], n: u8, count: u32, e: u32, g: u8) -> Reached
-    ensures { λ r. ⌜ r ≡ readStep (now (s .entry)) n count e g ⌝ }
+pub fn next(s: &[u32], n: u8, count: u32, e: GroupElementId, g: GeneratorId) -> Reached
+    ensures { λ r. ⌜ r ≡ readStep (now (s .entry)) n count (e .0) (g .0) ⌝ }
 {
-    let x = get(s, successor_at(n, GroupElementId(e), GeneratorId(g)));
+    let x = get(s, successor_at(n, e, g));
     if x == 0 {
         return refuse(17, 0);
     }

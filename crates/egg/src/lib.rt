@@ -99,5 +99,5 @@ pub fn step(table: &[u32], f: Factor, e: GroupElementId, g: GeneratorId) -> Reac
     if f.generators <= g.0 {
         return inner::refuse(14, 1);
     }
-    inner::next(inner::part(table, f), f.generators, f.elements, e.0, g.0)
+    inner::next(inner::part(table, f), f.generators, f.elements, e, g)
 }

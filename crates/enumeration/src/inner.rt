@@ -427,7 +427,13 @@ pub fn relate(t: &mut [u32], orders: &[u32], n: u8, read: Counted) -> Counted
 {
     match read {
         Counted::Refused(why) => Counted::Refused(why),
-        Counted::Count(count) => match factor::inner::relations_row(&t[..], n, count, orders, 0) {
+        Counted::Count(count) => match factor::inner::relations_row(
+            &t[..],
+            n,
+            count,
+            orders,
+            GroupElementId(0),
+        ) {
             Verdict::Refused(why) => {
                 egg::inner::clear(t);
                 Counted::Refused(why)

@@ -10,7 +10,7 @@ use Rattle.factor.specs.Questions.{backAlong}
 
 -- Where the letters lead that are left.
 abbrev pub retracedRest : List ℕ → ℕ → ℕ → Retraced → Reached
-retracedRest s n count r = backAlong (r .left) s n count (r .reached) (r .at)
+retracedRest s n count r = backAlong (r .left) s n count (r .reached .0) (r .at .0)
 
 -- One letter leads from x back to y: the last letter of whatever part of a word ends at `at`.
 pub record OneBack (s : List ℕ) (n count x at y : ℕ) : Type 0 where

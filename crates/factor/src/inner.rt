@@ -19,14 +19,15 @@ use egg::Reached;
 use egg::Refusal;
 use egg::Verdict;
 
-fn read_row(t: &mut [u32], rows: &[u32], n: u8, room: u32, e: u32, first: u32) -> Counted
-    ensures { λ r. ⌜ Placed.placed r (now (t .exit)) ≡ readRow n (composedAt (now (rows .entry)) n) n room e 0 first (now (t .entry)) ⌝ }
+fn read_row(t: &mut [u32], rows: &[u32], n: u8, room: u32, e: GroupElementId, first: u32) -> Counted
+    ensures { λ r. ⌜ Placed.placed r (now (t .exit)) ≡ readRow n (composedAt (now (rows .entry)) n) n room (e .0) 0 first (now (t .entry)) ⌝ }
 {
+    let row = e.0;
     let mut g: u8 = 0;
     let mut count = first;
     while g < n {
-        let v = egg::inner::get(rows, (e as usize) * (n as usize) + (g as usize));
-        let c = reading::inner::place(t, n, room, count, e, g, v);
+        let v = egg::inner::get(rows, (row as usize) * (n as usize) + (g as usize));
+        let c = reading::inner::place(t, n, room, count, e, GeneratorId(g), v);
         let Counted::Count(k) = c else {
             return c;
         };
@@ -46,7 +47,7 @@ fn read_rows(t: &mut [u32], rows: &[u32], n: u8, room: u32) -> Counted
         if count <= e {
             return Counted::Count(count);
         }
-        let c = read_row(t, rows, n, room, e, count);
+        let c = read_row(t, rows, n, room, GroupElementId(e), count);
         let Counted::Count(k) = c else {
             return c;
         };
@@ -66,50 +67,54 @@ pub fn compose_in(t: &mut [u32], w: &mut [u32], rows: &[u32], n: u8, room: u32) 
 }
 
 // 17 in the handle, then 14 for two elements; with one element, the identity stands for the other.
-pub fn admit(table: &[u32], f: Factor, a: u32, b: u32) -> Verdict
-    ensures { λ r. ⌜ r ≡ admits (length (now (table .entry))) f a b ⌝ }
+pub fn admit(table: &[u32], f: Factor, a: GroupElementId, b: GroupElementId) -> Verdict
+    ensures { λ r. ⌜ r ≡ admits (length (now (table .entry))) f (a .0) (b .0) ⌝ }
 {
     if !egg::fits(table, f) {
         return egg::inner::refused(17, 0, 0, 0);
     }
-    if f.elements <= a {
+    if f.elements <= a.0 {
         return egg::inner::refused(14, 0, 0, 0);
     }
-    if f.elements <= b {
+    if f.elements <= b.0 {
         return egg::inner::refused(14, 1, 0, 0);
     }
     Verdict::Fine
 }
 
 // From an element along the last `left` letters of the word that ends at e.
-pub fn along(s: &[u32], n: u8, count: u32, from: u32, e: u32, left: u32) -> Reached
-    ensures { λ r. ⌜ r ≡ along left (now (s .entry)) n count from e ⌝ }
+pub fn along(
+    s: &[u32],
+    n: u8,
+    count: u32,
+    from: GroupElementId,
+    e: GroupElementId,
+    left: u32,
+) -> Reached
+    ensures { λ r. ⌜ r ≡ along left (now (s .entry)) n count (from .0) (e .0) ⌝ }
 {
     if left == 0 {
-        return Reached::Element(GroupElementId(from));
+        return Reached::Element(from);
     }
-    let p = egg::inner::parent(s, n, GroupElementId(e));
+    let p = egg::inner::parent(s, n, e);
     if count <= p {
         return egg::inner::refuse(17, 0);
     }
-    let g = egg::inner::last(s, n, GroupElementId(e));
+    let g = egg::inner::last(s, n, e);
     if (n as u32) <= g {
         return egg::inner::refuse(17, 0);
     }
-    match along(&s[..], n, count, from, p, left - 1) {
+    match along(&s[..], n, count, from, GroupElementId(p), left - 1) {
         Reached::Refused(why) => Reached::Refused(why),
-        Reached::Element(x) => egg::inner::next(s, n, count, x.0, (g % 256) as u8),
+        Reached::Element(x) => egg::inner::next(s, n, count, x, GeneratorId((g % 256) as u8)),
     }
 }
 
 // The step back in the stretch of a factor, or 17.
-pub fn previous(s: &[u32], n: u8, count: u32, e: u32, g: u8) -> Reached
-    ensures { λ r. ⌜ r ≡ readBack (now (s .entry)) n count e g ⌝ }
+pub fn previous(s: &[u32], n: u8, count: u32, e: GroupElementId, g: GeneratorId) -> Reached
+    ensures { λ r. ⌜ r ≡ readBack (now (s .entry)) n count (e .0) (g .0) ⌝ }
 {
-    let x = egg::inner::get(
-        s,
-        egg::inner::predecessor_at(n, GroupElementId(e), GeneratorId(g)),
-    );
+    let x = egg::inner::get(s, egg::inner::predecessor_at(n, e, g));
     if x == 0 {
         return egg::inner::refuse(17, 0);
     }
@@ -122,8 +127,8 @@ pub fn previous(s: &[u32], n: u8, count: u32, e: u32, g: u8) -> Reached
 // How far a walk back along a word has come: the element that it has reached, the element at which the word that is left
 // ends, and how many letters that has; how far the last two letters led, and whether there may be more legs.
 pub struct Retraced {
-    pub reached: u32,
-    pub at: u32,
+    pub reached: GroupElementId,
+    pub at: GroupElementId,
     pub left: u32,
     pub jump: u32,
     pub fall: u32,
@@ -141,13 +146,13 @@ fn guessed(x: u32, on: u32, at: u32, down: u32) -> bool
 
 // The element to which the last letter of the word that ends at `at` leads back from x; where a number is out of range,
 // the count or more.
-fn retrace_letter(s: &[u32], n: u8, count: u32, x: u32, at: u32) -> u32
-    ensures { λ r. ⌜ (r < count → OneBack (now (s .entry)) n count x at r) ⌝ }
+fn retrace_letter(s: &[u32], n: u8, count: u32, x: GroupElementId, at: GroupElementId) -> u32
+    ensures { λ r. ⌜ (r < count → OneBack (now (s .entry)) n count (x .0) (at .0) r) ⌝ }
 {
-    if count <= egg::inner::parent(s, n, GroupElementId(at)) {
+    if count <= egg::inner::parent(s, n, at) {
         return count;
     }
-    let letter = egg::inner::last(s, n, GroupElementId(at));
+    let letter = egg::inner::last(s, n, at);
     if (n as u32) <= letter {
         return count;
     }
@@ -164,28 +169,28 @@ fn retrace_leg(
     s: &[u32],
     n: u8,
     count: u32,
-    from: u32,
-    word: u32,
+    from: GroupElementId,
+    word: GroupElementId,
     letters: u32,
     jump: u32,
     fall: u32,
 ) -> Retraced
-    ensures { λ r. ⌜ (retracedRest (now (s .entry)) n count r ≡ backAlong letters (now (s .entry)) n count from word) × (stillLeft (r .more) (r .left) ≤ letters) ⌝ }
+    ensures { λ r. ⌜ (retracedRest (now (s .entry)) n count r ≡ backAlong letters (now (s .entry)) n count (from .0) (word .0)) × (stillLeft (r .more) (r .left) ≤ letters) ⌝ }
 {
-    let mut x = from;
-    let mut at = word;
+    let mut x = from.0;
+    let mut at = word.0;
     let mut left = letters;
     while 1 < left {
         let on = std::num::wrapping_add_u32(x, jump);
         let down = std::num::wrapping_sub_u32(at, fall);
-        let y = retrace_letter(s, n, count, x, at);
+        let y = retrace_letter(s, n, count, GroupElementId(x), GroupElementId(at));
         let p = egg::inner::parent(s, n, GroupElementId(at));
-        let z = retrace_letter(s, n, count, y, p);
+        let z = retrace_letter(s, n, count, GroupElementId(y), GroupElementId(p));
         let q = egg::inner::parent(s, n, GroupElementId(p));
         if count <= y {
             return Retraced {
-                reached: x,
-                at,
+                reached: GroupElementId(x),
+                at: GroupElementId(at),
                 left,
                 jump,
                 fall,
@@ -194,8 +199,8 @@ fn retrace_leg(
         }
         if count <= z {
             return Retraced {
-                reached: x,
-                at,
+                reached: GroupElementId(x),
+                at: GroupElementId(at),
                 left,
                 jump,
                 fall,
@@ -205,8 +210,8 @@ fn retrace_leg(
         left -= 2;
         if !guessed(z, on, q, down) {
             return Retraced {
-                reached: z,
-                at: q,
+                reached: GroupElementId(z),
+                at: GroupElementId(q),
                 left,
                 jump: std::num::wrapping_sub_u32(z, x),
                 fall: std::num::wrapping_sub_u32(at, q),
@@ -217,8 +222,8 @@ fn retrace_leg(
         at = down;
     }
     Retraced {
-        reached: x,
-        at,
+        reached: GroupElementId(x),
+        at: GroupElementId(at),
         left,
         jump,
         fall,
@@ -227,27 +232,43 @@ fn retrace_leg(
 }
 
 // The most of a long word, leg by leg. In a short one guesses fail too often.
-fn retrace_most(s: &[u32], n: u8, count: u32, from: u32, e: u32, letters: u32) -> Retraced
-    ensures { λ r. ⌜ retracedRest (now (s .entry)) n count r ≡ backAlong letters (now (s .entry)) n count from e ⌝ }
+fn retrace_most(
+    s: &[u32],
+    n: u8,
+    count: u32,
+    from: GroupElementId,
+    e: GroupElementId,
+    letters: u32,
+) -> Retraced
+    ensures { λ r. ⌜ retracedRest (now (s .entry)) n count r ≡ backAlong letters (now (s .entry)) n count (from .0) (e .0) ⌝ }
 {
-    let mut x = from;
-    let mut at = e;
+    let mut x = from.0;
+    let mut at = e.0;
     let mut left = letters;
     let mut jump = 0;
     let mut fall = 0;
     let mut more = 64 < letters;
     while more {
-        let leg = retrace_leg(s, n, count, x, at, left, jump, fall);
-        x = leg.reached;
-        at = leg.at;
+        let leg = retrace_leg(
+            s,
+            n,
+            count,
+            GroupElementId(x),
+            GroupElementId(at),
+            left,
+            jump,
+            fall,
+        );
+        x = leg.reached.0;
+        at = leg.at.0;
         left = leg.left;
         jump = leg.jump;
         fall = leg.fall;
         more = leg.more;
     }
     Retraced {
-        reached: x,
-        at,
+        reached: GroupElementId(x),
+        at: GroupElementId(at),
         left,
         jump,
         fall,
@@ -257,43 +278,56 @@ fn retrace_most(s: &[u32], n: u8, count: u32, from: u32, e: u32, letters: u32) -
 
 // From an element back along the last `letters` letters of the word that ends at e. (`&s[..]`: a slice that is itself
 // passed on is copied at the start of its function, and a call would wait there for the one before it.)
-pub fn back_along(s: &[u32], n: u8, count: u32, from: u32, e: u32, letters: u32) -> Reached
-    ensures { λ r. ⌜ r ≡ backAlong letters (now (s .entry)) n count from e ⌝ }
+pub fn back_along(
+    s: &[u32],
+    n: u8,
+    count: u32,
+    from: GroupElementId,
+    e: GroupElementId,
+    letters: u32,
+) -> Reached
+    ensures { λ r. ⌜ r ≡ backAlong letters (now (s .entry)) n count (from .0) (e .0) ⌝ }
 {
     let rest = retrace_most(&s[..], n, count, from, e, letters);
     let mut x = rest.reached;
     let mut at = rest.at;
     let mut left = rest.left;
     while 0 < left {
-        let p = egg::inner::parent(s, n, GroupElementId(at));
+        let p = egg::inner::parent(s, n, at);
         if count <= p {
             return egg::inner::refuse(17, 0);
         }
-        let letter = egg::inner::last(s, n, GroupElementId(at));
+        let letter = egg::inner::last(s, n, at);
         if (n as u32) <= letter {
             return egg::inner::refuse(17, 0);
         }
-        let back = previous(s, n, count, x, (letter % 256) as u8);
+        let back = previous(s, n, count, x, GeneratorId((letter % 256) as u8));
         let Reached::Element(y) = back else {
             return back;
         };
-        x = y.0;
-        at = p;
+        x = y;
+        at = GroupElementId(p);
         left -= 1;
     }
-    Reached::Element(GroupElementId(x))
+    Reached::Element(x)
 }
 
 // Back along the word of the inverse the letters come in the order in which they are walked, so that nothing waits for
 // a return; where that word is longer, along the element's own.
-pub fn compose_elements(s: &[u32], n: u8, count: u32, a: u32, b: u32) -> Reached
-    ensures { λ r. ⌜ r ≡ composeIn (now (s .entry)) n count a b ⌝ }
+pub fn compose_elements(
+    s: &[u32],
+    n: u8,
+    count: u32,
+    a: GroupElementId,
+    b: GroupElementId,
+) -> Reached
+    ensures { λ r. ⌜ r ≡ composeIn (now (s .entry)) n count (a .0) (b .0) ⌝ }
 {
-    let len = egg::inner::word_length(s, n, GroupElementId(b));
+    let len = egg::inner::word_length(s, n, b);
     if 4096 < len {
         return egg::inner::refuse(17, 0);
     }
-    let i = egg::inner::get(s, egg::inner::inverse_at(n, GroupElementId(b)));
+    let i = egg::inner::get(s, egg::inner::inverse_at(n, b));
     if count <= i {
         return egg::inner::refuse(17, 0);
     }
@@ -301,38 +335,44 @@ pub fn compose_elements(s: &[u32], n: u8, count: u32, a: u32, b: u32) -> Reached
     if len < back {
         return along(&s[..], n, count, a, b, len);
     }
-    back_along(s, n, count, a, i, back)
+    back_along(s, n, count, a, GroupElementId(i), back)
 }
 
-pub fn inverse_in(s: &[u32], n: u8, count: u32, a: u32) -> Reached
-    ensures { λ r. ⌜ r ≡ inverseIn (now (s .entry)) n count a ⌝ }
+pub fn inverse_in(s: &[u32], n: u8, count: u32, a: GroupElementId) -> Reached
+    ensures { λ r. ⌜ r ≡ inverseIn (now (s .entry)) n count (a .0) ⌝ }
 {
-    let i = egg::inner::get(s, egg::inner::inverse_at(n, GroupElementId(a)));
+    let i = egg::inner::get(s, egg::inner::inverse_at(n, a));
     if count <= i {
         return egg::inner::refuse(17, 0);
     }
     Reached::Element(GroupElementId(i))
 }
 
-pub fn conjugate_elements(s: &[u32], n: u8, count: u32, a: u32, b: u32) -> Reached
-    ensures { λ r. ⌜ r ≡ conjugateIn (now (s .entry)) n count a b ⌝ }
+pub fn conjugate_elements(
+    s: &[u32],
+    n: u8,
+    count: u32,
+    a: GroupElementId,
+    b: GroupElementId,
+) -> Reached
+    ensures { λ r. ⌜ r ≡ conjugateIn (now (s .entry)) n count (a .0) (b .0) ⌝ }
 {
-    match compose_elements(s, n, count, a, b) {
+    match compose_elements(&s[..], n, count, a, b) {
         Reached::Refused(why) => Reached::Refused(why),
         Reached::Element(c) => match inverse_in(s, n, count, a) {
             Reached::Refused(why) => Reached::Refused(why),
-            Reached::Element(i) => compose_elements(s, n, count, c.0, i.0),
+            Reached::Element(i) => compose_elements(&s[..], n, count, c, i),
         },
     }
 }
 
-pub fn generator_in(s: &[u32], n: u8, count: u32, g: u8) -> Reached
-    ensures { λ r. ⌜ r ≡ generatorIn (now (s .entry)) n count g ⌝ }
+pub fn generator_in(s: &[u32], n: u8, count: u32, g: GeneratorId) -> Reached
+    ensures { λ r. ⌜ r ≡ generatorIn (now (s .entry)) n count (g .0) ⌝ }
 {
-    if n <= g {
+    if n <= g.0 {
         return egg::inner::refuse(14, 0);
     }
-    egg::inner::next(s, n, count, 0, g)
+    egg::inner::next(s, n, count, GroupElementId(0), g)
 }
 
 fn refused_count(number: u32) -> Counted
@@ -346,10 +386,10 @@ fn refused_count(number: u32) -> Counted
     })
 }
 
-pub fn length_in(s: &[u32], n: u8, e: u32) -> Counted
-    ensures { λ r. ⌜ r ≡ lengthIn (now (s .entry)) n e ⌝ }
+pub fn length_in(s: &[u32], n: u8, e: GroupElementId) -> Counted
+    ensures { λ r. ⌜ r ≡ lengthIn (now (s .entry)) n (e .0) ⌝ }
 {
-    let len = egg::inner::word_length(s, n, GroupElementId(e));
+    let len = egg::inner::word_length(s, n, e);
     if 4096 < len {
         return refused_count(17);
     }
@@ -357,10 +397,10 @@ pub fn length_in(s: &[u32], n: u8, e: u32) -> Counted
 }
 
 // Whether every letter of the word can be read, so that nothing is written where one cannot.
-pub fn readable(s: &[u32], n: u8, count: u32, e: u32, len: u32) -> bool
-    ensures { λ r. ⌜ r ≡ readable len (now (s .entry)) n count e ⌝ }
+pub fn readable(s: &[u32], n: u8, count: u32, e: GroupElementId, len: u32) -> bool
+    ensures { λ r. ⌜ r ≡ readable len (now (s .entry)) n count (e .0) ⌝ }
 {
-    let mut at = e;
+    let mut at = e.0;
     let mut left = len;
     while 0 < left {
         if (n as u32) <= egg::inner::last(s, n, GroupElementId(at)) {
@@ -385,10 +425,10 @@ pub fn put_byte(out: &mut [u8], i: usize, v: u8)
 }
 
 // Each letter goes to its place at once, from the last to the first.
-fn spell(s: &[u32], n: u8, e: u32, len: u32, out: &mut [u8])
-    ensures { λ r. ⌜ now (out .exit) ≡ spell len (now (s .entry)) n e (now (out .entry)) ⌝ }
+fn spell(s: &[u32], n: u8, e: GroupElementId, len: u32, out: &mut [u8])
+    ensures { λ r. ⌜ now (out .exit) ≡ spell len (now (s .entry)) n (e .0) (now (out .entry)) ⌝ }
 {
-    let mut at = e;
+    let mut at = e.0;
     let mut left = len;
     while 0 < left {
         left -= 1;
@@ -398,26 +438,34 @@ fn spell(s: &[u32], n: u8, e: u32, len: u32, out: &mut [u8])
     }
 }
 
-pub fn write_in(s: &[u32], n: u8, count: u32, e: u32, out: &mut [u8]) -> Counted
-    ensures { λ r. ⌜ (r ≡ writeIn (now (s .entry)) n count e (length (now (out .entry)))) × (now (out .exit) ≡ writtenBy (writeIn (now (s .entry)) n count e (length (now (out .entry)))) (now (s .entry)) n e (now (out .entry))) ⌝ }
+pub fn write_in(s: &[u32], n: u8, count: u32, e: GroupElementId, out: &mut [u8]) -> Counted
+    ensures { λ r. ⌜ (r ≡ writeIn (now (s .entry)) n count (e .0) (length (now (out .entry)))) × (now (out .exit) ≡ writtenBy (writeIn (now (s .entry)) n count (e .0) (length (now (out .entry)))) (now (s .entry)) n (e .0) (now (out .entry))) ⌝ }
 {
-    let letters = egg::inner::word_length(s, n, GroupElementId(e));
+    let letters = egg::inner::word_length(s, n, e);
     if 4096 < letters {
         return refused_count(17);
     }
     if out.len() < (letters as usize) {
         return refused_count(4);
     }
-    if !readable(s, n, count, e, letters) {
+    if !readable(&s[..], n, count, e, letters) {
         return refused_count(17);
     }
-    spell(s, n, e, letters, out);
+    spell(&s[..], n, e, letters, out);
     Counted::Count(letters)
 }
 
 // From e by a and then b, so many times both.
-pub fn turned(s: &[u32], n: u8, count: u32, e: u32, a: u8, b: u8, times: u32) -> Reached
-    ensures { λ r. ⌜ r ≡ turned times (now (s .entry)) n count e a b ⌝ }
+pub fn turned(
+    s: &[u32],
+    n: u8,
+    count: u32,
+    e: GroupElementId,
+    a: GeneratorId,
+    b: GeneratorId,
+    times: u32,
+) -> Reached
+    ensures { λ r. ⌜ r ≡ turned times (now (s .entry)) n count (e .0) (a .0) (b .0) ⌝ }
 {
     let mut x = e;
     let mut left = times;
@@ -426,38 +474,46 @@ pub fn turned(s: &[u32], n: u8, count: u32, e: u32, a: u8, b: u8, times: u32) ->
         let Reached::Element(y) = one else {
             return one;
         };
-        let two = egg::inner::next(s, n, count, y.0, b);
+        let two = egg::inner::next(s, n, count, y, b);
         let Reached::Element(z) = two else {
             return two;
         };
-        x = z.0;
+        x = z;
         left -= 1;
     }
-    Reached::Element(GroupElementId(x))
+    Reached::Element(x)
 }
 
 // 13 at one element for one relation, or 17 on the way.
-pub fn relation_at(s: &[u32], n: u8, count: u32, e: u32, a: u8, b: u8, times: u32) -> Verdict
-    ensures { λ r. ⌜ r ≡ relationAt (now (s .entry)) n count e a b times ⌝ }
+pub fn relation_at(
+    s: &[u32],
+    n: u8,
+    count: u32,
+    e: GroupElementId,
+    a: GeneratorId,
+    b: GeneratorId,
+    times: u32,
+) -> Verdict
+    ensures { λ r. ⌜ r ≡ relationAt (now (s .entry)) n count (e .0) (a .0) (b .0) times ⌝ }
 {
-    match turned(s, n, count, e, a, b, times) {
+    match turned(&s[..], n, count, e, a, b, times) {
         Reached::Refused(why) => Verdict::Refused(why),
         Reached::Element(x) => {
-            if x.0 == e {
+            if x.0 == e.0 {
                 Verdict::Fine
             } else {
-                egg::inner::refused(13, e, a as u32, b as u32)
+                egg::inner::refused(13, e.0, a.0 as u32, b.0 as u32)
             }
         }
     }
 }
 
-fn doubled_row(s: &[u32], n: u8, count: u32, e: u32) -> Verdict
-    ensures { λ r. ⌜ r ≡ doubledRow (now (s .entry)) n count e ⌝ }
+fn doubled_row(s: &[u32], n: u8, count: u32, e: GroupElementId) -> Verdict
+    ensures { λ r. ⌜ r ≡ doubledRow (now (s .entry)) n count (e .0) ⌝ }
 {
     let mut g: u8 = 0;
     while g < n {
-        let v = relation_at(s, n, count, e, g, g, 1);
+        let v = relation_at(&s[..], n, count, e, GeneratorId(g), GeneratorId(g), 1);
         let Verdict::Fine = v else {
             return v;
         };
@@ -466,20 +522,20 @@ fn doubled_row(s: &[u32], n: u8, count: u32, e: u32) -> Verdict
     Verdict::Fine
 }
 
-fn pairs_row(s: &[u32], n: u8, count: u32, orders: &[u32], e: u32) -> Verdict
+fn pairs_row(s: &[u32], n: u8, count: u32, orders: &[u32], e: GroupElementId) -> Verdict
     requires { ⌜ length (now orders) ≤ 28 ⌝ }
-    ensures { λ r. ⌜ r ≡ pairsRow (now (s .entry)) n count (now (orders .entry)) e ⌝ }
+    ensures { λ r. ⌜ r ≡ pairsRow (now (s .entry)) n count (now (orders .entry)) (e .0) ⌝ }
 {
     let mut k: usize = 0;
     while k < orders.len() {
         let pair = egg::inner::pair_code(k);
         let v = relation_at(
-            s,
+            &s[..],
             n,
             count,
             e,
-            (pair / 8 % 256) as u8,
-            (pair % 8) as u8,
+            GeneratorId((pair / 8 % 256) as u8),
+            GeneratorId((pair % 8) as u8),
             orders[k],
         );
         let Verdict::Fine = v else {
@@ -491,15 +547,15 @@ fn pairs_row(s: &[u32], n: u8, count: u32, orders: &[u32], e: u32) -> Verdict
 }
 
 // Every relation at one element: each generator doubled, then each pair.
-pub fn relations_row(s: &[u32], n: u8, count: u32, orders: &[u32], e: u32) -> Verdict
+pub fn relations_row(s: &[u32], n: u8, count: u32, orders: &[u32], e: GroupElementId) -> Verdict
     requires { ⌜ length (now orders) ≤ 28 ⌝ }
-    ensures { λ r. ⌜ r ≡ relationsRow (now (s .entry)) n count (now (orders .entry)) e ⌝ }
+    ensures { λ r. ⌜ r ≡ relationsRow (now (s .entry)) n count (now (orders .entry)) (e .0) ⌝ }
 {
-    let v = doubled_row(s, n, count, e);
+    let v = doubled_row(&s[..], n, count, e);
     let Verdict::Fine = v else {
         return v;
     };
-    pairs_row(s, n, count, orders, e)
+    pairs_row(&s[..], n, count, &orders[..], e)
 }
 
 pub fn relations(s: &[u32], n: u8, count: u32, orders: &[u32]) -> Verdict
@@ -508,7 +564,7 @@ pub fn relations(s: &[u32], n: u8, count: u32, orders: &[u32]) -> Verdict
 {
     let mut e: u32 = 0;
     while e < count {
-        let v = relations_row(s, n, count, orders, e);
+        let v = relations_row(&s[..], n, count, &orders[..], GroupElementId(e));
         let Verdict::Fine = v else {
             return v;
         };

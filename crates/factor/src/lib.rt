@@ -46,7 +46,7 @@ pub fn from_composed(
 pub fn element_count(table: &[u32], f: Factor) -> Counted
     ensures { λ r. ⌜ r ≡ countAnswer (now (table .entry)) f ⌝ }
 {
-    match inner::admit(table, f, 0, 0) {
+    match inner::admit(table, f, GroupElementId(0), GroupElementId(0)) {
         Verdict::Refused(why) => Counted::Refused(why),
         Verdict::Fine => Counted::Count(f.elements),
     }
@@ -56,13 +56,13 @@ pub fn element_count(table: &[u32], f: Factor) -> Counted
 pub fn generator(table: &[u32], f: Factor, g: GeneratorId) -> Reached
     ensures { λ r. ⌜ r ≡ generatorAnswer (now (table .entry)) f g ⌝ }
 {
-    match inner::admit(table, f, 0, 0) {
+    match inner::admit(table, f, GroupElementId(0), GroupElementId(0)) {
         Verdict::Refused(why) => Reached::Refused(why),
         Verdict::Fine => inner::generator_in(
             egg::inner::part(table, f),
             f.generators,
             f.elements,
-            g.0,
+            g,
         ),
     }
 }
@@ -70,37 +70,32 @@ pub fn generator(table: &[u32], f: Factor, g: GeneratorId) -> Reached
 pub fn word_length(table: &[u32], f: Factor, e: GroupElementId) -> Counted
     ensures { λ r. ⌜ r ≡ lengthAnswer (now (table .entry)) f e ⌝ }
 {
-    match inner::admit(table, f, e.0, 0) {
+    match inner::admit(table, f, e, GroupElementId(0)) {
         Verdict::Refused(why) => Counted::Refused(why),
-        Verdict::Fine => inner::length_in(egg::inner::part(table, f), f.generators, e.0),
+        Verdict::Fine => inner::length_in(egg::inner::part(table, f), f.generators, e),
     }
 }
 
 pub fn inverse(table: &[u32], f: Factor, a: GroupElementId) -> Reached
     ensures { λ r. ⌜ r ≡ inverseAnswer (now (table .entry)) f a ⌝ }
 {
-    match inner::admit(table, f, a.0, 0) {
+    match inner::admit(table, f, a, GroupElementId(0)) {
         Verdict::Refused(why) => Reached::Refused(why),
-        Verdict::Fine => inner::inverse_in(
-            egg::inner::part(table, f),
-            f.generators,
-            f.elements,
-            a.0,
-        ),
+        Verdict::Fine => inner::inverse_in(egg::inner::part(table, f), f.generators, f.elements, a),
     }
 }
 
 pub fn compose(table: &[u32], f: Factor, a: GroupElementId, b: GroupElementId) -> Reached
     ensures { λ r. ⌜ r ≡ composeAnswer (now (table .entry)) f a b ⌝ }
 {
-    match inner::admit(table, f, a.0, b.0) {
+    match inner::admit(table, f, a, b) {
         Verdict::Refused(why) => Reached::Refused(why),
         Verdict::Fine => inner::compose_elements(
             egg::inner::part(table, f),
             f.generators,
             f.elements,
-            a.0,
-            b.0,
+            a,
+            b,
         ),
     }
 }
@@ -109,14 +104,14 @@ pub fn compose(table: &[u32], f: Factor, a: GroupElementId, b: GroupElementId) -
 pub fn conjugate(table: &[u32], f: Factor, a: GroupElementId, b: GroupElementId) -> Reached
     ensures { λ r. ⌜ r ≡ conjugateAnswer (now (table .entry)) f a b ⌝ }
 {
-    match inner::admit(table, f, a.0, b.0) {
+    match inner::admit(table, f, a, b) {
         Verdict::Refused(why) => Reached::Refused(why),
         Verdict::Fine => inner::conjugate_elements(
             egg::inner::part(table, f),
             f.generators,
             f.elements,
-            a.0,
-            b.0,
+            a,
+            b,
         ),
     }
 }
@@ -125,13 +120,13 @@ pub fn conjugate(table: &[u32], f: Factor, a: GroupElementId, b: GroupElementId)
 pub fn write_word(table: &[u32], f: Factor, e: GroupElementId, out: &mut [u8]) -> Counted
     ensures { λ r. ⌜ (r ≡ writeAnswer (now (table .entry)) f e (length (now (out .entry)))) × (now (out .exit) ≡ written (now (table .entry)) f e (now (out .entry))) ⌝ }
 {
-    match inner::admit(table, f, e.0, 0) {
+    match inner::admit(table, f, e, GroupElementId(0)) {
         Verdict::Refused(why) => Counted::Refused(why),
         Verdict::Fine => inner::write_in(
             egg::inner::part(table, f),
             f.generators,
             f.elements,
-            e.0,
+            e,
             out,
         ),
     }
@@ -151,7 +146,7 @@ pub fn word<'a>(table: &[u32], f: Factor, e: GroupElementId, out: &'a mut [u8]) 
 pub fn check(table: &[u32], f: Factor, orders: &[u32]) -> Verdict
     ensures { λ r. ⌜ r ≡ checkAnswer (now (table .entry)) f (now (orders .entry)) ⌝ }
 {
-    let v = inner::admit(table, f, 0, 0);
+    let v = inner::admit(table, f, GroupElementId(0), GroupElementId(0));
     let Verdict::Fine = v else {
         return v;
     };

@@ -20,7 +20,7 @@ use Rattle.egg.proofs.Cells.{put-same, put-other, put-length}
 use Rattle.meaning.proofs.Inverses.{step-is}
 
 -- The wiping, whatever the work is like.
-put-zero : (w : List ℕ) (e : ℕ) → getD (putAt w e 0) e 0 ≡ 0
+pub put-zero : (w : List ℕ) (e : ℕ) → getD (putAt w e 0) e 0 ≡ 0
 put-zero w e = go (decLt e (length w)) where
   go : Dec (e < length w) → getD (putAt w e 0) e 0 ≡ 0
   go (yes h) = put-same w e 0 h (omega arith)

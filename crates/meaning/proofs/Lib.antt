@@ -8,3 +8,5 @@ pub mod Arrivals
 pub mod Complete
 pub mod Refused
 pub mod Lengths
+pub mod Numbers
+pub mod Ruling

@@ -16,6 +16,7 @@ use Rattle.egg.specs.Scan.{refusedOf, andThen}
 use Rattle.checks.specs.Checks.{missing, missingRow, check8, ranges, rangeRow, linksOf, wrong, wrongRow, check-table, counted, countsRight}
 use Rattle.checks.specs.Checks.{fillInverses, inversesRight, identityRow, columnsRow, spelledRow, spelled, check-steps}
 use Rattle.checks.specs.Checks.{fillLeft, goesRow, allGo, Lefts, left, thenLeft, lefts}
+pub use Rattle.checks.specs.Checks.{leftVerdict, verdictOf}
 use Rattle.checks.specs.Checks.{Checked, checked, thenChecked, withTable, check-rest, check-group}
 use Rattle.theory.specs.Table.{Table, Columns}
 use Rattle.theory.specs.Words.{Parents, Recorded}
@@ -109,21 +110,15 @@ module _ (t : List ℕ) (n N : ℕ) where
   unfolding allGo goesRow
   all-go-late w = search late
 
-abbrev pub leftVerdict : Lefts → Verdict
-leftVerdict (left v w) = v
-
-abbrev verdictOf : Checked → Verdict
-verdictOf (checked v t w) = v
-
-left-says : {Q : Refusal → Type 0} (v : Verdict) (w : List ℕ) (l : Lefts) → Says Q v → Says Q (leftVerdict l) → Says Q (leftVerdict (thenLeft v w l))
+pub left-says : {Q : Refusal → Type 0} (v : Verdict) (w : List ℕ) (l : Lefts) → Says Q v → Says Q (leftVerdict l) → Says Q (leftVerdict (thenLeft v w l))
 left-says Fine w l p q = q
 left-says (Refused r) w l p q = p
 
-checked-says : {Q : Refusal → Type 0} (v : Verdict) (t w : List ℕ) (c : Checked) → Says Q v → Says Q (verdictOf c) → Says Q (verdictOf (thenChecked v t w c))
+pub checked-says : {Q : Refusal → Type 0} (v : Verdict) (t w : List ℕ) (c : Checked) → Says Q v → Says Q (verdictOf c) → Says Q (verdictOf (thenChecked v t w c))
 checked-says Fine t w c p q = q
 checked-says (Refused r) t w c p q = p
 
-table-says : {Q : Refusal → Type 0} (t : List ℕ) (l : Lefts) → Says Q (leftVerdict l) → Says Q (verdictOf (withTable t l))
+pub table-says : {Q : Refusal → Type 0} (t : List ℕ) (l : Lefts) → Says Q (leftVerdict l) → Says Q (verdictOf (withTable t l))
 table-says t (left v w) p = p
 
 pub lefts-late : (k : ℕ) (t : List ℕ) (n N : ℕ) (w : List ℕ) (s : ℕ) → Says Twelve (leftVerdict (lefts k t n N w s))

@@ -5,3 +5,4 @@ pub mod State
 pub mod Runs
 pub mod OnePlace
 pub mod Readings
+pub mod Storing

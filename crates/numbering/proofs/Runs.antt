@@ -27,7 +27,7 @@ then-on : (A B : ℕ → List ℕ → Type 0) (R : Refusal → Type 0) (p : Plac
 then-on A B R (placed (Count c) t) f a k = k c t a
 then-on A B R (placed (Refused r) t) f a k = a
 
-zeros : (size i : ℕ) → getD (replicate {A = ℕ} size 0) i 0 ≡ 0
+pub zeros : (size i : ℕ) → getD (replicate {A = ℕ} size 0) i 0 ≡ 0
 zeros size i = go (decLt i size) where
   go : Dec (i < size) → getD (replicate {A = ℕ} size 0) i 0 ≡ 0
   go (yes h) = getD-replicate size i 0 0 h

@@ -41,11 +41,11 @@ On A R (placed (Refused r) t) = R r
 
 -- The five ways of one place.
 module _ (t : List ℕ) (n room c x g v : ℕ) where
-  place-skip : c < v → readPlace t n room c x g v ≡ placed (Refused (numbered 7 x g v)) t
+  pub place-skip : c < v → readPlace t n room c x g v ≡ placed (Refused (numbered 7 x g v)) t
   unfolding readPlace
   place-skip h = simp (lt-ltb c v h)
 
-  place-old : v < c → readPlace t n room c x g v ≡ placed (Count c) (stepped t n x g v)
+  pub place-old : v < c → readPlace t n room c x g v ≡ placed (Count c) (stepped t n x g v)
   unfolding readPlace
   place-old h = simp (le-ltb c v (omega arith), lt-ltb v c h)
 
@@ -54,11 +54,11 @@ module _ (t : List ℕ) (n room c x g v : ℕ) where
     unfolding readPlace adds
     place-full h = simp (le-ltb c v (omega arith), le-ltb v c (omega arith), le-leb room c h)
 
-    place-long : c < room → 4096 ≤ lengthOf t n x → readPlace t n room c x g v ≡ placed (Refused (numbered 6 x g 0)) t
+    pub place-long : c < room → 4096 ≤ lengthOf t n x → readPlace t n room c x g v ≡ placed (Refused (numbered 6 x g 0)) t
     unfolding readPlace adds
     place-long h l = simp (le-ltb c v (omega arith), le-ltb v c (omega arith), lt-leb room c h, le-leb 4096 (lengthOf t n x) l)
 
-    place-new : c < room → lengthOf t n x < 4096
+    pub place-new : c < room → lengthOf t n x < 4096
         → readPlace t n room c x g v ≡ placed (Count (suc c)) (stepped (worded t n c x g (suc (lengthOf t n x))) n x g c)
     unfolding readPlace adds
     place-new h l = simp (le-ltb c v (omega arith), le-ltb v c (omega arith), lt-leb room c h, lt-leb 4096 (lengthOf t n x) l, add-one)

@@ -19,6 +19,7 @@ ghost use Rattle.page.specs.Text.{
   groupText,
   refusedText,
 };
+use egg::GeneratorId;
 use egg::GroupElementId;
 use egg::Verdict;
 
@@ -86,38 +87,38 @@ pub fn write_spaced(out: &mut [u8], at: usize, x: u32) -> usize
 }
 
 // The successors of e.
-pub fn write_steps(out: &mut [u8], at: usize, t: &[u32], n: u8, e: u32) -> usize
-    requires { ⌜ Ends at (stepsText n (now t) n e 0) ⌝ }
-    ensures { λ r. ⌜ Writes (now (out .entry)) at (stepsText n (now (t .entry)) n e 0) (now (out .exit)) r ⌝ }
+pub fn write_steps(out: &mut [u8], at: usize, t: &[u32], n: u8, e: GroupElementId) -> usize
+    requires { ⌜ Ends at (stepsText n (now t) n (e .0) 0) ⌝ }
+    ensures { λ r. ⌜ Writes (now (out .entry)) at (stepsText n (now (t .entry)) n (e .0) 0) (now (out .exit)) r ⌝ }
 {
     let mut next = at;
-    let mut g: u32 = 0;
-    while g < (n as u32) {
-        next = write_spaced(out, next, egg::inner::step(t, n, e, g));
+    let mut g: u8 = 0;
+    while g < n {
+        next = write_spaced(out, next, egg::inner::step(t, n, e, GeneratorId(g)).0);
         g += 1;
     }
     next
 }
 
 // The two numbers of a line that the table holds as they are.
-pub fn inverse(t: &[u32], n: u8, e: u32) -> u32
-    ensures { λ r. ⌜ r ≡ inverseOf (now (t .entry)) n e ⌝ }
+pub fn inverse(t: &[u32], n: u8, e: GroupElementId) -> u32
+    ensures { λ r. ⌜ r ≡ inverseOf (now (t .entry)) n (e .0) ⌝ }
 {
-    egg::inner::get(t, egg::inner::inverse_at(n, GroupElementId(e)))
+    egg::inner::get(t, egg::inner::inverse_at(n, e))
 }
 
-pub fn word_length(t: &[u32], n: u8, e: u32) -> u32
-    ensures { λ r. ⌜ r ≡ lengthOf (now (t .entry)) n e ⌝ }
+pub fn word_length(t: &[u32], n: u8, e: GroupElementId) -> u32
+    ensures { λ r. ⌜ r ≡ lengthOf (now (t .entry)) n (e .0) ⌝ }
 {
-    egg::inner::word_length(t, n, GroupElementId(e))
+    egg::inner::word_length(t, n, e)
 }
 
 // "element, inverse, word length, successors"
-pub fn write_line(out: &mut [u8], at: usize, t: &[u32], n: u8, e: u32) -> usize
-    requires { ⌜ Ends at (lineText (now t) n e) ⌝ }
-    ensures { λ r. ⌜ Writes (now (out .entry)) at (lineText (now (t .entry)) n e) (now (out .exit)) r ⌝ }
+pub fn write_line(out: &mut [u8], at: usize, t: &[u32], n: u8, e: GroupElementId) -> usize
+    requires { ⌜ Ends at (lineText (now t) n (e .0)) ⌝ }
+    ensures { λ r. ⌜ Writes (now (out .entry)) at (lineText (now (t .entry)) n (e .0)) (now (out .exit)) r ⌝ }
 {
-    let a = write_decimal(out, at, e);
+    let a = write_decimal(out, at, e.0);
     let b = write_spaced(out, a, inverse(t, n, e));
     let c = write_spaced(out, b, word_length(t, n, e));
     let d = write_steps(out, c, t, n, e);
@@ -132,7 +133,7 @@ pub fn write_lines(out: &mut [u8], at: usize, t: &[u32], n: u8, count: u32) -> u
     let mut next = at;
     let mut e: u32 = 0;
     while e < count {
-        next = write_line(out, next, t, n, e);
+        next = write_line(out, next, t, n, GroupElementId(e));
         e += 1;
     }
     next

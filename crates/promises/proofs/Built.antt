@@ -6,32 +6,27 @@ use mathlib.Core.List.{List}
 use native.Mathlib.Nat.{mul-le-mul, le-refl}
 use native.Mathlib.Omega.{arith}
 use lib.ListN.{length, getD, replicate}
-use Rattle.egg.specs.declared.Refusal.{Refusal}
-use Rattle.egg.specs.declared.Verdict.{Verdict}
 use Rattle.egg.specs.declared.Verdict.the-variants as verdict
-use Rattle.egg.specs.declared.Counted.{Counted}
 use Rattle.egg.specs.declared.Counted.the-variants.{Count, Refused}
-use Rattle.egg.specs.Table.{startOf, parentOf, lastOf, lengthOf, stepOf}
+use Rattle.egg.specs.Table.{startOf, parentOf, lastOf, stepOf}
 use Rattle.checks.specs.Checks.{Checked, checked, check-group}
-use Rattle.builder.specs.Finish.{Built, built, zeroed, settledBy, finished, finishedPlaced}
+use Rattle.builder.specs.Finish.{built, zeroed, settledBy, finished, finishedPlaced}
 use Rattle.reading.specs.Reading.{Placed, placed, readAll}
-use Rattle.theory.specs.Table.{Table, Columns}
-use Rattle.theory.specs.Words.{Parents, Recorded}
-use Rattle.theory.specs.Group.{RightRegular}
-use Rattle.theory.specs.AnyGroup.{SomeGroup}
+use Rattle.theory.specs.Table.{Columns}
 use Rattle.theory.proofs.AnyCarrier.{any-carrier}
 use Rattle.theory.proofs.Counting.{numbered-table}
 use Rattle.theory.proofs.FirstPlaces.{first-parents}
 use Rattle.theory.proofs.Recording.{word-of-recorded}
 use Rattle.theory.proofs.Complete.{columns}
-use Rattle.meaning.specs.Stored.{Stored, Kept, wordOf}
-use Rattle.meaning.specs.Sound.{Sound}
+use Rattle.meaning.specs.Stored.{Stored, wordOf}
 use Rattle.meaning.proofs.Accepted.{checks-sound, checks-kept, sound-regular}
+use Rattle.meaning.proofs.Ruling.{ruled-kept}
 use Rattle.meaning.proofs.Complete.{checks-complete}
 use Rattle.meaning.proofs.Lengths.{checks-work}
 use Rattle.meaning.proofs.Refused.{regular-same}
-use Rattle.numbering.specs.Read.{Read, Readable}
-use Rattle.numbering.proofs.Readings.{accepted-read, readable-accepted, read-words, read-letters, read-readable, read-steps}
+use Rattle.numbering.specs.Read.{Read}
+use Rattle.numbering.proofs.Readings.{accepted-read, readable-accepted, read-words, read-letters, read-readable, read-steps, read-rule, read-appearance}
+use Rattle.numbering.proofs.Storing.{read-stored}
 use Rattle.promises.specs.Composed.{Taken, Holding}
 
 -- An accepted end of a build is an accepted count and a passed check.
@@ -73,24 +68,6 @@ pub below-cells : (n N e : ℕ) → e < N → (i : ℕ) → N * (2 * n + 4) ≤ 
 unfolding startOf
 below-cells n N e he i h q = omega (arith, mul-le-mul {n₁ = suc e} he (le-refl (2 * n + 4)))
 
--- Where the columns are permutations, the predecessors that reading stored are the steps back.
-module _ {src back : ℕ → ℕ → ℕ} {n room size N : ℕ} {t : List ℕ} (R : Read src n room size N t) (C : Columns n N src back) where
-  stored-back : (r g x : ℕ) → r < N → g < n → getD t (startOf n r + n + g) 0 ≡ x → x ≡ suc (back r g)
-  stored-back r g zero hr hg q = absurd (R .arrived {r = r} (C .closed hr hg) hg (C .step-back hr hg) q)
-  stored-back r g (suc e) hr hg q =
-      let p = R .predecessor hr hg q in
-      let z : back (src e g) g ≡ e = C .back-step (p .0) hg in
-      ap suc (sym (subst (λ (y : ℕ). back y g ≡ e) (p .1) z))
-
-  pub read-stored : Stored t n N src back (parentOf t n) (lastOf t n) (wordOf t n)
-  read-stored = record {
-    successor = R .successor;
-    predecessor = λ {e} {g} he hg. stored-back e g _ he hg refl;
-    parents = λ pos he. refl;
-    letters = λ pos he. refl;
-    lengths = λ {e} he. read-letters R e he ∙ ap length (sym (read-words R e he));
-  }
-
 module _ (src : ℕ → ℕ → ℕ) (n room size : ℕ) (w : List ℕ) (few : n ≤ 8) (lo : 1 ≤ room) (hi : room ≤ 65535) (fits : room * (2 * n + 4) ≤ size)
     (work : room * (6 * n * n + 4 * n) ≤ length w) where
   -- The work has a number for each element.
@@ -116,6 +93,7 @@ module _ (src : ℕ → ℕ → ℕ) (n room size : ℕ) (w : List ℕ) (few : n
             group = any-carrier .1 (regular-same (S .table) same (sound-regular S));
           };
           sound = S;
+          ruled = ruled-kept K S (read-rule R) (read-appearance R);
           size-kept = K .size ∙ R .whole;
           steps = λ {e} {g} he hg. same e g he hg;
           beyond = λ {i} h. K .other i (λ e he q. below-cells n N e he i h q) ∙ R .beyond h;

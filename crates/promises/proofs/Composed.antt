@@ -21,26 +21,21 @@ use Rattle.builder.specs.Finish.{Built}
 use Rattle.builder.specs.Lending.{tableNeed, workNeed, lentRight, within, noFactor, making, lentBack, refusedMade, Making}
 use Rattle.builder.proofs.Lending.{lent-table, lent-enough}
 use Rattle.factor.specs.Composed.{composedAt, composedIn, composed}
-use Rattle.promises.specs.Composed.{Taken, Groupless, Holding, Given}
+use Rattle.promises.specs.Composed.{RowsRight, Taken, Groupless, Holding, Given}
 use Rattle.promises.proofs.Lent.{refused-making, handle, lentTable, by-build, by-refused, stretch-part, fits-still}
 use Rattle.promises.proofs.Built.{built-holds, built-work, taken-built}
 use Rattle.promises.proofs.Twelve.{built-12, groupless-built}
-
--- Where the call is accepted, 1 and 4 have passed.
-pub record Begun (table : List ℕ) (start : ℕ) (work rows : List ℕ) (n room : ℕ) : Type 0 where
-  pub generators : n ≤ 8
-  pub lent : lentRight (length table) start (length work) room n ≡ true
-  pub listed : room * n ≤ length rows
 
 module _ (table : List ℕ) (start : ℕ) (work rows : List ℕ) (n room : ℕ) (f : Factor) (t w : List ℕ) where
   abbrev accepted : Making
   accepted = making (record { answer = verdict.Fine; factor = f }) t w
 
-  pub begun : composed table start work rows n room ≡ making (record { answer = verdict.Fine; factor = f }) t w → Begun table start work rows n room
+  -- Where the call is accepted, 1 and 4 have passed.
+  pub begun : composed table start work rows n room ≡ making (record { answer = verdict.Fine; factor = f }) t w → RowsRight table start work rows n room
   unfolding composed
   begun h = first (lentBack table start work n room (composedIn (tableNeed n room) (take (workNeed n room) work) rows n room)) (ltb 8 n) refl h where
     second : (m : Making) (b : Bool) → ltb 8 n ≡ false → lentRight (length table) start (length work) room n && leb (room * n) (length rows) ≡ b
-        → pick b m (making (refusedMade 4 0) table work) ≡ accepted → Begun table start work rows n room
+        → pick b m (making (refusedMade 4 0) table work) ≡ accepted → RowsRight table start work rows n room
     second m true g l e = record {
       generators = ltb-false 8 n g;
       lent = and-first (lentRight (length table) start (length work) room n) _ l;
@@ -51,7 +46,7 @@ module _ (table : List ℕ) (start : ℕ) (work rows : List ℕ) (n room : ℕ) 
     first : (m : Making) (a : Bool) → ltb 8 n ≡ a
         → pick a (making (refusedMade 1 n) table work)
         (pick (lentRight (length table) start (length work) room n && leb (room * n) (length rows)) m (making (refusedMade 4 0) table work)) ≡ accepted
-        → Begun table start work rows n room
+        → RowsRight table start work rows n room
     first m true g e = absurd (refused-making e)
     first m false g e = second m (lentRight (length table) start (length work) room n && leb (room * n) (length rows)) g refl e
 
@@ -92,6 +87,7 @@ module _ (table : List ℕ) (start : ℕ) (work rows : List ℕ) (n room : ℕ) 
       accepted = record {
         fits = fits-still table start n room has-room s (H .size-kept) N (H .sound .table .origin) (H .taken .readable .within);
         sound = rw part (H .sound);
+        ruled = rw part (H .ruled);
       };
       steps = λ {e} {g} he hg. rw part (H .steps he hg);
       beyond = λ {i} h. rw part (H .beyond h);

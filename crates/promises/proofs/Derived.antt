@@ -1,38 +1,39 @@
 -- An enumeration's build in its stretches: the run is derivable, the checks make it a group's table, and 13 at the identity is 13 everywhere.
 -- Assumes nothing.
-use Prim.Native.Nat.{ℕ, zero, suc, _+_, _*_, _-_, _/_, _%_, _≤_, _<_}
-use mathlib.Core.Path.{_≡_, refl, sym, ap, _∙_, subst}
-use mathlib.Core.List.{List, [], _∷_, _++_}
+use Prim.Native.Nat.{ℕ, zero, suc, _+_, _*_, _/_, _%_, _≤_, _<_}
+use mathlib.Core.Path.{_≡_, refl, ap, _∙_, subst}
+use mathlib.Core.List.{List}
 use native.Mathlib.Nat.{mul-le-mul, le-refl, div-add-mod', mod-lt, le-div-iff-mul-le}
 use native.Mathlib.Omega.{arith}
 use lib.ListN.{length, getD, replicate}
-use Rattle.egg.specs.declared.Refusal.{Refusal}
 use Rattle.egg.specs.declared.Verdict.{Verdict}
 use Rattle.egg.specs.declared.Verdict.the-variants as verdict
 use Rattle.egg.specs.declared.Counted.{Counted}
 use Rattle.egg.specs.declared.Counted.the-variants.{Count, Refused}
-use Rattle.egg.specs.Table.{startOf, parentOf, lastOf, stepOf}
+use Rattle.egg.specs.Table.{startOf, stepOf}
 use Rattle.egg.specs.Pairs.{ordersRight}
-use Rattle.checks.specs.Checks.{Checked, checked, check-group}
-use Rattle.builder.specs.Finish.{Built, built, zeroed, settledBy, finished}
+use Rattle.checks.specs.Checks.{checked, check-group}
+use Rattle.builder.specs.Finish.{Built, built, zeroed, finished}
 use Rattle.factor.specs.Relations.{relationsRow, relations}
 use Rattle.enumeration.specs.declared.inner.Ran.{Ran}
 use Rattle.enumeration.specs.declared.inner.Ran.the-variants as ran
 use Rattle.enumeration.specs.Run.{enumerated}
 use Rattle.enumeration.specs.Calls.{ranCount, relatingBy, withWork, related, enumeratedIn}
-use Rattle.theory.specs.Words.{Word, walk, trace, word-of}
-use Rattle.theory.specs.Presentation.{order-of, Equiv, Holds, Derived}
-use Rattle.theory.proofs.Presented.{presented}
+use Rattle.theory.specs.Words.{trace}
+use Rattle.theory.specs.Presentation.{order-of, Holds, Derived}
+use Rattle.theory.proofs.Pasts.{past-agree, past-numbered, past-appearance}
 use Rattle.meaning.specs.Stored.{Kept, wordOf}
-use Rattle.meaning.specs.Sound.{Sound}
-use Rattle.egg.proofs.Scans.{refused-fine}
+use Rattle.meaning.specs.Sound.{Sound, Ruled}
 use Rattle.meaning.proofs.Inverses.{kept-cell}
 use Rattle.meaning.proofs.Accepted.{checks-sound, checks-kept}
+use Rattle.meaning.proofs.Ruling.{ruled}
 use Rattle.meaning.proofs.Lengths.{checks-work}
 use Rattle.answers.proofs.Relators.{orders-long, relations-exact, relations-first}
+use Rattle.derived.specs.Invariant.{Worded}
 use Rattle.derived.specs.Recorded as run
-use Rattle.derived.proofs.Derivation.{done-sound, sound-derived}
+use Rattle.derived.proofs.Derivation.{words-traced, done-sound, sound-derived}
 use Rattle.derived.proofs.Running.{Ends, enumerated-ok}
+use Rattle.derived.proofs.Going.{done-finished}
 use Rattle.derived.proofs.Ending.{never-paused}
 use Rattle.promises.proofs.Built.{by-check, below-cells}
 
@@ -41,6 +42,10 @@ trace-same : {p p′ l l′ : ℕ → ℕ} → ((x : ℕ) → p x ≡ p′ x) �
 trace-same a b zero e = refl
 trace-same a b (suc k) zero = refl
 trace-same {p′ = p′} a b (suc k) (suc e) = rw (a (suc e), b (suc e), trace-same a b k (p′ (suc e)))
+
+-- The words of a run are those that its table records, before and after the checks.
+pub word-same : {n : ℕ} {word : ℕ → List ℕ} {count : ℕ} {t t′ : List ℕ} {N : ℕ} → Worded n word count t → Kept t t′ n N → (x : ℕ) → x < count → wordOf t′ n x ≡ word x
+word-same W K x h = trace-same (K .parent-same) (K .last-same) x x ∙ words-traced W x h
 
 -- An accepted end: an accepted build before 13, and 13 passed at the identity.
 by-relations : (n : ℕ) (o : List ℕ) (b : Built) {N : ℕ} {t w : List ℕ} → related n o b ≡ built (Count N) t w
@@ -122,6 +127,7 @@ module _ (o : List ℕ) (n room lt lw : ℕ) (L : run.Limits n o room lt lw) (ri
   -- The stretch of an accepted enumeration.
   pub record Related (N : ℕ) (t w : List ℕ) : Type 0 where
     pub sound : Sound t n N
+    pub ruled : Ruled t n N
     pub within-room : N ≤ room
     pub size-kept : length t ≡ lt
     pub derived : Derived n N (order-of o) (stepOf t n) (wordOf t n)
@@ -146,13 +152,17 @@ module _ (o : List ℕ) (n room lt lw : ℕ) (L : run.Limits n o room lt lw) (ri
       let same : (e : ℕ) → wordOf t n e ≡ run.words n t₀ e = λ e. trace-same (K .parent-same) (K .last-same) e e in
       let m = relations-first S (L .few) o (orders-long o n right) (P .identity) in
       let d = sound-derived D known in
+      let H = relations-exact S (L .few) o (orders-long o n right) .0 m in
+      let F = done-finished L (P .finish) in
+      let past = past-agree (F .past) (word-same (F .run .table .words) K) in
       record {
         sound = S;
+        ruled = ruled S (past-numbered (S .table) (S .spelled) H (F .end) (F .last-row) past) (past-appearance (S .table) (S .spelled) H (S .parents) (S .recorded) past);
         within-room = D .fits;
         size-kept = K .size ∙ D .whole;
         derived = record { derived = λ {e} {g} he hg. rw (K .step-same e hg, same e, same (stepOf t₀ n e g)) (d .derived he hg) };
         all-related = m;
-        holds = relations-exact S (L .few) o (orders-long o n right) .0 m;
+        holds = H;
         beyond = λ {i} h. K .other i (λ e he x. below-cells n N e he i h x) ∙ blank-beyond D i h;
         work-zero = P .wiped ∙ ap (λ (k : ℕ). replicate k 0) (checks-work t₀ w₀ n N c ∙ work-long (P .finish));
       }

@@ -1,7 +1,7 @@
 -- Demand 3: whatever the arguments, an enumeration that is accepted gives the group that the pair orders present.
 -- Assumes nothing.
 use Prim.Native.Nat.{ℕ, _≤_}
-use mathlib.Core.Path.{_≡_, refl, ap, _∙_}
+use mathlib.Core.Path.{_≡_, refl, sym, ap, _∙_}
 use mathlib.Core.Bool.{Bool, true, false}
 use mathlib.Core.List.{List}
 use native.Mathlib.Nat.{le-refl}
@@ -25,7 +25,7 @@ use Rattle.theory.proofs.Presented.{presented}
 use Rattle.answers.specs.Accepted.{Accepted, reach}
 use Rattle.answers.proofs.Handles.{compose-answer}
 use Rattle.derived.specs.Recorded as run
-use Rattle.promises.specs.Enumerated.{Enumerated, Demand3}
+use Rattle.promises.specs.Enumerated.{OrdersRight, Enumerated, Demand3}
 use Rattle.promises.proofs.Lent.{refused-making, handle, lentTable, by-build, stretch-part, fits-still}
 use Rattle.promises.proofs.Derived.{Related, enumerated-related}
 
@@ -50,25 +50,19 @@ module _ (table : List ℕ) (start : ℕ) (work orders : List ℕ) (n room : ℕ
   unfolding enumerates
   enumerates-is-build = simp (le-ltb _ _ generators, right, lent)
 
--- Where the call is accepted, 1 to 4 have passed.
-pub record Begun (table : List ℕ) (start : ℕ) (work orders : List ℕ) (n room : ℕ) (m : Making) : Type 0 where
-  pub generators : n ≤ 8
-  pub right : ordersRight orders n ≡ verdict.Fine
-  pub lent : lentRight (length table) start (length work) room n ≡ true
-  pub is : lentBack table start work n room (enumeratedIn (tableNeed n room) (workNeed n room) orders n room) ≡ m
-
 module _ (table : List ℕ) (start : ℕ) (work orders : List ℕ) (n room : ℕ) (f : Factor) (t w : List ℕ) where
   abbrev pub accepted : Making
   accepted = making (record { answer = verdict.Fine; factor = f }) t w
 
-  pub begun : enumerates table start work orders n room ≡ accepted → Begun table start work orders n room accepted
+  -- Where the call is accepted, 1 to 4 have passed.
+  pub begun : enumerates table start work orders n room ≡ accepted → OrdersRight table start work orders n room
   unfolding enumerates
   begun h = first (ltb 8 n) refl h where
     third : (v : Verdict) → ordersRight orders n ≡ v → ltb 8 n ≡ false → (b : Bool) → lentRight (length table) start (length work) room n ≡ b
         → refusedMaking v table work (pick b (lentBack table start work n room (enumeratedIn (tableNeed n room) (workNeed n room) orders n room))
         (making (refusedMade 4 0) table work)) ≡ accepted
-        → Begun table start work orders n room accepted
-    third verdict.Fine o g true l e = record { generators = ltb-false 8 n g; right = o; lent = l; is = e }
+        → OrdersRight table start work orders n room
+    third verdict.Fine o g true l e = record { generators = ltb-false 8 n g; right = o; lent = l }
     third verdict.Fine o g false l e = absurd (refused-making e)
     third (verdict.Refused r) o g b l e = absurd (refused-making e)
 
@@ -78,11 +72,11 @@ module _ (table : List ℕ) (start : ℕ) (work orders : List ℕ) (n room : ℕ
         (pick (lentRight (length table) start (length work) room n)
         (lentBack table start work n room (enumeratedIn (tableNeed n room) (workNeed n room) orders n room))
         (making (refusedMade 4 0) table work))) ≡ accepted
-        → Begun table start work orders n room accepted
+        → OrdersRight table start work orders n room
     first true g e = absurd (refused-making e)
     first false g e = third (ordersRight orders n) refl g (lentRight (length table) start (length work) room n) refl e
 
-  module _ (B : Begun table start work orders n room accepted) where
+  module _ (B : OrdersRight table start work orders n room) where
     has-room : hasRoom (length table) start room n ≡ true
     has-room = lent-table (length table) start (length work) room n (B .lent)
 
@@ -97,6 +91,7 @@ module _ (table : List ℕ) (start : ℕ) (work orders : List ℕ) (n room : ℕ
       taken = record {
         fits = fits-still table start n room has-room s (R .size-kept) N (R .sound .table .origin) (R .within-room);
         sound = rw part (R .sound);
+        ruled = rw part (R .ruled);
       }
 
       demand : Demand3 orders (handle start n room N) (lentTable table start n room s)
@@ -130,6 +125,7 @@ module _ (table : List ℕ) (start : ℕ) (work orders : List ℕ) (n room : ℕ
       → Enumerated table start work orders n room f t w
   enumeration-accepted h =
       let B = begun h in
-      let b = by-build table start work n room (enumeratedIn (tableNeed n room) (workNeed n room) orders n room) (B .is) in
+      let b = by-build table start work n room (enumeratedIn (tableNeed n room) (workNeed n room) orders n room)
+      (sym (enumerates-is-build table start work orders n room (B .generators) (B .right) (B .lent)) ∙ h) in
       let R = enumerated-related orders n room (tableNeed n room) (workNeed n room) (begun-limits B) (B .right) (b .3 .0) in
       at (b .3 .1 .0) (b .3 .1 .1 .0) (b .3 .1 .1 .1) (related-enumerated B R)

@@ -1,13 +1,15 @@
 -- What a call lends and gets back: a stretch of the table buffer and one of the work. What holds of the build in its stretches holds of the call.
 -- Assumes nothing.
-use Prim.Native.Nat.{ℕ, _+_, _≤_, _<_}
+use Prim.Native.Nat.{ℕ, _+_, _-_, _≤_, _<_}
 use mathlib.Core.Path.{_≡_, refl, sym, ap, _∙_}
+use mathlib.Core.Logic.{_⊎_, inl, inr}
 use mathlib.Core.Bool.{true}
 use mathlib.Core.List.{List, _++_}
+use native.Mathlib.Nat.{min-le-left}
 use native.Mathlib.Omega.{arith}
 use borrow.Author.Tests.{le-leb}
-use lib.ListN.{length, getD, take, drop, length-append, length-drop}
-use lib.Seq.{length-take-le, take-at, drop-at, getD-take, getD-drop}
+use lib.ListN.{length, getD, take, drop, length-append, length-take, length-drop, List·getD-append}
+use lib.Seq.{length-take-le, take-at, drop-at, getD-take, getD-drop, getD-append-add, ext-getD}
 use Rattle.egg.specs.declared.Refusal.{Refusal}
 use Rattle.egg.specs.declared.Factor.{Factor}
 use Rattle.egg.specs.declared.Made.{Made}
@@ -17,6 +19,10 @@ use Rattle.egg.specs.Factor.{hasRoom, fitsIn, stretch}
 use Rattle.egg.proofs.Rooms.{within-length}
 use Rattle.builder.specs.Finish.{Built, built}
 use Rattle.builder.specs.Lending.{tableNeed, workNeed, within, noFactor, madeOf, making, lentBack}
+
+-- Past the end of the first list.
+append-past : (p q : List ℕ) (k j : ℕ) → length p ≡ k → getD (p ++ q) (k + j) 0 ≡ getD q j 0
+append-past p q k j h = rw (← h) (getD-append-add p q j 0)
 
 -- A list with a part of itself replaced by one as long: its length, the part, and the part's numbers.
 module _ (l : List ℕ) (a k : ℕ) (fits : a + k ≤ length l) (p : List ℕ) (size : length p ≡ k) where
@@ -33,6 +39,43 @@ module _ (l : List ℕ) (a k : ℕ) (fits : a + k ≤ length l) (p : List ℕ) (
   within-cell i h =
       sym (getD-drop a (within l a (a + k) p) i 0) ∙ sym (getD-take k (drop a (within l a (a + k) p)) i 0 h)
       ∙ ap (λ (x : List ℕ). getD x i 0) within-part
+
+  -- The cells before and after it, and any stretch that does not overlap it, are as they were.
+  pub within-before : (i : ℕ) → i < a → getD (within l a (a + k) p) i 0 ≡ getD l i 0
+  unfolding within
+  within-before i h =
+      let long : length (take a l) ≡ a = length-take-le a l (omega arith) in
+      List·getD-append (take a l) (p ++ drop (a + k) l) 0 i (rw long h) ∙ getD-take a l i 0 h
+
+  pub within-after : (i : ℕ) → a + k ≤ i → getD (within l a (a + k) p) i 0 ≡ getD l i 0
+  unfolding within
+  within-after i h =
+      let j = i - (a + k) in
+      let e : i ≡ a + (k + j) = omega arith in
+      let d : a + k + j ≡ a + (k + j) = omega arith in
+      rw e (append-past (take a l) (p ++ drop (a + k) l) a (k + j) (length-take-le a l (omega arith))
+      ∙ append-past p (drop (a + k) l) k j size ∙ getD-drop (a + k) l j 0 ∙ ap (λ (x : ℕ). getD l x 0) d)
+
+  -- A stretch that does not overlap the part is as it was.
+  pub within-apart : (b m : ℕ) → (a + k ≤ b) ⊎ (b + m ≤ a) → take m (drop b (within l a (a + k) p)) ≡ take m (drop b l)
+  within-apart b m apart = ext-getD 0 (take m (drop b (within l a (a + k) p))) (take m (drop b l)) long cells where
+    whole : length (within l a (a + k) p) ≡ length l
+    whole = within-long
+
+    long : length (take m (drop b (within l a (a + k) p))) ≡ length (take m (drop b l))
+    long = simp (length-take, length-drop, whole)
+
+    cell : (i : ℕ) → i < m → getD (within l a (a + k) p) (b + i) 0 ≡ getD l (b + i) 0
+    cell i h = by apart where
+      by : (a + k ≤ b) ⊎ (b + m ≤ a) → getD (within l a (a + k) p) (b + i) 0 ≡ getD l (b + i) 0
+      by (inl q) = within-after (b + i) (omega arith)
+      by (inr q) = within-before (b + i) (omega arith)
+
+    cells : (i : ℕ) → i < length (take m (drop b (within l a (a + k) p))) → getD (take m (drop b (within l a (a + k) p))) i 0 ≡ getD (take m (drop b l)) i 0
+    cells i h =
+        let hm : i < m = omega (arith, length-take m (drop b (within l a (a + k) p)), min-le-left m (length (drop b (within l a (a + k) p)))) in
+        getD-take m (drop b (within l a (a + k) p)) i 0 hm ∙ getD-drop b (within l a (a + k) p) i 0 ∙ cell i hm
+        ∙ sym (getD-drop b l i 0) ∙ sym (getD-take m (drop b l) i 0 hm)
 
 abbrev pub handle : ℕ → ℕ → ℕ → ℕ → Factor
 handle start n room N = record { start = start; room = room; generators = n; elements = N }

@@ -51,7 +51,8 @@ use Rattle.promises.proofs.Derived.{work-long, steps-enumerated, enumer
 use Rattle.promises.proofs.Enumerated.{limits, enumerates-is-build}
 use Rattle.promises.proofs.Enumerated as enumeration
 use Rattle.promises.proofs.Composed as rows-call
-use Rattle.promises.proofs.Built.{passed, passes, read-stored, work-enough, rows-fit, checked-holds, built-holds}
+use Rattle.numbering.proofs.Storing.{read-stored}
+use Rattle.promises.proofs.Built.{passed, passes, work-enough, rows-fit, checked-holds, built-holds}
 
 -- Inverses are found and filled alike in a longer list.
 invert-longer : (k : ℕ) (l : List ℕ) (n j at x : ℕ) → invertFrom j (longer k l) n at x ≡ invertFrom j l n at x
@@ -119,7 +120,7 @@ module _ {n N : ℕ} (few : n ≤ 8) (some : 0 < N) (small : N ≤ 65535) where
 -- A build's stretch with zeros behind it, put back into other buffers.
 module _ (table : List ℕ) (start n room : ℕ) (has : hasRoom (length table) start room n ≡ true) (table′ : List ℕ) (start′ : ℕ) (work′ : List ℕ) (room′ : ℕ)
     (has′ : hasRoom (length table′) start′ room′ n ≡ true) (more : room ≤ room′) where
-  lent-roomier : {N : ℕ} (s v : List ℕ) {m : Making} → length s ≡ tableNeed n room
+  pub lent-roomier : {N : ℕ} (s v : List ℕ) {m : Making} → length s ≡ tableNeed n room
       → m ≡ lentBack table′ start′ work′ n room′ (built (Count N) (longer (tableNeed n room′ - tableNeed n room) s) v)
       → Roomier n start room (handle start n room N) (lentTable table start n room s) start′ room′ m
   lent-roomier {N} s v size q =
@@ -136,7 +137,7 @@ module _ (table : List ℕ) (start n room : ℕ) (has : hasRoom (length table) s
         beyond = λ {i} lo hi. cell i hi ∙ List·getD-eq-default s 0 (omega arith);
       }
 
-roomier-at : {n start room start′ room′ : ℕ} {f f₀ : Factor} {t t₀ : List ℕ} {m : Making} → f ≡ f₀ → t ≡ t₀ → Roomier n start room f₀ t₀ start′ room′ m
+pub roomier-at : {n start room start′ room′ : ℕ} {f f₀ : Factor} {t t₀ : List ℕ} {m : Making} → f ≡ f₀ → t ≡ t₀ → Roomier n start room f₀ t₀ start′ room′ m
     → Roomier n start room f t start′ room′ m
 roomier-at a b r = rw (a, b) r
 
@@ -167,7 +168,7 @@ module _ (table : List ℕ) (start : ℕ) (work orders : List ℕ) (n room : ℕ
       → Roomier n start room f t start′ room′ (enumerates table′ start′ work′ orders n room′)
   enumeration-roomier h more lent′ =
       let B = enumeration.begun table start work orders n room f t w h in
-      let b = by-build table start work n room (enumeratedIn (tableNeed n room) (workNeed n room) orders n room) (B .is) in
+      let b = by-build table start work n room (enumeratedIn (tableNeed n room) (workNeed n room) orders n room) (sym (enumerates-is-build table start work orders n room (B .generators) (B .right) (B .lent)) ∙ h) in
       let L = limits table start work orders n room (B .generators) (B .right) (B .lent) in
       let L′ = limits table′ start′ work′ orders n room′ (B .generators) (B .right) lent′ in
       let R = enumerated-related orders n room (tableNeed n room) (workNeed n room) L (B .right) (b .3 .0) in

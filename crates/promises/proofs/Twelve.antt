@@ -29,10 +29,11 @@ use Rattle.meaning.proofs.Refused.{before-12, places-12, refused-12}
 use Rattle.numbering.specs.Read.{Read}
 use Rattle.numbering.proofs.Readings.{accepted-read, refused-read, refused-number, readable-accepted, read-words, read-letters, read-readable}
 use Rattle.promises.specs.Composed.{Groupless}
-use Rattle.promises.proofs.Built.{read-stored, work-enough, rows-fit}
+use Rattle.numbering.proofs.Storing.{read-recorded, words-stored, read-columns}
+use Rattle.promises.proofs.Built.{work-enough, rows-fit}
 
 -- A refused build has a refused reading or a refused check.
-abbrev CheckRefused : Placed → ℕ → List ℕ → Refusal → Type 0
+abbrev pub CheckRefused : Placed → ℕ → List ℕ → Refusal → Type 0
 CheckRefused p n w r =
     (N : ℕ) × (t₀ : List ℕ) × (t₁ : List ℕ) × (w₁ : List ℕ) × (p ≡ placed (Count N) t₀) × (check-group t₀ w n N ≡ checked (verdict.Refused r) t₁ w₁)
 
@@ -43,13 +44,13 @@ check-refused c {r} {t} {w₁} (checked verdict.Fine t₁ w₂) q = absurd (neve
   never h = let z : _≡_ {A = ℕ} 0 1 = cc in omega arith
 check-refused c {r} (checked (verdict.Refused s) t₁ w₂) q = let e : s ≡ r = cc in (t₁, w₂, cc)
 
-build-refused : (p : Placed) (n : ℕ) (w : List ℕ) {r : Refusal} {t w₁ : List ℕ} → finishedPlaced p n w ≡ built (Refused r) t w₁
+pub build-refused : (p : Placed) (n : ℕ) (w : List ℕ) {r : Refusal} {t w₁ : List ℕ} → finishedPlaced p n w ≡ built (Refused r) t w₁
     → ((t₀ : List ℕ) × (p ≡ placed (Refused r) t₀)) ⊎ CheckRefused p n w r
 unfolding finished
 build-refused (placed (Count c) t₀) n w q = let b = check-refused c (check-group t₀ w n c) q in inr (c, t₀, b .0, b .1, refl, b .2)
 build-refused (placed (Refused s) t₀) n w {r} q = let e : s ≡ r = cc in inl (t₀, ap (λ (x : Refusal). placed (Refused x) t₀) e)
 
-refused-build : {p : Placed} (n : ℕ) {N : ℕ} (w : List ℕ) {r : Refusal} {t₀ t₁ w₁ : List ℕ} → p ≡ placed (Count N) t₀
+pub refused-build : {p : Placed} (n : ℕ) {N : ℕ} (w : List ℕ) {r : Refusal} {t₀ t₁ w₁ : List ℕ} → p ≡ placed (Count N) t₀
     → check-group t₀ w n N ≡ checked (verdict.Refused r) t₁ w₁ → finishedPlaced p n w ≡ built (Refused r) (zeroed t₁) (zeroed w₁)
 unfolding finished
 refused-build n w a b = rw (a, b)
@@ -59,27 +60,6 @@ reading-earlier : {k : ℕ} → (k ≡ 7) ⊎ ((k ≡ 5) ⊎ (k ≡ 6)) → k �
 reading-earlier (inl a) q = omega arith
 reading-earlier (inr (inl a)) q = omega arith
 reading-earlier (inr (inr a)) q = omega arith
-
--- What reading stored, with the words that the numbers record.
-module _ {src : ℕ → ℕ → ℕ} {n room size N : ℕ} {t : List ℕ} (R : Read src n room size N t) where
-  read-recorded : Recorded N (parentOf t n) (lastOf t n) (recorded n src)
-  read-recorded =
-      let W = word-of-recorded (first-parents (R .appearance)) in
-      record {
-        start = sym (read-words R 0 (R .origin)) ∙ W .start;
-        grow = λ {e} pos he.
-            sym (read-words R e he) ∙ W .grow pos he
-            ∙ ap (λ (l : List ℕ). l ++ lastOf t n e ∷ []) (read-words R (parentOf t n e) (omega (arith, R .appearance .first pos he .earlier)));
-      }
-
-  words-stored : {back : ℕ → ℕ → ℕ} → Columns n N src back → Stored t n N src back (parentOf t n) (lastOf t n) (recorded n src)
-  words-stored C =
-      let S = read-stored R C in
-      record { successor = S .successor; predecessor = S .predecessor; parents = S .parents; letters = S .letters; lengths = λ {e} he. read-letters R e he }
-
-  -- Where no predecessor is missing, those that reading stored make the columns permutations.
-  read-columns : ((e : ℕ) → e < N → (g : ℕ) → g < n → getD t (startOf n e + n + g) 0 ≡ 0 → ⊥) → Columns n N src (backOf t n)
-  read-columns all = columns-by-back (numbered-table (R .by-rule)) (λ e g he hg. R .predecessor he hg (omega (arith, all e he g hg)))
 
 module _ (src : ℕ → ℕ → ℕ) (n room size : ℕ) (w : List ℕ) (few : n ≤ 8) (least : 1 ≤ room) (most : room ≤ 65535) (fits : room * (2 * n + 4) ≤ size)
     (work : room * (6 * n * n + 4 * n) ≤ length w) where

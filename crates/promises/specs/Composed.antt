@@ -2,20 +2,29 @@
 -- Assumes nothing.
 use Prim.Native.Nat.{ℕ, _+_, _*_, _≤_, _<_}
 use mathlib.Core.Path.{_≡_}
+use mathlib.Core.Bool.{true}
 use mathlib.Core.List.{List}
 use lib.ListN.{length, getD, replicate}
 use Rattle.egg.specs.declared.Factor.{Factor}
 use Rattle.egg.specs.Table.{stepOf}
 use Rattle.egg.specs.Factor.{stretch}
-use Rattle.builder.specs.Lending.{tableNeed, workNeed, within}
+use Rattle.builder.specs.Lending.{tableNeed, workNeed, lentRight, within}
 use Rattle.factor.specs.Composed.{composedAt}
 use Rattle.theory.specs.Numbering.{IdentityRow}
 use Rattle.theory.specs.Appearance.{recorded}
 use Rattle.theory.specs.AnyGroup.{SomeGroup}
-use Rattle.meaning.specs.Sound.{Sound}
+use Rattle.theory.specs.Parting.{Parting}
+use Rattle.meaning.specs.Sound.{Sound, Ruled}
 use Rattle.meaning.specs.Until12.{Until12}
 use Rattle.numbering.specs.Read.{Readable}
 use Rattle.answers.specs.Accepted.{Accepted, factorStep}
+
+-- The arguments of a call on composed rows are right, so that its build starts: 1, "more than 8 generators", and 4, "room 0 or above 65,535, or a lent buffer
+-- short", have passed ("a composed list needs Rn entries").
+pub record RowsRight (table : List ℕ) (start : ℕ) (work rows : List ℕ) (n room : ℕ) : Type 0 where
+  pub generators : n ≤ 8
+  pub lent : lentRight (length table) start (length work) room n ≡ true
+  pub listed : room * n ≤ length rows
 
 -- What is accepted: numbers that follow the numbering rule with N elements within the room and no recorded word over 4,096 (`Readable`), with identity
 -- row 1..n, and that are the right steps of some group, whatever its carrier.
@@ -32,10 +41,19 @@ pub record Groupless (src : ℕ → ℕ → ℕ) (n room N : ℕ) : Type 1 where
   pub until-12 : Until12 n N src back (recorded n src)
   pub no-group : ¬ SomeGroup n N src
 
--- What a stretch of that size holds after acceptance: a sound table, whose steps are the rows', and zeros beyond its last row.
+-- The same by what a host would see: the numbers are read, 8 to 11 pass, and there are an element and some turns after which a live viewer, and one who composes
+-- once with the product of the turns along its recorded word, would stand on different elements.
+pub record Parted (src : ℕ → ℕ → ℕ) (n room N : ℕ) : Type 0 where
+  pub readable : Readable src n room N
+  pub back : ℕ → ℕ → ℕ
+  pub until-12 : Until12 n N src back (recorded n src)
+  pub parting : Parting n N src (recorded n src)
+
+-- What a stretch of that size holds after acceptance: a sound table by the numbering rule, whose steps are the rows', and zeros beyond its last row.
 pub record Holding (src : ℕ → ℕ → ℕ) (n room size N : ℕ) (t : List ℕ) : Type 1 where
   pub taken : Taken src n room N
   pub sound : Sound t n N
+  pub ruled : Ruled t n N
   pub size-kept : length t ≡ size
   pub steps : {e g : ℕ} → e < N → g < n → stepOf t n e g ≡ src e g
   pub beyond : {i : ℕ} → N * (2 * n + 4) ≤ i → getD t i 0 ≡ 0

@@ -3,17 +3,26 @@
 use Prim.Native.Nat.{ℕ, _+_, _*_, _≤_}
 use mathlib.Core.Path.{_≡_}
 use mathlib.Core.Logic.{_↔_}
+use mathlib.Core.Bool.{true}
 use mathlib.Core.List.{List, _++_}
-use lib.ListN.{getD, replicate}
+use lib.ListN.{length, getD, replicate}
 use Rattle.egg.specs.declared.Factor.{Factor}
 use Rattle.egg.specs.declared.Verdict.the-variants as verdict
+use Rattle.egg.specs.Pairs.{ordersRight}
 use Rattle.egg.specs.Factor.{stretch}
-use Rattle.builder.specs.Lending.{tableNeed, workNeed, within}
+use Rattle.builder.specs.Lending.{tableNeed, workNeed, lentRight, within}
 use Rattle.factor.specs.Questions.{composeAnswer}
 use Rattle.factor.specs.Relations.{relations}
 use Rattle.theory.specs.Words.{Word, walk}
 use Rattle.theory.specs.Presentation.{order-of, Equiv, Holds}
 use Rattle.answers.specs.Accepted.{Accepted, factorStep, reach}
+
+-- The arguments of an enumeration are right, so that its build starts: 1, "more than 8 generators", 2 and 3, an order for each pair and within 2..32,767, and 4,
+-- "room 0 or above 65,535, or a lent buffer short", have passed.
+pub record OrdersRight (table : List ℕ) (start : ℕ) (work orders : List ℕ) (n room : ℕ) : Type 0 where
+  pub generators : n ≤ 8
+  pub right : ordersRight orders n ≡ verdict.Fine
+  pub lent : lentRight (length table) start (length work) room n ≡ true
 
 -- The element that a word reaches from the identity, by the steps of the factor.
 abbrev pub reaches : List ℕ → Factor → List ℕ → ℕ

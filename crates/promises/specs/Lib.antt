@@ -1,3 +1,9 @@
 pub mod Composed
 pub mod Enumerated
 pub mod Roomier
+pub mod Unique
+pub mod Leaves
+pub mod Unaltered
+pub mod NoneTwice
+pub mod Viewers
+pub mod Papers

@@ -84,22 +84,32 @@ pub fn add_successor(
 }
 
 // One place of a reading, whatever the numbers come from: 7, then 5, then 6.
-pub fn place(t: &mut [u32], n: u8, room: u32, count: u32, e: u32, g: u8, v: u32) -> Counted
-    ensures { λ r. ⌜ Placed.placed r (now (t .exit)) ≡ readPlace (now (t .entry)) n room count e g v ⌝ }
+pub fn place(
+    t: &mut [u32],
+    n: u8,
+    room: u32,
+    count: u32,
+    e: GroupElementId,
+    g: GeneratorId,
+    v: u32,
+) -> Counted
+    ensures { λ r. ⌜ Placed.placed r (now (t .exit)) ≡ readPlace (now (t .entry)) n room count (e .0) (g .0) v ⌝ }
 {
     if count < v {
+        let x = e.0;
+        let k = g.0;
         return Counted::Refused(Refusal {
             number: 7,
-            a: e,
-            b: g as u32,
+            a: x,
+            b: k as u32,
             c: v,
         });
     }
     if v < count {
-        set_successor(t, n, GroupElementId(e), GeneratorId(g), GroupElementId(v));
+        set_successor(t, n, e, g, GroupElementId(v));
         return Counted::Count(count);
     }
-    match add_successor(t, n, room, count, GroupElementId(e), GeneratorId(g)) {
+    match add_successor(t, n, room, count, e, g) {
         Reached::Refused(why) => Counted::Refused(why),
         Reached::Element(_) => Counted::Count(count + 1),
     }

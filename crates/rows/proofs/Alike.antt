@@ -75,10 +75,10 @@ module _ (t : List ℕ) (n : ℕ) where
       → filled t n r ≡ rowOf (r .pair) (r .left + k - l) (r .left + k) (record { 0 = y }) (record { 0 = z })
   unfolding filled
   filled-walks r {z} {k} {y} {l} h p q =
-      let B : rowOf (r .pair) (r .left) (r .left + rightWalk r .left) (r .from) (record { 0 = rightWalk r .element }) ≡ backed t n r =
+      let B : rowOf (r .pair) (r .left) (r .left + rightWalk r .left) (r .from) (record { 0 = rightWalk r .element .0 }) ≡ backed t n r =
       back-walk t n (r .right - r .left) (r .pair) (r .left) (r .right) _ _ (r .from) (r .to) (omega arith) refl refl in
       let B′ : rowOf (r .pair) (r .left) (r .left + k) (r .from) (record { 0 = z }) ≡ backed t n r =
-      ap (λ (v : Walked). rowOf (r .pair) (r .left) (r .left + v .left) (r .from) (record { 0 = v .element })) (sym p) ∙ B in
+      ap (λ (v : Walked). rowOf (r .pair) (r .left) (r .left + v .left) (r .from) (record { 0 = v .element .0 })) (sym p) ∙ B in
       let m : r .left + k - r .left ≡ k = omega arith in
       let F = forward-walk t n k (r .pair) (r .left) (r .left + k) _ _ (r .from) (record { 0 = z }) refl refl refl in
       ap (forwarded t n) (sym B′) ∙ rw m (sym F ∙ rw q)
@@ -89,8 +89,8 @@ module _ (t : List ℕ) (n : ℕ) where
     order : b .left ≤ b .right
     right : a .right ≡ b .left + rightWalk b .left
     left : a .left + leftWalk (rightWalk b .left) b .left ≡ b .left + rightWalk b .left
-    from : a .from .0 ≡ leftWalk (rightWalk b .left) b .element
-    to : a .to .0 ≡ rightWalk b .element
+    from : a .from .0 ≡ leftWalk (rightWalk b .left) b .element .0
+    to : a .to .0 ≡ rightWalk b .element .0
 
   moved : (b a : RelationTableRow) → Moves t n b a → Moved b a
   unfolding filled
@@ -139,14 +139,14 @@ module _ (t : List ℕ) (n : ℕ) where
       let R = rightWalk b .left in
       let L = leftWalk (rightWalk b .left) b .left in
       let wide : f + d < g = wide-gap (r .left) (r .right) (f + d) (A .wide) in
-      let right : rightWalk r ≡ walkOf (rightWalk b .element) (suc i) =
+      let right : rightWalk r ≡ walkOf (rightWalk b .element .0) (suc i) =
       rw (A .pairs, A .tos, gen-same (b .pair) (r .right) (b .right) (A .rights), gen-next (b .pair) (r .right) (b .right) (A .rights))
       (walk-any t n d (b .right - b .left) g (b .to .0) _ _ (rightWalk b .left - 1) i (back-gap (b .left) (b .right) (a .left) (a .right) R L (D .right) (D .left) (M .apart) F B) (gap-left g d (omega arith))
-      (ap (walkOf (rightWalk b .element)) (right-more (b .left) (b .right) (a .left) (a .right) R L (D .right) (D .left) (M .apart) F B))) in
-      let left : leftWalk (suc i) r ≡ walkOf (leftWalk (rightWalk b .left) b .element) (suc k) =
+      (ap (walkOf (rightWalk b .element .0)) (right-more (b .left) (b .right) (a .left) (a .right) R L (D .right) (D .left) (M .apart) F B))) in
+      let left : leftWalk (suc i) r ≡ walkOf (leftWalk (rightWalk b .left) b .element .0) (suc k) =
       rw (A .pairs, A .froms, gen-same (b .pair) (r .left) (b .left) (A .lefts), gen-next (b .pair) (r .left) (b .left) (A .lefts))
       (walk-any t n f (rightWalk b .left) (suc i) (b .from .0) _ _ (leftWalk (rightWalk b .left) b .left - 1) k (forth-gap (b .left) (b .right) (a .left) (a .right) R L (D .right) (D .left) (M .apart) F B) (gap-right g d f wide)
-      (ap (walkOf (leftWalk (rightWalk b .left) b .element)) (left-more (b .left) (b .right) (a .left) (a .right) R L (D .right) (D .left) (M .apart) F B))) in
+      (ap (walkOf (leftWalk (rightWalk b .left) b .element .0)) (left-more (b .left) (b .right) (a .left) (a .right) R L (D .right) (D .left) (M .apart) F B))) in
       filled-walks r (omega (arith, A .wide)) right left
       ∙ cc (left-end (r .left) g d f wide, right-end (r .left) (r .right) d (f + d) (A .wide) (omega arith), id-path (sym (D .from)), id-path (sym (D .to)))
 

@@ -3,7 +3,7 @@
 use Prim.Native.Nat.{ℕ, suc, _+_, _*_, _-_, _%_, _≤_, _<_}
 use mathlib.Core.Path.{_≡_, refl, sym, ap, _∙_}
 use mathlib.Core.List.{List}
-use native.Mathlib.Nat.{mul-le-mul, add-mod-right, mod-add-mod}
+use native.Mathlib.Nat.{add-mod-right, mod-add-mod}
 use native.Mathlib.Omega.{arith}
 use borrow.Author.Tests.{lt-ltb}
 use lib.ListN.{getD, length, set}
@@ -12,10 +12,6 @@ use Rattle.egg.specs.Pairs.{pairCode}
 use Rattle.egg.specs.Table.{putAt}
 use Rattle.rows.specs.declared.inner.RelationTableRow.{RelationTableRow}
 use Rattle.rows.specs.Rows.{writeRow, genOf, addRowsFrom, addedRow, rowsAt}
-
--- 6n² for a byte n.
-pub square : (n : ℕ) → n < 256 → 6 * n * n ≤ 390150
-square n h = mul-le-mul {n₁ = 6 * n} {m₁ = n} {n₂ = 1530} {m₂ = 255} (omega arith) (omega arith)
 
 -- The generators take turns: two columns on, it is the same one again.
 pub gen-again : (pair a b : ℕ) → a ≡ b + 2 → genOf pair a ≡ genOf pair b

@@ -55,7 +55,7 @@ module _ (t : List ℕ) (n : ℕ) where
     where
       by-test : (y : Bool) → eqb (getD t (startOf n e + a) 0) 0 ≡ y → walkFrom (suc k) t n e a b ≡ walkOf z (suc i)
       by-test true r =
-          let x : e ≡ z = ap (λ (v : Walked). v .element) (rw r at h) in
+          let x : e ≡ z = ap (λ (v : Walked). v .element .0) (rw r at h) in
           let l : suc k ≡ suc i = omega arith in
           rw (r, x, l)
       by-test false r =
@@ -84,7 +84,7 @@ module _ (t : List ℕ) (n : ℕ) where
   -- The right end walks back by the predecessors of the generator that is due, and of the other.
   pub back-walk : (k pair left right a b : ℕ) (from to : GroupElementId) → right ≡ left + k → a ≡ n + genOf pair right .0
       → b ≡ n + genOf pair (right + 1) .0
-      → rowOf pair left (left + walkFrom k t n (to .0) a b .left) from (record { 0 = walkFrom k t n (to .0) a b .element })
+      → rowOf pair left (left + walkFrom k t n (to .0) a b .left) from (record { 0 = walkFrom k t n (to .0) a b .element .0 })
       ≡ backFrom k t n (rowOf pair left right from to)
   unfolding walkFrom backFrom
   back-walk zero pair left right a b from to h ha hb = let q : left + 0 ≡ right = omega arith in rw q
@@ -99,9 +99,9 @@ module _ (t : List ℕ) (n : ℕ) where
     where
       by-test : (s : Bool) → eqb (getD t (startOf n (to .0) + a) 0) 0 ≡ s
           → rowOf pair left (left + walkFrom k t n (getD t (startOf n (to .0) + a) 0 - 1) b a .left) from
-          (record { 0 = walkFrom k t n (getD t (startOf n (to .0) + a) 0 - 1) b a .element })
+          (record { 0 = walkFrom k t n (getD t (startOf n (to .0) + a) 0 - 1) b a .element .0 })
           ≡ backFrom k t n (rowOf pair left (right - 1) from (record { 0 = getD t (startOf n (to .0) + a) 0 - 1 }))
-          → rowOf pair left (left + walkFrom (suc k) t n (to .0) a b .left) from (record { 0 = walkFrom (suc k) t n (to .0) a b .element })
+          → rowOf pair left (left + walkFrom (suc k) t n (to .0) a b .left) from (record { 0 = walkFrom (suc k) t n (to .0) a b .element .0 })
           ≡ pick (eqb (getD t (startOf n (to .0) + a) 0) 0) (rowOf pair left right from to)
           (backFrom k t n (rowOf pair left (right - 1) from (record { 0 = getD t (startOf n (to .0) + a) 0 - 1 })))
       by-test true q ih = rw (q, h)
@@ -110,7 +110,7 @@ module _ (t : List ℕ) (n : ℕ) where
   -- The left end walks forward by their successors.
   pub forward-walk : (k pair left right a b : ℕ) (from to : GroupElementId) → right ≡ left + k → a ≡ genOf pair left .0
       → b ≡ genOf pair (left + 1) .0
-      → rowOf pair (right - walkFrom k t n (from .0) a b .left) right (record { 0 = walkFrom k t n (from .0) a b .element }) to
+      → rowOf pair (right - walkFrom k t n (from .0) a b .left) right (record { 0 = walkFrom k t n (from .0) a b .element .0 }) to
       ≡ forwardFrom k t n (rowOf pair left right from to)
   unfolding walkFrom forwardFrom
   forward-walk zero pair left right a b from to h ha hb = let q : right - 0 ≡ left = omega arith in rw q
@@ -122,9 +122,9 @@ module _ (t : List ℕ) (n : ℕ) where
     where
       by-test : (s : Bool) → eqb (getD t (startOf n (from .0) + a) 0) 0 ≡ s
           → rowOf pair (right - walkFrom k t n (getD t (startOf n (from .0) + a) 0 - 1) b a .left) right
-          (record { 0 = walkFrom k t n (getD t (startOf n (from .0) + a) 0 - 1) b a .element }) to
+          (record { 0 = walkFrom k t n (getD t (startOf n (from .0) + a) 0 - 1) b a .element .0 }) to
           ≡ forwardFrom k t n (rowOf pair (left + 1) right (record { 0 = getD t (startOf n (from .0) + a) 0 - 1 }) to)
-          → rowOf pair (right - walkFrom (suc k) t n (from .0) a b .left) right (record { 0 = walkFrom (suc k) t n (from .0) a b .element }) to
+          → rowOf pair (right - walkFrom (suc k) t n (from .0) a b .left) right (record { 0 = walkFrom (suc k) t n (from .0) a b .element .0 }) to
           ≡ pick (eqb (getD t (startOf n (from .0) + a) 0) 0) (rowOf pair left right from to)
           (forwardFrom k t n (rowOf pair (left + 1) right (record { 0 = getD t (startOf n (from .0) + a) 0 - 1 }) to))
       by-test true q ih = let r : right - suc k ≡ left = omega arith in rw (q, r)

@@ -7,14 +7,14 @@ use lib.Dec.{eqb}
 use Rattle.egg.specs.declared.GroupElementId.{GroupElementId}
 use Rattle.egg.specs.declared.GeneratorId.{GeneratorId}
 use Rattle.egg.specs.Pairs.{pairCode}
-use Rattle.egg.specs.Table.{pick, putAt, succAt, predAt}
+use Rattle.egg.specs.Table.{pick, putAt, succAt, predAt, workOf}
 use Rattle.rows.specs.declared.inner.RelationTableRow.{RelationTableRow}
 use Rattle.rows.specs.declared.inner.SideOfGap.{SideOfGap}
 use Rattle.rows.specs.declared.inner.SideOfGap.the-variants.{Left, Right}
 
--- "R(6n²+4n) of work": so many numbers for each element.
+-- The numbers of work that an element has (`workOf`), under a name that stays shut: no law of an address asks for more than its parts.
 unfoldable pub workWidth : ℕ → ℕ
-workWidth n = 6 * n * n + 4 * n
+workWidth n = workOf n
 
 -- The place of an element and a generator, ten numbers: head, tail and count of the left list, head, tail and count of the right list, the link of the fact stack, and three spare ones, with which places and rows come to exactly that width.
 unfoldable pub placeAt : ℕ → GroupElementId → GeneratorId → ℕ

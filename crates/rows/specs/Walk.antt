@@ -9,7 +9,7 @@ use Rattle.rows.specs.declared.inner.Walked.{Walked}
 use Rattle.rows.specs.declared.inner.Leg.{Leg}
 
 abbrev pub walkOf : ℕ → ℕ → Walked
-walkOf e left = record { element = e; left = left }
+walkOf e left = record { element = record { 0 = e }; left = left }
 
 -- From e by column a, then b, then a again, and so on, at most k steps, until a step is not known.
 unfoldable pub walkFrom : ℕ → List ℕ → ℕ → ℕ → ℕ → ℕ → Walked
@@ -19,4 +19,4 @@ walkFrom (suc k) t n e a b =
 
 -- What a walk comes to from the end of a leg: it goes on by the same columns where there is more of it, else it has ended there.
 abbrev pub onward : List ℕ → ℕ → ℕ → ℕ → Leg → Walked
-onward t n a b l = pick (l .more) (walkFrom (l .left) t n (l .element) a b) (walkOf (l .element) (l .left))
+onward t n a b l = pick (l .more) (walkFrom (l .left) t n (l .element .0) a b) (walkOf (l .element .0) (l .left))

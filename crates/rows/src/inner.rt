@@ -5,7 +5,7 @@
 ghost use mathlib.Core.Path.{_≡_};
 ghost use Prim.Native.Nat.{_+_, _*_, _<_, _≤_};
 ghost use Rattle.egg.specs.Table.{Place, stillLeft};
-ghost use Rattle.rows.specs.Rows.{workWidth, placeAt, rowsAt, genOf, readRow, writeRow, backed, forwarded, filled, linkAt, appended, listAt, waits, addedRow, addedRows, Orders};
+ghost use Rattle.rows.specs.Rows.{placeAt, rowsAt, genOf, readRow, writeRow, backed, forwarded, filled, linkAt, appended, listAt, waits, addedRow, addedRows, Orders};
 ghost use Rattle.rows.specs.Walk.{walkFrom, onward};
 ghost use Rattle.rows.specs.Alike.{Alike};
 ghost use mathlib.Core.Bool.{true};
@@ -24,13 +24,13 @@ pub struct RelationTableRow {
 
 // An end of a row on its way: the element where it stands, and the steps that it has left.
 pub struct Walked {
-    pub element: u32,
+    pub element: GroupElementId,
     pub left: u32,
 }
 
 // A part of a walk: where it ends, whether there is more of the walk, and how many numbers on its last two steps led.
 pub struct Leg {
-    pub element: u32,
+    pub element: GroupElementId,
     pub left: u32,
     pub more: bool,
     pub jump: u32,
@@ -42,27 +42,19 @@ pub enum SideOfGap {
     Right,
 }
 
-// The numbers of work that an element has.
-pub fn work_width(n: u8) -> usize
-    ensures { λ r. ⌜ Place r (workWidth n) 524288 ⌝ }
-{
-    let m = n as usize;
-    6 * m * m + 4 * m
-}
-
 pub fn place_at(n: u8, e: GroupElementId, g: GeneratorId) -> usize
     ensures { λ r. ⌜ Place r (placeAt n e g) 9007199254740992 ⌝ }
 {
     let x = e.0;
     let k = g.0;
-    (x as usize) * work_width(n) + 10 * (k as usize)
+    (x as usize) * egg::inner::work_width(n) + 10 * (k as usize)
 }
 
 pub fn rows_at(n: u8, e: GroupElementId) -> usize
     ensures { λ r. ⌜ Place r (rowsAt n e) 9007199254740992 ⌝ }
 {
     let x = e.0;
-    (x as usize) * work_width(n) + 10 * (n as usize)
+    (x as usize) * egg::inner::work_width(n) + 10 * (n as usize)
 }
 
 // 000, generator: of a column of the row.
@@ -139,21 +131,21 @@ pub fn walk_leg(
     n: u8,
     here: usize,
     there: usize,
-    element: u32,
+    element: GroupElementId,
     steps: u32,
     jump: u32,
 ) -> Leg
     requires { ⌜ (here < 4294967296) × (there < 4294967296) ⌝ }
-    ensures { λ r. ⌜ (onward (now (t .entry)) n here there r ≡ walkFrom steps (now (t .entry)) n element here there) × (stillLeft (r .more) (r .left) ≤ steps) ⌝ }
+    ensures { λ r. ⌜ (onward (now (t .entry)) n here there r ≡ walkFrom steps (now (t .entry)) n (element .0) here there) × (stillLeft (r .more) (r .left) ≤ steps) ⌝ }
 {
-    let mut e = element;
+    let mut e = element.0;
     let mut left = steps;
     while left != 0 {
         let guess = std::num::wrapping_add_u32(e, jump);
         let x = egg::inner::get(t, egg::inner::start(n, GroupElementId(e)) + here);
         if x == 0 {
             return Leg {
-                element: e,
+                element: GroupElementId(e),
                 left,
                 more: false,
                 jump,
@@ -162,7 +154,7 @@ pub fn walk_leg(
         left -= 1;
         if left == 0 {
             return Leg {
-                element: x - 1,
+                element: GroupElementId(x - 1),
                 left,
                 more: false,
                 jump,
@@ -171,7 +163,7 @@ pub fn walk_leg(
         let y = egg::inner::get(t, egg::inner::start(n, GroupElementId(x - 1)) + there);
         if y == 0 {
             return Leg {
-                element: x - 1,
+                element: GroupElementId(x - 1),
                 left,
                 more: false,
                 jump,
@@ -180,7 +172,7 @@ pub fn walk_leg(
         left -= 1;
         if guess != y - 1 {
             return Leg {
-                element: y - 1,
+                element: GroupElementId(y - 1),
                 left,
                 more: true,
                 jump: std::num::wrapping_sub_u32(y - 1, e),
@@ -189,7 +181,7 @@ pub fn walk_leg(
         e = guess;
     }
     Leg {
-        element: e,
+        element: GroupElementId(e),
         left,
         more: false,
         jump,
@@ -197,9 +189,16 @@ pub fn walk_leg(
 }
 
 // A whole walk, leg by leg; round a long relation a leg has even jumps.
-pub fn walk(t: &[u32], n: u8, here: usize, there: usize, element: u32, steps: u32) -> Walked
+pub fn walk(
+    t: &[u32],
+    n: u8,
+    here: usize,
+    there: usize,
+    element: GroupElementId,
+    steps: u32,
+) -> Walked
     requires { ⌜ (here < 4294967296) × (there < 4294967296) ⌝ }
-    ensures { λ r. ⌜ r ≡ walkFrom steps (now (t .entry)) n element here there ⌝ }
+    ensures { λ r. ⌜ r ≡ walkFrom steps (now (t .entry)) n (element .0) here there ⌝ }
 {
     let mut e = element;
     let mut left = steps;
@@ -226,14 +225,15 @@ pub fn back(t: &[u32], n: u8, row: RelationTableRow) -> RelationTableRow
     let next = beside(row.pair, row.right).0;
     let here = (n as usize) + (due as usize);
     let there = (n as usize) + (next as usize);
-    let end = walk(t, n, here, there, row.to.0, row.right - row.left);
+    let end = walk(t, n, here, there, row.to, row.right - row.left);
     let from = row.from;
+    let to = end.element;
     RelationTableRow {
         pair: row.pair,
         left: row.left,
         right: row.left + end.left,
         from,
-        to: GroupElementId(end.element),
+        to,
     }
 }
 
@@ -251,15 +251,16 @@ pub fn forward(t: &[u32], n: u8, row: RelationTableRow) -> RelationTableRow
         n,
         due as usize,
         next as usize,
-        row.from.0,
+        row.from,
         row.right - row.left,
     );
+    let from = end.element;
     let to = row.to;
     RelationTableRow {
         pair: row.pair,
         left: row.right - end.left,
         right: row.right,
-        from: GroupElementId(end.element),
+        from,
         to,
     }
 }

@@ -17,7 +17,7 @@ module _ {n N : ℕ} {step op : ℕ → ℕ → ℕ} {inv : ℕ → ℕ} (G : Gr
   right-table = record { origin = G .identity; closed = λ he hg. rw (R .step-is he hg) (G .op-closed he (R .element hg)) }
 
   -- To walk from a is to multiply on the right by what the word spells.
-  walk-is-op : {a : ℕ} {w : List ℕ} → a < N → Word n w → walk step a w ≡ op a (walk step 0 w)
+  pub walk-is-op : {a : ℕ} {w : List ℕ} → a < N → Word n w → walk step a w ≡ op a (walk step 0 w)
   walk-is-op a empty = sym (G .right-identity a)
   walk-is-op a (letter g w) =
       let s = R .element g in

@@ -25,4 +25,7 @@ pub mod Presented
 pub mod Universal
 pub mod Deduction
 pub mod Written
+pub mod Parting
 pub mod Examples
+pub mod Parity
+pub mod Pasts

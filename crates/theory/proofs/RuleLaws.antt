@@ -96,3 +96,8 @@ module _ {n N : ℕ} {step step′ : ℕ → ℕ → ℕ} where
       arrives = agree (parent e) (last e) (omega (arith, f .earlier)) (f .generator) ∙ f .arrives;
       before = λ {x} {g} hg a. rw (agree x g (omega (arith, f .earlier, ahead-above a)) hg) (f .before hg a);
     }
+
+-- The same parents and last generators have the same first places.
+pub appearance-same : {n N : ℕ} {step : ℕ → ℕ → ℕ} {parent last parent′ last′ : ℕ → ℕ} → FirstAppearance n N step parent last
+    → ((e : ℕ) → parent′ e ≡ parent e) → ((e : ℕ) → last′ e ≡ last e) → FirstAppearance n N step parent′ last′
+appearance-same F a b = record { first = λ {e} pos he. rw (a e, b e) (F .first pos he) }

@@ -9,3 +9,5 @@ pub mod AnyGroup
 pub mod Regular
 pub mod Presentation
 pub mod Test
+pub mod Past
+pub mod Parting

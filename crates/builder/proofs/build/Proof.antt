@@ -4,7 +4,7 @@ use mathlib.Core.Path.{sym, _∙_}
 use lib.ListN.{length}
 use lib.Seq.{length-take-le}
 use Rattle.egg.proofs.Rooms.{has}
-use Rattle.builder.proofs.Calls.{builds-handle, builds-short, builds-done}
+use Rattle.builder.proofs.Calls.{builds-handle, builds-short, builds-done, work-copies}
 use borrow.Author.Needs.{needs}
 use Rattle.builder.proofs.build.Statement.{statement}
 use Rattle.builder.proofs.build.Tie as tie
@@ -19,9 +19,7 @@ same-length : tie.Need-same-length
 same-length c = search needs
 
 returns : tie.Need-returns
-returns c =
-    let a = c .before .before .before .before .before .before .before .args in
-    builds-handle (a .table .now) (a .b) (a .work .now) (c .refused-made .ensures) (sym (c .before .before .fits2 .ensures) ∙ not-true _ (c .before .if1 .taken))
+returns c = let a = (c .before .before .before .before .before .before .before .args) in builds-handle (a .table .now) (a .b) (a .work .now) ((c .refused-made .ensures)) (sym ((c .before .before .fits2 .ensures)) ∙ not-true _ ((c .before .if1 .taken)))
 
 work-need-requires : tie.Need-work-need-requires
 work-need-requires c κs = search needs
@@ -33,14 +31,10 @@ same-length-2 : tie.Need-same-length-2
 same-length-2 c = search needs
 
 returns-2 : tie.Need-returns-2
-returns-2 c =
-    let a = c .before .before .before .before .before .before .before .before .before .args in
-    builds-short (a .table .now) (a .b) (a .work .now) (sym (c .before .before .before .before .fits2 .ensures) ∙ not-false _ (c .before .before .before .if1 .left)) (c .before .before .work-need .ensures) (c .refused-made2 .ensures) (c .before .if2 .taken)
+returns-2 c = let a = (c .before .before .before .before .before .before .before .before .before .args) in builds-short (a .table .now) (a .b) (a .work .now) (sym ((c .before .before .before .before .fits2 .ensures)) ∙ not-false _ ((c .before .before .before .if1 .left))) ((c .before .before .work-need .ensures)) ((c .refused-made2 .ensures)) ((c .before .if2 .taken))
 
 stretch-end-requires : tie.Need-stretch-end-requires
-stretch-end-requires c κs =
-    let a = c .before .before .before .before .before .before .before .before .args in
-    has (length (a .table .now)) (a .b .0) (sym (c .before .before .before .fits2 .ensures) ∙ not-false _ (c .before .before .if1 .left))
+stretch-end-requires c κs = let a = (c .before .before .before .before .before .before .before .before .args) in has (length (a .table .now)) (a .b .0) (sym ((c .before .before .before .fits2 .ensures)) ∙ not-false _ ((c .before .before .if1 .left)))
 
 mul-complete : tie.Need-mul-complete
 mul-complete c = search needs
@@ -58,10 +52,10 @@ slice-relend-prefix-complete : tie.Need-slice-relend-prefix-complete
 slice-relend-prefix-complete c = search needs
 
 slice-aggregate-complete : tie.Need-slice-aggregate-complete
-slice-aggregate-complete c = sym (length-take-le _ (c .before .before .before .before .before .before .before .before .before .before .before .args .work .now) (c .before .before .before .if2 .left))
+slice-aggregate-complete c = sym (length-take-le _ ((c .before .before .before .before .before .before .before .before .before .before .before .args .work .now)) ((c .before .before .before .if2 .left)))
 
 complete-requires : tie.Need-complete-requires
-complete-requires c κs = search needs
+complete-requires c κs = let a = (c .before .before .before .before .before .before .before .before .before .before .before .args) in work-copies (length (a .table .now)) (a .b .0) (a .work .now) (sym ((c .before .before .before .before .before .before .fits2 .ensures)) ∙ not-false _ ((c .before .before .before .before .before .if1 .left))) ((c .before .before .before .before .work-need .ensures)) ((c .before .before .before .if2 .left))
 
 made-requires : tie.Need-made-requires
 made-requires c κs = search needs
@@ -73,9 +67,7 @@ same-length-4 : tie.Need-same-length-4
 same-length-4 c = search needs
 
 returns-3 : tie.Need-returns-3
-returns-3 c =
-    let a = c .before .before .before .before .before .before .before .before .before .before .before .before .before .before .before .before .before .args in
-    builds-done (a .table .now) (a .b) (a .work .now) (sym (c .before .before .before .before .before .before .before .before .before .before .before .before .fits2 .ensures) ∙ not-false _ (c .before .before .before .before .before .before .before .before .before .before .before .if1 .left)) (c .before .before .before .before .before .before .before .before .before .before .work-need .ensures) (c .before .before .before .before .before .before .before .before .before .if2 .left) (c .before .before .before .before .before .before .before .before .stretch-end .ensures) (c .before .before .before .before .before .complete .ensures) (c .made .ensures)
+returns-3 c = let a = (c .before .before .before .before .before .before .before .before .before .before .before .before .before .before .before .before .before .args) in builds-done (a .table .now) (a .b) (a .work .now) (sym ((c .before .before .before .before .before .before .before .before .before .before .before .before .fits2 .ensures)) ∙ not-false _ ((c .before .before .before .before .before .before .before .before .before .before .before .if1 .left))) ((c .before .before .before .before .before .before .before .before .before .before .work-need .ensures)) ((c .before .before .before .before .before .before .before .before .before .if2 .left)) ((c .before .before .before .before .before .before .before .before .stretch-end .ensures)) ((c .before .before .before .before .before .complete .ensures)) ((c .made .ensures))
 
 pub build-spec : {M : Type 1} → statement M
 build-spec =

@@ -1,18 +1,23 @@
--- The three passes one after the other are `refilled`; then what `finish` ensures.
-use mathlib.Core.Path.{_∙_}
-use Rattle.builder.specs.Refill.{refilled}
+-- What is read from the copy is what stood in the stretch.
+use Rattle.builder.proofs.Owning.{own-built}
 use borrow.Author.Needs.{needs}
 use Rattle.builder.proofs.inner.complete.Statement.{statement}
 use Rattle.builder.proofs.inner.complete.Tie as tie
 
-forget-requires : tie.Need-forget-requires
-forget-requires c κs = search needs
+copy-rows-requires : tie.Need-copy-rows-requires
+copy-rows-requires c κs = search needs
 
-refill-requires : tie.Need-refill-requires
-refill-requires c κs = search needs
+clear-requires : tie.Need-clear-requires
+clear-requires c κs = search needs
 
-clear-rest-requires : tie.Need-clear-rest-requires
-clear-rest-requires c κs = search needs
+own-rows-requires : tie.Need-own-rows-requires
+own-rows-requires c κs = search needs
+
+clear-requires-2 : tie.Need-clear-requires-2
+clear-requires-2 c κs = search needs
+
+reached-all-requires : tie.Need-reached-all-requires
+reached-all-requires c κs = search needs
 
 finish-requires : tie.Need-finish-requires
 finish-requires c κs = search needs
@@ -24,16 +29,17 @@ same-length-2 : tie.Need-same-length-2
 same-length-2 c = search needs
 
 returns : tie.Need-returns
-unfolding refilled
-returns c = c .before .before .before .before .finish .ensures ∙ rw (c .before .before .before .before .before .before .before .before .before .clear-rest .ensures, c .before .before .before .before .before .before .before .before .before .before .before .before .before .refill .ensures, c .before .before .before .before .before .before .before .before .before .before .before .before .before .before .before .before .before .forget .ensures)
+returns c = let a = (c .before .before .before .before .before .before .before .before .before .before .before .before .before .before .before .before .before .before .before .before .before .before .before .before .before .before .before .before .before .args) in own-built (a .t .now) (a .w .now) (a .n) (a .room) (a .elements) ((c .before .before .before .before .before .before .before .before .before .before .before .before .before .before .before .before .before .before .before .before .before .before .before .before .before .before .before .before .before .pre)) ((c .before .before .before .before .before .before .before .before .before .before .before .before .before .before .before .before .before .before .before .before .before .before .before .before .copy-rows .ensures)) ((c .before .before .before .before .before .before .before .before .before .before .before .before .before .before .before .before .before .before .before .before .clear .ensures)) ((c .before .before .before .before .before .before .before .before .before .before .before .before .before .before .before .own-rows .ensures)) ((c .before .before .before .before .before .before .before .before .before .before .before .clear2 .ensures)) ((c .before .before .before .before .before .before .before .reached-all .ensures)) ((c .before .before .before .before .finish .ensures))
 
 pub complete-spec : {M : Type 1} → statement M
 complete-spec =
     tie.close
     (tie.spec
-    forget-requires
-    refill-requires
-    clear-rest-requires
+    copy-rows-requires
+    clear-requires
+    own-rows-requires
+    clear-requires-2
+    reached-all-requires
     finish-requires
     same-length
     same-length-2

@@ -1,29 +1,19 @@
--- The numbers are small: the square by `work-square`, the whole by `product-small`.
+-- The product fits: an element's width is small, and the room has 32 bits.
 use native.Mathlib.Omega.{arith}
 use Rattle.egg.proofs.Laws.{product-small}
-use Rattle.builder.proofs.Lending.{work-square, work-width}
 use borrow.Author.Needs.{needs}
 use Rattle.builder.proofs.inner.work_need.Statement.{statement}
 use Rattle.builder.proofs.inner.work_need.Tie as tie
 
+work-width-requires : tie.Need-work-width-requires
+work-width-requires c κs = search needs
+
 mul-result : tie.Need-mul-result
-mul-result c = search needs
-
-mul-result-2 : tie.Need-mul-result-2
-mul-result-2 c = omega (arith, work-square (c .fits .n .fits))
-
-mul-result-3 : tie.Need-mul-result-3
-mul-result-3 c = search needs
-
-add-result : tie.Need-add-result
-add-result c = omega (arith, work-square (c .fits .n .fits))
-
-mul-result-4 : tie.Need-mul-result-4
-mul-result-4 c = omega (arith, product-small (c .args .room) _ (c .fits .room .fits) (work-width (c .fits .n .fits)))
+mul-result c =
+    omega (arith, product-small (c .before .args .room) (c .work-width .result) (c .before .fits .room .fits) (c .work-width .ensures .small))
 
 returns : tie.Need-returns
-returns c = search needs
+returns c = rw (c .work-width .ensures .at)
 
 pub work-need-spec : {M : Type 1} → statement M
-work-need-spec =
-    tie.close (tie.spec mul-result mul-result-2 mul-result-3 add-result mul-result-4 returns)
+work-need-spec = tie.close (tie.spec work-width-requires mul-result returns)

@@ -10,7 +10,7 @@ use Rattle.checks.proofs.inner.arrive_row.Statement.{statement}
 use Rattle.checks.proofs.inner.arrive_row.Tie as tie
 
 abbrev Inv-loop : tie.InvT-loop
-Inv-loop t w₀ n e g₀ w g = (arriveRow (n - g) t n e w g ≡ arriveRow n t n e w₀ 0) × (length w ≡ length w₀)
+Inv-loop t w₀ n e g₀ w g = (arriveRow (n - g) t n (e .0) w g ≡ arriveRow n t n (e .0) w₀ 0) × (length w ≡ length w₀)
 
 abbrev μ-loop : tie.MeasureT-loop
 μ-loop t w₀ n e g₀ w g = n - g
@@ -44,15 +44,10 @@ loop-less c = search needs
 
 loop-again : tie.Need-loop-again Inv-loop μ-loop
 unfolding arriveRow
-loop-again c =
-    let at-put = c .before .before in
-    let at-get = at-put .before .before in
-    let at-step = at-get .before .before in
-    let at-loop-test = at-step .before in
-    let at-loop = at-loop-test .before in (
-      rw (at-put .put .ensures, at-get .get .ensures, at-step .step .ensures) (rw (left-suc (at-loop-test .loop-test .taken)) at (at-loop .loop .inv .0)),
-      at-put .put .kept .0 ∙ at-loop .loop .inv .1,
-    )
+loop-again c = (
+  rw (c .before .before .put .ensures, c .before .before .before .before .get .ensures, c .before .before .before .before .before .before .before .step .ensures) (rw (left-suc (c .before .before .before .before .before .before .before .before .loop-test .taken)) at (c .before .before .before .before .before .before .before .before .before .loop .inv .0)),
+  c .before .before .put .kept .0 ∙ c .before .before .before .before .before .before .before .before .before .loop .inv .1,
+)
 
 same-length : tie.Need-same-length Inv-loop μ-loop
 same-length c = c .before .loop .inv .1

@@ -14,7 +14,7 @@ use Rattle.checks.proofs.inner.columns_row.Tie as tie
 
 abbrev Inv-loop : tie.InvT-loop
 Inv-loop t n e g₀ g =
-    Scanning n (λ k. pick (eqb (stepOf t n (backOf t n e k) k) e) Fine (refusedOf 12 0 0 0)) g (columnsRow t n e)
+    Scanning n (λ k. pick (eqb (stepOf t n (backOf t n (e .0) k) k) (e .0)) Fine (refusedOf 12 0 0 0)) g (columnsRow t n (e .0))
 
 abbrev μ-loop : tie.MeasureT-loop
 μ-loop t n e g₀ g = n - g
@@ -34,14 +34,8 @@ refused-requires c κs = search needs
 
 returns : tie.Need-returns Inv-loop μ-loop
 returns c =
-    let at-if1 = c .before in
-    let at-step = at-if1 .before in
-    let at-back = at-step .before in
-    let at-loop-test = at-back .before in
-    let at-loop = at-loop-test .before in
     c .refused .ensures
-    ∙ stops (at-loop .loop .inv) (at-loop-test .loop-test .taken)
-    (rw (← at-back .back .ensures, ← at-step .step .ensures) (simp (ne-eqb _ _ (at-if1 .if1 .taken))))
+    ∙ stops (c .before .before .before .before .before .before .before .loop .inv) (c .before .before .before .before .before .before .loop-test .taken) (rw (← c .before .before .before .before .before .back .ensures, ← c .before .before .before .before .step .ensures) (simp (ne-eqb _ _ (c .before .if1 .taken))))
 
 add-g : tie.Need-add-g Inv-loop μ-loop
 add-g c = search needs
@@ -51,8 +45,8 @@ loop-less c = search needs
 
 loop-again : tie.Need-loop-again Inv-loop μ-loop
 loop-again c =
-    goes-on (c .before .before .before .before .loop .inv) (c .before .before .before .loop-test .taken)
-    (rw (← c .before .before .back .ensures, ← c .before .step .ensures) (simp (eq-eqb _ _ (c .if1 .left))))
+    goes-on (c .before .before .before .before .before .before .loop .inv) (c .before .before .before .before .before .loop-test .taken)
+    (rw (← c .before .before .before .before .back .ensures, ← c .before .before .before .step .ensures) (simp (eq-eqb _ _ (c .if1 .left))))
 
 returns-2 : tie.Need-returns-2 Inv-loop μ-loop
 returns-2 c = ends (c .before .loop .inv) (c .loop-test .left)

@@ -10,7 +10,7 @@ use Rattle.checks.proofs.inner.fill_left.Statement.{statement}
 use Rattle.checks.proofs.inner.fill_left.Tie as tie
 
 abbrev Inv-loop : tie.InvT-loop
-Inv-loop t w₀ n count s x₀ w x = (fillLeft (count - x) t n s w x ≡ fillLeft count t n s w₀ 0) × (length w ≡ length w₀)
+Inv-loop t w₀ n count s x₀ w x = (fillLeft (count - x) t n (s .0) w x ≡ fillLeft count t n (s .0) w₀ 0) × (length w ≡ length w₀)
 
 abbrev μ-loop : tie.MeasureT-loop
 μ-loop t w₀ n count s x₀ w x = count - x

@@ -15,11 +15,14 @@ use Rattle.checks.proofs.inner.goes_row.Tie as tie
 
 abbrev Inv-loop : tie.InvT-loop
 Inv-loop t w n x left g₀ g =
-    Scanning n (λ k. pick (eqb (getD w (stepOf t n x k) 0) (stepOf t n (getD w x 0) k)) Fine (refusedOf 12 0 0 0)) g
-    (goesRow t w n x)
+    Scanning n (λ k. pick (eqb (getD w (stepOf t n (x .0) k) 0) (stepOf t n (getD w (x .0) 0) k)) Fine (refusedOf 12 0 0 0)) g
+    (goesRow t w n (x .0))
 
 abbrev μ-loop : tie.MeasureT-loop
 μ-loop t w n x left g₀ g = n - g
+
+cast-get : tie.Need-cast-get Inv-loop μ-loop
+cast-get c = search needs
 
 get-requires : tie.Need-get-requires Inv-loop μ-loop
 get-requires c κs = search needs
@@ -31,8 +34,8 @@ loop-holds c = scanning
 step-requires : tie.Need-step-requires Inv-loop μ-loop
 step-requires c κs = search needs
 
-cast-get : tie.Need-cast-get Inv-loop μ-loop
-cast-get c = search needs
+cast-get-2 : tie.Need-cast-get-2 Inv-loop μ-loop
+cast-get-2 c = search needs
 
 get-requires-2 : tie.Need-get-requires-2 Inv-loop μ-loop
 get-requires-2 c κs = search needs
@@ -46,8 +49,8 @@ refused-requires c κs = search needs
 returns : tie.Need-returns Inv-loop μ-loop
 returns c =
     c .refused .ensures
-    ∙ stops (c .before .before .before .before .before .before .loop .inv) (c .before .before .before .before .before .loop-test .taken)
-    (rw (← c .before .before .before .before .before .before .before .get .ensures, ← c .before .before .before .before .step .ensures, ← c .before .before .before .get2 .ensures, ← c .before .before .step2 .ensures)
+    ∙ stops (c .before .before .before .before .before .before .before .loop .inv) (c .before .before .before .before .before .before .loop-test .taken)
+    (rw (← c .before .before .before .before .before .before .before .before .get .ensures, ← c .before .before .before .before .before .step .ensures, ← c .before .before .before .before .get2 .ensures, ← c .before .before .before .step2 .ensures)
     (simp (ne-eqb _ _ (c .before .if1 .taken))))
 
 add-g : tie.Need-add-g Inv-loop μ-loop
@@ -58,8 +61,8 @@ loop-less c = search needs
 
 loop-again : tie.Need-loop-again Inv-loop μ-loop
 loop-again c =
-    goes-on (c .before .before .before .before .before .loop .inv) (c .before .before .before .before .loop-test .taken)
-    (rw (← c .before .before .before .before .before .before .get .ensures, ← c .before .before .before .step .ensures, ← c .before .before .get2 .ensures, ← c .before .step2 .ensures)
+    goes-on (c .before .before .before .before .before .before .loop .inv) (c .before .before .before .before .before .loop-test .taken)
+    (rw (← c .before .before .before .before .before .before .before .get .ensures, ← c .before .before .before .before .step .ensures, ← c .before .before .before .get2 .ensures, ← c .before .before .step2 .ensures)
     (simp (eq-eqb _ _ (c .if1 .left))))
 
 returns-2 : tie.Need-returns-2 Inv-loop μ-loop
@@ -68,18 +71,4 @@ returns-2 c = ends (c .before .loop .inv) (c .loop-test .left)
 pub goes-row-spec : {M : Type 1} → statement M
 goes-row-spec =
     tie.close
-    (tie.spec
-    Inv-loop
-    μ-loop
-    get-requires
-    loop-holds
-    step-requires
-    cast-get
-    get-requires-2
-    step-requires-2
-    refused-requires
-    returns
-    add-g
-    loop-less
-    loop-again
-    returns-2)
+    (tie.spec Inv-loop μ-loop cast-get get-requires loop-holds step-requires cast-get-2 get-requires-2 step-requires-2 refused-requires returns add-g loop-less loop-again returns-2)

@@ -25,8 +25,14 @@ loop-holds c = scanning
 step-requires : tie.Need-step-requires Inv-loop μ-loop
 step-requires c κs = search needs
 
+cast-if1 : tie.Need-cast-if1 Inv-loop μ-loop
+cast-if1 c = search needs
+
 add-if1 : tie.Need-add-if1 Inv-loop μ-loop
 add-if1 c = search needs
+
+cast-refused : tie.Need-cast-refused Inv-loop μ-loop
+cast-refused c = search needs
 
 refused-requires : tie.Need-refused-requires Inv-loop μ-loop
 refused-requires c κs = search needs
@@ -34,8 +40,8 @@ refused-requires c κs = search needs
 returns : tie.Need-returns Inv-loop μ-loop
 returns c =
     c .refused .ensures
-    ∙ stops (c .before .before .before .before .loop .inv) (c .before .before .before .loop-test .taken)
-    (rw (← c .before .before .step .ensures) (simp (ne-eqb _ _ (c .before .if1 .taken))))
+    ∙ stops (c .before .before .before .before .before .loop .inv) (c .before .before .before .before .loop-test .taken)
+    (rw (← c .before .before .before .step .ensures) (simp (ne-eqb _ _ (c .before .if1 .taken))))
 
 add-g : tie.Need-add-g Inv-loop μ-loop
 add-g c = search needs
@@ -45,8 +51,8 @@ loop-less c = search needs
 
 loop-again : tie.Need-loop-again Inv-loop μ-loop
 loop-again c =
-    goes-on (c .before .before .before .loop .inv) (c .before .before .loop-test .taken)
-    (rw (← c .before .step .ensures) (simp (eq-eqb _ _ (c .if1 .left))))
+    goes-on (c .before .before .before .before .loop .inv) (c .before .before .before .loop-test .taken)
+    (rw (← c .before .before .step .ensures) (simp (eq-eqb _ _ (c .if1 .left))))
 
 returns-2 : tie.Need-returns-2 Inv-loop μ-loop
 returns-2 c = ends (c .before .loop .inv) (c .loop-test .left)
@@ -54,15 +60,4 @@ returns-2 c = ends (c .before .loop .inv) (c .loop-test .left)
 pub identity-row-spec : {M : Type 1} → statement M
 identity-row-spec =
     tie.close
-    (tie.spec
-    Inv-loop
-    μ-loop
-    loop-holds
-    step-requires
-    add-if1
-    refused-requires
-    returns
-    add-g
-    loop-less
-    loop-again
-    returns-2)
+    (tie.spec Inv-loop μ-loop loop-holds step-requires cast-if1 add-if1 cast-refused refused-requires returns add-g loop-less loop-again returns-2)

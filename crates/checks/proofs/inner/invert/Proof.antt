@@ -10,16 +10,14 @@ use Rattle.checks.proofs.inner.invert.Tie as tie
 use Rattle.checks.proofs.inner.invert.Reads as reads
 use Rattle.checks.proofs.inner.invert.Lts as lts
 use Rattle.checks.proofs.inner.undo.Reads as undo-reads
-use Rattle.egg.proofs.inner.back.Reads as back-reads
-use Rattle.egg.proofs.inner.last.Reads as last-reads
 use Rattle.egg.proofs.inner.parent.Reads as parent-reads
 use Rattle.egg.proofs.inner.word_length.Reads as word-length-reads
 
 abbrev Inv-loop : tie.InvT-loop
-Inv-loop t n e x₀ at₀ left₀ x at left = invertFrom left t n at x ≡ invertOf t n e
+Inv-loop t n x₀ at₀ left₀ x at left = invertFrom left t n at x ≡ invertFrom left₀ t n at₀ x₀
 
 abbrev μ-loop : tie.MeasureT-loop
-μ-loop t n e x₀ at₀ left₀ x at left = left
+μ-loop t n x₀ at₀ left₀ x at left = left
 
 word-length-requires : tie.Need-word-length-requires Inv-loop μ-loop
 word-length-requires c κs = search needs
@@ -28,13 +26,11 @@ undo-requires : tie.Need-undo-requires Inv-loop μ-loop
 undo-requires c κs = search needs
 
 loop-holds : tie.Need-loop-holds Inv-loop μ-loop
-loop-holds c = (c .undo .ensures) ∙ rw ((c .before .word-length .ensures))
+loop-holds c =
+    refl
 
-last-requires : tie.Need-last-requires Inv-loop μ-loop
-last-requires c κs = search needs
-
-back-requires : tie.Need-back-requires Inv-loop μ-loop
-back-requires c κs = search needs
+back-last-requires : tie.Need-back-last-requires Inv-loop μ-loop
+back-last-requires c κs = search needs
 
 parent-requires : tie.Need-parent-requires Inv-loop μ-loop
 parent-requires c κs = search needs
@@ -46,25 +42,15 @@ loop-less : tie.Need-loop-less Inv-loop μ-loop
 loop-less c = search needs
 
 loop-again : tie.Need-loop-again Inv-loop μ-loop
-loop-again c = undo-letter ((c .before .before .before .before .before .before .before .before .args .t .now)) ((c .before .before .before .before .before .before .before .before .args .n)) ((c .before .before .before .before .loop .at)) ((c .before .before .before .before .loop .x)) ((c .before .before .before .before .loop .left)) ((c .before .before .before .loop-test .taken)) ((c .before .before .last .ensures)) ((c .before .back .ensures)) ((c .parent .ensures)) ∙ (c .before .before .before .before .loop .inv)
+loop-again c =
+    undo-letter (c .before .before .before .before .before .before .before .args .t .now) (c .before .before .before .before .before .before .before .args .n) (c .before .before .before .loop .at) (c .before .before .before .loop .x) (c .before .before .before .loop .left) (c .before .before .loop-test .taken) (c .before .back-last .ensures) (c .parent .ensures) ∙ c .before .before .before .loop .inv
 
 returns : tie.Need-returns Inv-loop μ-loop
 unfolding invertFrom
-returns c = let q : (c .before .loop .left) ≡ 0 = omega arith in rw q at ((c .before .loop .inv))
+returns c =
+    let q : c .before .loop .left ≡ 0 = omega arith in rw q at (c .before .loop .inv) ∙ c .before .before .undo .ensures ∙ rw (c .before .before .before .word-length .ensures)
 
 pub invert-spec : {M : Type 1} → statement M
 invert-spec =
     tie.close
-    (tie.spec
-    Inv-loop
-    μ-loop
-    word-length-requires
-    undo-requires
-    loop-holds
-    last-requires
-    back-requires
-    parent-requires
-    sub-left
-    loop-less
-    loop-again
-    returns)
+    (tie.spec Inv-loop μ-loop word-length-requires undo-requires loop-holds back-last-requires parent-requires sub-left loop-less loop-again returns)

@@ -14,32 +14,22 @@ cast-get c = search needs
 get-requires : tie.Need-get-requires
 get-requires c κs = search needs
 
-last-requires : tie.Need-last-requires
-last-requires c κs = search needs
+step-last-requires : tie.Need-step-last-requires
+step-last-requires c κs = search needs
+
+returns : tie.Need-returns
+returns c =
+    c .step-last .ensures
+    ∙ rw (← c .before .before .parent .ensures, ← c .before .get .ensures) (simp (lt-ltb _ _ (c .before .before .before .if1 .taken)))
 
 step-requires : tie.Need-step-requires
 step-requires c κs = search needs
 
-returns : tie.Need-returns
-returns c =
-    c .step .ensures
-    ∙ rw (← c .before .before .before .parent .ensures, ← c .before .before .get .ensures, ← c .before .last .ensures) (simp (lt-ltb _ _ (c .before .before .before .before .if1 .taken)))
-
-step-requires-2 : tie.Need-step-requires-2
-step-requires-2 c κs = search needs
-
 returns-2 : tie.Need-returns-2
-returns-2 c = c .step2 .ensures ∙ simp (le-ltb _ _ (c .before .if1 .left))
+returns-2 c =
+    c .step .ensures ∙ simp (le-ltb _ _ (c .before .if1 .left))
 
 pub left-of-spec : {M : Type 1} → statement M
 left-of-spec =
     tie.close
-    (tie.spec
-    parent-requires
-    cast-get
-    get-requires
-    last-requires
-    step-requires
-    returns
-    step-requires-2
-    returns-2)
+    (tie.spec parent-requires cast-get get-requires step-last-requires returns step-requires returns-2)

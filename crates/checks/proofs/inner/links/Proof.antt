@@ -24,7 +24,7 @@ returns c = c .refused .ensures ∙ rw (← c .before .before .word-length .ensu
 
 returns-2 : tie.Need-returns-2
 unfolding linksOf
-returns-2 c = rw (← c .before .before .word-length .ensures) (simp (le-ltb _ _ (c .before .if1 .left), eq-eqb _ _ (c .if2 .taken)))
+returns-2 c = rw (← c .before .before .before .word-length .ensures) (simp (le-ltb _ _ (c .before .before .if1 .left), eq-eqb _ _ (c .if2 .taken)))
 
 parent-requires : tie.Need-parent-requires
 parent-requires c κs = search needs
@@ -34,7 +34,7 @@ refused-requires-2 c κs = search needs
 
 returns-3 : tie.Need-returns-3
 unfolding linksOf
-returns-3 c = c .refused2 .ensures ∙ rw (← c .before .before .before .before .before .word-length .ensures, ← c .before .before .parent .ensures) (simp (le-ltb _ _ (c .before .before .before .before .if1 .left), ne-eqb _ _ (c .before .before .before .if2 .left), le-leb _ _ (c .before .if3 .taken)))
+returns-3 c = c .refused2 .ensures ∙ rw (← c .before .before .before .before .before .before .before .word-length .ensures, ← c .before .before .before .parent .ensures) (simp (le-ltb _ _ (c .before .before .before .before .before .before .if1 .left), ne-eqb _ _ (c .before .before .before .before .if2 .left), le-leb _ _ (c .before .if3 .taken)))
 
 last-requires : tie.Need-last-requires
 last-requires c κs = search needs
@@ -44,11 +44,11 @@ refused-requires-3 c κs = search needs
 
 returns-4 : tie.Need-returns-4
 unfolding linksOf
-returns-4 c = c .refused3 .ensures ∙ rw (← c .before .before .before .before .before .before .before .word-length .ensures, ← c .before .before .before .before .parent .ensures, ← c .before .before .last .ensures) (simp (le-ltb _ _ (c .before .before .before .before .before .before .if1 .left), ne-eqb _ _ (c .before .before .before .before .before .if2 .left), lt-leb _ _ (c .before .before .before .if3 .left), le-leb _ _ (c .before .if4 .taken)))
+returns-4 c = c .refused3 .ensures ∙ rw (← c .before .before .before .before .before .before .before .before .before .word-length .ensures, ← c .before .before .before .before .before .parent .ensures, ← c .before .before .last .ensures) (simp (le-ltb _ _ (c .before .before .before .before .before .before .before .before .if1 .left), ne-eqb _ _ (c .before .before .before .before .before .before .if2 .left), lt-leb _ _ (c .before .before .before .if3 .left), le-leb _ _ (c .before .if4 .taken)))
 
 returns-5 : tie.Need-returns-5
 unfolding linksOf
-returns-5 c = rw (← c .before .before .before .before .before .before .word-length .ensures, ← c .before .before .before .parent .ensures, ← c .before .last .ensures) (simp (le-ltb _ _ (c .before .before .before .before .before .if1 .left), ne-eqb _ _ (c .before .before .before .before .if2 .left), lt-leb _ _ (c .before .before .if3 .left), lt-leb _ _ (c .if4 .left)))
+returns-5 c = rw (← c .before .before .before .before .before .before .before .before .word-length .ensures, ← c .before .before .before .before .parent .ensures, ← c .before .last .ensures) (simp (le-ltb _ _ (c .before .before .before .before .before .before .before .if1 .left), ne-eqb _ _ (c .before .before .before .before .before .if2 .left), lt-leb _ _ (c .before .before .if3 .left), lt-leb _ _ (c .if4 .left)))
 
 pub links-spec : {M : Type 1} → statement M
 links-spec =

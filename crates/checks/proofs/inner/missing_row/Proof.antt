@@ -9,7 +9,7 @@ use Rattle.checks.proofs.inner.missing_row.Statement.{statement}
 use Rattle.checks.proofs.inner.missing_row.Tie as tie
 
 abbrev Inv-loop : tie.InvT-loop
-Inv-loop t n shift e g₀ g = Scanning n (λ k. missingAt t n shift e k) g (missingRow t n shift e)
+Inv-loop t n shift e g₀ g = Scanning n (λ k. missingAt t n shift (e .0) k) g (missingRow t n shift (e .0))
 
 abbrev μ-loop : tie.MeasureT-loop
 μ-loop t n shift e g₀ g = n - g
@@ -18,8 +18,14 @@ loop-holds : tie.Need-loop-holds Inv-loop μ-loop
 unfolding missingRow
 loop-holds c = scanning
 
+cast-cell : tie.Need-cast-cell Inv-loop μ-loop
+cast-cell c = search needs
+
 cell-requires : tie.Need-cell-requires Inv-loop μ-loop
 cell-requires c κs = search needs
+
+cast-refused : tie.Need-cast-refused Inv-loop μ-loop
+cast-refused c = search needs
 
 refused-requires : tie.Need-refused-requires Inv-loop μ-loop
 refused-requires c κs = search needs
@@ -47,14 +53,4 @@ returns-2 c = ends (c .before .loop .inv) (c .loop-test .left)
 pub missing-row-spec : {M : Type 1} → statement M
 missing-row-spec =
     tie.close
-    (tie.spec
-    Inv-loop
-    μ-loop
-    loop-holds
-    cell-requires
-    refused-requires
-    returns
-    add-g
-    loop-less
-    loop-again
-    returns-2)
+    (tie.spec Inv-loop μ-loop loop-holds cast-cell cell-requires cast-refused refused-requires returns add-g loop-less loop-again returns-2)

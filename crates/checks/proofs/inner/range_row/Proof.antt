@@ -9,7 +9,7 @@ use Rattle.checks.proofs.inner.range_row.Statement.{statement}
 use Rattle.checks.proofs.inner.range_row.Tie as tie
 
 abbrev Inv-loop : tie.InvT-loop
-Inv-loop t n count e k₀ k = Scanning (2 * n) (λ j. rangeAt t n count e j) k (rangeRow t n count e)
+Inv-loop t n count e k₀ k = Scanning (2 * n) (λ j. rangeAt t n count (e .0) j) k (rangeRow t n count (e .0))
 
 abbrev μ-loop : tie.MeasureT-loop
 μ-loop t n count e k₀ k = 2 * n - k

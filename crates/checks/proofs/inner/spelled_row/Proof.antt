@@ -16,21 +16,18 @@ returns : tie.Need-returns
 unfolding spelledRow
 returns c =
     c .refused .ensures
-    ∙ rw (← c .before .before .before .word-length .ensures) (simp (eq-eqb _ _ (c .before .before .if1 .taken), ne-eqb _ _ (c .before .if2 .taken)))
+    ∙ rw (← c .before .before .before .before .word-length .ensures) (simp (eq-eqb _ _ (c .before .before .if1 .taken), ne-eqb _ _ (c .before .if2 .taken)))
 
 returns-2 : tie.Need-returns-2
 unfolding spelledRow
 returns-2 c =
-    rw (← c .before .before .word-length .ensures) (simp (eq-eqb _ _ (c .before .if1 .taken), eq-eqb _ _ (c .if2 .left)))
+    rw (← c .before .before .before .word-length .ensures) (simp (eq-eqb _ _ (c .before .if1 .taken), eq-eqb _ _ (c .if2 .left)))
 
 parent-requires : tie.Need-parent-requires
 parent-requires c κs = search needs
 
-last-requires : tie.Need-last-requires
-last-requires c κs = search needs
-
-step-requires : tie.Need-step-requires
-step-requires c κs = search needs
+step-last-requires : tie.Need-step-last-requires
+step-last-requires c κs = search needs
 
 refused-requires-2 : tie.Need-refused-requires-2
 refused-requires-2 c κs = search needs
@@ -38,14 +35,8 @@ refused-requires-2 c κs = search needs
 returns-3 : tie.Need-returns-3
 unfolding spelledRow
 returns-3 c =
-    let at-if3 = c .before in
-    let at-step = at-if3 .before in
-    let at-last = at-step .before in
-    let at-parent = at-last .before in
-    let at-if1 = at-parent .before in
     c .refused2 .ensures
-    ∙ rw (← at-parent .parent .ensures, ← at-last .last .ensures, ← at-step .step .ensures)
-    (simp (ne-eqb _ _ (at-if1 .if1 .left), ne-eqb _ _ (at-if3 .if3 .taken)))
+    ∙ rw (← c .before .before .before .before .before .parent .ensures, ← c .before .before .before .before .step-last .ensures) (simp (ne-eqb _ _ (c .before .before .before .before .before .before .if1 .left), ne-eqb _ _ (c .before .if3 .taken)))
 
 word-length-requires-2 : tie.Need-word-length-requires-2
 word-length-requires-2 c κs = search needs
@@ -65,48 +56,17 @@ refused-requires-3 c κs = search needs
 returns-4 : tie.Need-returns-4
 unfolding spelledRow
 returns-4 c =
-    let at-if4 = c .before in
-    let at-word-length2 = at-if4 .before in
-    let at-if3 = at-word-length2 .before in
-    let at-step = at-if3 .before in
-    let at-last = at-step .before in
-    let at-parent = at-last .before in
-    let at-if1 = at-parent .before in
-    let at-word-length = at-if1 .before in
     c .refused3 .ensures
-    ∙ rw (← at-parent .parent .ensures, ← at-last .last .ensures, ← at-step .step .ensures, ← at-word-length .word-length .ensures, ← at-word-length2 .word-length2 .ensures)
-    (simp (ne-eqb _ _ (at-if1 .if1 .left), eq-eqb _ _ (at-if3 .if3 .left), ne-eqb _ _ (at-if4 .if4 .taken)))
+    ∙ rw (← c .before .before .before .before .before .before .before .parent .ensures, ← c .before .before .before .before .before .before .step-last .ensures, ← c .before .before .before .before .before .before .before .before .before .before .word-length .ensures, ← c .before .before .word-length2 .ensures)
+    (simp (ne-eqb _ _ (c .before .before .before .before .before .before .before .before .if1 .left), eq-eqb _ _ (c .before .before .before .if3 .left), ne-eqb _ _ (c .before .if4 .taken)))
 
 returns-5 : tie.Need-returns-5
 unfolding spelledRow
 returns-5 c =
-    let at-word-length2 = c .before in
-    let at-if3 = at-word-length2 .before in
-    let at-step = at-if3 .before in
-    let at-last = at-step .before in
-    let at-parent = at-last .before in
-    let at-if1 = at-parent .before in
-    let at-word-length = at-if1 .before in
-    rw (← at-parent .parent .ensures, ← at-last .last .ensures, ← at-step .step .ensures, ← at-word-length .word-length .ensures, ← at-word-length2 .word-length2 .ensures)
-    (simp (ne-eqb _ _ (at-if1 .if1 .left), eq-eqb _ _ (at-if3 .if3 .left), eq-eqb _ _ (c .if4 .left)))
+    rw (← c .before .before .before .before .before .before .parent .ensures, ← c .before .before .before .before .before .step-last .ensures, ← c .before .before .before .before .before .before .before .before .before .word-length .ensures, ← c .before .word-length2 .ensures)
+    (simp (ne-eqb _ _ (c .before .before .before .before .before .before .before .if1 .left), eq-eqb _ _ (c .before .before .if3 .left), eq-eqb _ _ (c .if4 .left)))
 
 pub spelled-row-spec : {M : Type 1} → statement M
 spelled-row-spec =
     tie.close
-    (tie.spec
-    word-length-requires
-    refused-requires
-    returns
-    returns-2
-    parent-requires
-    last-requires
-    step-requires
-    refused-requires-2
-    returns-3
-    word-length-requires-2
-    cast-if4
-    cast-if4-2
-    add-if4
-    refused-requires-3
-    returns-4
-    returns-5)
+    (tie.spec word-length-requires refused-requires returns returns-2 parent-requires step-last-requires refused-requires-2 returns-3 word-length-requires-2 cast-if4 cast-if4-2 add-if4 refused-requires-3 returns-4 returns-5)

@@ -10,10 +10,10 @@ use Rattle.checks.proofs.inner.undo.Lts as lts
 use Rattle.checks.proofs.inner.undo_leg.Reads as undo-leg-reads
 
 abbrev Inv-loop : tie.InvT-loop
-Inv-loop t n e letters x₀ at₀ left₀ jump₀ fall₀ more₀ x at left jump fall more = invertFrom left t n at x ≡ invertFrom letters t n e 0
+Inv-loop t n letters x₀ at₀ left₀ jump₀ fall₀ more₀ x at left jump fall more = invertFrom left t n at x ≡ invertFrom left₀ t n at₀ x₀
 
 abbrev μ-loop : tie.MeasureT-loop
-μ-loop t n e letters x₀ at₀ left₀ jump₀ fall₀ more₀ x at left jump fall more = stillLeft more left
+μ-loop t n letters x₀ at₀ left₀ jump₀ fall₀ more₀ x at left jump fall more = stillLeft more left
 
 loop-holds : tie.Need-loop-holds Inv-loop μ-loop
 loop-holds c = refl

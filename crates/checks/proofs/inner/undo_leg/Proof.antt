@@ -11,17 +11,15 @@ use Rattle.checks.proofs.inner.undo_leg.Tie as tie
 use Rattle.checks.proofs.inner.undo_leg.Reads as reads
 use Rattle.checks.proofs.inner.undo_leg.Lts as lts
 use Rattle.checks.proofs.inner.guessed.Reads as guessed-reads
-use Rattle.egg.proofs.inner.back.Reads as back-reads
-use Rattle.egg.proofs.inner.last.Reads as last-reads
 use Rattle.egg.proofs.inner.parent.Reads as parent-reads
 use Rattle.std.proofs.num.wrapping_add_u32.Reads as wrapping-add-u32-reads
 use Rattle.std.proofs.num.wrapping_sub_u32.Reads as wrapping-sub-u32-reads
 
 abbrev Inv-loop : tie.InvT-loop
-Inv-loop t n from word letters jump fall x₀ at₀ left₀ x at left = (invertFrom left t n at x ≡ invertFrom left₀ t n at₀ x₀) × (left ≤ left₀)
+Inv-loop t n letters jump fall x₀ at₀ left₀ x at left = (invertFrom left t n at x ≡ invertFrom left₀ t n at₀ x₀) × (left ≤ left₀)
 
 abbrev μ-loop : tie.MeasureT-loop
-μ-loop t n from word letters jump fall x₀ at₀ left₀ x at left = left
+μ-loop t n letters jump fall x₀ at₀ left₀ x at left = left
 
 loop-holds : tie.Need-loop-holds Inv-loop μ-loop
 loop-holds c = (refl, le-refl _)
@@ -32,20 +30,14 @@ wrapping-add-u32-requires c κs = search needs
 wrapping-sub-u32-requires : tie.Need-wrapping-sub-u32-requires Inv-loop μ-loop
 wrapping-sub-u32-requires c κs = search needs
 
-last-requires : tie.Need-last-requires Inv-loop μ-loop
-last-requires c κs = search needs
-
-back-requires : tie.Need-back-requires Inv-loop μ-loop
-back-requires c κs = search needs
+back-last-requires : tie.Need-back-last-requires Inv-loop μ-loop
+back-last-requires c κs = search needs
 
 parent-requires : tie.Need-parent-requires Inv-loop μ-loop
 parent-requires c κs = search needs
 
-last-requires-2 : tie.Need-last-requires-2 Inv-loop μ-loop
-last-requires-2 c κs = search needs
-
-back-requires-2 : tie.Need-back-requires-2 Inv-loop μ-loop
-back-requires-2 c κs = search needs
+back-last-requires-2 : tie.Need-back-last-requires-2 Inv-loop μ-loop
+back-last-requires-2 c κs = search needs
 
 parent-requires-2 : tie.Need-parent-requires-2 Inv-loop μ-loop
 parent-requires-2 c κs = search needs
@@ -63,13 +55,20 @@ wrapping-sub-u32-requires-3 : tie.Need-wrapping-sub-u32-requires-3 Inv-loop μ-l
 wrapping-sub-u32-requires-3 c κs = search needs
 
 returns : tie.Need-returns Inv-loop μ-loop
-returns c = (undo-two ((c .before .before .before .before .before .before .before .before .before .before .before .before .before .before .before .args .t .now)) ((c .before .before .before .before .before .before .before .before .before .before .before .before .before .before .before .args .n)) ((c .before .before .before .before .before .before .before .before .before .before .before .before .before .loop .at)) ((c .before .before .before .before .before .before .before .before .before .before .before .before .before .loop .x)) ((c .before .before .before .before .before .before .before .before .before .before .before .before .before .loop .left)) ((c .before .before .before .before .before .before .before .before .before .before .before .before .loop-test .taken)) ((c .before .before .before .before .before .before .before .before .before .last .ensures)) ((c .before .before .before .before .before .before .before .before .back .ensures)) ((c .before .before .before .before .before .before .before .parent .ensures)) ((c .before .before .before .before .before .before .last2 .ensures)) ((c .before .before .before .before .before .back2 .ensures)) ((c .before .before .before .before .parent2 .ensures)) ∙ (c .before .before .before .before .before .before .before .before .before .before .before .before .before .loop .inv .0), omega (arith, (c .before .before .before .before .before .before .before .before .before .before .before .before .before .loop .inv .1), (c .before .before .before .before .before .before .before .before .before .before .before .before .loop-test .taken)))
+returns c = (
+  undo-two (c .before .before .before .before .before .before .before .before .before .before .before .before .before .args .t .now) (c .before .before .before .before .before .before .before .before .before .before .before .before .before .args .n) (c .before .before .before .before .before .before .before .before .before .before .before .loop .at) (c .before .before .before .before .before .before .before .before .before .before .before .loop .x) (c .before .before .before .before .before .before .before .before .before .before .before .loop .left) (c .before .before .before .before .before .before .before .before .before .before .loop-test .taken) (c .before .before .before .before .before .before .before .back-last .ensures) (c .before .before .before .before .before .before .parent .ensures) (c .before .before .before .before .before .back-last2 .ensures) (c .before .before .before .before .parent2 .ensures) ∙ c .before .before .before .before .before .before .before .before .before .before .before .loop .inv .0,
+  omega (arith, c .before .before .before .before .before .before .before .before .before .before .before .loop .inv .1, c .before .before .before .before .before .before .before .before .before .before .loop-test .taken),
+)
 
 loop-less : tie.Need-loop-less Inv-loop μ-loop
-loop-less c = omega (arith, (c .before .before .before .before .before .before .before .before .before .before .loop-test .taken))
+loop-less c = omega (arith, (c .before .before .before .before .before .before .before .before .loop-test .taken))
 
 loop-again : tie.Need-loop-again Inv-loop μ-loop
-loop-again c = (rw (sym ((c .before .guessed .ensures) (not-false _ ((c .if1 .left))) .0), sym ((c .before .guessed .ensures) (not-false _ ((c .if1 .left))) .1)) (undo-two ((c .before .before .before .before .before .before .before .before .before .before .before .before .before .args .t .now)) ((c .before .before .before .before .before .before .before .before .before .before .before .before .before .args .n)) ((c .before .before .before .before .before .before .before .before .before .before .before .loop .at)) ((c .before .before .before .before .before .before .before .before .before .before .before .loop .x)) ((c .before .before .before .before .before .before .before .before .before .before .before .loop .left)) ((c .before .before .before .before .before .before .before .before .before .before .loop-test .taken)) ((c .before .before .before .before .before .before .before .last .ensures)) ((c .before .before .before .before .before .before .back .ensures)) ((c .before .before .before .before .before .parent .ensures)) ((c .before .before .before .before .last2 .ensures)) ((c .before .before .before .back2 .ensures)) ((c .before .before .parent2 .ensures)) ∙ (c .before .before .before .before .before .before .before .before .before .before .before .loop .inv .0)), omega (arith, (c .before .before .before .before .before .before .before .before .before .before .before .loop .inv .1)))
+loop-again c = (
+  rw (sym (c .before .guessed .ensures (not-false _ (c .if1 .left)) .0), sym (c .before .guessed .ensures (not-false _ (c .if1 .left)) .1))
+      (undo-two (c .before .before .before .before .before .before .before .before .before .before .before .args .t .now) (c .before .before .before .before .before .before .before .before .before .before .before .args .n) (c .before .before .before .before .before .before .before .before .before .loop .at) (c .before .before .before .before .before .before .before .before .before .loop .x) (c .before .before .before .before .before .before .before .before .before .loop .left) (c .before .before .before .before .before .before .before .before .loop-test .taken) (c .before .before .before .before .before .back-last .ensures) (c .before .before .before .before .parent .ensures) (c .before .before .before .back-last2 .ensures) (c .before .before .parent2 .ensures) ∙ c .before .before .before .before .before .before .before .before .before .loop .inv .0),
+  omega (arith, c .before .before .before .before .before .before .before .before .before .loop .inv .1),
+)
 
 returns-2 : tie.Need-returns-2 Inv-loop μ-loop
 returns-2 c = ((c .before .loop .inv .0), zero-le)
@@ -77,23 +76,4 @@ returns-2 c = ((c .before .loop .inv .0), zero-le)
 pub undo-leg-spec : {M : Type 1} → statement M
 undo-leg-spec =
     tie.close
-    (tie.spec
-    Inv-loop
-    μ-loop
-    loop-holds
-    wrapping-add-u32-requires
-    wrapping-sub-u32-requires
-    last-requires
-    back-requires
-    parent-requires
-    last-requires-2
-    back-requires-2
-    parent-requires-2
-    sub-left
-    guessed-requires
-    wrapping-sub-u32-requires-2
-    wrapping-sub-u32-requires-3
-    returns
-    loop-less
-    loop-again
-    returns-2)
+    (tie.spec Inv-loop μ-loop loop-holds wrapping-add-u32-requires wrapping-sub-u32-requires back-last-requires parent-requires back-last-requires-2 parent-requires-2 sub-left guessed-requires wrapping-sub-u32-requires-2 wrapping-sub-u32-requires-3 returns loop-less loop-again returns-2)

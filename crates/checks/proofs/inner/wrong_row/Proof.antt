@@ -8,7 +8,7 @@ use Rattle.checks.proofs.inner.wrong_row.Statement.{statement}
 use Rattle.checks.proofs.inner.wrong_row.Tie as tie
 
 abbrev Inv-loop : tie.InvT-loop
-Inv-loop t n e g₀ g = Scanning n (λ k. wrongAt t n e k) g (wrongRow t n e)
+Inv-loop t n e g₀ g = Scanning n (λ k. wrongAt t n (e .0) k) g (wrongRow t n (e .0))
 
 abbrev μ-loop : tie.MeasureT-loop
 μ-loop t n e g₀ g = n - g

@@ -11,6 +11,9 @@ use Rattle.egg.proofs.inner.start.Reads as start-reads
 start-requires : tie.Need-start-requires
 start-requires c κs = search needs
 
+cast-get : tie.Need-cast-get
+cast-get c = search needs
+
 add-get : tie.Need-add-get
 add-get c = search needs
 
@@ -24,4 +27,4 @@ returns : tie.Need-returns
 returns c = c .element .ensures ∙ rw (c .before .get .ensures, c .before .before .start .ensures .at)
 
 pub step-spec : {M : Type 1} → statement M
-step-spec = tie.close (tie.spec start-requires add-get get-requires element-requires returns)
+step-spec = tie.close (tie.spec start-requires cast-get add-get get-requires element-requires returns)

@@ -41,7 +41,7 @@ claims t = (
 )
 
 along-returns : (t : ℕ) → along-lts.Need-returns (claims t) (along-at t) along.Post
-along-returns t c = let a = c .before .before .args in along-none (a .s .now) (a .n) (a .count) (a .from) (a .e) (c .if1 .taken)
+along-returns t c = let a = c .before .before .args in along-none (a .s .now) (a .n) (a .count) (a .from .0) (a .e .0) (c .if1 .taken)
 
 along-parent-requires : (t : ℕ) → along-lts.Need-parent-requires (claims t) (along-at t) along.Post
 along-parent-requires t c κs = search needs
@@ -50,7 +50,7 @@ along-refuse-requires : (t : ℕ) → along-lts.Need-refuse-requires (claims t) 
 along-refuse-requires t c κs = search needs
 
 along-returns-2 : (t : ℕ) → along-lts.Need-returns-2 (claims t) (along-at t) along.Post
-along-returns-2 t c = let a = c .before .before .before .before .before .args in c .refuse .ensures ∙ along-parent (a .s .now) (a .n) (a .count) (a .from) (a .e) (c .before .before .before .if1 .left) (c .before .before .parent .ensures) (c .before .if2 .taken)
+along-returns-2 t c = let a = c .before .before .before .before .before .args in c .refuse .ensures ∙ along-parent (a .s .now) (a .n) (a .count) (a .from .0) (a .e .0) (c .before .before .before .if1 .left) (c .before .before .parent .ensures) (c .before .if2 .taken)
 
 along-last-requires : (t : ℕ) → along-lts.Need-last-requires (claims t) (along-at t) along.Post
 along-last-requires t c κs = search needs
@@ -59,7 +59,7 @@ along-refuse-requires-2 : (t : ℕ) → along-lts.Need-refuse-requires-2 (claims
 along-refuse-requires-2 t c κs = search needs
 
 along-returns-3 : (t : ℕ) → along-lts.Need-returns-3 (claims t) (along-at t) along.Post
-along-returns-3 t c = let a = c .before .before .before .before .before .before .before .args in c .refuse2 .ensures ∙ along-letter (a .s .now) (a .n) (a .count) (a .from) (a .e) (c .before .before .before .before .before .if1 .left) (c .before .before .before .before .parent .ensures) (c .before .before .before .if2 .left) (c .before .before .last .ensures) (c .before .if3 .taken)
+along-returns-3 t c = let a = c .before .before .before .before .before .before .before .args in c .refuse2 .ensures ∙ along-letter (a .s .now) (a .n) (a .count) (a .from .0) (a .e .0) (c .before .before .before .before .before .if1 .left) (c .before .before .before .before .parent .ensures) (c .before .before .before .if2 .left) (c .before .before .last .ensures) (c .before .if3 .taken)
 
 along-sub-along : (t : ℕ) → along-lts.Need-sub-along (claims t) (along-at t) along.Post
 along-sub-along t c = search needs
@@ -73,17 +73,17 @@ along-enum-known-why t c = search needs
 along-enum-known-x : (t : ℕ) → along-lts.Need-enum-known-x (claims t) (along-at t) along.Post
 along-enum-known-x t c = search needs
 
-along-cast-next : (t : ℕ) → along-lts.Need-cast-next (claims t) (along-at t) along.Post
-along-cast-next t c = search needs
+along-cast-t19 : (t : ℕ) → along-lts.Need-cast-t19 (claims t) (along-at t) along.Post
+along-cast-t19 t c = search needs
 
 along-next-requires : (t : ℕ) → along-lts.Need-next-requires (claims t) (along-at t) along.Post
 along-next-requires t c κs = search needs
 
 along-returns-4 : (t : ℕ) → along-lts.Need-returns-4 (claims t) (along-at t) along.Post
-along-returns-4 t c = let a = c .before .before .before .before .before .before .before .before .before .before .args in on-refused (c .before .before .before .along .ensures) _ (c .before .why .given .1) ∙ along-more (a .s .now) (a .n) (a .count) (a .from) (a .e) (c .before .before .before .before .before .before .before .before .if1 .left) (c .before .before .before .before .before .before .before .parent .ensures) (c .before .before .before .before .before .before .if2 .left) (c .before .before .before .before .before .last .ensures) (c .before .before .before .before .if3 .left)
+along-returns-4 t c = let a = c .before .before .before .before .before .before .before .before .before .before .args in on-refused (c .before .before .before .along .ensures) _ (c .before .why .given .1) ∙ along-more (a .s .now) (a .n) (a .count) (a .from .0) (a .e .0) (c .before .before .before .before .before .before .before .before .if1 .left) (c .before .before .before .before .before .before .before .parent .ensures) (c .before .before .before .before .before .before .if2 .left) (c .before .before .before .before .before .last .ensures) (c .before .before .before .before .if3 .left)
 
 along-returns-5 : (t : ℕ) → along-lts.Need-returns-5 (claims t) (along-at t) along.Post
-along-returns-5 t c = let a = c .before .before .before .before .before .before .before .before .before .before .before .args in c .next .ensures ∙ rw (letter-byte (c .before .before .before .before .before .if3 .left) (c .before .before .before .before .before .before .before .before .before .before .before .fits .n .fits)) (on-element (c .before .before .before .before .along .ensures) _ (c .before .before .x .given .1) ∙ along-more (a .s .now) (a .n) (a .count) (a .from) (a .e) (c .before .before .before .before .before .before .before .before .before .if1 .left) (c .before .before .before .before .before .before .before .before .parent .ensures) (c .before .before .before .before .before .before .before .if2 .left) (c .before .before .before .before .before .before .last .ensures) (c .before .before .before .before .before .if3 .left))
+along-returns-5 t c = let a = c .before .before .before .before .before .before .before .before .before .before .before .args in c .next .ensures ∙ rw (letter-byte (c .before .before .before .before .before .if3 .left) (c .before .before .before .before .before .before .before .before .before .before .before .fits .n .fits)) (on-element (c .before .before .before .before .along .ensures) _ (c .before .before .x .given .1) ∙ along-more (a .s .now) (a .n) (a .count) (a .from .0) (a .e .0) (c .before .before .before .before .before .before .before .before .before .if1 .left) (c .before .before .before .before .before .before .before .before .parent .ensures) (c .before .before .before .before .before .before .before .if2 .left) (c .before .before .before .before .before .before .last .ensures) (c .before .before .before .before .before .if3 .left))
 
 pub +along-spec : {M : Type 1} → statement M
 +along-spec =
@@ -103,7 +103,7 @@ pub +along-spec : {M : Type 1} → statement M
     (along-along-requires t)
     (along-enum-known-why t)
     (along-enum-known-x t)
-    (along-cast-next t)
+    (along-cast-t19 t)
     (along-next-requires t)
     (along-returns-4 t)
     (along-returns-5 t)

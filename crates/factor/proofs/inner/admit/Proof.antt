@@ -20,16 +20,16 @@ refused-requires-2 : tie.Need-refused-requires-2
 refused-requires-2 c κs = search needs
 
 returns-2 : tie.Need-returns-2
-returns-2 c = let a = (c .before .before .before .before .before .before .args) in (c .refused2 .ensures) ∙ admits-first (length (a .table .now)) (a .f) _ _ (sym (c .before .before .before .before .fits2 .ensures) ∙ not-false _ (c .before .before .before .if1 .left)) (c .before .if2 .taken)
+returns-2 c = let a = (c .before .before .before .before .before .before .before .args) in (c .refused2 .ensures) ∙ admits-first (length (a .table .now)) (a .f) _ _ (sym (c .before .before .before .before .before .fits2 .ensures) ∙ not-false _ (c .before .before .before .before .if1 .left)) (c .before .if2 .taken)
 
 refused-requires-3 : tie.Need-refused-requires-3
 refused-requires-3 c κs = search needs
 
 returns-3 : tie.Need-returns-3
-returns-3 c = let a = (c .before .before .before .before .before .before .before .before .args) in (c .refused3 .ensures) ∙ admits-second (length (a .table .now)) (a .f) _ _ (sym (c .before .before .before .before .before .before .fits2 .ensures) ∙ not-false _ (c .before .before .before .before .before .if1 .left)) (c .before .before .before .if2 .left) (c .before .if3 .taken)
+returns-3 c = let a = (c .before .before .before .before .before .before .before .before .before .before .args) in (c .refused3 .ensures) ∙ admits-second (length (a .table .now)) (a .f) _ _ (sym (c .before .before .before .before .before .before .before .before .fits2 .ensures) ∙ not-false _ (c .before .before .before .before .before .before .before .if1 .left)) (c .before .before .before .before .if2 .left) (c .before .if3 .taken)
 
 returns-4 : tie.Need-returns-4
-returns-4 c = let a = (c .before .before .before .before .before .before .before .args) in admits-fine (length (a .table .now)) (a .f) _ _ (sym (c .before .before .before .before .before .fits2 .ensures) ∙ not-false _ (c .before .before .before .before .if1 .left)) (c .before .before .if2 .left) (c .if3 .left)
+returns-4 c = let a = (c .before .before .before .before .before .before .before .before .before .args) in admits-fine (length (a .table .now)) (a .f) _ _ (sym (c .before .before .before .before .before .before .before .fits2 .ensures) ∙ not-false _ (c .before .before .before .before .before .before .if1 .left)) (c .before .before .before .if2 .left) (c .if3 .left)
 
 pub admit-spec : {M : Type 1} → statement M
 admit-spec =

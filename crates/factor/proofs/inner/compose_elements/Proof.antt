@@ -21,7 +21,7 @@ refuse-requires : tie.Need-refuse-requires
 refuse-requires c κs = search needs
 
 returns : tie.Need-returns
-returns c = (c .refuse .ensures) ∙ compose-long ((c .before .before .before .before .args .s .now)) ((c .before .before .before .before .args .n)) ((c .before .before .before .before .args .count)) ((c .before .before .before .before .args .a)) ((c .before .before .before .before .args .b)) ((c .before .before .word-length .ensures)) ((c .before .if1 .taken))
+returns c = (c .refuse .ensures) ∙ compose-long ((c .before .before .before .before .args .s .now)) ((c .before .before .before .before .args .n)) ((c .before .before .before .before .args .count)) ((c .before .before .before .before .args .a .0)) ((c .before .before .before .before .args .b .0)) ((c .before .before .word-length .ensures)) ((c .before .if1 .taken))
 
 inverse-at-requires : tie.Need-inverse-at-requires
 inverse-at-requires c κs = search needs
@@ -33,7 +33,7 @@ refuse-requires-2 : tie.Need-refuse-requires-2
 refuse-requires-2 c κs = search needs
 
 returns-2 : tie.Need-returns-2
-returns-2 c = (c .refuse2 .ensures) ∙ compose-beyond ((c .before .before .before .before .before .before .before .args .s .now)) ((c .before .before .before .before .before .before .before .args .n)) ((c .before .before .before .before .before .before .before .args .count)) ((c .before .before .before .before .before .before .before .args .a)) ((c .before .before .before .before .before .before .before .args .b)) ((c .before .before .before .before .before .word-length .ensures)) ((c .before .before .before .before .if1 .left)) (got ((c .before .before .before .before .before .before .before .args .s .now)) ((c .before .before .get .ensures)) ((c .before .before .before .inverse-at .ensures .at))) ((c .before .if2 .taken))
+returns-2 c = (c .refuse2 .ensures) ∙ compose-beyond ((c .before .before .before .before .before .before .before .args .s .now)) ((c .before .before .before .before .before .before .before .args .n)) ((c .before .before .before .before .before .before .before .args .count)) ((c .before .before .before .before .before .before .before .args .a .0)) ((c .before .before .before .before .before .before .before .args .b .0)) ((c .before .before .before .before .before .word-length .ensures)) ((c .before .before .before .before .if1 .left)) (got ((c .before .before .before .before .before .before .before .args .s .now)) ((c .before .before .get .ensures)) ((c .before .before .before .inverse-at .ensures .at))) ((c .before .if2 .taken))
 
 word-length-requires-2 : tie.Need-word-length-requires-2
 word-length-requires-2 c κs = search needs
@@ -42,13 +42,13 @@ along-requires : tie.Need-along-requires
 along-requires c κs = search needs
 
 returns-3 : tie.Need-returns-3
-returns-3 c = (c .along .ensures) ∙ compose-along ((c .before .before .before .before .before .before .before .before .before .args .s .now)) ((c .before .before .before .before .before .before .before .before .before .args .n)) ((c .before .before .before .before .before .before .before .before .before .args .count)) ((c .before .before .before .before .before .before .before .before .before .args .a)) ((c .before .before .before .before .before .before .before .before .before .args .b)) ((c .before .before .before .before .before .before .before .word-length .ensures)) ((c .before .before .before .before .before .before .if1 .left)) (got ((c .before .before .before .before .before .before .before .before .before .args .s .now)) ((c .before .before .before .before .get .ensures)) ((c .before .before .before .before .before .inverse-at .ensures .at))) ((c .before .before .before .if2 .left)) ((c .before .before .word-length2 .ensures)) ((c .before .if3 .taken))
+returns-3 c = (c .along .ensures) ∙ compose-along ((c .before .before .before .before .before .before .before .before .before .args .s .now)) ((c .before .before .before .before .before .before .before .before .before .args .n)) ((c .before .before .before .before .before .before .before .before .before .args .count)) ((c .before .before .before .before .before .before .before .before .before .args .a .0)) ((c .before .before .before .before .before .before .before .before .before .args .b .0)) ((c .before .before .before .before .before .before .before .word-length .ensures)) ((c .before .before .before .before .before .before .if1 .left)) (got ((c .before .before .before .before .before .before .before .before .before .args .s .now)) ((c .before .before .before .before .get .ensures)) ((c .before .before .before .before .before .inverse-at .ensures .at))) ((c .before .before .before .if2 .left)) ((c .before .before .word-length2 .ensures)) ((c .before .if3 .taken))
 
 back-along-requires : tie.Need-back-along-requires
 back-along-requires c κs = search needs
 
 returns-4 : tie.Need-returns-4
-returns-4 c = (c .back-along .ensures) ∙ compose-back ((c .before .before .before .before .before .before .before .before .before .args .s .now)) ((c .before .before .before .before .before .before .before .before .before .args .n)) ((c .before .before .before .before .before .before .before .before .before .args .count)) ((c .before .before .before .before .before .before .before .before .before .args .a)) ((c .before .before .before .before .before .before .before .before .before .args .b)) ((c .before .before .before .before .before .before .before .word-length .ensures)) ((c .before .before .before .before .before .before .if1 .left)) (got ((c .before .before .before .before .before .before .before .before .before .args .s .now)) ((c .before .before .before .before .get .ensures)) ((c .before .before .before .before .before .inverse-at .ensures .at))) ((c .before .before .before .if2 .left)) ((c .before .before .word-length2 .ensures)) ((c .before .if3 .left))
+returns-4 c = (c .back-along .ensures) ∙ compose-back ((c .before .before .before .before .before .before .before .before .before .args .s .now)) ((c .before .before .before .before .before .before .before .before .before .args .n)) ((c .before .before .before .before .before .before .before .before .before .args .count)) ((c .before .before .before .before .before .before .before .before .before .args .a .0)) ((c .before .before .before .before .before .before .before .before .before .args .b .0)) ((c .before .before .before .before .before .before .before .word-length .ensures)) ((c .before .before .before .before .before .before .if1 .left)) (got ((c .before .before .before .before .before .before .before .before .before .args .s .now)) ((c .before .before .before .before .get .ensures)) ((c .before .before .before .before .before .inverse-at .ensures .at))) ((c .before .before .before .if2 .left)) ((c .before .before .word-length2 .ensures)) ((c .before .if3 .left))
 
 pub compose-elements-spec : {M : Type 1} → statement M
 compose-elements-spec =

@@ -8,7 +8,7 @@ use Rattle.factor.proofs.inner.doubled_row.Statement.{statement}
 use Rattle.factor.proofs.inner.doubled_row.Tie as tie
 
 abbrev Inv-loop : tie.InvT-loop
-Inv-loop s n count e g₀ g = Scanning n (λ i. relationAt s n count e i i 1) g (doubledRow s n count e)
+Inv-loop s n count e g₀ g = Scanning n (λ i. relationAt s n count (e .0) i i 1) g (doubledRow s n count (e .0))
 
 abbrev μ-loop : tie.MeasureT-loop
 μ-loop s n count e g₀ g = n - g

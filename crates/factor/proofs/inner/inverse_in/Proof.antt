@@ -16,10 +16,10 @@ refuse-requires : tie.Need-refuse-requires
 refuse-requires c κs = search needs
 
 returns : tie.Need-returns
-returns c = let a = (c .before .before .before .before .before .args) in (c .refuse .ensures) ∙ inverse-beyond (a .s .now) (a .n) (a .count) (a .a) (got (a .s .now) (c .before .before .get .ensures) (c .before .before .before .inverse-at .ensures .at)) (c .before .if1 .taken)
+returns c = let a = (c .before .before .before .before .before .args) in (c .refuse .ensures) ∙ inverse-beyond (a .s .now) (a .n) (a .count) (a .a .0) (got (a .s .now) (c .before .before .get .ensures) (c .before .before .before .inverse-at .ensures .at)) (c .before .if1 .taken)
 
 returns-2 : tie.Need-returns-2
-returns-2 c = let a = (c .before .before .before .before .args) in inverse-element (a .s .now) (a .n) (a .count) (a .a) (got (a .s .now) (c .before .get .ensures) (c .before .before .inverse-at .ensures .at)) (c .if1 .left)
+returns-2 c = let a = (c .before .before .before .before .args) in inverse-element (a .s .now) (a .n) (a .count) (a .a .0) (got (a .s .now) (c .before .get .ensures) (c .before .before .inverse-at .ensures .at)) (c .if1 .left)
 
 pub inverse-in-spec : {M : Type 1} → statement M
 inverse-in-spec =

@@ -29,8 +29,8 @@ refuse-requires-2 c κs = search needs
 returns-2 : tie.Need-returns-2
 returns-2 c = (c .refuse2 .ensures) ∙ back-beyond ((c .before .before .before .before .before .before .args .s .now)) _ _ _ _ (got ((c .before .before .before .before .before .before .args .s .now)) ((c .before .before .before .get .ensures)) ((c .before .before .before .before .predecessor-at .ensures .at))) ((c .before .before .if1 .left)) ((c .before .if2 .taken))
 
-sub-t11 : tie.Need-sub-t11
-sub-t11 c = search needs
+sub-t9 : tie.Need-sub-t9
+sub-t9 c = search needs
 
 returns-3 : tie.Need-returns-3
 returns-3 c = back-element ((c .before .before .before .before .before .args .s .now)) _ _ _ _ (got ((c .before .before .before .before .before .args .s .now)) ((c .before .before .get .ensures)) ((c .before .before .before .predecessor-at .ensures .at))) ((c .before .if1 .left)) ((c .if2 .left))
@@ -38,12 +38,4 @@ returns-3 c = back-element ((c .before .before .before .before .before .args .s 
 pub previous-spec : {M : Type 1} → statement M
 previous-spec =
     tie.close
-    (tie.spec
-    predecessor-at-requires
-    get-requires
-    refuse-requires
-    returns
-    refuse-requires-2
-    returns-2
-    sub-t11
-    returns-3)
+    (tie.spec predecessor-at-requires get-requires refuse-requires returns refuse-requires-2 returns-2 sub-t9 returns-3)

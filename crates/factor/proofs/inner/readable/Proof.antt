@@ -7,10 +7,10 @@ use Rattle.factor.proofs.inner.readable.Statement.{statement}
 use Rattle.factor.proofs.inner.readable.Tie as tie
 
 abbrev Inv-loop : tie.InvT-loop
-Inv-loop s n count e len at₀ left₀ at left = readable left s n count at ≡ readable len s n count e
+Inv-loop s n count len at₀ left₀ at left = readable left s n count at ≡ readable left₀ s n count at₀
 
 abbrev μ-loop : tie.MeasureT-loop
-μ-loop s n count e len at₀ left₀ at left = left
+μ-loop s n count len at₀ left₀ at left = left
 
 loop-holds : tie.Need-loop-holds Inv-loop μ-loop
 loop-holds c = refl

@@ -18,10 +18,10 @@ use Rattle.std.proofs.num.wrapping_add_u32.Reads as wrapping-add-u32-reads
 use Rattle.std.proofs.num.wrapping_sub_u32.Reads as wrapping-sub-u32-reads
 
 abbrev Inv-loop : tie.InvT-loop
-Inv-loop s n count from word letters jump fall x₀ at₀ left₀ x at left = (backAlong left s n count x at ≡ backAlong left₀ s n count x₀ at₀) × (left ≤ left₀)
+Inv-loop s n count letters jump fall x₀ at₀ left₀ x at left = (backAlong left s n count x at ≡ backAlong left₀ s n count x₀ at₀) × (left ≤ left₀)
 
 abbrev μ-loop : tie.MeasureT-loop
-μ-loop s n count from word letters jump fall x₀ at₀ left₀ x at left = left
+μ-loop s n count letters jump fall x₀ at₀ left₀ x at left = left
 
 loop-holds : tie.Need-loop-holds Inv-loop μ-loop
 loop-holds c = (refl, le-refl _)

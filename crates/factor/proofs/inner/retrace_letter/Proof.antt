@@ -33,7 +33,7 @@ sub-result : tie.Need-sub-result
 sub-result c = search needs
 
 returns-4 : tie.Need-returns-4
-returns-4 c = λ h. one-back ((c .before .before .before .before .before .before .before .args .s .now)) ((c .before .before .before .before .before .before .before .args .n)) ((c .before .before .before .before .before .before .before .args .count)) ((c .before .before .before .before .before .before .before .args .x)) ((c .before .before .before .before .before .before .before .args .at)) ((c .before .before .before .before .before .parent .ensures)) ((c .before .before .before .before .if1 .left)) ((c .before .before .before .last .ensures)) ((c .before .before .if2 .left)) ((c .before .cell .ensures)) ((c .if3 .left)) h
+returns-4 c = λ h. one-back ((c .before .before .before .before .before .before .before .args .s .now)) ((c .before .before .before .before .before .before .before .args .n)) ((c .before .before .before .before .before .before .before .args .count)) ((c .before .before .before .before .before .before .before .args .x .0)) ((c .before .before .before .before .before .before .before .args .at .0)) ((c .before .before .before .before .before .parent .ensures)) ((c .before .before .before .before .if1 .left)) ((c .before .before .before .last .ensures)) ((c .before .before .if2 .left)) ((c .before .cell .ensures)) ((c .if3 .left)) h
 
 pub retrace-letter-spec : {M : Type 1} → statement M
 retrace-letter-spec =

@@ -11,10 +11,10 @@ use Rattle.factor.proofs.inner.retrace_most.Lts as lts
 use Rattle.factor.proofs.inner.retrace_leg.Reads as retrace-leg-reads
 
 abbrev Inv-loop : tie.InvT-loop
-Inv-loop s n count from e letters x₀ at₀ left₀ jump₀ fall₀ more₀ x at left jump fall more = backAlong left s n count x at ≡ backAlong letters s n count from e
+Inv-loop s n count letters x₀ at₀ left₀ jump₀ fall₀ more₀ x at left jump fall more = backAlong left s n count x at ≡ backAlong left₀ s n count x₀ at₀
 
 abbrev μ-loop : tie.MeasureT-loop
-μ-loop s n count from e letters x₀ at₀ left₀ jump₀ fall₀ more₀ x at left jump fall more = stillLeft more left
+μ-loop s n count letters x₀ at₀ left₀ jump₀ fall₀ more₀ x at left jump fall more = stillLeft more left
 
 loop-holds : tie.Need-loop-holds Inv-loop μ-loop
 loop-holds c = refl

@@ -9,10 +9,10 @@ use Rattle.factor.proofs.inner.spell.Statement.{statement}
 use Rattle.factor.proofs.inner.spell.Tie as tie
 
 abbrev Inv-loop : tie.InvT-loop
-Inv-loop s n e len out₀ at₀ left₀ out at left = (length out ≡ length out₀) × (left ≤ len) × (spell left s n at out ≡ spell len s n e out₀)
+Inv-loop s n len out₀ at₀ left₀ out at left = (length out ≡ length out₀) × (left ≤ left₀) × (spell left s n at out ≡ spell left₀ s n at₀ out₀)
 
 abbrev μ-loop : tie.MeasureT-loop
-μ-loop s n e len out₀ at₀ left₀ out at left = left
+μ-loop s n len out₀ at₀ left₀ out at left = left
 
 loop-holds : tie.Need-loop-holds Inv-loop μ-loop
 loop-holds c = (refl, search needs, refl)

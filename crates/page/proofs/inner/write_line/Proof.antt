@@ -6,31 +6,31 @@ use Rattle.page.proofs.inner.write_line.Statement.{statement}
 use Rattle.page.proofs.inner.write_line.Tie as tie
 
 write-decimal-requires : tie.Need-write-decimal-requires
-write-decimal-requires c κs = ends-1 (line-pieces (c .before .before .before .args .t .now) (c .before .before .before .args .n) (c .before .before .before .args .e) refl refl) (c .before .before .before .pre)
+write-decimal-requires c κs = ends-1 (line-pieces (c .before .before .before .args .t .now) (c .before .before .before .args .n) (c .before .before .before .args .e .0) refl refl) (c .before .before .before .pre)
 
 inverse-requires : tie.Need-inverse-requires
 inverse-requires c κs = search needs
 
 write-spaced-requires : tie.Need-write-spaced-requires
-write-spaced-requires c κs = ends-2 (line-pieces (c .before .before .before .before .before .before .before .before .args .t .now) (c .before .before .before .before .before .before .before .before .args .n) (c .before .before .before .before .before .before .before .before .args .e) (c .inverse .ensures) refl) (c .before .before .before .before .before .before .before .before .pre) (c .before .before .before .before .write-decimal .ensures)
+write-spaced-requires c κs = ends-2 (line-pieces (c .before .before .before .before .before .before .before .before .args .t .now) (c .before .before .before .before .before .before .before .before .args .n) (c .before .before .before .before .before .before .before .before .args .e .0) (c .inverse .ensures) refl) (c .before .before .before .before .before .before .before .before .pre) (c .before .before .before .before .write-decimal .ensures)
 
 word-length-requires : tie.Need-word-length-requires
 word-length-requires c κs = search needs
 
 write-spaced-requires-2 : tie.Need-write-spaced-requires-2
-write-spaced-requires-2 c κs = ends-3 (line-pieces (c .before .before .before .before .before .before .before .before .before .before .before .before .before .args .t .now) (c .before .before .before .before .before .before .before .before .before .before .before .before .before .args .n) (c .before .before .before .before .before .before .before .before .before .before .before .before .before .args .e) (c .before .before .before .before .before .inverse .ensures) (c .word-length .ensures)) (c .before .before .before .before .before .before .before .before .before .before .before .before .before .pre) (c .before .before .before .before .before .before .before .before .before .write-decimal .ensures) (c .before .before .before .before .write-spaced .ensures)
+write-spaced-requires-2 c κs = ends-3 (line-pieces (c .before .before .before .before .before .before .before .before .before .before .before .before .before .args .t .now) (c .before .before .before .before .before .before .before .before .before .before .before .before .before .args .n) (c .before .before .before .before .before .before .before .before .before .before .before .before .before .args .e .0) (c .before .before .before .before .before .inverse .ensures) (c .word-length .ensures)) (c .before .before .before .before .before .before .before .before .before .before .before .before .before .pre) (c .before .before .before .before .before .before .before .before .before .write-decimal .ensures) (c .before .before .before .before .write-spaced .ensures)
 
 write-steps-requires : tie.Need-write-steps-requires
-write-steps-requires c κs = ends-4 (line-pieces (c .before .before .before .before .before .before .before .before .before .before .before .before .before .before .before .before .before .args .t .now) (c .before .before .before .before .before .before .before .before .before .before .before .before .before .before .before .before .before .args .n) (c .before .before .before .before .before .before .before .before .before .before .before .before .before .before .before .before .before .args .e) (c .before .before .before .before .before .before .before .before .before .inverse .ensures) (c .before .before .before .before .word-length .ensures)) (c .before .before .before .before .before .before .before .before .before .before .before .before .before .before .before .before .before .pre) (c .before .before .before .before .before .before .before .before .before .before .before .before .before .write-decimal .ensures) (c .before .before .before .before .before .before .before .before .write-spaced .ensures) (c .before .before .before .write-spaced2 .ensures)
+write-steps-requires c κs = ends-4 (line-pieces (c .before .before .before .before .before .before .before .before .before .before .before .before .before .before .before .before .before .args .t .now) (c .before .before .before .before .before .before .before .before .before .before .before .before .before .before .before .before .before .args .n) (c .before .before .before .before .before .before .before .before .before .before .before .before .before .before .before .before .before .args .e .0) (c .before .before .before .before .before .before .before .before .before .inverse .ensures) (c .before .before .before .before .word-length .ensures)) (c .before .before .before .before .before .before .before .before .before .before .before .before .before .before .before .before .before .pre) (c .before .before .before .before .before .before .before .before .before .before .before .before .before .write-decimal .ensures) (c .before .before .before .before .before .before .before .before .write-spaced .ensures) (c .before .before .before .write-spaced2 .ensures)
 
 put-byte-requires : tie.Need-put-byte-requires
-put-byte-requires c κs = ends-5 (line-pieces (c .before .before .before .before .before .before .before .before .before .before .before .before .before .before .before .before .before .before .before .before .before .args .t .now) (c .before .before .before .before .before .before .before .before .before .before .before .before .before .before .before .before .before .before .before .before .before .args .n) (c .before .before .before .before .before .before .before .before .before .before .before .before .before .before .before .before .before .before .before .before .before .args .e) (c .before .before .before .before .before .before .before .before .before .before .before .before .before .inverse .ensures) (c .before .before .before .before .before .before .before .before .word-length .ensures)) (c .before .before .before .before .before .before .before .before .before .before .before .before .before .before .before .before .before .before .before .before .before .pre) (c .before .before .before .before .before .before .before .before .before .before .before .before .before .before .before .before .before .write-decimal .ensures) (c .before .before .before .before .before .before .before .before .before .before .before .before .write-spaced .ensures) (c .before .before .before .before .before .before .before .write-spaced2 .ensures) (c .before .before .before .write-steps .ensures)
+put-byte-requires c κs = ends-5 (line-pieces (c .before .before .before .before .before .before .before .before .before .before .before .before .before .before .before .before .before .before .before .before .before .args .t .now) (c .before .before .before .before .before .before .before .before .before .before .before .before .before .before .before .before .before .before .before .before .before .args .n) (c .before .before .before .before .before .before .before .before .before .before .before .before .before .before .before .before .before .before .before .before .before .args .e .0) (c .before .before .before .before .before .before .before .before .before .before .before .before .before .inverse .ensures) (c .before .before .before .before .before .before .before .before .word-length .ensures)) (c .before .before .before .before .before .before .before .before .before .before .before .before .before .before .before .before .before .before .before .before .before .pre) (c .before .before .before .before .before .before .before .before .before .before .before .before .before .before .before .before .before .write-decimal .ensures) (c .before .before .before .before .before .before .before .before .before .before .before .before .write-spaced .ensures) (c .before .before .before .before .before .before .before .write-spaced2 .ensures) (c .before .before .before .write-steps .ensures)
 
 same-length : tie.Need-same-length
 same-length c = search needs
 
 returns : tie.Need-returns
-returns c = whole (line-pieces (c .before .before .before .before .before .before .before .before .before .before .before .before .before .before .before .before .before .before .before .before .before .before .before .before .args .t .now) (c .before .before .before .before .before .before .before .before .before .before .before .before .before .before .before .before .before .before .before .before .before .before .before .before .args .n) (c .before .before .before .before .before .before .before .before .before .before .before .before .before .before .before .before .before .before .before .before .before .before .before .before .args .e) (c .before .before .before .before .before .before .before .before .before .before .before .before .before .before .before .before .inverse .ensures) (c .before .before .before .before .before .before .before .before .before .before .before .word-length .ensures)) (c .before .before .before .before .before .before .before .before .before .before .before .before .before .before .before .before .before .before .before .before .before .before .before .before .pre) (c .before .before .before .before .before .before .before .before .before .before .before .before .before .before .before .before .before .before .before .before .write-decimal .ensures) (c .before .before .before .before .before .before .before .before .before .before .before .before .before .before .before .write-spaced .ensures) (c .before .before .before .before .before .before .before .before .before .before .write-spaced2 .ensures) (c .before .before .before .before .before .before .write-steps .ensures) (c .before .before .put-byte .ensures)
+returns c = whole (line-pieces (c .before .before .before .before .before .before .before .before .before .before .before .before .before .before .before .before .before .before .before .before .before .before .before .before .args .t .now) (c .before .before .before .before .before .before .before .before .before .before .before .before .before .before .before .before .before .before .before .before .before .before .before .before .args .n) (c .before .before .before .before .before .before .before .before .before .before .before .before .before .before .before .before .before .before .before .before .before .before .before .before .args .e .0) (c .before .before .before .before .before .before .before .before .before .before .before .before .before .before .before .before .inverse .ensures) (c .before .before .before .before .before .before .before .before .before .before .before .word-length .ensures)) (c .before .before .before .before .before .before .before .before .before .before .before .before .before .before .before .before .before .before .before .before .before .before .before .before .pre) (c .before .before .before .before .before .before .before .before .before .before .before .before .before .before .before .before .before .before .before .before .write-decimal .ensures) (c .before .before .before .before .before .before .before .before .before .before .before .before .before .before .before .write-spaced .ensures) (c .before .before .before .before .before .before .before .before .before .before .write-spaced2 .ensures) (c .before .before .before .before .before .before .write-steps .ensures) (c .before .before .put-byte .ensures)
 
 pub write-line-spec : {M : Type 1} → statement M
 write-line-spec =

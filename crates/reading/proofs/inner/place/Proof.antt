@@ -5,8 +5,11 @@ use borrow.Author.Needs.{needs}
 use Rattle.reading.proofs.inner.place.Statement.{statement}
 use Rattle.reading.proofs.inner.place.Tie as tie
 
+cast-t12 : tie.Need-cast-t12
+cast-t12 c = search needs
+
 returns : tie.Need-returns
-returns c = let a = (c .before .before .args) in place-beyond (a .t .now) (a .n) (a .room) (a .count) (a .e) (a .g) (a .v) (c .if1 .taken)
+returns c = let a = (c .before .before .args) in place-beyond (a .t .now) (a .n) (a .room) (a .count) (a .e .0) (a .g .0) (a .v) (c .if1 .taken)
 
 set-successor-requires : tie.Need-set-successor-requires
 set-successor-requires c κs = search needs
@@ -15,7 +18,7 @@ same-length : tie.Need-same-length
 same-length c = search needs
 
 returns-2 : tie.Need-returns-2
-returns-2 c = let a = (c .before .before .before .before .before .before .before .args) in rw (c .before .before .set-successor .ensures .1) (place-known (a .t .now) (a .n) (a .room) (a .count) (a .e) (a .g) (a .v) (c .before .before .before .before .if2 .taken))
+returns-2 c = let a = (c .before .before .before .before .before .before .before .args) in rw (c .before .before .set-successor .ensures .1) (place-known (a .t .now) (a .n) (a .room) (a .count) (a .e .0) (a .g .0) (a .v) (c .before .before .before .before .if2 .taken))
 
 add-successor-requires : tie.Need-add-successor-requires
 add-successor-requires c κs = search needs
@@ -26,25 +29,26 @@ enum-known-why c = search needs
 enum-told : tie.Need-enum-told
 enum-told c = search needs
 
-add-t24 : tie.Need-add-t24
-add-t24 c = let a = (c .before .before .before .before .before .before .before .before .before .args) in let h = added-within (a .t .now) (a .n) (a .room) (a .count) _ _ (c .before .before .before .before .add-successor .ensures .0) (c .enum-told .given .1) in omega arith
+add-t22 : tie.Need-add-t22
+add-t22 c = let a = (c .before .before .before .before .before .before .before .before .before .args) in let h = added-within (a .t .now) (a .n) (a .room) (a .count) _ _ (c .before .before .before .before .add-successor .ensures .0) (c .enum-told .given .1) in omega arith
 
 same-length-2 : tie.Need-same-length-2
 same-length-2 c = search needs
 
 returns-3 : tie.Need-returns-3
-returns-3 c = let a = (c .before .before .before .before .before .before .before .before .before .before .args) in place-refused (a .t .now) (a .n) (a .room) (a .count) (a .e) (a .g) (a .v) (c .before .before .before .before .before .before .before .before .if1 .left) (c .before .before .before .before .before .before .before .if2 .left) (c .before .before .before .before .before .add-successor .ensures .0) (c .before .before .before .before .before .add-successor .ensures .1) (c .before .why .given .1)
+returns-3 c = let a = (c .before .before .before .before .before .before .before .before .before .before .args) in place-refused (a .t .now) (a .n) (a .room) (a .count) (a .e .0) (a .g .0) (a .v) (c .before .before .before .before .before .before .before .before .if1 .left) (c .before .before .before .before .before .before .before .if2 .left) (c .before .before .before .before .before .add-successor .ensures .0) (c .before .before .before .before .before .add-successor .ensures .1) (c .before .why .given .1)
 
 same-length-3 : tie.Need-same-length-3
 same-length-3 c = search needs
 
 returns-4 : tie.Need-returns-4
-returns-4 c = let a = (c .before .before .before .before .before .before .before .before .before .args) in place-new (a .t .now) (a .n) (a .room) (a .count) (a .e) (a .g) (a .v) (c .before .before .before .before .before .before .before .if1 .left) (c .before .before .before .before .before .before .if2 .left) (c .before .before .before .before .add-successor .ensures .0) (c .before .before .before .before .add-successor .ensures .1) (c .enum-told .given .1)
+returns-4 c = let a = (c .before .before .before .before .before .before .before .before .before .args) in place-new (a .t .now) (a .n) (a .room) (a .count) (a .e .0) (a .g .0) (a .v) (c .before .before .before .before .before .before .before .if1 .left) (c .before .before .before .before .before .before .if2 .left) (c .before .before .before .before .add-successor .ensures .0) (c .before .before .before .before .add-successor .ensures .1) (c .enum-told .given .1)
 
 pub place-spec : {M : Type 1} → statement M
 place-spec =
     tie.close
     (tie.spec
+    cast-t12
     returns
     set-successor-requires
     same-length
@@ -52,7 +56,7 @@ place-spec =
     add-successor-requires
     enum-known-why
     enum-told
-    add-t24
+    add-t22
     same-length-2
     returns-3
     same-length-3

@@ -40,24 +40,13 @@ sub-walk c = search needs
 walk-requires : tie.Need-walk-requires
 walk-requires c κs = search needs
 
-add-t14 : tie.Need-add-t14
-add-t14 c = omega (arith, ap (λ (w : Walked). w .left) (c .before .before .before .walk .ensures), walk-left (c .before .before .before .before .before .before .before .before .before .before .args .t .now) (c .before .before .before .before .before .before .before .before .before .before .args .n) (c .before .before .before .before .before .before .before .before .before .before .args .row .right - c .before .before .before .before .before .before .before .before .before .before .args .row .left) (c .before .before .before .before .before .before .before .before .before .before .args .row .to .0) (c .before .before .before .before .before .before .before .before .before .before .args .n + c .before .before .before .before .before .before .generator .result .0) (c .before .before .before .before .before .before .before .before .before .before .args .n + c .before .before .before .before .before .beside .result .0))
+add-t15 : tie.Need-add-t15
+add-t15 c = omega (arith, ap (λ (w : Walked). w .left) (c .before .before .before .before .walk .ensures), walk-left (c .before .before .before .before .before .before .before .before .before .before .before .args .t .now) (c .before .before .before .before .before .before .before .before .before .before .before .args .n) (c .before .before .before .before .before .before .before .before .before .before .before .args .row .right - c .before .before .before .before .before .before .before .before .before .before .before .args .row .left) (c .before .before .before .before .before .before .before .before .before .before .before .args .row .to .0) (c .before .before .before .before .before .before .before .before .before .before .before .args .n + c .before .before .before .before .before .before .before .generator .result .0) (c .before .before .before .before .before .before .before .before .before .before .before .args .n + c .before .before .before .before .before .before .beside .result .0))
 
 returns-2 : tie.Need-returns-2
-returns-2 c = rw (c .before .before .before .walk .ensures) (back-walk (c .before .before .before .before .before .before .before .before .before .before .args .t .now) (c .before .before .before .before .before .before .before .before .before .before .args .n) (c .before .before .before .before .before .before .before .before .before .before .args .row .right - c .before .before .before .before .before .before .before .before .before .before .args .row .left) (c .before .before .before .before .before .before .before .before .before .before .args .row .pair) (c .before .before .before .before .before .before .before .before .before .before .args .row .left) (c .before .before .before .before .before .before .before .before .before .before .args .row .right) (c .before .before .before .before .before .before .before .before .before .before .args .n + c .before .before .before .before .before .before .generator .result .0) (c .before .before .before .before .before .before .before .before .before .before .args .n + c .before .before .before .before .before .beside .result .0) (c .before .before .before .before .before .before .before .before .before .before .args .row .from) (c .before .before .before .before .before .before .before .before .before .before .args .row .to) (omega arith) (ap (λ (g : GeneratorId). c .before .before .before .before .before .before .before .before .before .before .args .n + g .0) (c .before .before .before .before .before .before .generator .ensures)) (ap (λ (g : GeneratorId). c .before .before .before .before .before .before .before .before .before .before .args .n + g .0) (c .before .before .before .before .before .beside .ensures)))
+returns-2 c = rw (c .before .before .before .before .walk .ensures) (back-walk (c .before .before .before .before .before .before .before .before .before .before .before .args .t .now) (c .before .before .before .before .before .before .before .before .before .before .before .args .n) (c .before .before .before .before .before .before .before .before .before .before .before .args .row .right - c .before .before .before .before .before .before .before .before .before .before .before .args .row .left) (c .before .before .before .before .before .before .before .before .before .before .before .args .row .pair) (c .before .before .before .before .before .before .before .before .before .before .before .args .row .left) (c .before .before .before .before .before .before .before .before .before .before .before .args .row .right) (c .before .before .before .before .before .before .before .before .before .before .before .args .n + c .before .before .before .before .before .before .before .generator .result .0) (c .before .before .before .before .before .before .before .before .before .before .before .args .n + c .before .before .before .before .before .before .beside .result .0) (c .before .before .before .before .before .before .before .before .before .before .before .args .row .from) (c .before .before .before .before .before .before .before .before .before .before .before .args .row .to) (omega arith) (ap (λ (g : GeneratorId). c .before .before .before .before .before .before .before .before .before .before .before .args .n + g .0) (c .before .before .before .before .before .before .before .generator .ensures)) (ap (λ (g : GeneratorId). c .before .before .before .before .before .before .before .before .before .before .before .args .n + g .0) (c .before .before .before .before .before .before .beside .ensures)))
 
 pub back-spec : {M : Type 1} → statement M
 back-spec =
     tie.close
-    (tie.spec
-    returns
-    generator-requires
-    beside-requires
-    cast-here
-    add-here
-    cast-there
-    add-there
-    sub-walk
-    walk-requires
-    add-t14
-    returns-2)
+    (tie.spec returns generator-requires beside-requires cast-here add-here cast-there add-there sub-walk walk-requires add-t15 returns-2)

@@ -34,22 +34,13 @@ sub-walk c = search needs
 walk-requires : tie.Need-walk-requires
 walk-requires c κs = search needs
 
-sub-t12 : tie.Need-sub-t12
-sub-t12 c = omega (arith, ap (λ (w : Walked). w .left) (c .before .before .before .walk .ensures), walk-left (c .before .before .before .before .before .before .before .before .before .before .args .t .now) (c .before .before .before .before .before .before .before .before .before .before .args .n) (c .before .before .before .before .before .before .before .before .before .before .args .row .right - c .before .before .before .before .before .before .before .before .before .before .args .row .left) (c .before .before .before .before .before .before .before .before .before .before .args .row .from .0) (c .before .before .before .before .before .before .generator .result .0) (c .before .before .before .before .before .beside .result .0))
+sub-t13 : tie.Need-sub-t13
+sub-t13 c = omega (arith, ap (λ (w : Walked). w .left) (c .before .before .before .before .walk .ensures), walk-left (c .before .before .before .before .before .before .before .before .before .before .before .args .t .now) (c .before .before .before .before .before .before .before .before .before .before .before .args .n) (c .before .before .before .before .before .before .before .before .before .before .before .args .row .right - c .before .before .before .before .before .before .before .before .before .before .before .args .row .left) (c .before .before .before .before .before .before .before .before .before .before .before .args .row .from .0) (c .before .before .before .before .before .before .before .generator .result .0) (c .before .before .before .before .before .before .beside .result .0))
 
 returns-2 : tie.Need-returns-2
-returns-2 c = rw (c .before .before .before .walk .ensures) (forward-walk (c .before .before .before .before .before .before .before .before .before .before .args .t .now) (c .before .before .before .before .before .before .before .before .before .before .args .n) (c .before .before .before .before .before .before .before .before .before .before .args .row .right - c .before .before .before .before .before .before .before .before .before .before .args .row .left) (c .before .before .before .before .before .before .before .before .before .before .args .row .pair) (c .before .before .before .before .before .before .before .before .before .before .args .row .left) (c .before .before .before .before .before .before .before .before .before .before .args .row .right) (c .before .before .before .before .before .before .generator .result .0) (c .before .before .before .before .before .beside .result .0) (c .before .before .before .before .before .before .before .before .before .before .args .row .from) (c .before .before .before .before .before .before .before .before .before .before .args .row .to) (omega arith) (ap (λ (g : GeneratorId). g .0) (c .before .before .before .before .before .before .generator .ensures)) (ap (λ (g : GeneratorId). g .0) (c .before .before .before .before .before .beside .ensures)))
+returns-2 c = rw (c .before .before .before .before .walk .ensures) (forward-walk (c .before .before .before .before .before .before .before .before .before .before .before .args .t .now) (c .before .before .before .before .before .before .before .before .before .before .before .args .n) (c .before .before .before .before .before .before .before .before .before .before .before .args .row .right - c .before .before .before .before .before .before .before .before .before .before .before .args .row .left) (c .before .before .before .before .before .before .before .before .before .before .before .args .row .pair) (c .before .before .before .before .before .before .before .before .before .before .before .args .row .left) (c .before .before .before .before .before .before .before .before .before .before .before .args .row .right) (c .before .before .before .before .before .before .before .generator .result .0) (c .before .before .before .before .before .before .beside .result .0) (c .before .before .before .before .before .before .before .before .before .before .before .args .row .from) (c .before .before .before .before .before .before .before .before .before .before .before .args .row .to) (omega arith) (ap (λ (g : GeneratorId). g .0) (c .before .before .before .before .before .before .before .generator .ensures)) (ap (λ (g : GeneratorId). g .0) (c .before .before .before .before .before .before .beside .ensures)))
 
 pub forward-spec : {M : Type 1} → statement M
 forward-spec =
     tie.close
-    (tie.spec
-    returns
-    generator-requires
-    beside-requires
-    cast-walk
-    cast-walk-2
-    sub-walk
-    walk-requires
-    sub-t12
-    returns-2)
+    (tie.spec returns generator-requires beside-requires cast-walk cast-walk-2 sub-walk walk-requires sub-t13 returns-2)

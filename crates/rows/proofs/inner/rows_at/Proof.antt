@@ -2,13 +2,13 @@ use lib.Dec.{lit<}
 use native.Mathlib.Nat.{lt-trans}
 use native.Mathlib.Omega.{arith}
 use Rattle.egg.proofs.Laws.{product-small}
-use Rattle.rows.specs.Rows.{rowsAt}
+use Rattle.rows.specs.Rows.{workWidth, rowsAt}
 use borrow.Author.Needs.{needs}
 use Rattle.rows.proofs.inner.rows_at.Statement.{statement}
 use Rattle.rows.proofs.inner.rows_at.Tie as tie
 use Rattle.rows.proofs.inner.rows_at.Reads as reads
 use Rattle.rows.proofs.inner.rows_at.Lts as lts
-use Rattle.rows.proofs.inner.work_width.Reads as work-width-reads
+use Rattle.egg.proofs.inner.work_width.Reads as work-width-reads
 
 cast-result : tie.Need-cast-result
 cast-result c = search needs
@@ -26,7 +26,7 @@ add-result : tie.Need-add-result
 add-result c = omega (arith, product-small (c .before .args .e .0) (c .work-width .result) (search needs) (omega arith))
 
 returns : tie.Need-returns
-unfolding rowsAt
+unfolding workWidth rowsAt
 returns c = record { at = rw (c .work-width .ensures .at); small = omega (arith, product-small (c .before .args .e .0) (c .work-width .result) (search needs) (omega arith)) }
 
 pub rows-at-spec : {M : Type 1} → statement M

@@ -10,10 +10,10 @@ use Rattle.rows.proofs.inner.walk.Lts as lts
 use Rattle.rows.proofs.inner.walk_leg.Reads as walk-leg-reads
 
 abbrev Inv-loop : tie.InvT-loop
-Inv-loop t n here there element steps e₀ left₀ jump₀ more₀ e left jump more = pick more (walkFrom left t n e here there) (walkOf e left) ≡ walkFrom steps t n element here there
+Inv-loop t n here there steps e₀ left₀ jump₀ more₀ e left jump more = pick more (walkFrom left t n (e .0) here there) (walkOf (e .0) left) ≡ walkFrom left₀ t n (e₀ .0) here there
 
 abbrev μ-loop : tie.MeasureT-loop
-μ-loop t n here there element steps e₀ left₀ jump₀ more₀ e left jump more = stillLeft more left
+μ-loop t n here there steps e₀ left₀ jump₀ more₀ e left jump more = stillLeft more left
 
 loop-holds : tie.Need-loop-holds Inv-loop μ-loop
 loop-holds c = refl
@@ -22,10 +22,10 @@ walk-leg-requires : tie.Need-walk-leg-requires Inv-loop μ-loop
 walk-leg-requires c κs = (c .before .before .before .pre)
 
 loop-less : tie.Need-loop-less Inv-loop μ-loop
-loop-less c = rw (c .before .loop-test .taken) (suc-le-suc (c .walk-leg .ensures .1))
+loop-less c = rw (c .before .before .loop-test .taken) (suc-le-suc (c .before .walk-leg .ensures .1))
 
 loop-again : tie.Need-loop-again Inv-loop μ-loop
-loop-again c = c .walk-leg .ensures .0 ∙ rw (c .before .loop-test .taken) at (c .before .before .loop .inv)
+loop-again c = c .before .walk-leg .ensures .0 ∙ rw (c .before .before .loop-test .taken) at (c .before .before .before .loop .inv)
 
 returns : tie.Need-returns Inv-loop μ-loop
 returns c = rw (c .loop-test .left) at (c .before .loop .inv)

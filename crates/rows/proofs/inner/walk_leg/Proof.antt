@@ -16,10 +16,10 @@ use Rattle.std.proofs.num.wrapping_add_u32.Reads as wrapping-add-u32-reads
 use Rattle.std.proofs.num.wrapping_sub_u32.Reads as wrapping-sub-u32-reads
 
 abbrev Inv-loop : tie.InvT-loop
-Inv-loop t n here there element steps jump e₀ left₀ e left = (walkFrom left t n e here there ≡ walkFrom left₀ t n e₀ here there) × (left ≤ left₀)
+Inv-loop t n here there steps jump e₀ left₀ e left = (walkFrom left t n e here there ≡ walkFrom left₀ t n e₀ here there) × (left ≤ left₀)
 
 abbrev μ-loop : tie.MeasureT-loop
-μ-loop t n here there element steps jump e₀ left₀ e left = left
+μ-loop t n here there steps jump e₀ left₀ e left = left
 
 loop-holds : tie.Need-loop-holds Inv-loop μ-loop
 loop-holds c = (refl, le-refl _)
@@ -42,8 +42,8 @@ returns c = (sym (walk-stuck (c .before .before .before .before .before .before 
 sub-left : tie.Need-sub-left Inv-loop μ-loop
 sub-left c = search needs
 
-sub-t17 : tie.Need-sub-t17 Inv-loop μ-loop
-sub-t17 c = search needs
+sub-t18 : tie.Need-sub-t18 Inv-loop μ-loop
+sub-t18 c = search needs
 
 returns-2 : tie.Need-returns-2 Inv-loop μ-loop
 returns-2 c = (sym (walk-end (c .before .before .before .before .before .before .before .before .args .t .now) (c .before .before .before .before .before .before .before .before .args .n) (c .before .before .get .result - 1) (c .before .before .before .before .before .before .before .before .args .there) (c .before .before .before .before .before .before .before .before .args .here) (c .before .before .before .before .before .before .loop .left - 1) (c .if2 .taken)) ∙ sym (walk-step (c .before .before .before .before .before .before .before .before .args .t .now) (c .before .before .before .before .before .before .before .before .args .n) (c .before .before .before .before .before .before .loop .e) (c .before .before .before .before .before .before .before .before .args .here) (c .before .before .before .before .before .before .before .before .args .there) (c .before .before .before .before .before .before .loop .left) (c .before .before .before .before .before .loop-test .taken) (got-from (c .before .before .before .before .before .before .before .before .args .t .now) (c .before .before .before .before .before .before .before .before .args .here) (c .before .before .get .ensures) (c .before .before .before .start .ensures .at)) (c .before .if1 .left)) ∙ c .before .before .before .before .before .before .loop .inv .0, zero-le)
@@ -60,8 +60,8 @@ add-get-2 c = omega arith
 get-requires-2 : tie.Need-get-requires-2 Inv-loop μ-loop
 get-requires-2 c κs = search needs
 
-sub-t19 : tie.Need-sub-t19 Inv-loop μ-loop
-sub-t19 c = search needs
+sub-t21 : tie.Need-sub-t21 Inv-loop μ-loop
+sub-t21 c = search needs
 
 returns-3 : tie.Need-returns-3 Inv-loop μ-loop
 returns-3 c = (sym (walk-stuck (c .before .before .before .before .before .before .before .before .before .before .before .args .t .now) (c .before .before .before .before .before .before .before .before .before .before .before .args .n) (c .before .before .before .before .before .get .result - 1) (c .before .before .before .before .before .before .before .before .before .before .before .args .there) (c .before .before .before .before .before .before .before .before .before .before .before .args .here) (c .before .before .before .before .before .before .before .before .before .loop .left - 1) (got-from (c .before .before .before .before .before .before .before .before .before .before .before .args .t .now) (c .before .before .before .before .before .before .before .before .before .before .before .args .there) (c .before .get2 .ensures) (c .before .before .start2 .ensures .at)) (c .if3 .taken)) ∙ sym (walk-step (c .before .before .before .before .before .before .before .before .before .before .before .args .t .now) (c .before .before .before .before .before .before .before .before .before .before .before .args .n) (c .before .before .before .before .before .before .before .before .before .loop .e) (c .before .before .before .before .before .before .before .before .before .before .before .args .here) (c .before .before .before .before .before .before .before .before .before .before .before .args .there) (c .before .before .before .before .before .before .before .before .before .loop .left) (c .before .before .before .before .before .before .before .before .loop-test .taken) (got-from (c .before .before .before .before .before .before .before .before .before .before .before .args .t .now) (c .before .before .before .before .before .before .before .before .before .before .before .args .here) (c .before .before .before .before .before .get .ensures) (c .before .before .before .before .before .before .start .ensures .at)) (c .before .before .before .before .if1 .left)) ∙ c .before .before .before .before .before .before .before .before .before .loop .inv .0, zero-le)
@@ -72,8 +72,8 @@ sub-left-2 c = search needs
 sub-if4-2 : tie.Need-sub-if4-2 Inv-loop μ-loop
 sub-if4-2 c = search needs
 
-sub-t20 : tie.Need-sub-t20 Inv-loop μ-loop
-sub-t20 c = search needs
+sub-t23 : tie.Need-sub-t23 Inv-loop μ-loop
+sub-t23 c = search needs
 
 sub-wrapping-sub-u32 : tie.Need-sub-wrapping-sub-u32 Inv-loop μ-loop
 sub-wrapping-sub-u32 c = search needs
@@ -96,30 +96,4 @@ returns-5 c = (sym (walk-end (c .before .before .before .args .t .now) (c .befor
 pub walk-leg-spec : {M : Type 1} → statement M
 walk-leg-spec =
     tie.close
-    (tie.spec
-    Inv-loop
-    μ-loop
-    loop-holds
-    wrapping-add-u32-requires
-    start-requires
-    add-get
-    get-requires
-    returns
-    sub-left
-    sub-t17
-    returns-2
-    sub-if4
-    start-requires-2
-    add-get-2
-    get-requires-2
-    sub-t19
-    returns-3
-    sub-left-2
-    sub-if4-2
-    sub-t20
-    sub-wrapping-sub-u32
-    wrapping-sub-u32-requires
-    returns-4
-    loop-less
-    loop-again
-    returns-5)
+    (tie.spec Inv-loop μ-loop loop-holds wrapping-add-u32-requires start-requires add-get get-requires returns sub-left sub-t18 returns-2 sub-if4 start-requires-2 add-get-2 get-requires-2 sub-t21 returns-3 sub-left-2 sub-if4-2 sub-t23 sub-wrapping-sub-u32 wrapping-sub-u32-requires returns-4 loop-less loop-again returns-5)

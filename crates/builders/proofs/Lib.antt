@@ -1,0 +1,17 @@
+pub mod AnyWork
+pub mod Alike
+pub mod Missing
+pub mod Composed
+pub mod Lacking
+pub mod Outcome
+pub mod Stopping
+pub mod Ways
+pub mod Builds
+pub mod Refused
+pub mod Cases
+pub mod Leaves
+pub mod Papers
+pub mod Unaltered
+pub mod Unique
+pub mod Faults
+pub mod Answers

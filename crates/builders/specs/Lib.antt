@@ -1,0 +1,5 @@
+pub mod Own
+pub mod Refusals
+pub mod Builds
+pub mod Answers
+pub mod Cases

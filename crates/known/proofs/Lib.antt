@@ -1,3 +1,0 @@
-pub mod Factors
-pub mod Useless
-pub mod Enumerations

@@ -1,2 +1,0 @@
-pub mod Factors
-pub mod Enumerations

@@ -1,0 +1,27 @@
+-- Which numbers a refusal may have.
+-- Assumes nothing.
+use Prim.Native.Nat.{ℕ}
+use mathlib.Core.Path.{_≡_}
+use mathlib.Core.Bool.{Bool, true, false}
+use mathlib.Core.List.{List, [], _∷_}
+use lib.Dec.{eqb}
+use Rattle.egg.specs.declared.Refusal.{Refusal}
+use Rattle.egg.specs.Table.{pick}
+
+-- k is one of these.
+abbrev pub member : ℕ → List ℕ → Bool
+member k [] = false
+member k (x ∷ l) = pick (eqb k x) true (member k l)
+
+-- p holds of each of these.
+abbrev pub every : (ℕ → Bool) → List ℕ → Bool
+every p [] = true
+every p (x ∷ l) = pick (p x) (every p l) false
+
+-- The refusal has one of these numbers.
+abbrev pub In : List ℕ → Refusal → Type 0
+In l r = member (r .number) l ≡ true
+
+-- The numbers of the checks after 8.
+abbrev pub lateNumbers : List ℕ
+lateNumbers = 9 ∷ 10 ∷ 11 ∷ 12 ∷ []

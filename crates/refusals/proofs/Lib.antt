@@ -1,0 +1,11 @@
+pub mod Firsts
+pub mod Tests
+pub mod Checked
+pub mod Built
+pub mod Lent
+pub mod Numbers
+pub mod Composed
+pub mod EachNumber
+pub mod Words
+pub mod Useless
+pub mod Orders

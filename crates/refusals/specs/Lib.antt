@@ -1,0 +1,4 @@
+pub mod Firsts
+pub mod Faults
+pub mod Papers
+pub mod Orders
