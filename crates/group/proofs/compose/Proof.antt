@@ -1,0 +1,34 @@
+-- The verdict of `admit` decides; then the work's own contract is the answer.
+use lib.ListN.{length}
+use mathlib.Core.Path.{_∙_}
+use Rattle.group.specs.Questions.{composeAnswer}
+use Rattle.group.proofs.Admitted.{ready}
+use Rattle.factor.proofs.Admits.{reach-refused, reach-fine}
+use borrow.Author.Needs.{needs}
+use Rattle.group.proofs.compose.Statement.{statement}
+use Rattle.group.proofs.compose.Tie as tie
+
+admit-requires : tie.Need-admit-requires
+admit-requires c κs = search needs
+
+enum-known-why : tie.Need-enum-known-why
+enum-known-why c = search needs
+
+enum-told : tie.Need-enum-told
+enum-told c = search needs
+
+compose-digits-requires : tie.Need-compose-digits-requires
+compose-digits-requires c κs = (ready (length (c .before .before .before .before .args .table .now)) (c .before .before .before .before .args .g) _ _ _ _ (c .before .before .admit .ensures) (c .enum-told .given .1))
+
+returns : tie.Need-returns
+unfolding composeAnswer
+returns c = reach-refused (c .before .before .before .admit .ensures) _ (c .before .why .given .1)
+
+returns-2 : tie.Need-returns-2
+unfolding composeAnswer
+returns-2 c = (c .compose-digits .ensures) ∙ reach-fine (c .before .before .before .admit .ensures) _ (c .before .enum-told .given .1)
+
+pub compose-spec : {M : Type 1} → statement M
+compose-spec =
+    tie.close
+    (tie.spec admit-requires enum-known-why enum-told compose-digits-requires returns returns-2)

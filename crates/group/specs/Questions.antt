@@ -1,0 +1,120 @@
+-- The calls: the refusals in document 01's order, then the answer. "Calls on handles check 17 in the handle, then 14, then 15, then 1 to 4, then 17 in what
+-- they read". Places of 14 are the arguments' positions.
+-- Assumes nothing.
+use Prim.Native.Nat.{ℕ, _+_}
+use mathlib.Core.List.{List, _++_}
+use lib.ListN.{length, getD, drop}
+use lib.Dec.{ltb, leb}
+use lib.IntN.{ℤ}
+use Rattle.egg.specs.declared.Verdict.{Verdict}
+use Rattle.egg.specs.declared.Verdict.the-variants as verdict
+use Rattle.egg.specs.declared.GroupElementId.{GroupElementId}
+use Rattle.egg.specs.declared.GeneratorId.{GeneratorId}
+use Rattle.egg.specs.declared.Factor.{Factor}
+use Rattle.egg.specs.declared.Reached.{Reached}
+use Rattle.egg.specs.declared.Reached.the-variants.{Element, Refused}
+use Rattle.egg.specs.declared.Counted.{Counted}
+use Rattle.egg.specs.declared.Counted.the-variants as counted
+use Rattle.egg.specs.Table.{pick}
+use Rattle.egg.specs.Scan.{refusedOf, scan}
+use Rattle.egg.specs.Factor.{refusedReach}
+use Rattle.factor.specs.Questions.{ifReach, ifCount, filledBy}
+use Rattle.products.specs.Radix.{split, join, project, inject}
+use Rattle.group.specs.declared.Group.{Group}
+use Rattle.group.specs.declared.inner.Asked.the-variants.{Conjugate}
+use Rattle.group.specs.Handles.{handles, sizes, elementsOf, generatorsOf, allFit, limited, admits}
+use Rattle.group.specs.Digits.{digitOf, digitwise, stepIn}
+use Rattle.group.specs.Powers.{composes, inverts, powers, periods}
+use Rattle.group.specs.Words.{lengths, writes, leaves}
+
+-- Two elements.
+abbrev pub twoElements : ℕ → Group → ℕ → ℕ → Verdict
+twoElements len g a b = admits len g a (elementsOf (handles g)) b (elementsOf (handles g))
+
+unfoldable pub countAnswer : List ℕ → Group → Counted
+countAnswer t g = ifCount (admits (length t) g 0 1 0 1) (counted.Count (elementsOf (handles g)))
+
+unfoldable pub generatorsAnswer : List ℕ → Group → Counted
+generatorsAnswer t g = ifCount (admits (length t) g 0 1 0 1) (counted.Count (generatorsOf (handles g)))
+
+-- The element of a generator: the step from the identity.
+unfoldable pub generatorAnswer : List ℕ → Group → GeneratorId → Reached
+generatorAnswer t g x = ifReach (admits (length t) g (x .0) (generatorsOf (handles g)) 0 1) (stepIn t (handles g) 0 (x .0))
+
+unfoldable pub stepAnswer : List ℕ → Group → GroupElementId → GeneratorId → Reached
+stepAnswer t g e x =
+    ifReach (admits (length t) g (e .0) (elementsOf (handles g)) (x .0) (generatorsOf (handles g))) (stepIn t (handles g) (e .0) (x .0))
+
+-- One digit of e, and the element with x for one digit.
+unfoldable pub projectAnswer : List ℕ → Group → ℕ → GroupElementId → Reached
+projectAnswer t g f e =
+    ifReach (admits (length t) g f (length (handles g)) (e .0) (elementsOf (handles g))) (Element (record { 0 = project (sizes (handles g)) f (e .0) }))
+
+unfoldable pub injectAnswer : List ℕ → Group → ℕ → GroupElementId → Reached
+injectAnswer t g f x =
+    ifReach (admits (length t) g f (length (handles g)) (x .0) (getD (sizes (handles g)) f 1)) (Element (record { 0 = inject (sizes (handles g)) f (x .0) }))
+
+-- The digits go to the start of the lent list; 4 where it is short. The answer is how many they are.
+unfoldable pub splitTail : List Factor → ℕ → Counted
+splitTail hs size = pick (ltb size (length hs)) (counted.Refused (record { number = 4; a = 0; b = 0; c = 0 })) (counted.Count (length hs))
+
+unfoldable pub splitAnswer : List ℕ → Group → GroupElementId → ℕ → Counted
+splitAnswer t g e size = ifCount (admits (length t) g (e .0) (elementsOf (handles g)) 0 1) (splitTail (handles g) size)
+
+abbrev pub digitsLeft : Counted → List ℕ → ℕ → List ℕ → List ℕ
+digitsLeft (counted.Count k) Ns e out = split Ns e ++ drop k out
+digitsLeft (counted.Refused r) Ns e out = out
+
+unfoldable pub splitLeaves : List ℕ → Group → GroupElementId → List ℕ → List ℕ
+splitLeaves t g e out = digitsLeft (splitAnswer t g e (length out)) (sizes (handles g)) (e .0) out
+
+-- 14 for the first digit that is out of range, of those that are there.
+abbrev pub digitRight : List ℕ → List ℕ → ℕ → Verdict
+digitRight Ns ds f = pick (ltb (getD ds f 0) (getD Ns f 1)) verdict.Fine (refusedOf 14 f 0 0)
+
+abbrev pub fewer : ℕ → ℕ → ℕ
+fewer a b = pick (leb a b) a b
+
+unfoldable pub digitsRight : List ℕ → List ℕ → Verdict
+digitsRight Ns ds = scan (fewer (length Ns) (length ds)) (digitRight Ns ds) 0
+
+-- The element with the digits that the lent list starts with: 17, 14, 15, 4.
+unfoldable pub joinTail : Group → List ℕ → Reached
+joinTail g ds =
+    pick (limited g)
+    (pick (ltb (length ds) (length (handles g))) (refusedReach 4 0) (Element (record { 0 = join (sizes (handles g)) ds })))
+    (refusedReach 15 0)
+
+unfoldable pub joinAnswer : List ℕ → Group → List ℕ → Reached
+joinAnswer t g ds =
+    pick (allFit (length t) (handles g)) (ifReach (digitsRight (sizes (handles g)) ds) (joinTail g ds)) (refusedReach 17 0)
+
+unfoldable pub composeAnswer : List ℕ → Group → GroupElementId → GroupElementId → Reached
+composeAnswer t g a b = ifReach (twoElements (length t) g (a .0) (b .0)) (composes t (handles g) (a .0) (b .0))
+
+unfoldable pub inverseAnswer : List ℕ → Group → GroupElementId → Reached
+inverseAnswer t g a = ifReach (admits (length t) g (a .0) (elementsOf (handles g)) 0 1) (inverts t (handles g) (a .0))
+
+unfoldable pub conjugateAnswer : List ℕ → Group → GroupElementId → GroupElementId → Reached
+conjugateAnswer t g a b =
+    ifReach (twoElements (length t) g (a .0) (b .0)) (digitwise (digitOf Conjugate t) (handles g) (a .0) (b .0))
+
+unfoldable pub powiAnswer : List ℕ → Group → GroupElementId → ℤ → Reached
+powiAnswer t g a i =
+    ifReach (admits (length t) g (a .0) (elementsOf (handles g)) 0 1) (powers 1073741824 (composes t (handles g)) (inverts t (handles g)) (a .0) i)
+
+unfoldable pub periodAnswer : List ℕ → Group → GroupElementId → Counted
+periodAnswer t g a = ifCount (admits (length t) g (a .0) (elementsOf (handles g)) 0 1) (periods t (handles g) (a .0))
+
+unfoldable pub lengthAnswer : List ℕ → Group → GroupElementId → Counted
+lengthAnswer t g e = ifCount (admits (length t) g (e .0) (elementsOf (handles g)) 0 1) (lengths t (handles g) (e .0))
+
+unfoldable pub writeAnswer : List ℕ → Group → GroupElementId → ℕ → Counted
+writeAnswer t g e size = ifCount (admits (length t) g (e .0) (elementsOf (handles g)) 0 1) (writes t (handles g) (e .0) size)
+
+unfoldable pub written : List ℕ → Group → GroupElementId → List ℕ → List ℕ
+written t g e out = leaves (writeAnswer t g e (length out)) t (handles g) (e .0) out
+
+-- The filled part, as long as the recorded length, or the empty start.
+unfoldable pub wordPart : List ℕ → Group → GroupElementId → List ℕ → List ℕ
+wordPart t g e out = filledBy (writeAnswer t g e (length out)) (written t g e out)

@@ -1,0 +1,67 @@
+-- Each case by computing.
+-- Assumes nothing.
+use mathlib.Core.Path.{refl}
+use Rattle.egg.specs.Table.{putAt, startOf}
+use Rattle.egg.specs.Scan.{scan}
+use Rattle.egg.specs.Factor.{hasRoom, fitsIn, stretch, readStep}
+use Rattle.checks.specs.Checks as checks
+use Rattle.reading.specs.Build.{setStep, setWord, adds}
+use Rattle.builder.specs.Finish.{finished}
+use Rattle.builder.specs.Lending.{lentRight, within}
+use Rattle.reading.specs.Reading.{readPlace, readRow, readFrom}
+use Rattle.factor.specs.Composed.{composedIn, composed}
+use Rattle.factor.specs.Questions.{along, readBack, backAlong, composeIn, inverseIn, conjugateIn, readable, lengthIn}
+use Rattle.group.specs.Handles.{limited, admits, joins}
+use Rattle.group.specs.Digits.{digitwise, stepIn}
+use Rattle.group.specs.Powers.{halves, powers, periodFrom, periods}
+use Rattle.group.specs.Words.{lengths, readables, spellFrom, spells, writes}
+use Rattle.group.specs.Flat.{rowBy, rowsBy, flatIn, flatInto, flat}
+use Rattle.group.specs.Questions as questions
+use Rattle.groups.specs.Known.{KnownProducts}
+
+pub known-products : KnownProducts
+unfolding putAt startOf scan hasRoom fitsIn stretch readStep checks.missingRow checks.missing checks.check8 checks.rangeRow checks.linksOf checks.ranges checks.wrongRow checks.wrong checks.check-table checks.wiped checks.arriveRow checks.arrivals checks.countsRight checks.invertFrom checks.fillInverses checks.inversesRight checks.identityRow checks.columnsRow checks.spelledRow checks.spelled checks.check-steps checks.fillLeft checks.goesRow checks.allGo checks.lefts checks.check-rest checks.check-group setStep setWord adds finished lentRight within readPlace readRow readFrom composedIn composed along readBack backAlong composeIn inverseIn conjugateIn readable lengthIn limited admits joins digitwise stepIn halves powers periodFrom periods lengths readables spellFrom spells writes rowBy rowsBy flatIn flatInto flat questions.countAnswer questions.generatorsAnswer questions.generatorAnswer questions.stepAnswer questions.projectAnswer questions.injectAnswer questions.splitTail questions.splitAnswer questions.splitLeaves questions.digitsRight questions.joinTail questions.joinAnswer questions.composeAnswer questions.inverseAnswer questions.conjugateAnswer questions.powiAnswer questions.periodAnswer questions.lengthAnswer questions.writeAnswer questions.written questions.wordPart
+known-products = record {
+  joined = refl;
+  counted = refl;
+  generators = refl;
+  generator-2 = refl;
+  stepped = refl;
+  split-9 = refl;
+  split-counts = refl;
+  join-9 = refl;
+  word-9 = refl;
+  filled-9 = refl;
+  length-9 = refl;
+  compose-9-7 = refl;
+  inverse-9 = refl;
+  conjugate-7-8 = refl;
+  period-9 = refl;
+  project-9 = refl;
+  inject-1 = refl;
+  power-2 = refl;
+  power-minus-1 = refl;
+  power-least = refl;
+  period-3 = refl;
+  period-0 = refl;
+  flat-both = refl;
+  flat-one = refl;
+  flat-none = refl;
+  flat-square = refl;
+  square-rows = refl;
+  flat-missing = refl;
+  never-home = refl;
+  nine-generators = refl;
+  first-beyond = refl;
+  second-beyond = refl;
+  generator-beyond = refl;
+  factor-beyond = refl;
+  digit-beyond = refl;
+  digits-short = refl;
+  list-short = refl;
+  word-short = refl;
+  nine-beyond = refl;
+  nine-factors = refl;
+  nine-joined = refl;
+  handle-first = refl;
+}

@@ -1,0 +1,158 @@
+-- The word that is written is the product's.
+-- Assumes nothing.
+use Prim.Native.Nat.{ℕ, zero, suc, _+_, _*_, _-_, _/_, _%_, _≤_, _<_}
+use mathlib.Core.Path.{_≡_, refl, sym, ap, _∙_}
+use mathlib.Core.Bool.{true}
+use mathlib.Core.List.{List, [], _∷_, _++_, append-assoc}
+use native.Mathlib.Nat.{mod-eq-of-lt, add-assoc}
+use native.Mathlib.Omega.{arith}
+use borrow.Author.Tests.{le-ltb}
+use lib.ListN.{length, drop, set, length-set}
+use Rattle.egg.specs.declared.Factor.{Factor}
+use Rattle.egg.specs.declared.Counted.the-variants.{Count}
+use Rattle.egg.specs.Table.{parentOf, lastOf, lengthOf}
+use Rattle.egg.specs.Factor.{stretch}
+use Rattle.egg.proofs.Rooms.{has, few}
+use Rattle.meaning.specs.Stored.{wordOf}
+use Rattle.meaning.specs.Sound.{Sound}
+use Rattle.answers.specs.Accepted.{factorWord}
+use Rattle.answers.proofs.Steps.{no-letters, not-first, parent-length, parent-below}
+use Rattle.answers.proofs.Letters.{drop-set-here, word-readable, length-in}
+use Rattle.products.specs.Product.{product, shift}
+use Rattle.products.proofs.RadixLaws.{low-small, high-small}
+use Rattle.group.specs.Handles.{generatorsOf}
+use Rattle.group.specs.Words.{lengths, readables, spellFrom, spells, writes}
+use Rattle.groups.specs.Products.{parts, AllAccepted, none, more}
+
+append-length : (u v : List ℕ) → length (u ++ v) ≡ length u + length v
+append-length [] v = omega arith
+append-length (x ∷ u) v = omega (arith, append-length u v)
+
+shift-length : (o : ℕ) (w : List ℕ) → length (shift o w) ≡ length w
+shift-length o [] = refl
+shift-length o (g ∷ w) = ap suc (shift-length o w)
+
+shift-append : (o : ℕ) (u v : List ℕ) → shift o (u ++ v) ≡ shift o u ++ shift o v
+shift-append o [] v = refl
+shift-append o (g ∷ u) v = ap (λ (l : List ℕ). (o + g) ∷ l) (shift-append o u v)
+
+shift-shift : (o n : ℕ) (w : List ℕ) → shift o (shift n w) ≡ shift (o + n) w
+shift-shift o n [] = refl
+shift-shift o n (g ∷ w) = rw (shift-shift o n w, add-assoc)
+
+shift-none : (w : List ℕ) → shift 0 w ≡ w
+shift-none [] = refl
+shift-none (g ∷ w) = let z : 0 + g ≡ g = omega arith in rw (z, shift-none w)
+
+append-none : (w : List ℕ) → w ++ [] ≡ w
+append-none [] = refl
+append-none (g ∷ w) = ap (λ (l : List ℕ). g ∷ l) (append-none w)
+
+drop-drop : (i j : ℕ) (l : List ℕ) → drop j (drop i l) ≡ drop (i + j) l
+drop-drop zero j l = let z : 0 + j ≡ j = omega arith in rw z
+drop-drop (suc i) zero [] = let z : suc i + 0 ≡ suc i = omega arith in rw z
+drop-drop (suc i) (suc j) [] = let z : suc i + suc j ≡ suc (i + suc j) = omega arith in rw z
+drop-drop (suc i) j (x ∷ l) = let z : suc i + j ≡ suc (i + j) = omega arith in rw z (drop-drop i j l)
+
+drop-length : (i : ℕ) (l : List ℕ) → i ≤ length l → i + length (drop i l) ≡ length l
+drop-length zero l h = omega arith
+drop-length (suc i) [] h = absurd (omega arith)
+drop-length (suc i) (x ∷ l) h = let k : i ≤ length l = omega arith in omega (arith, drop-length i l k)
+
+-- A word is written behind what stands there, whatever that is.
+set-behind : (xs ys : List ℕ) (k v : ℕ) → set (xs ++ ys) (length xs + k) v ≡ xs ++ set ys k v
+set-behind [] ys k v = let z : 0 + k ≡ k = omega arith in rw z
+set-behind (x ∷ xs) ys k v =
+    let z : suc (length xs) + k ≡ suc (length xs + k) = omega arith in
+    rw z (ap (λ (l : List ℕ). x ∷ l) (set-behind xs ys k v))
+
+behind : (k : ℕ) (s : List ℕ) (n e o : ℕ) (xs ys : List ℕ) → spellFrom k s n e (length xs) o (xs ++ ys) ≡ xs ++ spellFrom k s n e 0 o ys
+unfolding spellFrom
+behind zero s n e o xs ys = refl
+behind (suc k) s n e o xs ys =
+    let v : ℕ = (o + lastOf s n e) % 256 in
+    let z : 0 + k ≡ k = omega arith in
+    rw z (ap (λ (l : List ℕ). spellFrom k s n (parentOf s n e) (length xs) o l) (set-behind xs ys k v) ∙ behind k s n (parentOf s n e) o xs (set ys k v))
+
+module _ {s : List ℕ} {n N : ℕ} (S : Sound s n N) (o : ℕ) (small : o + n ≤ 256) where
+  spelled : (k : ℕ) {e : ℕ} (out : List ℕ) → e < N → k ≡ length (wordOf s n e) → k ≤ length out
+      → spellFrom k s n e 0 o out ≡ shift o (wordOf s n e) ++ drop k out
+  unfolding spellFrom
+  spelled zero {e} out he q room = rw (no-letters (wordOf s n e) q)
+  spelled (suc k) {e} out he q room =
+      let up = not-first S e q in
+      let below = parent-below S up he in
+      let byte : o + lastOf s n e < 256 = omega (arith, S .parents .generator up he) in
+      let z : 0 + k ≡ k = omega arith in
+      rw (mod-eq-of-lt byte, z)
+      (spelled k (set out k (o + lastOf s n e)) below (parent-length S up he q) (rw (length-set out k (o + lastOf s n e)) (omega arith))
+      ∙ rw (drop-set-here out k (o + lastOf s n e) (omega arith), S .recorded .grow up he, shift-append)
+      (sym (append-assoc (shift o (wordOf s n (parentOf s n e))) ((o + lastOf s n e) ∷ []) (drop (suc k) out))))
+
+module _ (t : List ℕ) where
+  pub lengths-are : {hs : List Factor} → AllAccepted t hs → (e : ℕ) → e < product (parts t hs) .elements → lengths t hs e ≡ Count (length (product (parts t hs) .word e))
+  unfolding lengths
+  lengths-are none e he = refl
+  lengths-are (more {h} {hs} A As) e he =
+      let N : ℕ = h .elements in
+      let M : ℕ = product (parts t hs) .elements in
+      rw (length-in (A .sound) (low-small N M e he), lengths-are As (e / N) (high-small N M e he))
+      (ap Count (sym (append-length (factorWord t h (e % N)) (shift (h .generators) (product (parts t hs) .word (e / N)))
+      ∙ ap (λ (k : ℕ). length (factorWord t h (e % N)) + k) (shift-length (h .generators) (product (parts t hs) .word (e / N))))))
+
+  pub readables-are : {hs : List Factor} → AllAccepted t hs → (e : ℕ) → e < product (parts t hs) .elements → readables t hs e ≡ true
+  unfolding readables
+  readables-are none e he = refl
+  readables-are (more {h} {hs} A As) e he =
+      let N : ℕ = h .elements in
+      let M : ℕ = product (parts t hs) .elements in
+      let l = low-small N M e he in
+      rw (word-readable (A .sound) (lengthOf (stretch t h) (h .generators) (e % N)) l (A .sound .stored .lengths l), readables-are As (e / N) (high-small N M e he))
+
+  spells-are : {hs : List Factor} → AllAccepted t hs → (e o : ℕ) (xs ys : List ℕ) → e < product (parts t hs) .elements → o + generatorsOf hs ≤ 256
+      → length (product (parts t hs) .word e) ≤ length ys
+      → spells t hs e (length xs) o (xs ++ ys) ≡ xs ++ (shift o (product (parts t hs) .word e) ++ drop (length (product (parts t hs) .word e)) ys)
+  unfolding spells
+  spells-are none e o xs ys he small room = refl
+  spells-are (more {h} {hs} A As) e o xs ys he small room =
+      let N : ℕ = h .elements in
+      let M : ℕ = product (parts t hs) .elements in
+      let l = low-small N M e he in
+      let k : ℕ = lengthOf (stretch t h) (h .generators) (e % N) in
+      let u : List ℕ = factorWord t h (e % N) in
+      let v : List ℕ = product (parts t hs) .word (e / N) in
+      let q : k ≡ length u = A .sound .stored .lengths l in
+      let all : length (u ++ shift (h .generators) v) ≡ length u + length v =
+      append-length u (shift (h .generators) v) ∙ ap (λ (n : ℕ). length u + n) (shift-length (h .generators) v) in
+      let fit : k ≤ length ys = omega (arith, q, all, room) in
+      let rest : length v ≤ length (drop k ys) = omega (arith, q, all, room, drop-length k ys fit) in
+      let first : spellFrom k (stretch t h) (h .generators) (e % N) (length xs) o (xs ++ ys) ≡ (xs ++ shift o u) ++ drop k ys =
+      behind k (stretch t h) (h .generators) (e % N) o xs ys
+      ∙ ap (λ (z : List ℕ). xs ++ z) (spelled (A .sound) o (omega arith) k ys l q fit) ∙ sym (append-assoc xs (shift o u) (drop k ys)) in
+      let at : length xs + k ≡ length (xs ++ shift o u) = sym (append-length xs (shift o u) ∙ ap (λ (n : ℕ). length xs + n) (shift-length o u ∙ sym q)) in
+      ap (λ (z : List ℕ). spells t hs (e / N) (length xs + k) (o + h .generators) z) first
+      ∙ ap (λ (z : ℕ). spells t hs (e / N) z (o + h .generators) ((xs ++ shift o u) ++ drop k ys)) at
+      ∙ spells-are As (e / N) (o + h .generators) (xs ++ shift o u) (drop k ys) (high-small N M e he) (omega arith) rest
+      ∙ append-assoc xs (shift o u) (shift (o + h .generators) v ++ drop (length v) (drop k ys))
+      ∙ ap (λ (z : List ℕ). xs ++ z)
+      (sym (append-assoc (shift o u) (shift (o + h .generators) v) (drop (length v) (drop k ys)))
+      ∙ ap (λ (z : List ℕ). z ++ drop (length v) (drop k ys)) (sym (shift-append o u (shift (h .generators) v) ∙ ap (λ (z : List ℕ). shift o u ++ z) (shift-shift o (h .generators) v)))
+      ∙ ap (λ (z : List ℕ). shift o (u ++ shift (h .generators) v) ++ z)
+      (drop-drop k (length v) ys ∙ ap (λ (n : ℕ). drop n ys) (ap (λ (n : ℕ). n + length v) q ∙ sym all)))
+
+  few-generators : {hs : List Factor} → AllAccepted t hs → generatorsOf hs ≤ 8 * length hs
+  few-generators none = omega arith
+  few-generators (more {h} {hs} A As) =
+      let k : h .generators ≤ 8 = few (length t) (h .start) (h .room) (h .generators) (has (length t) h (A .fits)) in
+      omega (arith, few-generators As)
+
+  module _ {hs : List Factor} (As : AllAccepted t hs) (short : length hs ≤ 8) {e : ℕ} (he : e < product (parts t hs) .elements) where
+    pub writes-are : (size : ℕ) → length (product (parts t hs) .word e) ≤ size → writes t hs e size ≡ Count (length (product (parts t hs) .word e))
+    unfolding writes
+    writes-are size room = rw (lengths-are As e he, readables-are As e he) (simp (le-ltb _ _ room))
+
+    pub leaves-are : (out : List ℕ) → length (product (parts t hs) .word e) ≤ length out
+        → spells t hs e 0 0 out ≡ product (parts t hs) .word e ++ drop (length (product (parts t hs) .word e)) out
+    leaves-are out room =
+        spells-are As e 0 [] out he (omega (arith, few-generators As)) room
+        ∙ ap (λ (w : List ℕ). w ++ drop (length (product (parts t hs) .word e)) out) (shift-none (product (parts t hs) .word e))

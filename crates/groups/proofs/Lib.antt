@@ -1,0 +1,17 @@
+pub mod Parts
+pub mod Repeats
+pub mod Letters
+pub mod Answers
+pub mod Known
+pub mod Flattened
+pub mod Made
+pub mod FlatGiven
+pub mod Viewers
+pub mod Shortest
+pub mod FlatExactly
+pub mod Unaltered
+pub mod Papers
+pub mod FlatLeaves
+pub mod FlatMore
+pub mod Refuses
+pub mod Unique

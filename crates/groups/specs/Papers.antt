@@ -1,0 +1,48 @@
+-- The answers about a product of accepted factors as document 01 sets them out: "a definition sets out this paper's number and values for each of its cases.
+-- The promises use that definition." It is `verdictPaper`, `reachedPaper` and `countedPaper` of egg; a product and its verdict have theirs here.
+-- Assumes nothing.
+use Prim.Native.Nat.{ℕ, _≤_, _<_}
+use mathlib.Core.Path.{_≡_}
+use mathlib.Core.List.{List}
+use lib.ListN.{length, getD}
+use lib.IntN.{ℤ}
+use Rattle.egg.specs.Factor.{Paper, verdictPaper, reachedPaper, countedPaper}
+use Rattle.theory.specs.Table.{generator}
+use Rattle.theory.specs.Group.{GroupOn, RightSteps, conjugate, integer-power, Period}
+use Rattle.answers.specs.Papers.{valuePaper}
+use Rattle.products.specs.Radix.{split, inject}
+use Rattle.products.specs.Product.{Part}
+use Rattle.group.specs.declared.Group.{Group}
+use Rattle.group.specs.declared.Grouped.{Grouped}
+use Rattle.group.specs.Handles.{handles, sizes}
+use Rattle.group.specs.Questions.{countAnswer, generatorsAnswer, generatorAnswer, stepAnswer, projectAnswer, injectAnswer, splitAnswer, joinAnswer}
+use Rattle.group.specs.Questions.{composeAnswer, inverseAnswer, conjugateAnswer, powiAnswer, periodAnswer, lengthAnswer, writeAnswer}
+
+-- What `product` answers: 0, or the refusal's number and places.
+abbrev pub groupedPaper : Grouped → Paper
+groupedPaper r = verdictPaper (r .answer)
+
+-- Every answer about the product, on paper, is the direct product's own.
+pub record ProductPapers (t : List ℕ) (g : Group) (P : Part) : Type 0 where
+  pub group : GroupOn (P .elements) (P .op) (P .inv)
+  pub right-steps : RightSteps (P .generators) (P .elements) (P .step) (P .op)
+  pub counts : countedPaper (countAnswer t g) ≡ valuePaper (P .elements)
+  pub generator-counts : countedPaper (generatorsAnswer t g) ≡ valuePaper (P .generators)
+  pub generators : {x : ℕ} → x < P .generators → reachedPaper (generatorAnswer t g (record { 0 = x })) ≡ valuePaper (generator (P .step) x)
+  pub steps : {e x : ℕ} → e < P .elements → x < P .generators
+      → reachedPaper (stepAnswer t g (record { 0 = e }) (record { 0 = x })) ≡ valuePaper (P .op e (generator (P .step) x))
+  pub composes : {a b : ℕ} → a < P .elements → b < P .elements → reachedPaper (composeAnswer t g (record { 0 = a }) (record { 0 = b })) ≡ valuePaper (P .op a b)
+  pub inverts : {a : ℕ} → a < P .elements → reachedPaper (inverseAnswer t g (record { 0 = a })) ≡ valuePaper (P .inv a)
+  pub conjugates : {a b : ℕ} → a < P .elements → b < P .elements
+      → reachedPaper (conjugateAnswer t g (record { 0 = a }) (record { 0 = b })) ≡ valuePaper (conjugate (P .op) (P .inv) a b)
+  pub powers : {a : ℕ} → a < P .elements → (z : ℤ) → reachedPaper (powiAnswer t g (record { 0 = a }) z) ≡ valuePaper (integer-power (P .op) (P .inv) a z)
+  pub periods : {a : ℕ} → a < P .elements → (k : ℕ) × (countedPaper (periodAnswer t g (record { 0 = a })) ≡ valuePaper k) × Period (P .op) a k
+  pub splits : {e : ℕ} (size : ℕ) → e < P .elements → length (handles g) ≤ size → countedPaper (splitAnswer t g (record { 0 = e }) size) ≡ valuePaper (length (handles g))
+  pub joins : {e : ℕ} → e < P .elements → reachedPaper (joinAnswer t g (split (sizes (handles g)) e)) ≡ valuePaper e
+  pub projects : {f e : ℕ} → f < length (handles g) → e < P .elements
+      → reachedPaper (projectAnswer t g f (record { 0 = e })) ≡ valuePaper (getD (split (sizes (handles g)) e) f 0)
+  pub injects : {f x : ℕ} → f < length (handles g) → x < getD (sizes (handles g)) f 1
+      → reachedPaper (injectAnswer t g f (record { 0 = x })) ≡ valuePaper (inject (sizes (handles g)) f x)
+  pub lengths : {e : ℕ} → e < P .elements → countedPaper (lengthAnswer t g (record { 0 = e })) ≡ valuePaper (length (P .word e))
+  pub writes : {e : ℕ} (size : ℕ) → e < P .elements → length (P .word e) ≤ size
+      → countedPaper (writeAnswer t g (record { 0 = e }) size) ≡ valuePaper (length (P .word e))
