@@ -1,0 +1,93 @@
+-- Laws of the check of an image: one for each answer.
+-- Assumes nothing.
+use Prim.Native.Nat.{ℕ, zero, suc, _+_, _*_, _-_, _/_, _≤_, _<_}
+use mathlib.Core.Path.{_≡_, sym, ap, _∙_}
+use mathlib.Core.List.{List, _++_}
+use native.Mathlib.Nat.{mul-le-mul, le-refl}
+use native.Mathlib.Omega.{arith}
+use borrow.Author.Tests.{eq-eqb, ne-eqb, lt-ltb, le-ltb}
+use borrow.Rule.Slice.PartMut.{midOf}
+use lib.ListN.{length, take, drop, replicate, length-drop, length-replicate}
+use lib.Seq.{length-take-le}
+use Rattle.builder.specs.Lending.{tableNeed, workNeed}
+use Rattle.cells.specs.Cells.{cells, halves}
+use Rattle.cells.proofs.Laws.{cells-length}
+use Rattle.packed.specs.Short.{judged}
+use Rattle.packed.proofs.Parts.{rest-lent, front-drop, front-count}
+use Rattle.agree.proofs.Short.{judged-is-built}
+use Rattle.image.specs.Image.{generatorsOf, elementsOf, headNumber, bytesNeed, imageNumber, imageWork}
+use Rattle.image.proofs.Heads.{Right, right-head}
+
+-- A number is at most its square; so the bytes are enough for the table and a cell for each element.
+self-square : (n : ℕ) → n ≤ n * n
+self-square zero = omega arith
+self-square (suc n) = let p : 1 ≤ suc n = omega arith in omega (arith, mul-le-mul p (le-refl (suc n)))
+
+room-left : (n count : ℕ) → 4 * count + 4 * (count * (2 * n + 4)) ≤ count * (32 * n * n + 100)
+room-left n count =
+    let p : 4 + 4 * (2 * n + 4) ≤ 32 * n * n + 100 = omega (arith, self-square n) in
+    omega (arith, mul-le-mul (le-refl count) p)
+
+work-enough : (n count : ℕ) → 0 < n → count ≤ length (replicate {A = ℕ} (workNeed n count) 0)
+work-enough n count pos =
+    let p : 1 ≤ 6 * n * n + 4 * n = omega arith in
+    rw (length-replicate {A = ℕ} (workNeed n count) 0) (omega (arith, mul-le-mul (le-refl count) p))
+
+module _ (l w : List ℕ) {h : ℕ} (qh : h ≡ headNumber l) where
+  pub bad-head : (h ≡ 0 → ⊥) → (h ≡ imageNumber l (length w)) × (w ≡ imageWork l w)
+  unfolding imageNumber imageWork
+  bad-head d = let e : headNumber l ≡ 0 → ⊥ = λ z. d (qh ∙ z) in (simp (ne-eqb _ _ e) qh, simp (ne-eqb _ _ e))
+
+  module _ (z : h ≡ 0) {n count need : ℕ} (qn : n ≡ generatorsOf l) (qc : count ≡ elementsOf l) (qd : need ≡ bytesNeed n count) where
+    abbrev right : Right l
+    right = right-head l (sym qh ∙ z)
+
+    same-need : need ≡ bytesNeed (generatorsOf l) (elementsOf l)
+    same-need = qd ∙ rw (qn, qc)
+
+    pub short-work : length w < need → (4 ≡ imageNumber l (length w)) × (w ≡ imageWork l w)
+    unfolding imageNumber imageWork
+    short-work d =
+        let e : headNumber l ≡ 0 = sym qh ∙ z in
+        let f : length w < bytesNeed (generatorsOf l) (elementsOf l) = rw same-need at d in
+        (simp (eq-eqb _ _ e, lt-ltb _ _ f), simp (eq-eqb _ _ e, lt-ltb _ _ f))
+
+    pub image-whole : 8 ≤ length l
+    image-whole = right .whole
+
+    -- The table and then a cell for each element are within the work.
+    module _ {at : ℕ} (qa : at ≡ 4 * tableNeed n count) (lent : need ≤ length w) where
+      pub table-lent : at ≤ length (take need w)
+      table-lent = rw (length-take-le need w lent) (omega (arith, room-left n count, qa, qd))
+
+      cells-left : count ≤ length (cells (drop at (take need w)))
+      cells-left =
+          let k : length (drop at (take need w)) ≡ need - at = length-drop at (take need w) ∙ rw (length-take-le need w lent) in
+          rw (cells-length (drop at (take need w)), k) (omega (arith, room-left n count, qa, qd))
+
+      table-cells : at / 4 ≡ tableNeed n count
+      table-cells = omega (arith, qa)
+
+      rows-are : midOf 8 (length l - 8) l ≡ drop 8 l
+      rows-are = rest-lent l 8 image-whole
+
+      pub whole-number : {x : ℕ} → count < 65536
+          → x ≡ judged (at / 4) (cells (drop at (take need w))) (halves (midOf 8 (length l - 8) l)) n count → x ≡ imageNumber l (length w)
+      unfolding imageNumber
+      whole-number small j =
+          let e : headNumber l ≡ 0 = sym qh ∙ z in
+          let f : bytesNeed (generatorsOf l) (elementsOf l) ≤ length w = rw same-need at lent in
+          let few : n ≤ 8 = rw qn (right .few) in
+          let some : 1 ≤ count = rw qc (right .some) in
+          let b = judged-is-built (halves (midOf 8 (length l - 8) l)) n count (at / 4) (cells (drop at (take need w))) (replicate (workNeed n count) 0)
+          few some (omega arith) (rw table-cells (le-refl (tableNeed n count))) (λ _. cells-left) (λ pos. work-enough n count pos) in
+          simp (eq-eqb _ _ e, le-ltb _ _ f) (j ∙ b ∙ rw (table-cells, rows-are, qn, qc))
+
+      pub whole-work : (p q : List ℕ) → length p ≡ length (take need w) → q ≡ replicate (length (take need (p ++ drop need w))) 0
+          → q ++ drop need (p ++ drop need w) ≡ imageWork l w
+      unfolding imageWork
+      whole-work p q k c =
+          let e : headNumber l ≡ 0 = sym qh ∙ z in
+          let f : bytesNeed (generatorsOf l) (elementsOf l) ≤ length w = rw same-need at lent in
+          let d : q ≡ replicate need 0 = c ∙ ap (λ (i : ℕ). replicate i 0) (sym (front-count w need lent p k)) in
+          simp (eq-eqb _ _ e, le-ltb _ _ f) (rw (front-drop w need lent p k, d, same-need))

@@ -1,0 +1,76 @@
+-- Laws of a word walked on an image: one for each way in which a turn ends, and one for each answer.
+-- Assumes nothing.
+use Prim.Native.Nat.{ℕ, _+_, _-_, _≤_, _<_}
+use mathlib.Core.Path.{_≡_, sym, _∙_}
+use mathlib.Core.Bool.{true, false}
+use mathlib.Core.List.{List}
+use native.Mathlib.Numerals.{add-one}
+use borrow.Author.Tests.{eq-eqb, ne-eqb, lt-ltb, le-ltb, lt-leb, le-leb}
+use borrow.Rule.Slice.PartMut.{midOf}
+use lib.ListN.{length, getD, drop, drop-of-length-le}
+use lib.Seq.{drop-cons}
+use Rattle.factor.specs.Composed.{composedAt}
+use Rattle.cells.specs.Cells.{halves}
+use Rattle.packed.proofs.Parts.{rest-lent}
+use Rattle.image.specs.Image.{generatorsOf, elementsOf, headNumber}
+use Rattle.image.specs.Walked.{lettersBelow, follow, walkNumber}
+use Rattle.image.proofs.ReadLaws.{whole-image}
+
+module _ (n : ℕ) (w : List ℕ) (i : ℕ) where
+  pub letter-none : length w ≤ i → true ≡ lettersBelow n (drop i w)
+  unfolding lettersBelow
+  letter-none h = rw (drop-of-length-le w h)
+
+  module _ (h : i < length w) {g : ℕ} (q : g ≡ getD w i 0) where
+    pub letter-wrong : n ≤ g → false ≡ lettersBelow n (drop i w)
+    unfolding lettersBelow
+    letter-wrong k = rw (drop-cons w i 0 h, ← q) (simp (le-ltb _ _ k))
+
+    pub letter-right : g < n → lettersBelow n (drop (i + 1) w) ≡ lettersBelow n (drop i w)
+    unfolding lettersBelow
+    letter-right k = rw (add-one, drop-cons w i 0 h, ← q) (simp (lt-ltb _ _ k))
+
+module _ (rows : List ℕ) (n count x : ℕ) (w : List ℕ) (i : ℕ) where
+  pub follow-end : length w ≤ i → x ≡ follow rows n count x (drop i w)
+  unfolding follow
+  follow-end h = rw (drop-of-length-le w h)
+
+  module _ (h : i < length w) {g y : ℕ} (q : g ≡ getD w i 0) (p : y ≡ composedAt rows n x g) where
+    pub follow-wrong : count ≤ y → 65553 ≡ follow rows n count x (drop i w)
+    unfolding follow
+    follow-wrong k = rw (drop-cons w i 0 h, ← q, ← p) (simp (le-leb _ _ k))
+
+    pub follow-on : y < count → follow rows n count y (drop (i + 1) w) ≡ follow rows n count x (drop i w)
+    unfolding follow
+    follow-on k = rw (add-one, drop-cons w i 0 h, ← q, ← p) (simp (lt-leb _ _ k))
+
+module _ (l : List ℕ) (start : ℕ) (word : List ℕ) {h : ℕ} (qh : h ≡ headNumber l) where
+  pub walk-head : (h ≡ 0 → ⊥) → 65536 + h ≡ walkNumber l start word
+  unfolding walkNumber
+  walk-head d = let f : headNumber l ≡ 0 → ⊥ = λ z. d (qh ∙ z) in simp (ne-eqb _ _ f) (rw qh)
+
+  module _ (z : h ≡ 0) {n count : ℕ} (qn : n ≡ generatorsOf l) (qc : count ≡ elementsOf l) where
+    pub walk-start : count ≤ start → 65550 ≡ walkNumber l start word
+    unfolding walkNumber
+    walk-start k =
+        let f : headNumber l ≡ 0 = sym qh ∙ z in
+        let k′ : elementsOf l ≤ start = rw qc at k in
+        simp (eq-eqb _ _ f, le-leb _ _ k′)
+
+    module _ (k : start < count) where
+      pub walk-letter : lettersBelow n word ≡ false → 65550 ≡ walkNumber l start word
+      unfolding walkNumber
+      walk-letter e =
+          let f : headNumber l ≡ 0 = sym qh ∙ z in
+          let k′ : start < elementsOf l = rw qc at k in
+          let e′ : lettersBelow (generatorsOf l) word ≡ false = rw qn at e in
+          simp (eq-eqb _ _ f, lt-leb _ _ k′) (rw e′)
+
+      pub walk-follows : {r : ℕ} → lettersBelow n word ≡ true → r ≡ follow (halves (midOf 8 (length l - 8) l)) n count start word
+          → r ≡ walkNumber l start word
+      unfolding walkNumber
+      walk-follows e q =
+          let f : headNumber l ≡ 0 = sym qh ∙ z in
+          let k′ : start < elementsOf l = rw qc at k in
+          let e′ : lettersBelow (generatorsOf l) word ≡ true = rw qn at e in
+          simp (eq-eqb _ _ f, lt-leb _ _ k′) (rw e′ (q ∙ rw (rest-lent l 8 (whole-image l qh z), qn, qc)))

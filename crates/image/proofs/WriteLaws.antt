@@ -1,0 +1,105 @@
+-- Laws of writing an image.
+-- Assumes nothing.
+use Prim.Native.Nat.{ℕ, _+_, _*_, _-_, _≤_, _<_}
+use mathlib.Core.Path.{_≡_, refl, _∙_}
+use mathlib.Core.List.{List}
+use native.Mathlib.Nat.{mul-le-mul}
+use native.Mathlib.Omega.{arith}
+use Rattle.egg.specs.declared.Refusal.{Refusal}
+use Rattle.egg.specs.declared.GroupElementId.{GroupElementId}
+use Rattle.egg.specs.declared.Verdict.the-variants as verdict
+use Rattle.egg.specs.declared.Reached.{Reached}
+use Rattle.egg.specs.declared.Reached.the-variants as reached
+use Rattle.egg.proofs.Scans.{left-suc}
+use mathlib.Core.Bool.{true, false}
+use borrow.Author.Tests.{lt-ltb, le-ltb}
+use lib.ListN.{length}
+use Rattle.egg.specs.declared.Factor.{Factor}
+use Rattle.egg.specs.declared.Verdict.{Verdict}
+use Rattle.egg.specs.declared.Counted.{Counted}
+use Rattle.egg.specs.declared.Counted.the-variants.{Count, Refused}
+use Rattle.egg.specs.Table.{stepOf}
+use Rattle.egg.specs.Factor.{fitsIn, stretch}
+use Rattle.egg.proofs.Rooms.{has, few, limited, room-enough}
+use Rattle.image.specs.Written.{stepRead, allKnown, imageSize, writeCount, imageBy, writtenImage, putHalf, putRow, putRows, putHead}
+use Rattle.image.proofs.Bytes.{put-image}
+
+module _ {v w : Reached} (q : v ≡ w) where
+  pub step-refused : {r : Refusal} → v ≡ reached.Refused r → verdict.Refused r ≡ stepRead w
+  step-refused e = rw (← q, e)
+
+  pub step-read : {x : GroupElementId} → v ≡ reached.Element x → verdict.Fine ≡ stepRead w
+  step-read e = rw (← q, e)
+
+pub size-small : {n count : ℕ} → n ≤ 8 → count ≤ 65535 → 2 * n * count ≤ 1048560
+size-small {n} h k = let p : 2 * n ≤ 16 = omega arith in omega (arith, mul-le-mul p k)
+
+pub place-small : {n e : ℕ} → n ≤ 255 → e ≤ 65535 → e * n ≤ 16711425
+place-small h k = omega (arith, mul-le-mul k h)
+
+module _ (src : ℕ → ℕ → ℕ) (n e : ℕ) (out : List ℕ) where
+  module _ (g : ℕ) where
+    pub row-next : g < n → {v : ℕ} → v ≡ src e g
+        → putRow (n - (g + 1)) src n e (g + 1) (putHalf out (8 + 2 * (e * n + g)) v) ≡ putRow (n - g) src n e g out
+    unfolding putRow
+    row-next h q = rw (left-suc h, q)
+
+    pub row-end : n ≤ g → out ≡ putRow (n - g) src n e g out
+    unfolding putRow
+    row-end h = let z : n - g ≡ 0 = omega arith in rw z
+
+  module _ (count : ℕ) where
+    pub rows-next : e < count → {l : List ℕ} → l ≡ putRow n src n e 0 out → putRows (count - (e + 1)) src n (e + 1) l ≡ putRows (count - e) src n e out
+    unfolding putRows
+    rows-next h q = rw (left-suc h, q)
+
+    pub rows-end : count ≤ e → out ≡ putRows (count - e) src n e out
+    unfolding putRows
+    rows-end h = let z : count - e ≡ 0 = omega arith in rw z
+
+-- The handle's numbers are small.
+pub fits-small : (len : ℕ) (f : Factor) → fitsIn len f ≡ true → (f .generators ≤ 8) × (f .elements ≤ 65535)
+fits-small len f h =
+    let r = has len f h in
+    (few len (f .start) (f .room) (f .generators) r, omega (arith, limited len (f .start) (f .room) (f .generators) r, room-enough len f h))
+
+-- One law for each answer.
+module _ (t : List ℕ) (f : Factor) (out : List ℕ) where
+  abbrev Wrote : Counted → List ℕ → Type 0
+  Wrote r l = (r ≡ writeCount t f (length out)) × (l ≡ writtenImage t f out)
+
+  by-count : {r : Counted} {l : List ℕ} → r ≡ writeCount t f (length out)
+      → l ≡ imageBy r (stepOf (stretch t f) (f .generators)) (f .generators) (f .elements) out → Wrote r l
+  unfolding writtenImage
+  by-count q e = (q, e ∙ rw q)
+
+  pub write-handle : fitsIn (length t) f ≡ false → {r : Counted} → r ≡ Refused (record { number = 17; a = 0; b = 0; c = 0 })
+      → (r ≡ writeCount t f (length out)) × (out ≡ writtenImage t f out)
+  unfolding writeCount
+  write-handle h e = by-count (e ∙ rw h) (rw e)
+
+  module _ (fits : fitsIn (length t) f ≡ true) {need : ℕ} (qs : need ≡ imageSize (f .generators) (f .elements)) where
+    pub write-short : length out < need → {r : Counted} → r ≡ Refused (record { number = 4; a = 0; b = 0; c = 0 })
+        → (r ≡ writeCount t f (length out)) × (out ≡ writtenImage t f out)
+    unfolding writeCount
+    write-short h e =
+        let k : length out < imageSize (f .generators) (f .elements) = rw qs at h in
+        by-count (e ∙ rw fits (simp (lt-ltb _ _ k))) (rw e)
+
+    module _ (h : need ≤ length out) {v : Verdict} (q : v ≡ allKnown (stretch t f) (f .generators) (f .elements)) where
+      pub write-unknown : {r : Refusal} → v ≡ verdict.Refused r
+          → (Refused r ≡ writeCount t f (length out)) × (out ≡ writtenImage t f out)
+      unfolding writeCount
+      write-unknown e =
+          let k : imageSize (f .generators) (f .elements) ≤ length out = rw qs at h in
+          by-count (rw fits (simp (le-ltb _ _ k) (rw (← q, e)))) refl
+
+      pub write-done : {a b : List ℕ} → v ≡ verdict.Fine → a ≡ putHead (need - 4) (f .generators) (f .elements) out
+          → b ≡ putRows (f .elements) (stepOf (stretch t f) (f .generators)) (f .generators) 0 a
+          → (Count need ≡ writeCount t f (length out)) × (b ≡ writtenImage t f out)
+      unfolding writeCount
+      write-done {a} {b} e pa pb =
+          let k : imageSize (f .generators) (f .elements) ≤ length out = rw qs at h in
+          let d : need - 4 ≡ 4 + 2 * f .generators * f .elements = omega arith in
+          by-count (rw fits (simp (le-ltb _ _ k) (rw (← q, e, qs))))
+          (pb ∙ rw (pa, d, qs) (put-image (stepOf (stretch t f) (f .generators)) (f .generators) (f .elements) out k))

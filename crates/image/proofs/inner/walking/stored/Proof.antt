@@ -1,0 +1,24 @@
+-- The place of an element and a generator in the rows.
+use native.Mathlib.Omega.{arith}
+use Rattle.egg.proofs.Laws.{product-small}
+use borrow.Author.Needs.{needs}
+use Rattle.image.proofs.inner.walking.stored.Statement.{statement}
+use Rattle.image.proofs.inner.walking.stored.Tie as tie
+use Rattle.image.proofs.inner.walking.stored.Reads as reads
+use Rattle.image.proofs.inner.walking.stored.Lts as lts
+use Rattle.cells.proofs.half.Reads as half-reads
+
+mul-half : tie.Need-mul-half
+mul-half c = omega (arith, product-small (c .before .args .x) (c .before .args .n) (c .before .fits .x .fits) (omega arith))
+
+add-half : tie.Need-add-half
+add-half c = omega (arith, product-small (c .before .args .x) (c .before .args .n) (c .before .fits .x .fits) (omega arith))
+
+half-requires : tie.Need-half-requires
+half-requires c κs = search needs
+
+returns : tie.Need-returns
+returns c = search needs
+
+pub stored-spec : {M : Type 1} → statement M
+stored-spec = tie.close (tie.spec mul-half add-half half-requires returns)

@@ -1,0 +1,60 @@
+-- A stored image and its check. Document 01: "Four bytes, big-endian, the length of what follows; version byte 1; n in one byte; element count N in two;
+-- then the successors, two bytes each, by element and then generator. Length is 4 + 2nN."
+-- Assumes nothing.
+use Prim.Native.Nat.{ℕ, _+_, _*_, _<_}
+use mathlib.Core.Path.{_≡_}
+use mathlib.Core.List.{List, _++_}
+use lib.ListN.{length, getD, drop, replicate}
+use lib.Dec.{ltb, eqb}
+use Rattle.egg.specs.Table.{pick}
+use Rattle.builder.specs.Lending.{tableNeed, workNeed}
+use Rattle.cells.specs.Cells.{spell2, spell4, halves}
+use Rattle.packed.specs.Short.{built}
+
+-- What the head says: the length of what follows it, the generators, the elements.
+abbrev pub lengthOf : List ℕ → ℕ
+lengthOf l = spell4 (getD l 3 0) (getD l 2 0) (getD l 1 0) (getD l 0 0)
+
+abbrev pub generatorsOf : List ℕ → ℕ
+generatorsOf l = getD l 5 0
+
+abbrev pub elementsOf : List ℕ → ℕ
+elementsOf l = spell2 (getD l 6 0) (getD l 7 0)
+
+-- "Checks: total size at least 8, length, version (16), n (1), N not 0 and length formula (16)"; 0 where none fails.
+unfoldable pub headNumber : List ℕ → ℕ
+headNumber l =
+    pick (ltb (length l) 8) 16
+    (pick (eqb (lengthOf l + 4) (length l))
+    (pick (eqb (getD l 4 0) 1)
+    (pick (ltb 8 (generatorsOf l)) 1
+    (pick (eqb (elementsOf l) 0) 16 (pick (eqb (lengthOf l) (4 + 2 * generatorsOf l * elementsOf l)) 0 16)))
+    16)
+    16)
+
+-- "Lent byte work of N(32n²+100) bytes".
+abbrev pub bytesNeed : ℕ → ℕ → ℕ
+bytesNeed n count = count * (32 * n * n + 100)
+
+-- The number: of the head, then 4, then what reading into buffers with room N gives: fewer than N reached is 16, then 8 to 12; 0 where it is accepted.
+-- (The work of the 32-bit build is zeros here; its number is the same for any other.)
+unfoldable pub imageNumber : List ℕ → ℕ → ℕ
+imageNumber l size =
+    pick (eqb (headNumber l) 0)
+    (pick (ltb size (bytesNeed (generatorsOf l) (elementsOf l))) 4
+    (built (tableNeed (generatorsOf l) (elementsOf l)) (replicate (workNeed (generatorsOf l) (elementsOf l)) 0) (halves (drop 8 l)) (generatorsOf l)
+    (elementsOf l)))
+    (headNumber l)
+
+-- "Untouched after a bad head or 4, else that many bytes are zero afterwards."
+unfoldable pub imageWork : List ℕ → List ℕ → List ℕ
+imageWork l w =
+    pick (eqb (headNumber l) 0)
+    (pick (ltb (length w) (bytesNeed (generatorsOf l) (elementsOf l))) w
+    (replicate (bytesNeed (generatorsOf l) (elementsOf l)) 0 ++ drop (bytesNeed (generatorsOf l) (elementsOf l)) w))
+    w
+
+-- What was read of the head, and a limit.
+pub record Said (r is limit : ℕ) : Type 0 where
+  pub at : r ≡ is
+  pub small : r < limit

@@ -1,0 +1,223 @@
+// A stored image: its head; written from a factor, read back, checked in lent bytes, and walked.
+ghost use mathlib.Core.Path.{_≡_};
+ghost use mathlib.Core.Bool.{true};
+ghost use Prim.Native.Nat.{_*_, _≤_};
+ghost use lib.ListN.{length, getD};
+ghost use Rattle.builder.specs.Lending.{tableNeed, Making};
+ghost use Rattle.egg.specs.Factor.{stretch};
+ghost use Rattle.image.specs.Written.{imageSize, writeCount, writtenImage};
+ghost use Rattle.image.specs.Read.{headPlace, readImage};
+ghost use Rattle.image.specs.Walked.{walkNumber};
+ghost use Rattle.image.specs.Image.{lengthOf, generatorsOf, elementsOf, headNumber, bytesNeed, imageNumber, imageWork, Said};
+use self::inner::taking;
+use self::inner::walking;
+use self::inner::writing;
+use egg::Counted;
+use egg::Factor;
+use egg::Made;
+use egg::Refusal;
+use egg::Verdict;
+
+pub mod inner;
+
+// The byte at i, and 0 past the end.
+fn byte(s: &[u8], i: usize) -> u8
+    ensures { λ r. ⌜ r ≡ getD (now (s .entry)) i 0 ⌝ }
+{
+    if i < s.len() { s[i] } else { 0 }
+}
+
+// The length of what follows, as the head says it.
+fn said_length(image: &[u8]) -> u32
+    ensures { λ r. ⌜ r ≡ lengthOf (now (image .entry)) ⌝ }
+{
+    cells::spell(
+        byte(image, 3),
+        byte(image, 2),
+        byte(image, 1),
+        byte(image, 0),
+    )
+}
+
+// How many generators the head says.
+pub fn generators(image: &[u8]) -> u8
+    ensures { λ r. ⌜ r ≡ generatorsOf (now (image .entry)) ⌝ }
+{
+    byte(image, 5)
+}
+
+// How many elements the head says.
+pub fn elements(image: &[u8]) -> u32
+    ensures { λ r. ⌜ Said r (elementsOf (now (image .entry))) 65536 ⌝ }
+{
+    let a = byte(image, 6);
+    let b = byte(image, 7);
+    cells::spell_half(a, b)
+}
+
+// 16 and 1 in the head, or 0.
+pub fn head(image: &[u8]) -> u32
+    ensures { λ r. ⌜ r ≡ headNumber (now (image .entry)) ⌝ }
+{
+    if image.len() < 8 {
+        return 16;
+    }
+    let length = said_length(image) as usize;
+    if length + 4 != image.len() {
+        return 16;
+    }
+    if byte(image, 4) != 1 {
+        return 16;
+    }
+    let n = generators(image);
+    if 8 < n {
+        return 1;
+    }
+    let count = elements(image);
+    if count == 0 {
+        return 16;
+    }
+    if length != 4 + 2 * (n as usize) * (count as usize) {
+        return 16;
+    }
+    0
+}
+
+// The front of the lent bytes: the table of the build, four bytes a number.
+fn table_bytes(n: u8, count: u32) -> usize
+    ensures { λ r. ⌜ r ≡ 4 * tableNeed n count ⌝ }
+{
+    4 * builder::inner::table_need(n, count)
+}
+
+// How many bytes of work the check of an image needs.
+pub fn bytes_need(n: u8, count: u32) -> usize
+    ensures { λ r. ⌜ r ≡ bytesNeed n count ⌝ }
+{
+    let m = n as usize;
+    (count as usize) * (32 * m * m + 100)
+}
+
+// Checks an image in lent bytes: the refusal's number, or 0.
+pub fn check(image: &[u8], work: &mut [u8]) -> u32
+    ensures { λ r. ⌜ (r ≡ imageNumber (now (image .entry)) (length (now (work .entry)))) × (now (work .exit) ≡ imageWork (now (image .entry)) (now (work .entry))) ⌝ }
+{
+    let found = head(image);
+    if found != 0 {
+        return found;
+    }
+    let n = generators(image);
+    let count = elements(image);
+    let need = bytes_need(n, count);
+    if work.len() < need {
+        return 4;
+    }
+    let number = packed::inner::judge(
+        &mut work[..need],
+        table_bytes(n, count),
+        &image[8..],
+        n,
+        count,
+    );
+    cells::clear(&mut work[..need]);
+    number
+}
+
+// How long the image of a factor is.
+fn size(n: u8, count: u32) -> u32
+    requires { ⌜ (n ≤ 8) × (count ≤ 65535) ⌝ }
+    ensures { λ r. ⌜ r ≡ imageSize n count ⌝ }
+{
+    8 + 2 * (n as u32) * count
+}
+
+fn refused_count(number: u32) -> Counted
+    ensures { λ r. ⌜ r ≡ Counted.Refused (record { number = number; a = 0; b = 0; c = 0 }) ⌝ }
+{
+    Counted::Refused(Refusal {
+        number,
+        a: 0,
+        b: 0,
+        c: 0,
+    })
+}
+
+// Writes the image of a factor to the start of a lent byte buffer and answers its length.
+pub fn write(table: &[u32], f: Factor, out: &mut [u8]) -> Counted
+    ensures { λ r. ⌜ (r ≡ writeCount (now (table .entry)) f (length (now (out .entry)))) × (now (out .exit) ≡ writtenImage (now (table .entry)) f (now (out .entry))) ⌝ }
+{
+    if !egg::fits(table, f) {
+        return refused_count(17);
+    }
+    let n = f.generators;
+    let count = f.elements;
+    let need = size(n, count);
+    if out.len() < (need as usize) {
+        return refused_count(4);
+    }
+    let s = egg::inner::part(table, f);
+    match writing::all_known(s, n, count) {
+        Verdict::Refused(why) => Counted::Refused(why),
+        Verdict::Fine => {
+            writing::put_head(out, need - 4, n, count);
+            writing::put_rows(out, s, n, count);
+            Counted::Count(need)
+        }
+    }
+}
+
+// The place of a bad head: the count of generators for 1, and none for 16.
+fn head_place(image: &[u8], found: u32) -> u32
+    requires { ⌜ found ≡ headNumber (now image) ⌝ }
+    ensures { λ r. ⌜ r ≡ headPlace (now (image .entry)) ⌝ }
+{
+    if found == 1 {
+        generators(image) as u32
+    } else {
+        0
+    }
+}
+
+// Builds the factor that an image stores into the stretch of `table` that starts at `start`.
+pub fn read(image: &[u8], table: &mut [u32], start: usize, work: &mut [u32]) -> Made
+    ensures { λ r. ⌜ Making.making r (now (table .exit)) (now (work .exit)) ≡ readImage (now (image .entry)) (now (table .entry)) start (now (work .entry)) ⌝ }
+{
+    let found = head(image);
+    if found != 0 {
+        return builder::inner::refused_made(found, head_place(image, found));
+    }
+    let n = generators(image);
+    let count = elements(image);
+    if !builder::inner::lent_right(table.len(), start, work.len(), count, n) {
+        return builder::inner::refused_made(4, 0);
+    }
+    let end = builder::inner::stretch_end(table.len(), start, count, n);
+    let need = builder::inner::work_need(n, count);
+    let made = taking::read_in(
+        &mut table[start..end],
+        &mut work[..need],
+        &image[8..],
+        n,
+        count,
+    );
+    builder::inner::made(start, count, n, made)
+}
+
+// Walks a word of generators from an element: the element reached, or 65,536 + the refusal's number.
+pub fn walk(image: &[u8], start: u32, word: &[u8]) -> u32
+    ensures { λ r. ⌜ r ≡ walkNumber (now (image .entry)) start (now (word .entry)) ⌝ }
+{
+    let found = head(image);
+    if found != 0 {
+        return 65536 + found;
+    }
+    let n = generators(image);
+    let count = elements(image);
+    if count <= start {
+        return 65550;
+    }
+    if !walking::letters_below(n, word) {
+        return 65550;
+    }
+    walking::follow(&image[8..], n, count, start, word)
+}

@@ -1,0 +1,15 @@
+pub mod Spelling
+pub mod Heads
+pub mod Numbers
+pub mod Back
+pub mod Rounds
+pub mod Walks
+pub mod Versions
+pub mod Same
+pub mod Zeros
+pub mod SameTable
+pub mod Viewers
+pub mod CameBack
+pub mod Buffers
+pub mod Unique
+pub mod Leaves

@@ -1,0 +1,71 @@
+-- Each case by computing.
+-- Assumes nothing.
+use mathlib.Core.Path.{refl}
+use Rattle.egg.specs.Table.{putAt, startOf}
+use Rattle.egg.specs.Scan.{scan}
+use Rattle.egg.specs.Pairs.{pairCode, pairCount, ordersRight}
+use Rattle.egg.specs.Factor.{hasRoom, fitsIn, stretch, readStep}
+use Rattle.reading.specs.Build.{setStep, setWord, adds}
+use Rattle.reading.specs.Reading.{readPlace, readRow, readFrom}
+use Rattle.checks.specs.Checks as checks
+use Rattle.builder.specs.Finish.{finished}
+use Rattle.builder.specs.Lending.{lentRight, within}
+use Rattle.factor.specs.Composed.{composedIn, composed}
+use Rattle.factor.specs.Questions as factor
+use Rattle.factor.specs.Relations.{turned, doubledRow, pairsRow, relations, checkAnswer}
+use Rattle.rows.specs.Rows as rows
+use Rattle.enumeration.specs.Facts as facts
+use Rattle.enumeration.specs.Run.{enumerated, runs, visits, discovered, advanced}
+use Rattle.enumeration.specs.Calls.{enumeratedIn, enumerates}
+use Rattle.group.specs.Handles.{limited, admits}
+use Rattle.group.specs.Digits.{digitwise}
+use Rattle.group.specs.Powers.{halves, powers, periodFrom, periods}
+use Rattle.group.specs.Words.{lengths, readables, spellFrom, spells, writes}
+use Rattle.group.specs.Questions as group
+use Rattle.cells.specs.Cells as cells
+use Rattle.packed.specs.Short.{built}
+use Rattle.image.specs.Image.{headNumber, imageNumber}
+use Rattle.image.specs.Written.{rowOf, rowsOf, spelled, imageOf, knownRow, allKnown, writeCount, writtenImage}
+use Rattle.image.specs.Read.{imageIn, readImage}
+use Rattle.known.specs.Cases.{KnownCases}
+
+pub known-cases : KnownCases
+unfolding putAt startOf scan pairCode pairCount ordersRight hasRoom fitsIn stretch readStep setStep setWord adds readPlace readRow readFrom checks.missingRow checks.missing checks.check8 checks.rangeRow checks.linksOf checks.ranges checks.wrongRow checks.wrong checks.check-table checks.wiped checks.arriveRow checks.arrivals checks.countsRight checks.invertFrom checks.fillInverses checks.inversesRight checks.identityRow checks.columnsRow checks.spelledRow checks.spelled checks.check-steps checks.fillLeft checks.goesRow checks.allGo checks.lefts checks.check-rest checks.check-group finished lentRight within composedIn composed factor.admits factor.along factor.readBack factor.backAlong factor.composeIn factor.inverseIn factor.conjugateIn factor.composeAnswer factor.conjugateAnswer factor.readable factor.lengthIn factor.spell factor.writeIn factor.writeAnswer factor.written factor.wordPart turned doubledRow pairsRow relations checkAnswer rows.workWidth rows.placeAt rows.rowsAt rows.readRow rows.writeRow rows.backFrom rows.forwardFrom rows.filled rows.appended rows.waits rows.addedRow rows.addRowsFrom facts.learns facts.woken facts.wakes facts.wakesAll facts.emptied facts.updated facts.settleFrom enumerated runs visits discovered advanced enumeratedIn enumerates limited admits digitwise halves powers periodFrom periods lengths readables spellFrom spells writes group.splitTail group.splitAnswer group.splitLeaves group.composeAnswer group.inverseAnswer group.powiAnswer group.periodAnswer group.writeAnswer group.written group.wordPart cells.halves built headNumber imageNumber rowOf rowsOf spelled imageOf knownRow allKnown writeCount writtenImage imageIn readImage
+known-cases = record {
+  square-made = refl;
+  square-rows = refl;
+  s3-made = refl;
+  s3-rows = refl;
+  s3-inverses = refl;
+  s3-word = refl;
+  s3-composed = refl;
+  s3-compose = refl;
+  s3-other = refl;
+  s3-conjugate = refl;
+  s3-power = refl;
+  s3-minus-1 = refl;
+  s3-least = refl;
+  s3-period = refl;
+  product-split = refl;
+  product-word = refl;
+  product-compose = refl;
+  product-inverse = refl;
+  z2-made = refl;
+  z2-written = refl;
+  z2-checked = refl;
+  z2-read = refl;
+  none-orders = refl;
+  none-made = refl;
+  none-written = refl;
+  none-checked = refl;
+  none-read = refl;
+  missing = refl;
+  stays = refl;
+  inverses-differ = refl;
+  generator-twice = refl;
+  crossed-refused = refl;
+  crossed-first = refl;
+  crossed-second = refl;
+  z3-made = refl;
+  z3-orders = refl;
+}

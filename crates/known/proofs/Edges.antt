@@ -1,0 +1,29 @@
+-- Each case by computing.
+-- Assumes nothing.
+use mathlib.Core.Path.{refl}
+use Rattle.egg.specs.Table.{putAt, startOf}
+use Rattle.egg.specs.Scan.{scan}
+use Rattle.egg.specs.Pairs.{pairCode, pairCount, ordersRight}
+use Rattle.egg.specs.Factor.{hasRoom}
+use Rattle.reading.specs.Build.{setStep, setWord, adds}
+use Rattle.builder.specs.Finish.{finished}
+use Rattle.builder.specs.Lending.{lentRight, within}
+use Rattle.rows.specs.Rows as rows
+use Rattle.enumeration.specs.Facts as facts
+use Rattle.enumeration.specs.Run.{enumerated, runs, visits, discovered, advanced}
+use Rattle.enumeration.specs.Calls.{enumeratedIn, enumerates}
+use Rattle.known.specs.Edges.{KnownEdges}
+
+pub known-edges : KnownEdges
+unfolding putAt startOf scan pairCode pairCount ordersRight hasRoom setStep setWord adds finished lentRight within rows.workWidth rows.placeAt rows.rowsAt rows.readRow rows.writeRow rows.backFrom rows.forwardFrom rows.filled rows.appended rows.waits rows.addedRow rows.addRowsFrom facts.learns facts.woken facts.wakes facts.wakesAll facts.emptied facts.updated facts.settleFrom enumerated runs visits discovered advanced enumeratedIn enumerates
+known-edges = record {
+  nine-generators = refl;
+  eight-generators = refl;
+  list-short = refl;
+  list-long = refl;
+  order-1 = refl;
+  order-32768 = refl;
+  order-32767 = refl;
+  room-0 = refl;
+  room-5 = refl;
+}

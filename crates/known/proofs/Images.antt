@@ -1,0 +1,53 @@
+-- Each case by computing.
+-- Assumes nothing.
+use mathlib.Core.Path.{refl}
+use Rattle.egg.specs.Table.{putAt, startOf}
+use Rattle.egg.specs.Scan.{scan}
+use Rattle.egg.specs.Factor.{hasRoom, fitsIn, stretch, readStep}
+use Rattle.reading.specs.Build.{setStep, setWord, adds}
+use Rattle.reading.specs.Reading.{readPlace, readRow, readFrom}
+use Rattle.checks.specs.Checks as checks
+use Rattle.builder.specs.Finish.{finished}
+use Rattle.builder.specs.Lending.{lentRight, within}
+use Rattle.factor.specs.Composed.{composedIn, composed}
+use Rattle.cells.specs.Cells.{halves}
+use Rattle.packed.specs.Short.{built}
+use Rattle.image.specs.Image.{headNumber, imageNumber}
+use Rattle.image.specs.Written.{rowOf, rowsOf, spelled, imageOf, knownRow, allKnown, writeCount, writtenImage}
+use Rattle.image.specs.Read.{imageIn, readImage}
+use Rattle.image.specs.Walked.{lettersBelow, follow, walkNumber}
+use Rattle.known.specs.Images.{KnownImages}
+
+pub known-images : KnownImages
+unfolding putAt startOf scan hasRoom fitsIn stretch readStep setStep setWord adds readPlace readRow readFrom checks.missingRow checks.missing checks.check8 checks.rangeRow checks.linksOf checks.ranges checks.wrongRow checks.wrong checks.check-table checks.wiped checks.arriveRow checks.arrivals checks.countsRight checks.invertFrom checks.fillInverses checks.inversesRight checks.identityRow checks.columnsRow checks.spelledRow checks.spelled checks.check-steps checks.fillLeft checks.goesRow checks.allGo checks.lefts checks.check-rest checks.check-group finished lentRight within composedIn composed halves built headNumber imageNumber rowOf rowsOf spelled imageOf knownRow allKnown writeCount writtenImage imageIn readImage lettersBelow follow walkNumber
+known-images = record {
+  work-short = refl;
+  eight = refl;
+  nine-is = refl;
+  ten = refl;
+  eleven = refl;
+  twelve = refl;
+  fewer = refl;
+  skips = refl;
+  beyond = refl;
+  version = refl;
+  many = refl;
+  z2-count = refl;
+  z2-written = refl;
+  z2-short = refl;
+  z2-unwritten = refl;
+  no-handle = refl;
+  step-beyond = refl;
+  z2-read = refl;
+  short-read = refl;
+  many-read = refl;
+  version-read = refl;
+  fewer-read = refl;
+  walks = refl;
+  waits = refl;
+  walks-16 = refl;
+  walks-1 = refl;
+  walks-14 = refl;
+  walks-letter = refl;
+  walks-17 = refl;
+}

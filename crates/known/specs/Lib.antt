@@ -1,0 +1,4 @@
+pub mod Tables
+pub mod Cases
+pub mod Edges
+pub mod Images

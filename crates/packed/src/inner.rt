@@ -1,0 +1,123 @@
+// The checks after a reading that ended, in one lent stretch of bytes: the table before `at`, the work from there on.
+ghost use mathlib.Core.Path.{_≡_};
+ghost use Prim.Native.Nat.{_≤_, _/_};
+ghost use lib.ListN.{length, take, drop};
+ghost use Rattle.egg.specs.Table.{putAt};
+ghost use Rattle.checks.specs.Checks.{leftOf, fillLeft, allGo, Lefts, lefts};
+ghost use Rattle.cells.specs.Cells.{cells, halves};
+ghost use Rattle.packed.specs.Short.{shortTable, short, verdictNumber, judged};
+use super::checking;
+use super::placing;
+use egg::Counted;
+use egg::GeneratorId;
+use egg::GroupElementId;
+use egg::Verdict;
+
+// Stores v in cell i of the work.
+fn put_work(b: &mut [u8], at: usize, i: usize, v: usize)
+    requires { ⌜ at ≤ length (now b) ⌝ }
+    ensures { λ r. ⌜ (take at (now (b .exit)) ≡ take at (now (b .entry))) × (cells (drop at (now (b .exit))) ≡ putAt (cells (drop at (now (b .entry)))) i v) ⌝ }
+{
+    cells::put(&mut b[at..], i, v);
+}
+
+fn left_at(b: &[u8], at: usize, n: u8, s: GeneratorId, x: GroupElementId) -> GroupElementId
+    requires { ⌜ at ≤ length (now b) ⌝ }
+    ensures { λ r. ⌜ r .0 ≡ leftOf (cells (take at (now (b .entry)))) n (s .0) (cells (drop at (now (b .entry)))) (x .0) ⌝ }
+{
+    checking::left_of(&b[..at], &b[at..], n, s, x)
+}
+
+// Multiplication on the left by generator s, into the start of the work.
+fn fill_left(b: &mut [u8], at: usize, n: u8, count: u32, s: GeneratorId)
+    requires { ⌜ at ≤ length (now b) ⌝ }
+    ensures { λ r. ⌜ (take at (now (b .exit)) ≡ take at (now (b .entry))) × (cells (drop at (now (b .exit))) ≡ fillLeft count (cells (take at (now (b .entry)))) n (s .0) (cells (drop at (now (b .entry)))) 0) ⌝ }
+{
+    let mut x: u32 = 0;
+    while x < count {
+        let y = left_at(&b[..], at, n, s, GroupElementId(x)).0;
+        put_work(b, at, x as usize, y as usize);
+        x += 1;
+    }
+}
+
+fn goes_at(b: &[u8], at: usize, n: u8, count: u32) -> Verdict
+    requires { ⌜ at ≤ length (now b) ⌝ }
+    ensures { λ r. ⌜ r ≡ allGo (cells (take at (now (b .entry)))) (cells (drop at (now (b .entry)))) n count ⌝ }
+{
+    checking::all_go(&b[..at], &b[at..], n, count)
+}
+
+// 12: each generator on the left commutes with every step.
+fn check12(b: &mut [u8], at: usize, n: u8, count: u32) -> Verdict
+    requires { ⌜ at ≤ length (now b) ⌝ }
+    ensures { λ r. ⌜ Lefts.left r (cells (drop at (now (b .exit)))) ≡ lefts n (cells (take at (now (b .entry)))) n count (cells (drop at (now (b .entry)))) 0 ⌝ }
+{
+    let mut s: u8 = 0;
+    while s < n {
+        fill_left(b, at, n, count, GeneratorId(s));
+        let v = goes_at(&b[..], at, n, count);
+        let Verdict::Fine = v else {
+            return v;
+        };
+        s += 1;
+    }
+    Verdict::Fine
+}
+
+// 8 to 11 on the table, with the inverses written.
+fn check_table(t: &mut [u8], n: u8, count: u32) -> Verdict
+    ensures { λ r. ⌜ Lefts.left r (cells (now (t .exit))) ≡ shortTable (cells (now (t .entry))) n count ⌝ }
+{
+    let v = checking::missing(&t[..], n, count, n);
+    let Verdict::Fine = v else {
+        return v;
+    };
+    let u = checking::wrong(&t[..], n, count);
+    let Verdict::Fine = u else {
+        return u;
+    };
+    checking::fill_inverses(t, n, count);
+    let i = checking::inverses_right(&t[..], n, count);
+    let Verdict::Fine = i else {
+        return i;
+    };
+    checking::identity_row(&t[..], n)
+}
+
+fn check_all(b: &mut [u8], at: usize, n: u8, count: u32) -> Verdict
+    requires { ⌜ at ≤ length (now b) ⌝ }
+    ensures { λ r. ⌜ r ≡ short (cells (take at (now (b .entry)))) (cells (drop at (now (b .entry)))) n count ⌝ }
+{
+    let v = check_table(&mut b[..at], n, count);
+    let Verdict::Fine = v else {
+        return v;
+    };
+    check12(b, at, n, count)
+}
+
+fn number(v: Verdict) -> u32
+    ensures { λ r. ⌜ r ≡ verdictNumber v ⌝ }
+{
+    match v {
+        Verdict::Fine => 0,
+        Verdict::Refused(why) => why.number,
+    }
+}
+
+// Reads the rows into the table and checks it: the refusal's number, or 0.
+pub fn judge(b: &mut [u8], at: usize, rows: &[u8], n: u8, room: u32) -> u32
+    requires { ⌜ at ≤ length (now b) ⌝ }
+    ensures { λ r. ⌜ r ≡ judged (at / 4) (cells (drop at (now (b .entry)))) (halves (now (rows .entry))) n room ⌝ }
+{
+    cells::clear(&mut b[..at]);
+    match placing::read_rows(&mut b[..at], rows, n, room) {
+        Counted::Refused(why) => why.number,
+        Counted::Count(k) => {
+            if k < room {
+                return 16;
+            }
+            number(check_all(b, at, n, room))
+        }
+    }
+}
