@@ -1,0 +1,4 @@
+pub mod Orbit
+pub mod Source
+pub mod Maps
+pub mod Subgroup

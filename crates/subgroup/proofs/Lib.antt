@@ -1,0 +1,7 @@
+pub mod Admits
+pub mod Lendings
+pub mod Counts
+pub mod IndexLaws
+pub mod SideLaws
+pub mod Carries
+pub mod Generators

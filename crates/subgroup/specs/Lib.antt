@@ -1,0 +1,5 @@
+pub mod Lent
+pub mod Generated
+pub mod Indices
+pub mod Sides
+pub mod Questions

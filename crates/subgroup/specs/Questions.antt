@@ -1,0 +1,86 @@
+-- The questions to a subgroup and its maps. "Calls on handles check 17 in the handle, then 14, then 15, .. then 17 in what they read."
+-- Assumes nothing.
+use Prim.Native.Nat.{ℕ, _+_, _*_, _-_, _/_, _%_}
+use mathlib.Core.List.{List}
+use lib.ListN.{length, getD}
+use lib.Dec.{eqb, ltb}
+use Rattle.egg.specs.declared.GroupElementId.{GroupElementId}
+use Rattle.egg.specs.declared.GeneratorId.{GeneratorId}
+use Rattle.egg.specs.declared.Verdict.{Verdict}
+use Rattle.egg.specs.declared.Verdict.the-variants as verdict
+use Rattle.egg.specs.declared.Reached.{Reached}
+use Rattle.egg.specs.declared.Reached.the-variants as reached
+use Rattle.egg.specs.Table.{pick}
+use Rattle.egg.specs.Factor.{Paper, refusalPaper, refusedReach, readStep, stretch}
+use Rattle.factor.specs.Questions.{ifReach, onReached}
+use Rattle.group.specs.Handles.{handles, elementsOf, generatorsOf, capped}
+use Rattle.group.specs.Digits.{stepIn}
+use Rattle.appearance.specs.Renumber.{none}
+use Rattle.subgroup.specs.declared.Subgroup.{Subgroup}
+use Rattle.subgroup.specs.declared.Within.{Within}
+use Rattle.subgroup.specs.declared.Within.the-variants as within
+use Rattle.subgroup.specs.Indices.{overOf, subOf}
+use Rattle.subgroup.specs.Sides.{overSide, subSide, admitsSides}
+
+-- "A definition sets out this paper's number and values for each of its cases"; "`Not in the subgroup` is 4,294,967,295 .., which is no element number."
+abbrev pub withinPaper : Within → Paper
+withinPaper (within.Element e) = record { number = 0; a = e .0; b = 0; c = 0 }
+withinPaper within.Outside = record { number = 0; a = none; b = 0; c = 0 }
+withinPaper (within.Refused r) = refusalPaper r
+
+abbrev pub refusedWithin : ℕ → Within
+refusedWithin k = within.Refused (record { number = k; a = 0; b = 0; c = 0 })
+
+abbrev pub ifWithin : Verdict → Within → Within
+ifWithin verdict.Fine x = x
+ifWithin (verdict.Refused r) x = within.Refused r
+
+-- How many elements are below, and how many has the part that the maps speak of.
+abbrev pub strideOf : Subgroup → ℕ
+strideOf s = elementsOf (handles (s .below))
+
+abbrev pub overCount : Subgroup → ℕ
+overCount s = elementsOf (handles (s .over))
+
+-- From the subgroup's e to the overgroup, by the map's cell; 17 where that is no element.
+unfoldable pub carriedOver : Subgroup → List ℕ → ℕ → Reached
+carriedOver s outw e =
+    pick (ltb (getD outw (e / strideOf s % s .factor .elements) 0) (overCount s))
+    (reached.Element (record { 0 = overOf (strideOf s) (overCount s) (s .factor .elements) (λ i. getD outw i 0) e }))
+    (refusedReach 17 0)
+
+unfoldable pub toOverAnswer : ℕ → ℕ → Subgroup → List ℕ → GroupElementId → Reached
+toOverAnswer from table s outw e =
+    ifReach (admitsSides from table s (length outw) (s .factor .elements) (e .0) (elementsOf (subSide s))) (carriedOver s outw (e .0))
+
+-- And back: what is not in the subgroup has an answer of its own.
+unfoldable pub carriedBack : Subgroup → List ℕ → ℕ → Within
+carriedBack s inn x =
+    pick (eqb (getD inn (x / strideOf s % overCount s) 0) none) within.Outside
+    (pick (ltb (getD inn (x / strideOf s % overCount s) 0) (s .factor .elements))
+    (within.Element (record { 0 = subOf (strideOf s) (overCount s) (s .factor .elements) (λ i. getD inn i 0) x }))
+    (refusedWithin 17))
+
+-- (The map's length is compared as far as 32 bits can tell: an overgroup of more elements is 15.)
+unfoldable pub toSubAnswer : ℕ → ℕ → Subgroup → List ℕ → GroupElementId → Within
+toSubAnswer from table s inn x =
+    ifWithin (admitsSides from table s (length inn) (capped (overCount s)) (x .0) (elementsOf (overSide s))) (carriedBack s inn (x .0))
+
+-- An element of some factors, as one of the product in which k elements are below them.
+abbrev pub scaled : ℕ → Reached → Reached
+scaled k r = onReached r (λ y. reached.Element (record { 0 = k * y }))
+
+-- The subgroup's generators in order: those below, the factor's own, those above; each as an element of the subgroup's product, and then of the overgroup.
+unfoldable pub sideGenerator : List ℕ → List ℕ → Subgroup → ℕ → Reached
+sideGenerator from table s g =
+    pick (ltb g (generatorsOf (handles (s .below)))) (stepIn from (handles (s .below)) 0 g)
+    (pick (ltb (g - generatorsOf (handles (s .below))) (s .factor .generators))
+    (scaled (strideOf s)
+    (readStep (stretch table (s .factor)) (s .factor .generators) (s .factor .elements) 0 (g - generatorsOf (handles (s .below)))))
+    (scaled (strideOf s * s .factor .elements)
+    (stepIn from (handles (s .above)) 0 (g - generatorsOf (handles (s .below)) - s .factor .generators))))
+
+unfoldable pub generatorAnswer : List ℕ → List ℕ → Subgroup → List ℕ → GeneratorId → Reached
+generatorAnswer from table s outw g =
+    ifReach (admitsSides (length from) (length table) s (length outw) (s .factor .elements) (g .0) (generatorsOf (subSide s)))
+    (onReached (sideGenerator from table s (g .0)) (λ e. carriedOver s outw e))

@@ -1,0 +1,598 @@
+// The work of the calls, on overgroups whose handles fit and whose elements are at most 65,535.
+ghost use mathlib.Core.Path.{_≡_};
+ghost use mathlib.Core.Bool.{true};
+ghost use Prim.Native.Nat.{_+_, _*_, _<_, _≤_};
+ghost use lib.ListN.{length, getD};
+ghost use Rattle.egg.specs.declared.Verdict.the-variants as verdict;
+ghost use Rattle.builder.specs.Finish.{Built};
+ghost use Rattle.builder.specs.Lending.{noFactor};
+ghost use Rattle.reading.specs.Reading.{Placed};
+ghost use Rattle.group.specs.Handles.{handles, elementsOf, generatorsOf, allFit, capped};
+ghost use Rattle.appearance.specs.Renumber.{Mapped, mapRow, mapRows};
+ghost use Rattle.appearance.specs.Build.{Renumbering, renumberIn};
+ghost use Rattle.subgroup.specs.Lent.{shown, subgroupOf, Subgrouping, mapsRight};
+ghost use Rattle.subgroup.specs.Generated.{productOf, entriesRight, smallEnough, admitsGenerators, generatedInto};
+ghost use Rattle.factor.specs.Questions.{onReached};
+ghost use Rattle.egg.specs.declared.GroupElementId.{GroupElementId};
+ghost use Rattle.subgroup.specs.Indices.{factorIndices, unfactorIndices, withWithin};
+ghost use Rattle.subgroup.specs.Sides.{overSide, subSide, sidesFit, fewFactors, sidesLimited, admitsSides, leftOf, rightOf, joinable, ifLimited, multiplied, refusedSubgroup};
+ghost use Rattle.subgroup.specs.Questions.{carriedOver, carriedBack, scaled, sideGenerator};
+use super::Subgroup;
+use super::Subgrouped;
+use super::Within;
+use egg::Counted;
+use egg::GeneratorId;
+use egg::GroupElementId;
+use egg::Made;
+use egg::Reached;
+use egg::Refusal;
+use egg::Verdict;
+use group::Group;
+use group::inner::Asked;
+
+// A length or a position as far as 32 bits can tell.
+pub fn shown(i: usize) -> u32
+    ensures { λ r. ⌜ r ≡ shown i ⌝ }
+{
+    if i < 4294967295 { i as u32 } else { 4294967295 }
+}
+
+// 14 for the first entry that is no element.
+fn entries_right(over: Group, gens: &[u32]) -> Verdict
+    ensures { λ r. ⌜ r ≡ entriesRight (elementsOf (handles over)) (now (gens .entry)) ⌝ }
+{
+    let m = group::inner::elements_of(over);
+    let mut i: usize = 0;
+    while i < gens.len() {
+        let x = egg::inner::get(gens, i);
+        if m <= (x as u64) {
+            return egg::inner::refused(14, shown(i), 0, 0);
+        }
+        i += 1;
+    }
+    Verdict::Fine
+}
+
+// Whether the overgroup is a product, and small enough to number.
+pub fn small_enough(over: Group) -> bool
+    ensures { λ r. ⌜ r ≡ smallEnough over ⌝ }
+{
+    if !group::inner::limited(over) {
+        return false;
+    }
+    group::inner::elements_of(over) <= 65535
+}
+
+// 17, 14, 15.
+pub fn admit_generators(from: &[u32], over: Group, gens: &[u32]) -> Verdict
+    ensures { λ r. ⌜ r ≡ admitsGenerators (length (now (from .entry))) over (now (gens .entry)) ⌝ }
+{
+    if !group::inner::all_fit(from, over) {
+        return egg::inner::refused(17, 0, 0, 0);
+    }
+    let v = entries_right(over, gens);
+    let Verdict::Fine = v else {
+        return v;
+    };
+    if !small_enough(over) {
+        return egg::inner::refused(15, 0, 0, 0);
+    }
+    Verdict::Fine
+}
+
+// A row: from the element of e, by the elements of the generators, in the product.
+fn product_row(
+    t: &mut [u32],
+    inn: &mut [u32],
+    outw: &mut [u32],
+    from: &[u32],
+    over: Group,
+    gens: &[u32],
+    n: u8,
+    room: u32,
+    e: u32,
+    first: u32,
+) -> Counted
+    requires { ⌜ (allFit (length (now from)) (handles over) ≡ true) × (elementsOf (handles over) ≤ 4294967295) ⌝ }
+    ensures { λ r. ⌜ Mapped.mapped (Placed.placed r (now (t .exit))) (now (inn .exit)) (now (outw .exit)) ≡ mapRow n (productOf (now (from .entry)) (handles over) (now (gens .entry))) n room e 0 first (now (t .entry)) (now (inn .entry)) (now (outw .entry)) ⌝ }
+{
+    let mut g: u8 = 0;
+    let mut count = first;
+    while g < n {
+        let at = egg::inner::get(&outw[..], e as usize);
+        let by = egg::inner::get(gens, g as usize);
+        let reached = group::inner::digitwise(from, over, Asked::Compose, at, by);
+        let x = match reached {
+            Reached::Refused(why) => {
+                return Counted::Refused(why);
+            }
+            Reached::Element(y) => y.0,
+        };
+        let c = appearance::place(t, inn, outw, n, room, count, e, g, x);
+        let Counted::Count(k) = c else {
+            return c;
+        };
+        count = k;
+        g += 1;
+    }
+    Counted::Count(count)
+}
+
+// Rows in the order of their elements, as long as there is a next element.
+fn product_rows(
+    t: &mut [u32],
+    inn: &mut [u32],
+    outw: &mut [u32],
+    from: &[u32],
+    over: Group,
+    gens: &[u32],
+    n: u8,
+    room: u32,
+) -> Counted
+    requires { ⌜ (allFit (length (now from)) (handles over) ≡ true) × (elementsOf (handles over) ≤ 4294967295) ⌝ }
+    ensures { λ r. ⌜ Mapped.mapped (Placed.placed r (now (t .exit))) (now (inn .exit)) (now (outw .exit)) ≡ mapRows room (productOf (now (from .entry)) (handles over) (now (gens .entry))) n room 0 1 (now (t .entry)) (now (inn .entry)) (now (outw .entry)) ⌝ }
+{
+    let mut e: u32 = 0;
+    let mut count: u32 = 1;
+    while e < room {
+        if count <= e {
+            return Counted::Count(count);
+        }
+        let c = product_row(t, inn, outw, from, over, gens, n, room, e, count);
+        let Counted::Count(k) = c else {
+            return c;
+        };
+        count = k;
+        e += 1;
+    }
+    Counted::Count(count)
+}
+
+// The whole build, in its stretches.
+pub fn generated_in(
+    t: &mut [u32],
+    w: &mut [u32],
+    inn: &mut [u32],
+    outw: &mut [u32],
+    from: &[u32],
+    over: Group,
+    gens: &[u32],
+    n: u8,
+    room: u32,
+) -> Counted
+    requires { ⌜ (allFit (length (now from)) (handles over) ≡ true) × (elementsOf (handles over) ≤ 4294967295) ⌝ }
+    ensures { λ r. ⌜ Renumbering.renumbering (Built.built r (now (t .exit)) (now (w .exit))) (now (inn .exit)) (now (outw .exit)) ≡ renumberIn (length (now (t .entry))) (now (w .entry)) (productOf (now (from .entry)) (handles over) (now (gens .entry))) n room (length (now (inn .entry))) (length (now (outw .entry))) 0 ⌝ }
+{
+    egg::inner::clear(t);
+    appearance::start(inn, outw, 0);
+    let read = product_rows(t, inn, outw, from, over, gens, n, room);
+    let made = builder::inner::finish(t, w, n, read);
+    appearance::settle(inn, outw, made)
+}
+
+// The value that goes with what was made, or refused.
+pub fn subgroup_of(over: Group, made: Made) -> Subgrouped
+    ensures { λ r. ⌜ r ≡ subgroupOf over made ⌝ }
+{
+    let below = group::trivial();
+    let above = group::trivial();
+    let factor = made.factor;
+    let answer = made.answer;
+    let subgroup = Subgroup {
+        below,
+        factor,
+        over,
+        above,
+    };
+    Subgrouped { answer, subgroup }
+}
+
+pub fn refused_subgroup(over: Group, why: Refusal) -> Subgrouped
+    ensures { λ r. ⌜ r ≡ subgroupOf over (record { answer = verdict.Refused why; factor = noFactor }) ⌝ }
+{
+    subgroup_of(over, group::inner::no_factor_made(why))
+}
+
+// No 4: the room is within its limits, and neither table, work nor a map is short.
+pub fn maps_right(
+    table: usize,
+    start: usize,
+    work: usize,
+    inn: usize,
+    outw: usize,
+    room: u32,
+    n: u8,
+    m: u64,
+) -> bool
+    ensures { λ r. ⌜ r ≡ mapsRight table start work inn outw room n m ⌝ }
+{
+    if !builder::inner::lent_right(table, start, work, room, n) {
+        return false;
+    }
+    if (inn as u64) < m {
+        return false;
+    }
+    (room as usize) <= outw
+}
+
+// 1, then 4; then the build.
+pub fn generated_into(
+    from: &[u32],
+    over: Group,
+    gens: &[u32],
+    table: &mut [u32],
+    start: usize,
+    work: &mut [u32],
+    inn: &mut [u32],
+    outw: &mut [u32],
+    room: u32,
+) -> Subgrouped
+    requires { ⌜ (allFit (length (now from)) (handles over) ≡ true) × (elementsOf (handles over) ≤ 65535) ⌝ }
+    ensures { λ r. ⌜ Subgrouping.subgrouping r (now (table .exit)) (now (work .exit)) (now (inn .exit)) (now (outw .exit)) ≡ generatedInto (now (from .entry)) over (now (gens .entry)) (now (table .entry)) start (now (work .entry)) (now (inn .entry)) (now (outw .entry)) room ⌝ }
+{
+    let k = gens.len();
+    if 8 < k {
+        return subgroup_of(over, builder::inner::refused_made(1, shown(k)));
+    }
+    let n = k as u8;
+    let m = group::inner::elements_of(over) as usize;
+    let r = room as usize;
+    if !maps_right(
+        table.len(),
+        start,
+        work.len(),
+        inn.len(),
+        outw.len(),
+        room,
+        n,
+        m as u64,
+    ) {
+        return subgroup_of(over, builder::inner::refused_made(4, 0));
+    }
+    let end = builder::inner::stretch_end(table.len(), start, room, n);
+    let need = builder::inner::work_need(n, room);
+    let count = generated_in(
+        &mut table[start..end],
+        &mut work[..need],
+        &mut inn[..m],
+        &mut outw[..r],
+        from,
+        over,
+        gens,
+        n,
+        room,
+    );
+    subgroup_of(over, builder::inner::made(start, room, n, count))
+}
+
+// p·q as far as 32 bits can tell.
+fn times(p: u64, q: u64) -> u64
+    requires { ⌜ (p ≤ 4294967296) × (q ≤ 4294967296) ⌝ }
+    ensures { λ r. ⌜ r ≡ capped (p * q) ⌝ }
+{
+    if p == 0 {
+        return 0;
+    }
+    if q == 0 {
+        return 0;
+    }
+    if 4294967295 < p {
+        return 4294967296;
+    }
+    if 4294967295 < q {
+        return 4294967296;
+    }
+    let r = p * q;
+    if r <= 4294967295 { r } else { 4294967296 }
+}
+
+// How many elements a side has that has m between what is below and above.
+fn around(s: Subgroup, m: u64) -> u64
+    requires { ⌜ m ≤ 4294967296 ⌝ }
+    ensures { λ r. ⌜ r ≡ capped (elementsOf (handles (s .below)) * (m * elementsOf (handles (s .above)))) ⌝ }
+{
+    let below = s.below;
+    let above = s.above;
+    let high = times(m, group::inner::elements_of(above));
+    times(group::inner::elements_of(below), high)
+}
+
+pub fn over_elements(s: Subgroup) -> u64
+    ensures { λ r. ⌜ r ≡ capped (elementsOf (overSide s)) ⌝ }
+{
+    let over = s.over;
+    around(s, group::inner::elements_of(over))
+}
+
+pub fn sub_elements(s: Subgroup) -> u64
+    ensures { λ r. ⌜ r ≡ capped (elementsOf (subSide s)) ⌝ }
+{
+    let factor = s.factor;
+    around(s, factor.elements as u64)
+}
+
+// Whether every handle fits its buffer.
+pub fn sides_fit(from: &[u32], table: &[u32], s: Subgroup) -> bool
+    ensures { λ r. ⌜ r ≡ sidesFit (length (now (from .entry))) (length (now (table .entry))) s ⌝ }
+{
+    let factor = s.factor;
+    if !egg::fits(table, factor) {
+        return false;
+    }
+    let below = s.below;
+    if !group::inner::all_fit(from, below) {
+        return false;
+    }
+    let over = s.over;
+    if !group::inner::all_fit(from, over) {
+        return false;
+    }
+    let above = s.above;
+    group::inner::all_fit(from, above)
+}
+
+// Whether both sides have at most 8 factors.
+fn few_factors(s: Subgroup) -> bool
+    ensures { λ r. ⌜ r ≡ fewFactors s ⌝ }
+{
+    let below = s.below;
+    let over = s.over;
+    let above = s.above;
+    if 8 < below.count {
+        return false;
+    }
+    if 8 < over.count {
+        return false;
+    }
+    if 8 < above.count {
+        return false;
+    }
+    let k = group::inner::listed(below) + group::inner::listed(above);
+    if 8 < k + group::inner::listed(over) {
+        return false;
+    }
+    k < 8
+}
+
+// The same, and at most 4,294,967,295 elements.
+pub fn sides_limited(s: Subgroup) -> bool
+    ensures { λ r. ⌜ r ≡ sidesLimited s ⌝ }
+{
+    if !few_factors(s) {
+        return false;
+    }
+    if 4294967295 < over_elements(s) {
+        return false;
+    }
+    sub_elements(s) <= 4294967295
+}
+
+// 17 in the handles and for a short map, 14 for an argument and its limit, 15.
+pub fn admit(
+    from: &[u32],
+    table: &[u32],
+    s: Subgroup,
+    map: usize,
+    need: u64,
+    a: u32,
+    la: u64,
+) -> Verdict
+    ensures { λ r. ⌜ r ≡ admitsSides (length (now (from .entry))) (length (now (table .entry))) s map need a la ⌝ }
+{
+    if !sides_fit(from, table, s) {
+        return egg::inner::refused(17, 0, 0, 0);
+    }
+    if (map as u64) < need {
+        return egg::inner::refused(17, 0, 0, 0);
+    }
+    if la <= (a as u64) {
+        return egg::inner::refused(14, 0, 0, 0);
+    }
+    if !sides_limited(s) {
+        return egg::inner::refused(15, 0, 0, 0);
+    }
+    Verdict::Fine
+}
+
+// No subgroup.
+pub fn refused_sides(number: u32) -> Subgrouped
+    ensures { λ r. ⌜ r ≡ refusedSubgroup number ⌝ }
+{
+    let below = group::trivial();
+    let over = group::trivial();
+    let above = group::trivial();
+    let factor = group::inner::no_factor();
+    let subgroup = Subgroup {
+        below,
+        factor,
+        over,
+        above,
+    };
+    let answer = egg::inner::refused(number, 0, 0, 0);
+    Subgrouped { answer, subgroup }
+}
+
+// 15 unless both groups have at most 8 factors, and so have both together.
+fn joinable(g: Group, h: Group) -> bool
+    ensures { λ r. ⌜ r ≡ joinable g h ⌝ }
+{
+    if 8 < g.count {
+        return false;
+    }
+    if 8 < h.count {
+        return false;
+    }
+    group::inner::listed(g) + group::inner::listed(h) <= 8
+}
+
+// The value where it is within its limits.
+fn if_limited(s: Subgroup) -> Subgrouped
+    ensures { λ r. ⌜ r ≡ ifLimited s ⌝ }
+{
+    if !sides_limited(s) {
+        return refused_sides(15);
+    }
+    Subgrouped {
+        answer: Verdict::Fine,
+        subgroup: s,
+    }
+}
+
+pub fn left_of(g: Group, s: Subgroup) -> Subgrouped
+    ensures { λ r. ⌜ r ≡ multiplied g (s .below) (leftOf g s) ⌝ }
+{
+    let side = s.below;
+    if !joinable(g, side) {
+        return refused_sides(15);
+    }
+    let below = group::inner::joined(g, side);
+    let factor = s.factor;
+    let over = s.over;
+    let above = s.above;
+    if_limited(Subgroup {
+        below,
+        factor,
+        over,
+        above,
+    })
+}
+
+pub fn right_of(s: Subgroup, g: Group) -> Subgrouped
+    ensures { λ r. ⌜ r ≡ multiplied (s .above) g (rightOf s g) ⌝ }
+{
+    let side = s.above;
+    if !joinable(side, g) {
+        return refused_sides(15);
+    }
+    let above = group::inner::joined(side, g);
+    let factor = s.factor;
+    let over = s.over;
+    let below = s.below;
+    if_limited(Subgroup {
+        below,
+        factor,
+        over,
+        above,
+    })
+}
+
+// x with w for its part within, where the factors there have n elements and are to have m.
+fn replaced(x: u32, stride: u64, n: u64, w: u32, m: u64) -> u32
+    requires { ⌜ (1 ≤ stride) × ((1 ≤ n) × (unfactorIndices (withWithin (factorIndices x stride n) w) stride m < 4294967296)) ⌝ }
+    ensures { λ r. ⌜ r ≡ unfactorIndices (withWithin (factorIndices x stride n) w) stride m ⌝ }
+{
+    let y = x as u64;
+    (((y / stride / n) * m + (w as u64)) * stride + y % stride) as u32
+}
+
+// The subgroup's e in the overgroup.
+pub fn carry_over(outw: &[u32], s: Subgroup, e: u32) -> Reached
+    requires { ⌜ (e < elementsOf (subSide s)) × ((elementsOf (subSide s) ≤ 4294967295) × (elementsOf (overSide s) ≤ 4294967295)) ⌝ }
+    ensures { λ r. ⌜ r ≡ carriedOver s (now (outw .entry)) e ⌝ }
+{
+    let below = s.below;
+    let over = s.over;
+    let factor = s.factor;
+    let stride = group::inner::elements_of(below);
+    let m = group::inner::elements_of(over);
+    let n = factor.elements as u64;
+    let w = egg::inner::get(outw, ((e as u64) / stride % n) as usize);
+    if m <= (w as u64) {
+        return egg::inner::refuse(17, 0);
+    }
+    Reached::Element(GroupElementId(replaced(e, stride, n, w, m)))
+}
+
+// The overgroup's x in the subgroup.
+pub fn carry_back(inn: &[u32], s: Subgroup, x: u32) -> Within
+    requires { ⌜ (x < elementsOf (overSide s)) × ((elementsOf (subSide s) ≤ 4294967295) × (elementsOf (overSide s) ≤ 4294967295)) ⌝ }
+    ensures { λ r. ⌜ r ≡ carriedBack s (now (inn .entry)) x ⌝ }
+{
+    let below = s.below;
+    let over = s.over;
+    let factor = s.factor;
+    let stride = group::inner::elements_of(below);
+    let m = group::inner::elements_of(over);
+    let n = factor.elements;
+    let w = egg::inner::get(inn, ((x as u64) / stride % m) as usize);
+    if w == 4294967295 {
+        return Within::Outside;
+    }
+    if n <= w {
+        return Within::Refused(Refusal {
+            number: 17,
+            a: 0,
+            b: 0,
+            c: 0,
+        });
+    }
+    Within::Element(GroupElementId(replaced(x, stride, m, w, n as u64)))
+}
+
+pub fn sub_generators(s: Subgroup) -> u32
+    ensures { λ r. ⌜ r ≡ generatorsOf (subSide s) ⌝ }
+{
+    let below = s.below;
+    let above = s.above;
+    let factor = s.factor;
+    let low = group::inner::generators_of(below);
+    let high = group::inner::generators_of(above);
+    low + ((factor.generators as u32) + high)
+}
+
+// An element of some factors, as one of the product in which k elements are below them.
+fn scaled(r: Reached, k: u64) -> Reached
+    requires { ⌜ ((y : GroupElementId) → r ≡ Reached.Element y → k * y .0 < 4294967296) ⌝ }
+    ensures { λ x. ⌜ x ≡ scaled k r ⌝ }
+{
+    match r {
+        Reached::Refused(why) => Reached::Refused(why),
+        Reached::Element(y) => Reached::Element(GroupElementId((k * (y.0 as u64)) as u32)),
+    }
+}
+
+// The generator g as an element of the subgroup's product.
+fn side_generator(from: &[u32], table: &[u32], s: Subgroup, g: u8) -> Reached
+    requires { ⌜ (sidesFit (length (now from)) (length (now table)) s ≡ true) × (sidesLimited s ≡ true) ⌝ }
+    ensures { λ r. ⌜ r ≡ sideGenerator (now (from .entry)) (now (table .entry)) s g ⌝ }
+{
+    let below = s.below;
+    let above = s.above;
+    let factor = s.factor;
+    let k = group::inner::generators_of(below);
+    if (g as u32) < k {
+        return group::inner::step_in(from, below, GroupElementId(0), GeneratorId(g));
+    }
+    let left = ((g as u32) - k) as u8;
+    let stride = group::inner::elements_of(below);
+    if left < factor.generators {
+        let part = egg::inner::part(table, factor);
+        let within = egg::inner::next(
+            part,
+            factor.generators,
+            factor.elements,
+            GroupElementId(0),
+            GeneratorId(left),
+        );
+        return scaled(within, stride);
+    }
+    let high = group::inner::step_in(
+        from,
+        above,
+        GroupElementId(0),
+        GeneratorId(left - factor.generators),
+    );
+    scaled(high, stride * (factor.elements as u64))
+}
+
+// The same in the overgroup.
+pub fn generator_over(from: &[u32], table: &[u32], s: Subgroup, outw: &[u32], g: u8) -> Reached
+    requires { ⌜ (sidesFit (length (now from)) (length (now table)) s ≡ true) × (sidesLimited s ≡ true) ⌝ }
+    ensures { λ r. ⌜ r ≡ onReached (sideGenerator (now (from .entry)) (now (table .entry)) s g) (λ e. carriedOver s (now (outw .entry)) e) ⌝ }
+{
+    let r = side_generator(from, table, s, g);
+    let Reached::Element(e) = r else {
+        return r;
+    };
+    carry_over(outw, s, e.0)
+}

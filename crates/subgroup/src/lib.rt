@@ -1,0 +1,145 @@
+// subgroup_action.rs without its actions: subgroups of a product, numbered in order of first appearance, with two lent maps between them and the overgroup.
+// Every call checks, in this order: 17 for each handle, 14 for its arguments, 15, 1, 4, and then 17 in what it reads.
+ghost use mathlib.Core.Path.{_≡_};
+ghost use Rattle.subgroup.specs.Lent.{Subgrouping};
+ghost use Rattle.subgroup.specs.Generated.{fromGenerators};
+ghost use Rattle.subgroup.specs.Sides.{leftProduct, rightProduct};
+ghost use Rattle.subgroup.specs.Questions.{toOverAnswer, toSubAnswer, generatorAnswer};
+ghost use lib.ListN.{length};
+use egg::Factor;
+use egg::GeneratorId;
+use egg::GroupElementId;
+use egg::Reached;
+use egg::Refusal;
+use egg::Verdict;
+use group::Group;
+
+pub mod inner;
+
+// A subgroup of the product `over`, with other factors multiplied on at either side: the overgroup is below · over · above, and the subgroup is below · factor · above,
+// the fastest digit first. The handles of the overgroup stand in one lent buffer, the factor in the one that it was built in.
+pub struct Subgroup {
+    pub below: Group,
+    pub factor: Factor,
+    pub over: Group,
+    pub above: Group,
+}
+
+// What a call that makes a subgroup answers; the subgroup stands beside the verdict, and its factor fits no buffer where it was refused.
+pub struct Subgrouped {
+    pub answer: Verdict,
+    pub subgroup: Subgroup,
+}
+
+// What an element of the overgroup is in the subgroup.
+pub enum Within {
+    Element(GroupElementId),
+    Outside,
+    Refused(Refusal),
+}
+
+// The subgroup that the elements `gens` of a product in `from` generate, built into the stretch of `table` that starts at `start`; `inn` maps the overgroup's
+// elements to the subgroup's, or to 4,294,967,295, and `outw` the subgroup's to the overgroup's.
+pub fn from_generators(
+    from: &[u32],
+    over: Group,
+    gens: &[u32],
+    table: &mut [u32],
+    start: usize,
+    work: &mut [u32],
+    inn: &mut [u32],
+    outw: &mut [u32],
+    room: u32,
+) -> Subgrouped
+    ensures { λ r. ⌜ Subgrouping.subgrouping r (now (table .exit)) (now (work .exit)) (now (inn .exit)) (now (outw .exit)) ≡ fromGenerators (now (from .entry)) over (now (gens .entry)) (now (table .entry)) start (now (work .entry)) (now (inn .entry)) (now (outw .entry)) room ⌝ }
+{
+    match inner::admit_generators(from, over, gens) {
+        Verdict::Refused(why) => inner::refused_subgroup(over, why),
+        Verdict::Fine => inner::generated_into(
+            from,
+            over,
+            gens,
+            table,
+            start,
+            work,
+            inn,
+            outw,
+            room,
+        ),
+    }
+}
+
+// The subgroup of g · overgroup that is g · subgroup.
+pub fn product_left(from: &[u32], table: &[u32], g: Group, s: Subgroup) -> Subgrouped
+    ensures { λ r. ⌜ r ≡ leftProduct (length (now (from .entry))) (length (now (table .entry))) g s ⌝ }
+{
+    if !inner::sides_fit(from, table, s) {
+        return inner::refused_sides(17);
+    }
+    if !group::inner::all_fit(from, g) {
+        return inner::refused_sides(17);
+    }
+    inner::left_of(g, s)
+}
+
+// The subgroup of overgroup · g that is subgroup · g.
+pub fn product_right(from: &[u32], table: &[u32], s: Subgroup, g: Group) -> Subgrouped
+    ensures { λ r. ⌜ r ≡ rightProduct (length (now (from .entry))) (length (now (table .entry))) s g ⌝ }
+{
+    if !inner::sides_fit(from, table, s) {
+        return inner::refused_sides(17);
+    }
+    if !group::inner::all_fit(from, g) {
+        return inner::refused_sides(17);
+    }
+    inner::right_of(s, g)
+}
+
+// The element of the overgroup that the subgroup's e is.
+pub fn to_overgroup(
+    from: &[u32],
+    table: &[u32],
+    s: Subgroup,
+    outw: &[u32],
+    e: GroupElementId,
+) -> Reached
+    ensures { λ r. ⌜ r ≡ toOverAnswer (length (now (from .entry))) (length (now (table .entry))) s (now (outw .entry)) e ⌝ }
+{
+    let factor = s.factor;
+    let n = factor.elements as u64;
+    match inner::admit(from, table, s, outw.len(), n, e.0, inner::sub_elements(s)) {
+        Verdict::Refused(why) => Reached::Refused(why),
+        Verdict::Fine => inner::carry_over(outw, s, e.0),
+    }
+}
+
+// The element of the subgroup that the overgroup's x is.
+pub fn to_subgroup(
+    from: &[u32],
+    table: &[u32],
+    s: Subgroup,
+    inn: &[u32],
+    x: GroupElementId,
+) -> Within
+    ensures { λ r. ⌜ r ≡ toSubAnswer (length (now (from .entry))) (length (now (table .entry))) s (now (inn .entry)) x ⌝ }
+{
+    let over = s.over;
+    let m = group::inner::elements_of(over);
+    match inner::admit(from, table, s, inn.len(), m, x.0, inner::over_elements(s)) {
+        Verdict::Refused(why) => Within::Refused(why),
+        Verdict::Fine => inner::carry_back(inn, s, x.0),
+    }
+}
+
+// The generator g of the subgroup, as an element of the overgroup.
+pub fn generator(from: &[u32], table: &[u32], s: Subgroup, outw: &[u32], g: GeneratorId) -> Reached
+    ensures { λ r. ⌜ r ≡ generatorAnswer (now (from .entry)) (now (table .entry)) s (now (outw .entry)) g ⌝ }
+{
+    let factor = s.factor;
+    let n = factor.elements as u64;
+    let k = inner::sub_generators(s) as u64;
+    match inner::admit(from, table, s, outw.len(), n, g.0 as u32, k) {
+        Verdict::Refused(why) => Reached::Refused(why),
+        Verdict::Fine => inner::generator_over(from, table, s, outw, g.0),
+    }
+}

@@ -1,0 +1,160 @@
+-- What a refused `from_generators` leaves, on any input: nothing touched, or zeros. A numbering keeps the lengths of its lists, whatever the source says.
+-- Assumes nothing.
+use Prim.Native.Nat.{ℕ, zero, suc, _+_, _*_, _≤_, _<_}
+use mathlib.Core.Path.{_≡_, refl, sym, ap, _∙_, subst}
+use mathlib.Core.Bool.{Bool, true, false}
+use mathlib.Core.List.{List}
+use native.Mathlib.Omega.{arith}
+use borrow.Author.Tests.{leb-true}
+use lib.Dec.{eqb, ltb}
+use lib.ListN.{length, getD, take, replicate, length-replicate}
+use lib.Seq.{length-take-le}
+use Rattle.egg.specs.declared.Refusal.{Refusal}
+use Rattle.egg.specs.declared.GroupElementId.{GroupElementId}
+use Rattle.egg.specs.declared.GeneratorId.{GeneratorId}
+use Rattle.egg.specs.declared.Reached.{Reached}
+use Rattle.egg.specs.declared.Reached.the-variants as reached
+use Rattle.egg.specs.declared.Verdict.the-variants as verdict
+use Rattle.egg.specs.declared.Counted.{Counted}
+use Rattle.egg.specs.declared.Counted.the-variants.{Count, Refused}
+use Rattle.egg.specs.Table.{pick, putAt}
+use Rattle.checks.specs.Checks.{Checked, checked, check-group}
+use Rattle.reading.specs.Build.{setStep, adds}
+use Rattle.reading.specs.Reading.{placed}
+use Rattle.builder.specs.Finish.{Built, built, zeroed, settledBy, finished, finishedPlaced}
+use Rattle.builder.specs.Lending.{tableNeed, workNeed, lentRight, within}
+use Rattle.builder.proofs.Lending.{lent-enough}
+use Rattle.meaning.proofs.Lengths.{checks-work}
+use Rattle.derived.proofs.Marking.{set-length}
+use Rattle.promises.proofs.ReadLengths.{adds-length}
+use Rattle.meaning.proofs.Accepted.{checks-kept}
+use Rattle.group.specs.declared.Group.{Group}
+use Rattle.group.specs.Handles.{handles, elementsOf}
+use Rattle.appearance.specs.Renumber.{none, Mapped, mapped, thenMapped, onNew, mapPlace, mapFrom, mapRow, mapRows, mapAll}
+use Rattle.appearance.specs.Build.{Renumbering, renumbering, settledMaps, finishedMapped, renumberIn}
+use Rattle.renumbering.proofs.Builds.{builtOf, settled-built, refused-maps}
+use Rattle.subgroup.specs.declared.Subgroup.{Subgroup}
+use Rattle.subgroup.specs.declared.Subgrouped.{Subgrouped}
+use Rattle.subgroup.specs.Lent.{subgroupOf, Subgrouping, subgrouping, mapsRight, mapsBack}
+use Rattle.subgroup.specs.Generated.{productOf, fromGenerators}
+use Rattle.subgroup.proofs.Admits.{maps-lent}
+use Rattle.subgroups.specs.Generates.{Started, Leaving, untouched, zeros}
+use Rattle.subgroups.proofs.Called.{Ways, early, late, ways, is-build, back-refused, Turned}
+
+abbrev pub tableIn : Mapped → List ℕ
+tableIn (mapped (placed c t) inn outw) = t
+
+new-table : (r : Reached) (t inn outw : List ℕ) (count x : ℕ) → tableIn (onNew r t inn outw count x) ≡ t
+new-table (reached.Element e) t inn outw count x = refl
+new-table (reached.Refused r) t inn outw count x = refl
+
+place-long : (t inn outw : List ℕ) (n room count e g x : ℕ) → length (tableIn (mapPlace t inn outw n room count e g x)) ≡ length t
+unfolding mapPlace
+place-long t inn outw n room count e g x = by (eqb (getD inn x 0) none) where
+  at : GroupElementId
+  at = record { 0 = e }
+
+  by-generator : GeneratorId
+  by-generator = record { 0 = g }
+
+  by : (b : Bool) → length (tableIn (pick {A = Mapped} b
+      (onNew (adds t n room count at by-generator .answer) (adds t n room count at by-generator .table) inn outw count x)
+      (mapped (placed (Count count) (setStep t n at by-generator (record { 0 = getD inn x 0 }))) inn outw))) ≡ length t
+  by true =
+      ap length (new-table (adds t n room count at by-generator .answer) (adds t n room count at by-generator .table) inn outw count x)
+      ∙ adds-length t n room count at by-generator
+  by false = set-length t n at by-generator (record { 0 = getD inn x 0 })
+
+from-long : (r : Reached) (t inn outw : List ℕ) (n room count e g : ℕ) → length (tableIn (mapFrom r t inn outw n room count e g)) ≡ length t
+from-long (reached.Element x) t inn outw n room count e g = place-long t inn outw n room count e g (x .0)
+from-long (reached.Refused r) t inn outw n room count e g = refl
+
+then-long : (k : ℕ) (m : Mapped) (f : ℕ → List ℕ → List ℕ → List ℕ → Mapped) → length (tableIn m) ≡ k
+    → ((c : ℕ) (t inn outw : List ℕ) → length t ≡ k → length (tableIn (f c t inn outw)) ≡ k) → length (tableIn (thenMapped m f)) ≡ k
+then-long k (mapped (placed (Count c) t) inn outw) f h g = g c t inn outw h
+then-long k (mapped (placed (Refused r) t) inn outw) f h g = h
+
+row-long : (k : ℕ) (source : ℕ → ℕ → Reached) (n room e g count : ℕ) (t inn outw : List ℕ)
+    → length (tableIn (mapRow k source n room e g count t inn outw)) ≡ length t
+unfolding mapRow
+row-long zero source n room e g count t inn outw = refl
+row-long (suc k) source n room e g count t inn outw =
+    then-long (length t) (mapFrom (source (getD outw e 0) g) t inn outw n room count e g) _ (from-long (source (getD outw e 0) g) t inn outw n room count e g)
+    (λ c t′ inn′ outw′ h. row-long k source n room e (g + 1) c t′ inn′ outw′ ∙ h)
+
+pick-long : (k : ℕ) (b : Bool) (u v : Mapped) → length (tableIn u) ≡ k → length (tableIn v) ≡ k → length (tableIn (pick b u v)) ≡ k
+pick-long k true u v p q = p
+pick-long k false u v p q = q
+
+pub rows-long : (k : ℕ) (source : ℕ → ℕ → Reached) (n room e count : ℕ) (t inn outw : List ℕ)
+    → length (tableIn (mapRows k source n room e count t inn outw)) ≡ length t
+unfolding mapRows
+rows-long zero source n room e count t inn outw = refl
+rows-long (suc k) source n room e count t inn outw =
+    pick-long (length t) (ltb e count) _ _
+    (then-long (length t) (mapRow n source n room e 0 count t inn outw) _ (row-long n source n room e 0 count t inn outw)
+    (λ c t′ inn′ outw′ h. rows-long k source n room (e + 1) c t′ inn′ outw′ ∙ h)) refl
+
+-- A refused build leaves zeros in both stretches.
+settled-zero : (c : ℕ) (k : Checked) (t₀ w₀ : List ℕ) (n : ℕ) → check-group t₀ w₀ n c ≡ k → {r : Refusal} {t w : List ℕ} → settledBy c k ≡ built (Refused r) t w
+    → (t ≡ replicate (length t₀) 0) × (w ≡ replicate (length w₀) 0)
+settled-zero c (checked verdict.Fine t₁ w₁) t₀ w₀ n h {r} {t} {w} q = absurd (never q) where
+  never : built (Count c) t₁ (zeroed w₁) ≡ built (Refused r) t w → ⊥
+  never z = let x : _≡_ {A = ℕ} 0 1 = cc in omega arith
+settled-zero c (checked (verdict.Refused s) t₁ w₁) t₀ w₀ n h {r} {t} {w} q =
+    let a : t ≡ zeroed t₁ = cc in
+    let b : w ≡ zeroed w₁ = cc in
+    (a ∙ ap (λ (k : ℕ). replicate k 0) (checks-kept t₀ w₀ n c h .size), b ∙ ap (λ (k : ℕ). replicate k 0) (checks-work t₀ w₀ n c h))
+
+finished-zero : (c : Counted) (n : ℕ) (t₀ w₀ : List ℕ) {r : Refusal} {t w : List ℕ} → finished c n t₀ w₀ ≡ built (Refused r) t w
+    → (t ≡ replicate (length t₀) 0) × (w ≡ replicate (length w₀) 0)
+unfolding finished
+finished-zero (Count c) n t₀ w₀ q = settled-zero c (check-group t₀ w₀ n c) t₀ w₀ n refl q
+finished-zero (Refused s) n t₀ w₀ {r} {t} {w} q = (cc, cc)
+
+pub refused-stretches : (size : ℕ) (w₀ : List ℕ) (source : ℕ → ℕ → Reached) (n room M K x₀ : ℕ) {r : Refusal} {t w inn outw : List ℕ}
+    → renumberIn size w₀ source n room M K x₀ ≡ renumbering (built (Refused r) t w) inn outw → (t ≡ replicate size 0) × (w ≡ replicate (length w₀) 0)
+unfolding renumberIn
+refused-stretches size w₀ source n room M K x₀ {r} {t} {w} {inn} {outw} q =
+    go (mapAll source n room M K x₀ (replicate size 0))
+    (rows-long room source n room 0 1 (replicate size 0) (putAt (replicate M none) x₀ 0) (putAt (replicate K 0) 0 x₀) ∙ length-replicate size 0) q
+  where
+    go : (m : Mapped) → length (tableIn m) ≡ size → finishedMapped m n w₀ ≡ renumbering (built (Refused r) t w) inn outw
+        → (t ≡ replicate size 0) × (w ≡ replicate (length w₀) 0)
+    go (mapped (placed c t₀) i o) h z =
+        let F = finished-zero c n t₀ w₀ (sym (settled-built (finished c n t₀ w₀) i o) ∙ ap builtOf z) in
+        (F .0 ∙ ap (λ (k : ℕ). replicate k 0) h, F .1)
+
+module _ (from : List ℕ) (over : Group) (gens table : List ℕ) (start : ℕ) (work inn outw : List ℕ) (room : ℕ) where
+  -- "1 to 4, 14, and 15 to 17 given before a build starts .. change nothing. Once it has started, any refusal .. leaves the needed stretch of table and work,
+  -- and subgroup maps, zero."
+  pub generators-leave : {r : Refusal} {s : Subgroup} {t w i o : List ℕ}
+      → fromGenerators from over gens table start work inn outw room ≡ subgrouping (record { answer = verdict.Refused r; subgroup = s }) t w i o
+      → Leaving over (length gens) table start work inn outw room t w i o
+  generators-leave {r} {s} {t} {w} {i} {o} q = go (ways from over gens table start work inn outw room) where
+    started : (S : Started from over gens table start work inn outw room) → Leaving over (length gens) table start work inn outw room t w i o
+    started S =
+        let n : ℕ = length gens in
+        let T = back-refused from over gens table start work inn outw room _ (sym (is-build from over gens table start work inn outw room S) ∙ q) in
+        let Z = refused-stretches (tableNeed n room) (take (workNeed n room) work) (productOf from (handles over) gens) n room (elementsOf (handles over)) room 0
+        (T .is) in
+        let Y = refused-maps (tableNeed n room) (take (workNeed n room) work) (productOf from (handles over) gens) n room (elementsOf (handles over)) room 0
+        (T .is) in
+        let l : length (take (workNeed n room) work) ≡ workNeed n room =
+        length-take-le (workNeed n room) work (leb-true _ _ (lent-enough (length table) start (length work) room n
+        (maps-lent (length table) start (length work) (length inn) (length outw) room n (elementsOf (handles over)) (S .lent)))) in
+        zeros (T .table-is ∙ ap (λ (x : List ℕ). within table start (start + tableNeed n room) x) (Z .0))
+        (T .work-is ∙ ap (λ (x : List ℕ). within work 0 (workNeed n room) x) (Z .1 ∙ ap (λ (k : ℕ). replicate k 0) l))
+        (T .inn-is ∙ ap (λ (x : List ℕ). within inn 0 (elementsOf (handles over)) x) (Y .0))
+        (T .outw-is ∙ ap (λ (x : List ℕ). within outw 0 room x) (Y .1))
+
+    go : Ways from over gens table start work inn outw room → Leaving over (length gens) table start work inn outw room t w i o
+    go (early r′ z) =
+        let e = sym q ∙ z in
+        untouched (cc) (cc) (cc) (cc)
+    go (late S) = started S
+
+-- "That the answer is unique is proved": two outcomes that meet the contract of a call that makes a subgroup are the same, answer and buffers.
+pub determined-subgrouping : {defined : Subgrouping} {s s′ : Subgrouped} {t t′ w w′ i i′ o o′ : List ℕ}
+    → subgrouping s t w i o ≡ defined → subgrouping s′ t′ w′ i′ o′ ≡ defined → (s ≡ s′) × ((t ≡ t′) × ((w ≡ w′) × ((i ≡ i′) × (o ≡ o′))))
+determined-subgrouping p q = let e = p ∙ sym q in (cc, (cc, (cc, (cc, cc))))

@@ -1,0 +1,290 @@
+-- `from_predicate` in its buffers: refused with nothing touched, or the builds put back; and what an accepted call gives.
+-- Assumes nothing.
+use Prim.Native.Nat.{ℕ, _+_, _*_, _≤_, _<_}
+use mathlib.Core.Path.{_≡_, refl, sym, ap, _∙_, subst}
+use mathlib.Core.Logic.{_↔_}
+use mathlib.Core.Bool.{Bool, true, false, _&&_}
+use mathlib.Core.List.{List, [], _++_}
+use native.Mathlib.Nat.{le-refl}
+use native.Mathlib.Omega.{arith}
+use borrow.Author.Tests.{le-leb, leb-true}
+use lib.Dec.{leb}
+use lib.ListN.{length, getD, take, drop}
+use lib.Seq.{length-take-le, drop-at, take-append-le}
+use Rattle.egg.specs.declared.Factor.{Factor}
+use Rattle.egg.specs.declared.Refusal.{Refusal}
+use Rattle.egg.specs.declared.Reached.the-variants as reached
+use Rattle.egg.specs.declared.Verdict.{Verdict}
+use Rattle.egg.specs.declared.Verdict.the-variants.{Fine, Refused}
+use Rattle.egg.specs.declared.Counted.the-variants as counted
+use Rattle.egg.specs.Factor.{hasRoom, fitsIn, stretch}
+use Rattle.egg.proofs.Rooms.{positive, limited, within-length, and-first, and-second}
+use Rattle.egg.proofs.Scans.{refused-fine}
+use Rattle.reading.specs.Build.{numbered}
+use Rattle.builder.specs.Finish.{built}
+use Rattle.builder.specs.Lending.{tableNeed, workNeed, lentRight, within, noFactor, refusedMade, madeOf}
+use Rattle.builder.proofs.Lending.{lent-table, lent-enough}
+use Rattle.theory.specs.Group.{GroupOn}
+use Rattle.promises.proofs.Lent.{handle, within-long}
+use Rattle.products.specs.Product.{product}
+use Rattle.group.specs.declared.Group.{Group}
+use Rattle.group.specs.Handles.{handles, elementsOf, groupOf}
+use Rattle.group.specs.Powers.{composes}
+use Rattle.groups.specs.Products.{parts, AllAccepted, direct}
+use Rattle.groups.proofs.Parts.{parts-elements}
+use Rattle.appearance.specs.Renumber as appear
+use Rattle.appearance.specs.Build.{Renumbering, renumbering}
+use Rattle.subgroup.specs.declared.Subgroup.{Subgroup}
+use Rattle.subgroup.specs.declared.Subgrouped.{Subgrouped}
+use Rattle.subgroup.specs.Lent.{subgroupOf, Subgrouping, subgrouping, mapsRight, mapsBack}
+use Rattle.subgroup.specs.Generated.{smallEnough}
+use Rattle.subgroup.proofs.Admits.{small-elements, maps-lent}
+use Rattle.predicate.specs.Predicate.{Picked, picked, predicateIn, admitsOver, toldBack, toldInto, fromPredicate}
+use Rattle.predicate.proofs.Choices.{over-fine, over-admitted}
+use Rattle.meaning.specs.Sound.{Sound, Ruled}
+use Rattle.subgroups.specs.Told.{Told, Untold}
+use Rattle.subgroups.specs.Tells.{Predicated, Tells}
+use Rattle.subgroups.proofs.Overgroup.{product-answers, product-overgroup}
+use Rattle.subgroups.proofs.Given.{predicate-told, predicate-untold, told-subgroup, predicate-narrow}
+use Rattle.subgroups.proofs.Telling.{eight-rows}
+use Rattle.subgroups.proofs.Called.{front-cell, carried-as, fine-refused, same-refusal}
+
+module _ (from : List ℕ) (over : Group) (members table : List ℕ) (start : ℕ) (work inn outw : List ℕ) (room : ℕ) where
+  abbrev M : ℕ
+  M = elementsOf (handles over)
+
+  abbrev byte : ℕ → ℕ
+  byte x = getD members x 0
+
+  abbrev whole : Picked
+  whole = predicateIn (tableNeed 8 room) (take (workNeed 8 room) work) (composes from (handles over)) room M room (λ x. getD members x 0)
+
+  early-arguments : {r : Refusal} → admitsOver (length from) over ≡ Refused r
+      → fromPredicate from over members table start work inn outw room
+      ≡ subgrouping (subgroupOf over (record { answer = Refused r; factor = noFactor })) table work inn outw
+  unfolding fromPredicate
+  early-arguments q = rw q
+
+  early-short : admitsOver (length from) over ≡ Fine
+      → mapsRight (length table) start (length work) (length inn) (length outw) room 8 M && leb M (length members) ≡ false
+      → fromPredicate from over members table start work inn outw room ≡ subgrouping (subgroupOf over (refusedMade 4 0)) table work inn outw
+  unfolding fromPredicate toldInto
+  early-short q l = rw (q, l)
+
+  pub is-told : Predicated from over members table start work inn outw room
+      → fromPredicate from over members table start work inn outw room ≡ toldBack over table start work inn outw M room whole
+  unfolding fromPredicate toldInto
+  is-told S =
+      let v : admitsOver (length from) over ≡ Fine = sym (over-fine (length from) over (S .fits) refl (S .small)) in
+      rw (v, S .lent, le-leb M (length members) (S .bytes))
+
+  pub data Ways : Type 0 where
+    early : (r : Refusal)
+        → fromPredicate from over members table start work inn outw room
+        ≡ subgrouping (subgroupOf over (record { answer = Refused r; factor = noFactor })) table work inn outw → Ways
+    late : Predicated from over members table start work inn outw room → Ways
+
+  pub ways : Ways
+  ways = by (admitsOver (length from) over) (mapsRight (length table) start (length work) (length inn) (length outw) room 8 M && leb M (length members)) refl refl
+    where
+      by : (v : Verdict) (b : Bool) → admitsOver (length from) over ≡ v
+          → mapsRight (length table) start (length work) (length inn) (length outw) room 8 M && leb M (length members) ≡ b → Ways
+      by (Refused r) b q l = early r (early-arguments q)
+      by Fine false q l = early (numbered 4 0 0 0) (early-short q l)
+      by Fine true q l =
+          let A = over-admitted (length from) over refl q in
+          late (record {
+            fits = A .0;
+            small = A .1;
+            lent = and-first _ _ l;
+            bytes = leb-true _ _ (and-second (mapsRight (length table) start (length work) (length inn) (length outw) room 8 M) _ l);
+          })
+
+  record Backed (b : Picked) (s : Subgroup) (t w i o : List ℕ) : Type 0 where
+    pub gens : List ℕ
+    pub count : ℕ
+    pub table′ : List ℕ
+    pub work′ : List ℕ
+    pub inn′ : List ℕ
+    pub outw′ : List ℕ
+    pub is : b ≡ picked gens (renumbering (built (counted.Count count) table′ work′) inn′ outw′)
+    pub value : s ≡ record { below = groupOf []; factor = handle start (length gens) room count; over = over; above = groupOf [] }
+    pub table-is : t ≡ within table start (start + tableNeed 8 room) table′
+    pub work-is : w ≡ within work 0 (workNeed 8 room) work′
+    pub inn-is : i ≡ within inn 0 M inn′
+    pub outw-is : o ≡ within outw 0 room outw′
+
+  back-accepted : (b : Picked) {s : Subgroup} {t w i o : List ℕ}
+      → toldBack over table start work inn outw M room b ≡ subgrouping (record { answer = Fine; subgroup = s }) t w i o → Backed b s t w i o
+  back-accepted (picked gens (renumbering (built (counted.Count c) t′ w′) i′ o′)) {s} q =
+      let m : subgroupOf over (madeOf start room (length gens) (counted.Count c)) ≡ record { answer = Fine; subgroup = s } = cc in
+      record {
+        gens = gens;
+        count = c;
+        table′ = t′;
+        work′ = w′;
+        inn′ = i′;
+        outw′ = o′;
+        is = refl;
+        value = sym (ap (λ (x : Subgrouped). x .subgroup) m);
+        table-is = cc;
+        work-is = cc;
+        inn-is = cc;
+        outw-is = cc;
+      }
+  back-accepted (picked gens (renumbering (built (counted.Refused r) t′ w′) i′ o′)) q = absurd (fine-refused q)
+
+  back-refused : (b : Picked) {r : Refusal} {s : Subgroup} {t w i o : List ℕ}
+      → toldBack over table start work inn outw M room b ≡ subgrouping (record { answer = Refused r; subgroup = s }) t w i o
+      → (gens : List ℕ) × (t′ : List ℕ) × (w′ : List ℕ) × (i′ : List ℕ) × (o′ : List ℕ) × (b ≡ picked gens (renumbering (built (counted.Refused r) t′ w′) i′ o′))
+  back-refused (picked gens (renumbering (built (counted.Count c) t′ w′) i′ o′)) q = absurd (fine-refused (sym q))
+  back-refused (picked gens (renumbering (built (counted.Refused f) t′ w′) i′ o′)) {r} q =
+      let e : f ≡ r = same-refusal q in
+      (gens, t′, w′, i′, o′, ap (λ (x : Refusal). picked gens (renumbering (built (counted.Refused x) t′ w′) i′ o′)) e)
+
+  module _ (S : Predicated from over members table start work inn outw room) (As : AllAccepted from (handles over)) where
+    abbrev op : ℕ → ℕ → ℕ
+    op = direct from over .op
+
+    abbrev inv : ℕ → ℕ
+    inv = direct from over .inv
+
+    G : GroupOn M op inv
+    G = subst (λ (k : ℕ). GroupOn k op inv) (parts-elements from (handles over)) (product-overgroup from As)
+
+    small : M ≤ 4294967295
+    small = omega (arith, small-elements over (S .small))
+
+    inside : {x : ℕ} → x < M → x < product (parts from (handles over)) .elements
+    inside h = rw (parts-elements from (handles over)) h
+
+    answers : (y x : ℕ) → y < M → x < M → composes from (handles over) y x ≡ reached.Element (record { 0 = op y x })
+    answers y x hy hx = product-answers from As y x (inside hy) (inside hx)
+
+    lent : lentRight (length table) start (length work) room 8 ≡ true
+    lent = maps-lent (length table) start (length work) (length inn) (length outw) room 8 M (S .lent)
+
+    has : hasRoom (length table) start room 8 ≡ true
+    has = lent-table (length table) start (length work) room 8 lent
+
+    lo : 1 ≤ room
+    lo = positive (length table) start room 8 has
+
+    hi : room ≤ 65535
+    hi = limited (length table) start room 8 has
+
+    work-long : length (take (workNeed 8 room) work) ≡ workNeed 8 room
+    work-long = length-take-le (workNeed 8 room) work (leb-true _ _ (lent-enough (length table) start (length work) room 8 lent))
+
+    work-fits : room * (6 * 8 * 8 + 4 * 8) ≤ length (take (workNeed 8 room) work)
+    work-fits = rw work-long (le-refl (workNeed 8 room))
+
+    told-of : {gens : List ℕ} {c : ℕ} {t w i o : List ℕ} → whole ≡ picked gens (renumbering (built (counted.Count c) t w) i o)
+        → Told op inv byte M room room (tableNeed 8 room) (workNeed 8 room) gens c t w i o
+    told-of {gens} {c} {t} {w} {i} {o} q =
+        subst (λ (L : ℕ). Told op inv byte M room room (tableNeed 8 room) L gens c t w i o) work-long
+        (predicate-told G small (composes from (handles over)) answers room room lo hi (le-refl room) (tableNeed 8 room) (le-refl (tableNeed 8 room)) byte
+        (take (workNeed 8 room) work) work-fits gens q)
+
+    module _ {gens : List ℕ} {c : ℕ} {t w i o : List ℕ} (q : whole ≡ picked gens (renumbering (built (counted.Count c) t w) i o)) where
+      T : Told op inv byte M room room (tableNeed 8 room) (workNeed 8 room) gens c t w i o
+      T = told-of q
+
+      end-fits : start + tableNeed 8 room ≤ length table
+      end-fits = within-length (length table) start room 8 has
+
+      narrower : tableNeed (length gens) room ≤ tableNeed 8 room
+      narrower = eight-rows (length gens) room (tableNeed 8 room) (T .chosen .few) (le-refl (tableNeed 8 room))
+
+      part : stretch (within table start (start + tableNeed 8 room) t) (handle start (length gens) room c) ≡ take (tableNeed (length gens) room) t
+      unfolding stretch within
+      part =
+          let k : start ≤ length table = omega (arith, end-fits) in
+          let l : tableNeed (length gens) room ≤ length t = rw (T .size-kept) narrower in
+          ap (λ (x : List ℕ). take (tableNeed (length gens) room) x)
+          (drop-at (take start table) (t ++ drop (start + tableNeed 8 room) table) start (length-take-le start table k))
+          ∙ take-append-le (tableNeed (length gens) room) t (drop (start + tableNeed 8 room) table) l
+
+      handle-fits : fitsIn (length (within table start (start + tableNeed 8 room) t)) (handle start (length gens) room c) ≡ true
+      unfolding fitsIn hasRoom
+      handle-fits =
+          let e : start + room * (2 * length gens + 4) ≤ length table = omega (arith, end-fits, narrower) in
+          rw (within-long table start (tableNeed 8 room) end-fits t (T .size-kept)) (simp (
+            le-leb _ _ (T .sound .table .origin),
+            le-leb _ _ (T .held .within),
+            le-leb _ _ (T .chosen .few),
+            le-leb _ _ lo,
+            le-leb _ _ hi,
+            le-leb _ _ e,
+          ))
+
+      over-same : (e : ℕ) → e < c → getD o e 0 ≡ getD (within outw 0 room o) e 0
+      over-same e h = sym (front-cell outw o room (T .held .outw-size) e (omega (arith, T .held .within)))
+
+      sub-same : (x : ℕ) → x < M → getD i x 0 ≡ getD (within inn 0 M i) x 0
+      sub-same x h = sym (front-cell inn i M (T .held .inn-size) x h)
+
+      narrowed : Sound (take (tableNeed (length gens) room) t) (length gens) c × Ruled (take (tableNeed (length gens) room) t) (length gens) c
+      narrowed =
+          predicate-narrow G small (composes from (handles over)) answers room room lo hi (le-refl room) (tableNeed 8 room) (le-refl (tableNeed 8 room)) byte
+          (take (workNeed 8 room) work) work-fits gens q
+
+      tells : Tells from over members table start work inn outw room
+          (record { below = groupOf []; factor = handle start (length gens) room c; over = over; above = groupOf [] })
+          (within table start (start + tableNeed 8 room) t) (within work 0 (workNeed 8 room) w) (within inn 0 M i) (within outw 0 room o)
+      tells = record {
+        started = S;
+        gens = gens;
+        table₈ = t;
+        work₈ = w;
+        inn₈ = i;
+        outw₈ = o;
+        value = refl;
+        handle = refl;
+        accepted = record {
+          fits = handle-fits;
+          sound = rw part (narrowed .0);
+          ruled = rw part (narrowed .1);
+        };
+        told = T;
+        table-is = refl;
+        work-is = refl;
+        inn-is = refl;
+        outw-is = refl;
+        carried = carried-as over-same sub-same (T .carried);
+        exactly = λ B exact y h.
+            let P = told-subgroup G small (composes from (handles over)) answers room room lo hi (le-refl room) (tableNeed 8 room)
+            (le-refl (tableNeed 8 room)) byte (take (workNeed 8 room) work) work-fits gens q B exact y h in
+            (λ k. P .0 (λ z. k (sym (sub-same y h) ∙ z)), λ k z. P .1 k (sub-same y h ∙ z));
+      }
+
+    tells-at : {s s′ : Subgroup} {t t′ w w′ i i′ o o′ : List ℕ} → s ≡ s′ → t ≡ t′ → w ≡ w′ → i ≡ i′ → o ≡ o′
+        → Tells from over members table start work inn outw room s′ t′ w′ i′ o′ → Tells from over members table start work inn outw room s t w i o
+    tells-at a b c d e H = rw (a, b, c, d, e) H
+
+    started-tells : {s : Subgroup} {t w i o : List ℕ}
+        → fromPredicate from over members table start work inn outw room ≡ subgrouping (record { answer = Fine; subgroup = s }) t w i o
+        → Tells from over members table start work inn outw room s t w i o
+    started-tells q =
+        let B = back-accepted whole (sym (is-told S) ∙ q) in
+        tells-at (B .value) (B .table-is) (B .work-is) (B .inn-is) (B .outw-is) (tells (B .is))
+
+    -- Refused when it has started: by 5 or 6, as the build by the elements chosen so far meets it, or by 15 with eight chosen and a ninth needed.
+    pub predicate-refused : {r : Refusal} {s : Subgroup} {t w i o : List ℕ}
+        → fromPredicate from over members table start work inn outw room ≡ subgrouping (record { answer = Refused r; subgroup = s }) t w i o
+        → (gens : List ℕ) × Untold op byte M gens r
+    predicate-refused q =
+        let T = back-refused whole (sym (is-told S) ∙ q) in (
+          T .0,
+          predicate-untold G small (composes from (handles over)) answers room room lo hi (le-refl room) (tableNeed 8 room) (le-refl (tableNeed 8 room)) byte
+              (take (workNeed 8 room) work) work-fits (T .0) (T .5),
+        )
+
+  -- What an accepted call gives, whatever the arguments.
+  pub predicate-given : AllAccepted from (handles over) → {s : Subgroup} {t w i o : List ℕ}
+      → fromPredicate from over members table start work inn outw room ≡ subgrouping (record { answer = Fine; subgroup = s }) t w i o
+      → Tells from over members table start work inn outw room s t w i o
+  predicate-given As {s} {t} {w} {i} {o} q = go ways where
+    go : Ways → Tells from over members table start work inn outw room s t w i o
+    go (early r z) = absurd (fine-refused (sym z ∙ q))
+    go (late S) = started-tells S As q

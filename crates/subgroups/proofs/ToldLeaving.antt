@@ -1,0 +1,147 @@
+-- What a refused `from_predicate` leaves, on any input: nothing touched, or zeros. Every build keeps the lengths of its lists, or leaves zeros.
+-- Assumes nothing.
+use Prim.Native.Nat.{ℕ, zero, suc, _+_, _≤_, _<_}
+use mathlib.Core.Path.{_≡_, refl, sym, ap, _∙_, subst}
+use mathlib.Core.Bool.{Bool, true, false}
+use mathlib.Core.List.{List, [], _∷_, _++_}
+use native.Mathlib.Omega.{arith}
+use borrow.Author.Tests.{leb-true}
+use lib.Dec.{ltb}
+use lib.ListN.{length, getD, take, replicate, length-replicate}
+use lib.Seq.{length-take-le}
+use Rattle.egg.specs.declared.Refusal.{Refusal}
+use Rattle.egg.specs.declared.Reached.{Reached}
+use Rattle.egg.specs.declared.Verdict.the-variants as verdict
+use Rattle.egg.specs.declared.Counted.{Counted}
+use Rattle.egg.specs.declared.Counted.the-variants.{Count, Refused}
+use Rattle.egg.specs.Table.{pick, putAt}
+use Rattle.checks.specs.Checks.{Checked, checked, check-group}
+use Rattle.reading.specs.Reading.{placed}
+use Rattle.builder.specs.Finish.{Built, built, zeroed, settledBy, finished}
+use Rattle.builder.specs.Lending.{tableNeed, workNeed, within}
+use Rattle.builder.proofs.Lending.{lent-enough}
+use Rattle.meaning.proofs.Lengths.{checks-work}
+use Rattle.meaning.proofs.Accepted.{checks-kept}
+use Rattle.group.specs.declared.Group.{Group}
+use Rattle.group.specs.Handles.{handles, elementsOf}
+use Rattle.group.specs.Powers.{composes}
+use Rattle.appearance.specs.Renumber.{none, Mapped, mapped, mapAll}
+use Rattle.appearance.specs.Build.{Renumbering, renumbering, finishedMapped, renumberIn}
+use Rattle.renumbering.proofs.Builds.{settled-count, refused-maps}
+use Rattle.renumbering.proofs.Sizes.{Long, all-long}
+use Rattle.subgroup.specs.declared.Subgroup.{Subgroup}
+use Rattle.subgroup.specs.Lent.{subgrouping}
+use Rattle.subgroup.proofs.Admits.{maps-lent}
+use Rattle.predicate.specs.Predicate.{Picked, picked, isNew, ninth, chooses, againIn, predicateIn, toldBack, fromPredicate}
+use Rattle.subgroups.specs.Generates.{Leaving, untouched, zeros}
+use Rattle.subgroups.specs.Tells.{Predicated}
+use Rattle.subgroups.proofs.Leaving.{tableIn, rows-long, refused-stretches}
+use Rattle.subgroups.proofs.Called.{fine-refused}
+use Rattle.subgroups.proofs.ToldCalls.{Ways, early, late, ways, is-told}
+
+-- Lists of these lengths, or zeros.
+data Kept (size L M K : ℕ) : Renumbering → Type 0 where
+  counted : {c : ℕ} {t w i o : List ℕ} → length t ≡ size → length w ≡ L → length i ≡ M → length o ≡ K → Kept size L M K (renumbering (built (Count c) t w) i o)
+  cleared : {f : Refusal} {t w i o : List ℕ} → t ≡ replicate size 0 → w ≡ replicate L 0 → i ≡ replicate M 0 → o ≡ replicate K 0
+      → Kept size L M K (renumbering (built (Refused f) t w) i o)
+
+settled-long : (c : ℕ) (k : Checked) (t₀ w₀ : List ℕ) (n : ℕ) → check-group t₀ w₀ n c ≡ k → {d : ℕ} {t w : List ℕ} → settledBy c k ≡ built (Count d) t w
+    → (length t ≡ length t₀) × (length w ≡ length w₀)
+settled-long c (checked verdict.Fine t₁ w₁) t₀ w₀ n h {d} {t} {w} q =
+    let a : t ≡ t₁ = cc in
+    let b : w ≡ zeroed w₁ = cc in
+    (ap length a ∙ checks-kept t₀ w₀ n c h .size, ap length b ∙ length-replicate {A = ℕ} (length w₁) 0 ∙ checks-work t₀ w₀ n c h)
+settled-long c (checked (verdict.Refused s) t₁ w₁) t₀ w₀ n h {d} {t} {w} q = absurd (never q) where
+  never : built (Refused s) (zeroed t₁) (zeroed w₁) ≡ built (Count d) t w → ⊥
+  never z = let x : _≡_ {A = ℕ} 0 1 = cc in omega arith
+
+finished-long : (k : Counted) (n : ℕ) (t₀ w₀ : List ℕ) {c : ℕ} {t w : List ℕ} → finished k n t₀ w₀ ≡ built (Count c) t w
+    → (length t ≡ length t₀) × (length w ≡ length w₀)
+unfolding finished
+finished-long (Count k) n t₀ w₀ q = settled-long k (check-group t₀ w₀ n k) t₀ w₀ n refl q
+finished-long (Refused s) n t₀ w₀ {c} {t} {w} q = absurd (never q) where
+  never : built (Refused s) (zeroed t₀) (zeroed w₀) ≡ built (Count c) t w → ⊥
+  never z = let x : _≡_ {A = ℕ} 0 1 = cc in omega arith
+
+pub accepted-lengths : (size : ℕ) (w₀ : List ℕ) (source : ℕ → ℕ → Reached) (n room M K x₀ : ℕ) {c : ℕ} {t w i o : List ℕ}
+    → renumberIn size w₀ source n room M K x₀ ≡ renumbering (built (Count c) t w) i o
+    → (length t ≡ size) × ((length w ≡ length w₀) × ((length i ≡ M) × (length o ≡ K)))
+unfolding renumberIn
+accepted-lengths size w₀ source n room M K x₀ {c} {t} {w} {i} {o} q =
+    go (mapAll source n room M K x₀ (replicate size 0))
+    (rows-long room source n room 0 1 (replicate size 0) (putAt (replicate M none) x₀ 0) (putAt (replicate K 0) 0 x₀) ∙ length-replicate size 0)
+    (all-long source n room M K x₀ (replicate size 0)) q
+  where
+    go : (m : Mapped) → length (tableIn m) ≡ size → Long M K m → finishedMapped m n w₀ ≡ renumbering (built (Count c) t w) i o
+        → (length t ≡ size) × ((length w ≡ length w₀) × ((length i ≡ M) × (length o ≡ K)))
+    go (mapped (placed k t₀) i₀ o₀) h g z =
+        let S = settled-count (finished k n t₀ w₀) i₀ o₀ z in
+        let F = finished-long k n t₀ w₀ (S .0) in
+        (F .0 ∙ h, (F .1, (ap length (sym (S .1 .0)) ∙ g .0, ap length (sym (S .1 .1)) ∙ g .1)))
+
+build-kept : (size : ℕ) (w₀ : List ℕ) (source : ℕ → ℕ → Reached) (n room M K x₀ : ℕ) {L : ℕ} → length w₀ ≡ L → Kept size L M K (renumberIn size w₀ source n room M K x₀)
+build-kept size w₀ source n room M K x₀ {L} l = by (renumberIn size w₀ source n room M K x₀) refl where
+  by : (r : Renumbering) → renumberIn size w₀ source n room M K x₀ ≡ r → Kept size L M K r
+  by (renumbering (built (Count c) t w) i o) q =
+      let P = accepted-lengths size w₀ source n room M K x₀ q in counted (P .0) (P .1 .0 ∙ l) (P .1 .1 .0) (P .1 .1 .1)
+  by (renumbering (built (Refused f) t w) i o) q =
+      let Z = refused-stretches size w₀ source n room M K x₀ q in
+      let Y = refused-maps size w₀ source n room M K x₀ q in
+      cleared (Z .0) (Z .1 ∙ ap (λ (k : ℕ). replicate k 0) l) (Y .0) (Y .1)
+
+abbrev lastOf : Picked → Renumbering
+lastOf (picked gens r) = r
+
+module _ (size L M K : ℕ) (again : List ℕ → List ℕ → Renumbering) (keeps : (gens w : List ℕ) → length w ≡ L → Kept size L M K (again gens w)) (byte : ℕ → ℕ) where
+  turn : (a b : Bool) (u v : Picked) (gens t w i o : List ℕ) → length t ≡ size → length w ≡ L → length i ≡ M → length o ≡ K
+      → Kept size L M K (lastOf u) → Kept size L M K (lastOf v) → Kept size L M K (lastOf (pick a (pick b u (picked gens (ninth t w i o))) v))
+  turn true true u v gens t w i o p q r s h k = h
+  turn true false u v gens t w i o p q r s h k =
+      cleared (ap (λ (m : ℕ). replicate m 0) p) (ap (λ (m : ℕ). replicate m 0) q) (ap (λ (m : ℕ). replicate m 0) r) (ap (λ (m : ℕ). replicate m 0) s)
+  turn false b u v gens t w i o p q r s h k = k
+
+  chooses-kept : (k x : ℕ) (gens : List ℕ) (r : Renumbering) → Kept size L M K r → Kept size L M K (lastOf (chooses k again byte x gens r))
+  unfolding chooses
+  chooses-kept zero x gens r h = h
+  chooses-kept (suc k) x gens (renumbering (built (Refused f) t w) i o) h = h
+  chooses-kept (suc k) x gens (renumbering (built (Count c) t w) i o) (counted p q r s) =
+      turn (isNew i byte x) (ltb (length gens) 8) (chooses k again byte (x + 1) (gens ++ (x ∷ [])) (again (gens ++ (x ∷ [])) w))
+      (chooses k again byte (x + 1) gens (renumbering (built (Count c) t w) i o)) gens t w i o p q r s
+      (chooses-kept k (x + 1) (gens ++ (x ∷ [])) (again (gens ++ (x ∷ [])) w) (keeps (gens ++ (x ∷ [])) w q))
+      (chooses-kept k (x + 1) gens (renumbering (built (Count c) t w) i o) (counted p q r s))
+
+predicate-kept : (size : ℕ) (w : List ℕ) (source : ℕ → ℕ → Reached) (room M K : ℕ) (byte : ℕ → ℕ)
+    → Kept size (length w) M K (lastOf (predicateIn size w source room M K byte))
+predicate-kept size w source room M K byte =
+    chooses-kept size (length w) M K (againIn size source room M K)
+    (λ gens w₀ l. build-kept size w₀ (λ y g. source y (getD gens g 0)) (length gens) room M K 0 l) byte M 0 [] (againIn size source room M K [] w)
+    (build-kept size w (λ y g. source y (getD [] g 0)) 0 room M K 0 refl)
+
+module _ (from : List ℕ) (over : Group) (members table : List ℕ) (start : ℕ) (work inn outw : List ℕ) (room : ℕ) where
+  pub predicate-leave : {r : Refusal} {s : Subgroup} {t w i o : List ℕ}
+      → fromPredicate from over members table start work inn outw room ≡ subgrouping (record { answer = verdict.Refused r; subgroup = s }) t w i o
+      → Leaving over 8 table start work inn outw room t w i o
+  predicate-leave {r} {s} {t} {w} {i} {o} q = go (ways from over members table start work inn outw room) where
+    put : (L : ℕ) → L ≡ workNeed 8 room → (b : Picked) → Kept (tableNeed 8 room) L (elementsOf (handles over)) room (lastOf b)
+        → toldBack over table start work inn outw (elementsOf (handles over)) room b ≡ subgrouping (record { answer = verdict.Refused r; subgroup = s }) t w i o
+        → Leaving over 8 table start work inn outw room t w i o
+    put L l (picked gens (renumbering (built (Count c) t′ w′) i′ o′)) k e = absurd (fine-refused (sym e))
+    put L l (picked gens (renumbering (built (Refused f) t′ w′) i′ o′)) (cleared a b c d) e =
+        let x₁ : t ≡ within table start (start + tableNeed 8 room) t′ = cc in
+        let x₂ : w ≡ within work 0 (workNeed 8 room) w′ = cc in
+        let x₃ : i ≡ within inn 0 (elementsOf (handles over)) i′ = cc in
+        let x₄ : o ≡ within outw 0 room o′ = cc in
+        zeros (x₁ ∙ ap (λ (y : List ℕ). within table start (start + tableNeed 8 room) y) a)
+        (x₂ ∙ ap (λ (y : List ℕ). within work 0 (workNeed 8 room) y) (b ∙ ap (λ (m : ℕ). replicate m 0) l))
+        (x₃ ∙ ap (λ (y : List ℕ). within inn 0 (elementsOf (handles over)) y) c) (x₄ ∙ ap (λ (y : List ℕ). within outw 0 room y) d)
+
+    go : Ways from over members table start work inn outw room → Leaving over 8 table start work inn outw room t w i o
+    go (early r′ z) = let e = sym q ∙ z in untouched (cc) (cc) (cc) (cc)
+    go (late S) =
+        let l : length (take (workNeed 8 room) work) ≡ workNeed 8 room =
+        length-take-le (workNeed 8 room) work (leb-true _ _ (lent-enough (length table) start (length work) room 8
+        (maps-lent (length table) start (length work) (length inn) (length outw) room 8 (elementsOf (handles over)) (S .lent)))) in
+        put (length (take (workNeed 8 room) work)) l
+        (predicateIn (tableNeed 8 room) (take (workNeed 8 room) work) (composes from (handles over)) room (elementsOf (handles over)) room (λ x. getD members x 0))
+        (predicate-kept (tableNeed 8 room) (take (workNeed 8 room) work) (composes from (handles over)) room (elementsOf (handles over)) room (λ x. getD members x 0))
+        (sym (is-told from over members table start work inn outw room S) ∙ q)
