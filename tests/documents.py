@@ -21,7 +21,7 @@ for line in open("docs/PROMISES.md", encoding="utf-8"):
     text = open(row.group(2), encoding="utf-8").read() if os.path.exists(row.group(2)) else ""
     for name in names:
         seen += 1
-        if not re.search(rf"(?m)^ *(?:(?:abbrev|unfoldable) )?pub (?:record |data )?{re.escape(name)}[ :]", text):
+        if not re.search(rf"(?m)^ *(?:(?:abbrev|unfoldable) )?pub (?:record |data )?{re.escape(name)}(?=[ :]|$)", text):
             bad.append(f"docs/PROMISES.md: {name} is not declared pub in {row.group(2)}")
 print("\n".join(bad + [f"{seen} names looked up, {len(bad)} missing"]))
 sys.exit(1 if bad else 0)

@@ -1,42 +1,108 @@
 #!/usr/bin/env python3
-"""The enumeration's speed beside the original Rust, as ratios: both in release, on this machine, in one run. The two take
-turns, five times for what takes less than a second and once for the rest, each turn being the least of three; the least
-of the turns counts. Ours fills lent buffers that it first zeroes, and checks 8 to 13; the Rust allocates, and checks 8
-to 10. An argument k measures the first k groups."""
+"""Speed beside the original Rust, as ratios: both in release, on this machine, in one run. The two take turns, five times
+for what takes less than a second and once for the rest, each turn being the least of three; the least of the turns
+counts. Both answer the same arguments, and the sums of their answers are compared. Ours fills lent buffers that it first
+zeroes, and checks 8 to 13; the Rust allocates, and checks 8 to 10.
 
-import sys
+Arguments choose the tables (enumerations, questions, products, subgroups, images); without any, all are measured."""
 
 import pathlib
+import sys
 
 sys.path.insert(0, str(pathlib.Path(__file__).resolve().parent / "recorded"))
 from beside import OURS
 from replay import cases, run
 
-GROUPS = [
-    ("H4", 14400, "4 5 2 3 2 2 3"),
-    ("E6", 51840, "6 2 2 3 3 2 3 2 2 2 3 2 2 2 2 3"),
-    ("B6", 46080, "6 4 2 3 2 2 3 2 2 2 3 2 2 2 2 3"),
-    ("order 4096", 8192, "2 4096"),
-    ("4092,2,2,2,2,2,2,2,2,2", 65472, "5 4092 2 2 2 2 2 2 2 2 2"),
-]
+S3, H3, H4 = "2 3", "3 5 2 3", "4 5 2 3 2 2 3"
+E6, B6 = "6 2 2 3 3 2 3 2 2 2 3 2 2 2 2 3", "6 4 2 3 2 2 3 2 2 2 3 2 2 2 2 3"
+LONG = "5 4092 2 2 2 2 2 2 2 2 2"
 
 
-def seconds(size, orders, *program):
-    return float(cases(run(["room %d" % size, "bench enum " + orders], *program))[-1][1][0].split()[1])
+def seconds(commands, *program):
+    """The answer and the seconds of the last command."""
+    given, took = cases(run(commands, *program))[-1][1][0].split()
+    return given, float(took)
 
 
-def least(size, orders):
+def least(commands):
     """Ours and the Rust's."""
     ours, rust = [], []
     while not rust or len(rust) < 5 and rust[0] < 1:
-        ours.append(seconds(size, orders, OURS))
-        rust.append(seconds(size, orders))
+        for took, program in ((ours, (OURS,)), (rust, ())):
+            given, s = seconds(commands, *program)
+            took.append(s)
+            if program:
+                want = given
+            elif given != want:
+                sys.exit("%s: the Rust gives %s, ours %s" % (commands[-1], given, want))
     return min(ours), min(rust)
 
 
+def table(*heads):
+    print("| %s |\n|%s" % (" | ".join(heads), "---|" * len(heads)), flush=True)
+
+
+def row(name, commands, unit=1, form="%.4f"):
+    ours, rust = least(commands)
+    print(("| %s | " + form + " | " + form + " | %.2f |") % (name, ours * unit, rust * unit, rust / ours), flush=True)
+
+
+def enumerations():
+    table("group", "ours, s", "Rust, s", "times as fast")
+    for name, size, orders in (("H4", 14400, H4), ("E6", 51840, E6), ("B6", 46080, B6), ("order 4096", 8192, "2 4096"),
+                               ("4092,2,2,2,2,2,2,2,2,2", 65472, LONG)):
+        row(name, ["room %d" % size, "bench enum " + orders])
+
+
+def asked(name, factors, questions):
+    setup = ["clear", *("factor enum " + orders for orders in factors), "prod"]
+    for question, turns in questions:
+        row("%s, %s" % (name, question), [*setup, "bench %s %d" % (question, turns)], 1e9 / turns, "%.0f")
+
+
+ALL = (("step", 200000), ("compose", 50000), ("conjugate", 50000), ("inverse", 200000), ("word", 20000), ("powi", 2000), ("period", 200))
+
+
+def questions():
+    table("factor, question", "ours, ns", "Rust, ns", "times as fast")
+    for name, orders in (("S3", S3), ("H3", H3), ("H4", H4), ("E6", E6), ("order 4096", "2 4096")):
+        few = [(q, min(k, 2000) if orders == "2 4096" else k) for q, k in ALL if (q, orders) != ("period", "2 4096")]
+        asked(name, [orders], few)
+
+
+def products():
+    table("product, question", "ours, ns", "Rust, ns", "times as fast")
+    asked("H3 alone", [H3], ALL)
+    asked("H3 by H3", [H3] * 2, ALL)
+    asked("eight S3", [S3] * 8, ALL)
+    asked("H4 by E6", [H4, E6], ALL[:-1])
+
+
+def subgroups():
+    table("subgroup", "ours, s", "Rust, s", "times as fast")
+    for name, orders, generators in (("H4, generators 1 2 3", H4, "1 2 3"), ("H4, generators 1 2 3 4", H4, "1 2 3 4"), ("B6, generators 1 2 3 4 5", B6, "1 2 3 4 5")):
+        setup = ["clear", "factor enum " + orders, "prod"]
+        row(name, [*setup, "bench sub " + generators])
+        o2s = next(line for line in cases(run([*setup, "sub " + generators]))[-1][1] if line.startswith("o2s"))
+        members = " ".join("0" if x == "4294967295" else "1" for x in o2s.split()[1:])
+        row(name + ", by a predicate", [*setup, "bench subpred " + members])
+
+
+def images():
+    """Ours alone: reading and checking an image beside building from the same rows, composed."""
+    table("image", "from composed rows, s", "read, s", "checked, s")
+    for name, orders in (("H4", H4), ("order 4096", "2 4096"), ("4092,2,2,2,2,2,2,2,2,2", LONG), ("eight times 2", "8 " + "2 " * 28)):
+        image = cases(run(["image enum " + orders], OURS))[-1][1][0].split()[1]
+        n, count = int(image[10:12], 16), int(image[12:16], 16)
+        rows = [str(int(image[i : i + 4], 16)) for i in range(16, len(image), 4)]
+        took = []
+        for what in ("table %d %d %s" % (n, count, " ".join(rows)), "unimage " + image, "imgcheck " + image):
+            took.append(min(seconds(["room %d" % count, "bench " + what], OURS)[1] for _ in range(3)))
+        print("| %s | %.4f | %.4f | %.4f |" % (name, *took), flush=True)
+
+
 if __name__ == "__main__":
-    chosen = GROUPS[: int(sys.argv[1])] if len(sys.argv) > 1 else GROUPS
-    print("| group | elements | ours, s | Rust, s | times as fast |\n|---|---|---|---|---|")
-    for name, size, orders in chosen:
-        ours, rust = least(size, orders)
-        print("| %s | %d | %.4f | %.4f | %.1f |" % (name, size, ours, rust, rust / ours), flush=True)
+    tables = {f.__name__: f for f in (enumerations, questions, products, subgroups, images)}
+    for name in sys.argv[1:] or tables:
+        print("\n%s\n" % name.capitalize())
+        tables[name]()

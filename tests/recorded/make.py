@@ -426,37 +426,42 @@ def make_product(rng, choices, most, size):
             return ["clear"] + ["factor " + line for line in lines] + ["prod"], counts, total
 
 
+def one_product(rng, choices, most=4, size=10**7):
+    """A random product, and questions on both sides of the edges."""
+    lines, counts, total = make_product(rng, choices, most, size)
+    yield from lines + ["gens"]
+    n = sum(int(line.split()[2]) for line in lines if line.startswith("factor"))
+
+    def element():
+        return rng.randrange(total) if rng.random() < 0.97 else total + rng.randrange(3)
+
+    for _ in range(4):
+        yield spaced("compose", element(), element())
+        yield spaced("conjugate", element(), element())
+        yield spaced("step", element(), rng.randrange(n + (rng.random() < 0.1)) if n else 0)
+    for _ in range(2):
+        for name in ("inverse", "period", "word", "split"):
+            yield spaced(name, element())
+    some = [rng.randint(-50, 50), rng.randint(-(2**31), 2**31 - 1)]
+    for i in [0, 1, -1, 2, 2**31 - 1, -(2**31)] + some:
+        yield spaced("powi", element(), i)
+    if counts:
+        digits = [rng.randrange(c) for c in counts]
+        yield spaced("join", *digits)
+        f = rng.randrange(len(counts))
+        yield spaced("project", f, element())
+        yield spaced("inject", f, rng.randrange(counts[f]))
+        yield spaced("project", len(counts), 0)
+    if total <= 200:
+        yield "flatten"
+
+
 def products():
     choices = FACTORS + list(more_factors())
     rng = random.Random(4)
     yield "quiet 1"
     for _ in range(70):
-        lines, counts, total = make_product(rng, choices, 4, 10**7)
-        yield from lines + ["gens"]
-        n = sum(int(line.split()[2]) for line in lines if line.startswith("factor"))
-
-        def element():
-            return rng.randrange(total) if rng.random() < 0.97 else total + rng.randrange(3)
-
-        for _ in range(4):
-            yield spaced("compose", element(), element())
-            yield spaced("conjugate", element(), element())
-            yield spaced("step", element(), rng.randrange(n + (rng.random() < 0.1)) if n else 0)
-        for _ in range(2):
-            for name in ("inverse", "period", "word", "split"):
-                yield spaced(name, element())
-        some = [rng.randint(-50, 50), rng.randint(-(2**31), 2**31 - 1)]
-        for i in [0, 1, -1, 2, 2**31 - 1, -(2**31)] + some:
-            yield spaced("powi", element(), i)
-        if counts:
-            digits = [rng.randrange(c) for c in counts]
-            yield spaced("join", *digits)
-            f = rng.randrange(len(counts))
-            yield spaced("project", f, element())
-            yield spaced("inject", f, rng.randrange(counts[f]))
-            yield spaced("project", len(counts), 0)
-        if total <= 200:
-            yield "flatten"
+        yield from one_product(rng, choices)
     yield "# Flattening: the room, and a ninth generator."
     small = ["clear", "factor " + Z2, "factor " + Z2, "factor table 1 5 1 2 3 4 0", "prod"]
     yield from small
@@ -474,35 +479,40 @@ def products():
     yield from ["compose 4294901759 4294901758", "powi 4294901759 -2147483648", "word 65535"]
 
 
+def one_subgroup(rng, choices):
+    """A random product, and some of its subgroups, now and then refused."""
+    lines, _, total = make_product(rng, choices, 3, 240)
+    yield from lines
+    yield "quiet %d" % (total > 24)
+    for _ in range(rng.randint(2, 4)):
+        few = rng.choice((0, 1, 1, 1, 2, 2, 3))
+        # the identity, a repeat or a number too large comes now and then
+        low, high = (0, total + 1) if rng.random() < 0.1 else (min(1, total - 1), total)
+        line = spaced("sub", *(rng.randrange(low, high) for _ in range(few)))
+        yield line
+        if refusal(*lines, line) is not None:
+            continue
+        if rng.random() < 0.6:
+            yield from ["subgens", spaced("s2o", rng.randrange(3))]
+            yield spaced("o2s", rng.randrange(total + 1))
+        if rng.random() < 0.5:
+            for choice in FACTORS[:6], FACTORS[:4]:
+                yield spaced(rng.choice(("subleft", "subright")), rng.choice(choice))
+            yield from ["subgens", "s2o 1", spaced("o2s", rng.randrange(total)), "o2s 0"]
+    p = rng.choice((0.02, 0.1, 0.5, 1))
+    yield spaced("subpred", *(int(rng.random() < p) for _ in range(total)))
+    yield "subgens"
+    if total >= 2 and rng.random() < 0.5:
+        yield from ["room %d" % rng.randint(1, total), spaced("sub", rng.randrange(1, total))]
+        yield spaced("subpred", *[1] * total)
+        yield "room 65535"
+
+
 def subgroups():
     choices = FACTORS + list(more_factors())
     rng = random.Random(5)
     for _ in range(110):
-        lines, _, total = make_product(rng, choices, 3, 240)
-        yield from lines
-        yield "quiet %d" % (total > 24)
-        for _ in range(rng.randint(2, 4)):
-            few = rng.choice((0, 1, 1, 1, 2, 2, 3))
-            # the identity, a repeat or a number too large comes now and then
-            low, high = (0, total + 1) if rng.random() < 0.1 else (min(1, total - 1), total)
-            line = spaced("sub", *(rng.randrange(low, high) for _ in range(few)))
-            yield line
-            if refusal(*lines, line) is not None:
-                continue
-            if rng.random() < 0.6:
-                yield from ["subgens", spaced("s2o", rng.randrange(3))]
-                yield spaced("o2s", rng.randrange(total + 1))
-            if rng.random() < 0.5:
-                for choice in FACTORS[:6], FACTORS[:4]:
-                    yield spaced(rng.choice(("subleft", "subright")), rng.choice(choice))
-                yield from ["subgens", "s2o 1", spaced("o2s", rng.randrange(total)), "o2s 0"]
-        p = rng.choice((0.02, 0.1, 0.5, 1))
-        yield spaced("subpred", *(int(rng.random() < p) for _ in range(total)))
-        yield "subgens"
-        if total >= 2 and rng.random() < 0.5:
-            yield from ["room %d" % rng.randint(1, total), spaced("sub", rng.randrange(1, total))]
-            yield spaced("subpred", *[1] * total)
-            yield "room 65535"
+        yield from one_subgroup(rng, choices)
     yield "# Eight generators, and nine; a predicate that needs eight."
     yield from ["clear", "quiet 1", "factor " + Z2_8, "prod"]
     yield from [spaced("sub", *(2**i for i in range(8))), spaced("sub", 1, 2, 3, 4, 5, 6, 7, 8, 9)]
@@ -588,6 +598,10 @@ def differences():
         (
             "A predicate short of the overgroup",
             ["factor " + S3, "prod", "subpred 1 0 0"],
+        ),
+        (
+            "Elements that are none, in the maps",
+            ["factor " + S3, "prod", "sub 1", "s2o 2", "o2s 6"],
         ),
         (
             "Flattening a product whose numbers skip",

@@ -1,0 +1,185 @@
+// The calls on subgroups as C functions. The overgroup is a product, as in `bridge_group`; a subgroup is 128 numbers in a lent list: the handle of its factor,
+// how many factors are below, over and above, and their handles. Numbers that are missing are 0, and the call's own 17 comes.
+ghost use mathlib.Core.Path.{_≡_};
+ghost use lib.ListN.{length, getD};
+ghost use Rattle.bridge.specs.Bridge.{reachedCode, paperInto};
+ghost use Rattle.bridge_group.specs.Product.{byteOf, productOf};
+ghost use Rattle.subgroup.specs.Generated.{fromGenerators};
+ghost use Rattle.predicate.specs.Predicate.{fromPredicate};
+ghost use Rattle.subgroup.specs.Sides.{leftProduct, rightProduct};
+ghost use Rattle.subgroup.specs.Questions.{toOverAnswer, toSubAnswer, generatorAnswer};
+ghost use Rattle.bridge_subgroup.specs.Subgroup.{subgroupFrom, withinCode, subgroupedInto, Bridged, bridged};
+use egg::GeneratorId;
+use egg::GroupElementId;
+use egg::Made;
+use subgroup::Subgroup;
+use subgroup::Subgrouped;
+use subgroup::Within;
+
+fn count_at(l: &[u32], at: u32) -> u8
+    ensures { λ r. ⌜ r ≡ byteOf (getD (now (l .entry)) at 0) ⌝ }
+{
+    bridge_group::inner::byte_of(egg::inner::get(l, at as usize))
+}
+
+fn subgroup_from(l: &[u32]) -> Subgroup
+    ensures { λ r. ⌜ r ≡ subgroupFrom (now (l .entry)) ⌝ }
+{
+    let factor = bridge_group::inner::handle_at(l, 0);
+    let below = bridge_group::inner::product_at(l, 8, count_at(l, 5));
+    let over = bridge_group::inner::product_at(l, 48, count_at(l, 6));
+    let above = bridge_group::inner::product_at(l, 88, count_at(l, 7));
+    Subgroup {
+        below,
+        factor,
+        over,
+        above,
+    }
+}
+
+fn within_code(r: Within) -> u64
+    ensures { λ x. ⌜ x ≡ withinCode r ⌝ }
+{
+    match r {
+        Within::Element(e) => e.0 as u64,
+        Within::Outside => 4294967295,
+        Within::Refused(why) => bridge::inner::refusal_code(why),
+    }
+}
+
+fn write_subgrouped(out: &mut [u32], m: Subgrouped)
+    ensures { λ x. ⌜ now (out .exit) ≡ subgroupedInto m (now (out .entry)) ⌝ }
+{
+    let answer = m.answer;
+    let s = m.subgroup;
+    let factor = s.factor;
+    bridge::inner::write_made(out, Made { answer, factor });
+    egg::inner::put(out, 5, factor.generators as usize);
+}
+
+// The subgroup that elements of a product generate; `inn` maps the overgroup to it, `outw` back.
+#[no_mangle]
+pub extern "C" fn hg_subgroup(
+    from: &[u32],
+    handles: &[u32],
+    count: u8,
+    gens: &[u32],
+    table: &mut [u32],
+    start: usize,
+    work: &mut [u32],
+    inn: &mut [u32],
+    outw: &mut [u32],
+    room: u32,
+    out: &mut [u32],
+)
+    ensures { λ x. ⌜ Bridged.holds (now (table .exit)) (now (work .exit)) (now (inn .exit)) (now (outw .exit)) (now (out .exit)) ≡ bridged (fromGenerators (now (from .entry)) (productOf (now (handles .entry)) count) (now (gens .entry)) (now (table .entry)) start (now (work .entry)) (now (inn .entry)) (now (outw .entry)) room) (now (out .entry)) ⌝ }
+{
+    let over = bridge_group::inner::product_of(handles, count);
+    let m = subgroup::from_generators(from, over, gens, table, start, work, inn, outw, room);
+    write_subgrouped(out, m);
+}
+
+// The same from a byte for each element of the product, not 0 for a member; table and work are lent as for eight generators.
+#[no_mangle]
+pub extern "C" fn hg_subgroup_predicate(
+    from: &[u32],
+    handles: &[u32],
+    count: u8,
+    members: &[u8],
+    table: &mut [u32],
+    start: usize,
+    work: &mut [u32],
+    inn: &mut [u32],
+    outw: &mut [u32],
+    room: u32,
+    out: &mut [u32],
+)
+    ensures { λ x. ⌜ Bridged.holds (now (table .exit)) (now (work .exit)) (now (inn .exit)) (now (outw .exit)) (now (out .exit)) ≡ bridged (fromPredicate (now (from .entry)) (productOf (now (handles .entry)) count) (now (members .entry)) (now (table .entry)) start (now (work .entry)) (now (inn .entry)) (now (outw .entry)) room) (now (out .entry)) ⌝ }
+{
+    let over = bridge_group::inner::product_of(handles, count);
+    let m = predicate::from_predicate(from, over, members, table, start, work, inn, outw, room);
+    write_subgrouped(out, m);
+}
+
+// From an element of the subgroup to the overgroup's.
+#[no_mangle]
+pub extern "C" fn hg_subgroup_over(
+    from: &[u32],
+    table: &[u32],
+    sub: &[u32],
+    outw: &[u32],
+    e: u32,
+) -> u64
+    ensures { λ r. ⌜ r ≡ reachedCode (toOverAnswer (length (now (from .entry))) (length (now (table .entry))) (subgroupFrom (now (sub .entry))) (now (outw .entry)) (record { 0 = e })) ⌝ }
+{
+    let s = subgroup_from(sub);
+    bridge::inner::reached_code(subgroup::to_overgroup(from, table, s, outw, GroupElementId(e)))
+}
+
+// From an element of the overgroup to the subgroup's: 4,294,967,295 where it is not in it.
+#[no_mangle]
+pub extern "C" fn hg_subgroup_back(
+    from: &[u32],
+    table: &[u32],
+    sub: &[u32],
+    inn: &[u32],
+    x: u32,
+) -> u64
+    ensures { λ r. ⌜ r ≡ withinCode (toSubAnswer (length (now (from .entry))) (length (now (table .entry))) (subgroupFrom (now (sub .entry))) (now (inn .entry)) (record { 0 = x })) ⌝ }
+{
+    let s = subgroup_from(sub);
+    within_code(subgroup::to_subgroup(from, table, s, inn, GroupElementId(x)))
+}
+
+// A generator as an element of the overgroup.
+#[no_mangle]
+pub extern "C" fn hg_subgroup_generator(
+    from: &[u32],
+    table: &[u32],
+    sub: &[u32],
+    outw: &[u32],
+    g: u8,
+) -> u64
+    ensures { λ r. ⌜ r ≡ reachedCode (generatorAnswer (now (from .entry)) (now (table .entry)) (subgroupFrom (now (sub .entry))) (now (outw .entry)) (record { 0 = g })) ⌝ }
+{
+    let s = subgroup_from(sub);
+    bridge::inner::reached_code(subgroup::generator(from, table, s, outw, GeneratorId(g)))
+}
+
+// Whether a subgroup can have a product's factors below it: then these go in front of those that it has below.
+#[no_mangle]
+pub extern "C" fn hg_subgroup_left(
+    from: &[u32],
+    table: &[u32],
+    handles: &[u32],
+    count: u8,
+    sub: &[u32],
+    out: &mut [u32],
+)
+    ensures { λ x. ⌜ now (out .exit) ≡ paperInto (leftProduct (length (now (from .entry))) (length (now (table .entry))) (productOf (now (handles .entry)) count) (subgroupFrom (now (sub .entry))) .answer) (now (out .entry)) ⌝ }
+{
+    let g = bridge_group::inner::product_of(handles, count);
+    let s = subgroup_from(sub);
+    let m = subgroup::product_left(from, table, g, s);
+    let v = m.answer;
+    bridge::inner::write_verdict(out, v);
+}
+
+// Whether it can have them above: then these go behind those that it has above.
+#[no_mangle]
+pub extern "C" fn hg_subgroup_right(
+    from: &[u32],
+    table: &[u32],
+    sub: &[u32],
+    handles: &[u32],
+    count: u8,
+    out: &mut [u32],
+)
+    ensures { λ x. ⌜ now (out .exit) ≡ paperInto (rightProduct (length (now (from .entry))) (length (now (table .entry))) (subgroupFrom (now (sub .entry))) (productOf (now (handles .entry)) count) .answer) (now (out .entry)) ⌝ }
+{
+    let g = bridge_group::inner::product_of(handles, count);
+    let s = subgroup_from(sub);
+    let m = subgroup::product_right(from, table, s, g);
+    let v = m.answer;
+    bridge::inner::write_verdict(out, v);
+}

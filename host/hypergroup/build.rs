@@ -1,0 +1,29 @@
+//! Links the archives of the proved library. An archive that is not there is made by `rt staticlib`, which proves it first; one that is
+//! there is taken as it is, and host/build.sh makes them all anew.
+use std::path::Path;
+use std::process::Command;
+
+const ARCHIVES: [&str; 4] = ["bridge", "bridge_group", "bridge_subgroup", "exports"];
+
+fn main() {
+    let root = Path::new(env!("CARGO_MANIFEST_DIR")).join("../..");
+    let folder = root.join("target/staticlib");
+    for name in ARCHIVES {
+        let archive = folder.join(format!("lib{name}.a"));
+        if !archive.exists() {
+            make(&root, name);
+        }
+        println!("cargo:rerun-if-changed={}", archive.display());
+        println!("cargo:rustc-link-lib=static={name}");
+    }
+    println!("cargo:rustc-link-search=native={}", folder.display());
+}
+
+fn make(root: &Path, name: &str) {
+    let why = match Command::new("rt").arg("staticlib").arg(name).current_dir(root).output() {
+        Ok(done) if done.status.success() => return,
+        Ok(done) => String::from_utf8_lossy(&done.stdout).into_owned(),
+        Err(e) => format!("`rt`, the toolchain that proves it, cannot be run: {e}"),
+    };
+    panic!("The archive target/staticlib/lib{name}.a is not there, and `rt staticlib {name}` did not make it. {why}");
+}

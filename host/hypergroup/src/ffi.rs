@@ -1,0 +1,489 @@
+//! The exported functions, and a safe call for each. All unsafe code of the crate is here.
+//!
+//! Why the calls are sound, whatever is passed: a list is handed over as the pointer and the length of a Rust slice, so all of it
+//! may be read, and written where it is `&mut`; lists that are written overlap no other, since `&mut` does not; an empty slice has a
+//! pointer that is not null. Every other argument is a number, and the library, which is proved, answers or refuses any.
+use crate::{Generator, Refusal};
+
+/// The answer of a call.
+pub type Answer<T> = Result<T, Refusal>;
+
+/// The handle of a factor, or of a builder, in a table buffer: plain numbers, which may be anything.
+#[derive(Clone, Copy, Debug, PartialEq, Eq)]
+pub struct Handle {
+    /// Where its stretch starts.
+    pub start: usize,
+    /// The room of its stretch, in elements.
+    pub room: u32,
+    /// How many generators it has.
+    pub generators: u8,
+    /// How many elements it has.
+    pub elements: u32,
+}
+
+impl Handle {
+    fn numbers(self) -> [u32; 5] {
+        let start = self.start as u64;
+        [start as u32, (start >> 32) as u32, self.room, self.generators.into(), self.elements]
+    }
+}
+
+/// The factors of a product: five numbers for each, as [`Handles::push`] writes them, and how many of them count.
+#[derive(Clone, Debug, Default, PartialEq, Eq)]
+pub struct Handles {
+    /// The numbers. What a list that is too short does not tell is 0.
+    pub numbers: Vec<u32>,
+    /// How many factors there are; more than 8 is refused.
+    pub count: u8,
+}
+
+impl Handles {
+    /// Adds a factor. From the 255th on the count stays.
+    pub fn push(&mut self, h: Handle) {
+        self.numbers.extend(h.numbers());
+        self.count = self.count.saturating_add(1);
+    }
+}
+
+impl FromIterator<Handle> for Handles {
+    fn from_iter<I: IntoIterator<Item = Handle>>(handles: I) -> Self {
+        let mut all = Handles::default();
+        handles.into_iter().for_each(|h| all.push(h));
+        all
+    }
+}
+
+/// A subgroup: the handle of its factor, and the factors of the overgroup in which it is (`over`), those multiplied on below them
+/// (`below`), which are the faster digits, and those above.
+#[derive(Clone, Debug, Default, PartialEq, Eq)]
+pub struct Sides {
+    /// 128 numbers: the factor's five, how many are below, over and above, and 40 for each of these.
+    pub numbers: Vec<u32>,
+}
+
+impl Sides {
+    /// The numbers of a subgroup. Of more than eight factors the first eight are told, and how many they are.
+    pub fn new(factor: Handle, below: &Handles, over: &Handles, above: &Handles) -> Self {
+        let mut numbers = factor.numbers().to_vec();
+        numbers.extend([below, over, above].map(|side| u32::from(side.count)));
+        for side in [below, over, above] {
+            let end = numbers.len() + 40;
+            numbers.extend(side.numbers.iter().take(40));
+            numbers.resize(end, 0);
+        }
+        Sides { numbers }
+    }
+}
+
+/// What adding an element answers, and the builder that goes on: one with no elements, which fits no buffer, where the build ended.
+#[derive(Clone, Copy, Debug, PartialEq, Eq)]
+pub struct Grown {
+    pub answer: Answer<u32>,
+    pub builder: Handle,
+}
+
+type In = *const u32;
+type Out = *mut u32;
+
+unsafe extern "C" {
+    fn hg_composed(t: Out, tn: usize, start: usize, w: Out, wn: usize, r: In, rn: usize, n: u8, room: u32, o: Out, on: usize);
+    fn hg_enumerate(t: Out, tn: usize, start: usize, w: Out, wn: usize, m: In, mn: usize, n: u8, room: u32, o: Out, on: usize);
+    fn hg_begin(t: Out, tn: usize, start: usize, room: u32, n: u8, o: Out, on: usize);
+    fn hg_add(t: Out, tn: usize, start: usize, room: u32, n: u8, count: u32, e: u32, g: u8, o: Out, on: usize);
+    fn hg_set(t: Out, tn: usize, start: usize, room: u32, n: u8, count: u32, e: u32, g: u8, x: u32) -> u64;
+    fn hg_build(t: Out, tn: usize, start: usize, room: u32, n: u8, count: u32, w: Out, wn: usize, o: Out, on: usize);
+    fn hg_image_write(t: In, tn: usize, start: usize, room: u32, n: u8, count: u32, o: *mut u8, on: usize) -> u64;
+    fn hg_image_read(i: *const u8, len: usize, t: Out, tn: usize, start: usize, w: Out, wn: usize, o: Out, on: usize);
+    fn hg_image_check(i: *const u8, len: usize, w: *mut u8, wn: usize) -> u32;
+    fn hg_image_walk(i: *const u8, len: usize, start: u32, w: *const u8, wn: usize) -> u32;
+
+    fn hg_count(t: In, tn: usize, start: usize, room: u32, n: u8, count: u32) -> u64;
+    fn hg_step(t: In, tn: usize, start: usize, room: u32, n: u8, count: u32, e: u32, g: u8) -> u64;
+    fn hg_compose(t: In, tn: usize, start: usize, room: u32, n: u8, count: u32, a: u32, b: u32) -> u64;
+    fn hg_conjugate(t: In, tn: usize, start: usize, room: u32, n: u8, count: u32, a: u32, b: u32) -> u64;
+    fn hg_inverse(t: In, tn: usize, start: usize, room: u32, n: u8, count: u32, a: u32) -> u64;
+    fn hg_generator(t: In, tn: usize, start: usize, room: u32, n: u8, count: u32, g: u8) -> u64;
+    fn hg_length(t: In, tn: usize, start: usize, room: u32, n: u8, count: u32, e: u32) -> u64;
+    fn hg_word(t: In, tn: usize, start: usize, room: u32, n: u8, count: u32, e: u32, o: *mut u8, on: usize) -> u64;
+    fn hg_part(t: In, tn: usize, start: usize, room: u32, n: u8, count: u32, e: u32, k: usize) -> u64;
+    fn hg_check(t: In, tn: usize, start: usize, room: u32, n: u8, count: u32, m: In, mn: usize, o: Out, on: usize);
+
+    fn hg_product(t: In, tn: usize, a: In, an: usize, ac: u8, b: In, bn: usize, bc: u8, o: Out, on: usize);
+    fn hg_product_count(t: In, tn: usize, h: In, hn: usize, count: u8) -> u64;
+    fn hg_product_generators(t: In, tn: usize, h: In, hn: usize, count: u8) -> u64;
+    fn hg_product_generator(t: In, tn: usize, h: In, hn: usize, count: u8, g: u8) -> u64;
+    fn hg_product_step(t: In, tn: usize, h: In, hn: usize, count: u8, e: u32, g: u8) -> u64;
+    fn hg_product_project(t: In, tn: usize, h: In, hn: usize, count: u8, f: u8, e: u32) -> u64;
+    fn hg_product_inject(t: In, tn: usize, h: In, hn: usize, count: u8, f: u8, e: u32) -> u64;
+    fn hg_product_compose(t: In, tn: usize, h: In, hn: usize, count: u8, a: u32, b: u32) -> u64;
+    fn hg_product_inverse(t: In, tn: usize, h: In, hn: usize, count: u8, a: u32) -> u64;
+    fn hg_product_conjugate(t: In, tn: usize, h: In, hn: usize, count: u8, a: u32, b: u32) -> u64;
+    fn hg_product_powi(t: In, tn: usize, h: In, hn: usize, count: u8, a: u32, i: i32) -> u64;
+    fn hg_product_period(t: In, tn: usize, h: In, hn: usize, count: u8, a: u32) -> u64;
+    fn hg_product_length(t: In, tn: usize, h: In, hn: usize, count: u8, e: u32) -> u64;
+    fn hg_product_split(t: In, tn: usize, h: In, hn: usize, count: u8, e: u32, o: Out, on: usize) -> u64;
+    fn hg_product_join(t: In, tn: usize, h: In, hn: usize, count: u8, d: In, dn: usize) -> u64;
+    fn hg_product_word(t: In, tn: usize, h: In, hn: usize, count: u8, e: u32, o: *mut u8, on: usize) -> u64;
+    #[rustfmt::skip]
+    fn hg_product_flatten(
+        f: In,
+        fl: usize,
+        h: In,
+        hn: usize,
+        count: u8,
+        t: Out,
+        tn: usize,
+        start: usize,
+        w: Out,
+        wn: usize,
+        room: u32,
+        o: Out,
+        on: usize,
+    );
+}
+
+#[rustfmt::skip]
+unsafe extern "C" {
+    fn hg_subgroup(f: In, fl: usize, h: In, hn: usize, count: u8, g: In, gn: usize, t: Out, tn: usize, start: usize, w: Out, wn: usize, i: Out, il: usize, b: Out, bl: usize, room: u32, o: Out, on: usize);
+    fn hg_subgroup_predicate(f: In, fl: usize, h: In, hn: usize, count: u8, m: *const u8, mn: usize, t: Out, tn: usize, start: usize, w: Out, wn: usize, i: Out, il: usize, b: Out, bl: usize, room: u32, o: Out, on: usize);
+    fn hg_subgroup_over(f: In, fl: usize, t: In, tn: usize, s: In, sn: usize, b: In, bl: usize, e: u32) -> u64;
+    fn hg_subgroup_back(f: In, fl: usize, t: In, tn: usize, s: In, sn: usize, i: In, il: usize, x: u32) -> u64;
+    fn hg_subgroup_generator(f: In, fl: usize, t: In, tn: usize, s: In, sn: usize, b: In, bl: usize, g: u8) -> u64;
+    fn hg_subgroup_left(f: In, fl: usize, t: In, tn: usize, h: In, hn: usize, count: u8, s: In, sn: usize, o: Out, on: usize);
+    fn hg_subgroup_right(f: In, fl: usize, t: In, tn: usize, s: In, sn: usize, h: In, hn: usize, count: u8, o: Out, on: usize);
+}
+
+/// A question of a factor, in the table slice `$t` with the handle `$h`. The other arguments are numbers, or the pointer and the
+/// length of a slice that lives through the call.
+macro_rules! ask {
+    ($call:ident, $t:expr, $h:expr $(, $x:expr)*) => {
+        // SAFETY: the table's own pointer and length, and what is said at the head of this file.
+        unsafe { $call($t.as_ptr(), $t.len(), $h.start, $h.room, $h.generators, $h.elements $(, $x)*) }
+    };
+}
+
+/// A question of a product.
+macro_rules! ask_product {
+    ($call:ident, $t:expr, $p:expr $(, $x:expr)*) => {
+        // SAFETY: the pointers and lengths of the table and of the handles' list, and what is said at the head of this file.
+        unsafe { $call($t.as_ptr(), $t.len(), $p.numbers.as_ptr(), $p.numbers.len(), $p.count $(, $x)*) }
+    };
+}
+
+/// A question of a subgroup.
+macro_rules! ask_subgroup {
+    ($call:ident, $from:expr, $t:expr, $s:expr $(, $x:expr)*) => {
+        // SAFETY: the pointers and lengths of both tables and of the subgroup's list, and what is said at the head of this file.
+        unsafe { $call($from.as_ptr(), $from.len(), $t.as_ptr(), $t.len(), $s.numbers.as_ptr(), $s.numbers.len() $(, $x)*) }
+    };
+}
+
+fn coded(x: u64) -> Answer<u32> {
+    let (number, value) = ((x >> 32) as u32, x as u32);
+    if number == 0 { Ok(value) } else { Err(Refusal { number, places: [value, 0, 0] }) }
+}
+
+fn verdict(out: &[u32]) -> Answer<u32> {
+    if out[0] == 0 { Ok(out[1]) } else { Err(Refusal { number: out[0], places: [out[1], out[2], out[3]] }) }
+}
+
+fn made(out: [u32; 5], start: usize, room: u32, generators: u8) -> Answer<Handle> {
+    verdict(&out).map(|_| Handle { start, room, generators, elements: out[4] })
+}
+
+/// A factor from composed rows.
+pub fn composed(t: &mut [u32], start: usize, w: &mut [u32], rows: &[u32], n: u8, room: u32) -> Answer<Handle> {
+    let mut out = [0; 5];
+    // SAFETY: pointers and lengths of slices, as said at the head of this file.
+    unsafe {
+        hg_composed(t.as_mut_ptr(), t.len(), start, w.as_mut_ptr(), w.len(), rows.as_ptr(), rows.len(), n, room, out.as_mut_ptr(), 5)
+    };
+    made(out, start, room, n)
+}
+
+/// A factor from pair orders.
+pub fn enumerate(t: &mut [u32], start: usize, w: &mut [u32], orders: &[u32], n: u8, room: u32) -> Answer<Handle> {
+    let mut out = [0; 5];
+    // SAFETY: pointers and lengths of slices, as said at the head of this file.
+    unsafe {
+        hg_enumerate(t.as_mut_ptr(), t.len(), start, w.as_mut_ptr(), w.len(), orders.as_ptr(), orders.len(), n, room, out.as_mut_ptr(), 5)
+    };
+    made(out, start, room, n)
+}
+
+/// Begins a build.
+pub fn begin(t: &mut [u32], start: usize, room: u32, n: u8) -> Answer<Handle> {
+    let mut out = [0; 5];
+    // SAFETY: pointers and lengths of slices, as said at the head of this file.
+    unsafe { hg_begin(t.as_mut_ptr(), t.len(), start, room, n, out.as_mut_ptr(), 5) };
+    made(out, start, room, n)
+}
+
+/// A new element, reached from `e` by `g`.
+pub fn add(t: &mut [u32], b: Handle, e: u32, g: u8) -> Grown {
+    let mut out = [0; 5];
+    // SAFETY: pointers and lengths of slices, as said at the head of this file.
+    unsafe { hg_add(t.as_mut_ptr(), t.len(), b.start, b.room, b.generators, b.elements, e, g, out.as_mut_ptr(), 5) };
+    let none = Handle { start: 0, room: 0, generators: 0, elements: 0 };
+    Grown { answer: verdict(&out), builder: if out[4] == 0 { none } else { Handle { elements: out[4], ..b } } }
+}
+
+/// Stores the step from `e` by `g` to `x`; whether the place was new.
+pub fn set(t: &mut [u32], b: Handle, e: u32, g: u8, x: u32) -> Answer<bool> {
+    // SAFETY: pointers and lengths of slices, as said at the head of this file.
+    coded(unsafe { hg_set(t.as_mut_ptr(), t.len(), b.start, b.room, b.generators, b.elements, e, g, x) }).map(|new| new == 1)
+}
+
+/// Checks what was built, and makes it a factor.
+pub fn build(t: &mut [u32], b: Handle, w: &mut [u32]) -> Answer<Handle> {
+    let mut out = [0; 5];
+    // SAFETY: pointers and lengths of slices, as said at the head of this file.
+    unsafe { hg_build(t.as_mut_ptr(), t.len(), b.start, b.room, b.generators, b.elements, w.as_mut_ptr(), w.len(), out.as_mut_ptr(), 5) };
+    made(out, b.start, b.room, b.generators)
+}
+
+/// Writes the image of a factor to the start of a buffer; its length.
+pub fn image_write(t: &[u32], h: Handle, out: &mut [u8]) -> Answer<u32> {
+    coded(ask!(hg_image_write, t, h, out.as_mut_ptr(), out.len()))
+}
+
+/// Builds the factor that an image stores. Its generators and its room are those of the image's head.
+pub fn image_read(image: &[u8], t: &mut [u32], start: usize, w: &mut [u32]) -> Answer<Handle> {
+    let mut out = [0; 5];
+    // SAFETY: pointers and lengths of slices, as said at the head of this file.
+    unsafe { hg_image_read(image.as_ptr(), image.len(), t.as_mut_ptr(), t.len(), start, w.as_mut_ptr(), w.len(), out.as_mut_ptr(), 5) };
+    let n = image.get(5).copied().unwrap_or(0);
+    made(out, start, out[4], n)
+}
+
+/// Checks an image in lent bytes: the refusal's number, or 0.
+pub fn image_check(image: &[u8], work: &mut [u8]) -> u32 {
+    // SAFETY: pointers and lengths of slices, as said at the head of this file.
+    unsafe { hg_image_check(image.as_ptr(), image.len(), work.as_mut_ptr(), work.len()) }
+}
+
+/// Walks a word of generators from an element: the element reached, or 65,536 + the refusal's number.
+pub fn image_walk(image: &[u8], start: u32, word: &[u8]) -> u32 {
+    // SAFETY: pointers and lengths of slices, as said at the head of this file.
+    unsafe { hg_image_walk(image.as_ptr(), image.len(), start, word.as_ptr(), word.len()) }
+}
+
+/// How many elements the factor has.
+pub fn count(t: &[u32], h: Handle) -> Answer<u32> {
+    coded(ask!(hg_count, t, h))
+}
+
+/// The step from `e` by `g`.
+pub fn step(t: &[u32], h: Handle, e: u32, g: u8) -> Answer<u32> {
+    coded(ask!(hg_step, t, h, e, g))
+}
+
+/// The product of two elements.
+pub fn compose(t: &[u32], h: Handle, a: u32, b: u32) -> Answer<u32> {
+    coded(ask!(hg_compose, t, h, a, b))
+}
+
+/// a·b·a⁻¹.
+pub fn conjugate(t: &[u32], h: Handle, a: u32, b: u32) -> Answer<u32> {
+    coded(ask!(hg_conjugate, t, h, a, b))
+}
+
+/// The inverse of an element.
+pub fn inverse(t: &[u32], h: Handle, a: u32) -> Answer<u32> {
+    coded(ask!(hg_inverse, t, h, a))
+}
+
+/// The element of a generator.
+pub fn generator(t: &[u32], h: Handle, g: u8) -> Answer<u32> {
+    coded(ask!(hg_generator, t, h, g))
+}
+
+/// How long the recorded word of an element is.
+pub fn length(t: &[u32], h: Handle, e: u32) -> Answer<u32> {
+    coded(ask!(hg_length, t, h, e))
+}
+
+/// Writes the recorded word of an element to the start of a buffer; its length.
+pub fn word(t: &[u32], h: Handle, e: u32, out: &mut [u8]) -> Answer<u32> {
+    coded(ask!(hg_word, t, h, e, out.as_mut_ptr(), out.len()))
+}
+
+/// The same word by the call that hands back the filled part of its buffer; empty where `word` refuses.
+pub fn part(t: &[u32], h: Handle, e: u32) -> Vec<u8> {
+    let letter = |k: usize| u8::try_from(ask!(hg_part, t, h, e, k)).ok();
+    (0..).map_while(letter).collect()
+}
+
+/// Checks a factor against pair orders.
+pub fn check(t: &[u32], h: Handle, orders: &[u32]) -> Answer<()> {
+    let mut out = [0; 4];
+    ask!(hg_check, t, h, orders.as_ptr(), orders.len(), out.as_mut_ptr(), 4);
+    verdict(&out).map(drop)
+}
+
+/// The product of two products, whose factors stand one after the other in both lists; how many factors it has.
+pub fn product(t: &[u32], a: &Handles, b: &Handles) -> Answer<u32> {
+    let mut out = [0; 5];
+    let (second, len) = (b.numbers.as_ptr(), b.numbers.len());
+    ask_product!(hg_product, t, a, second, len, b.count, out.as_mut_ptr(), 5);
+    verdict(&out).map(|_| out[4])
+}
+
+/// How many elements a product has.
+pub fn product_count(t: &[u32], p: &Handles) -> Answer<u32> {
+    coded(ask_product!(hg_product_count, t, p))
+}
+
+/// How many generators a product has.
+pub fn product_generators(t: &[u32], p: &Handles) -> Answer<u32> {
+    coded(ask_product!(hg_product_generators, t, p))
+}
+
+/// The element of a generator of a product.
+pub fn product_generator(t: &[u32], p: &Handles, g: u8) -> Answer<u32> {
+    coded(ask_product!(hg_product_generator, t, p, g))
+}
+
+/// The step from `e` by `g` in a product.
+pub fn product_step(t: &[u32], p: &Handles, e: u32, g: u8) -> Answer<u32> {
+    coded(ask_product!(hg_product_step, t, p, e, g))
+}
+
+/// The digit of `e` for the factor `f`.
+pub fn product_project(t: &[u32], p: &Handles, f: u8, e: u32) -> Answer<u32> {
+    coded(ask_product!(hg_product_project, t, p, f, e))
+}
+
+/// The element that is `e` in the factor `f` and the identity in the others.
+pub fn product_inject(t: &[u32], p: &Handles, f: u8, e: u32) -> Answer<u32> {
+    coded(ask_product!(hg_product_inject, t, p, f, e))
+}
+
+/// The product of two elements of a product.
+pub fn product_compose(t: &[u32], p: &Handles, a: u32, b: u32) -> Answer<u32> {
+    coded(ask_product!(hg_product_compose, t, p, a, b))
+}
+
+/// The inverse of an element of a product.
+pub fn product_inverse(t: &[u32], p: &Handles, a: u32) -> Answer<u32> {
+    coded(ask_product!(hg_product_inverse, t, p, a))
+}
+
+/// a·b·a⁻¹ in a product.
+pub fn product_conjugate(t: &[u32], p: &Handles, a: u32, b: u32) -> Answer<u32> {
+    coded(ask_product!(hg_product_conjugate, t, p, a, b))
+}
+
+/// The power of an element of a product.
+pub fn product_powi(t: &[u32], p: &Handles, a: u32, i: i32) -> Answer<u32> {
+    coded(ask_product!(hg_product_powi, t, p, a, i))
+}
+
+/// The least power of an element that is the identity, from 1 on.
+pub fn product_period(t: &[u32], p: &Handles, a: u32) -> Answer<u32> {
+    coded(ask_product!(hg_product_period, t, p, a))
+}
+
+/// How long the recorded word of an element of a product is.
+pub fn product_length(t: &[u32], p: &Handles, e: u32) -> Answer<u32> {
+    coded(ask_product!(hg_product_length, t, p, e))
+}
+
+/// The digits of an element, written to the start of a list; how many they are.
+pub fn product_split(t: &[u32], p: &Handles, e: u32, out: &mut [u32]) -> Answer<u32> {
+    coded(ask_product!(hg_product_split, t, p, e, out.as_mut_ptr(), out.len()))
+}
+
+/// The element with the digits that a list starts with.
+pub fn product_join(t: &[u32], p: &Handles, digits: &[u32]) -> Answer<u32> {
+    coded(ask_product!(hg_product_join, t, p, digits.as_ptr(), digits.len()))
+}
+
+/// Writes the recorded word of an element of a product to the start of a buffer; its length.
+pub fn product_word(t: &[u32], p: &Handles, e: u32, out: &mut [u8]) -> Answer<u32> {
+    coded(ask_product!(hg_product_word, t, p, e, out.as_mut_ptr(), out.len()))
+}
+
+/// One factor that is the product, with its numbers. It has as many generators as `generators` says the product has.
+pub fn product_flatten(from: &[u32], p: &Handles, generators: u8, t: &mut [u32], start: usize, w: &mut [u32], room: u32) -> Answer<Handle> {
+    let mut out = [0; 5];
+    let (table, tn, work, wn) = (t.as_mut_ptr(), t.len(), w.as_mut_ptr(), w.len());
+    ask_product!(hg_product_flatten, from, p, table, tn, start, work, wn, room, out.as_mut_ptr(), 5);
+    made(out, start, room, generators)
+}
+
+/// The lent buffers of a subgroup: its table and work, the map from the overgroup to it, and the map back.
+pub struct SubgroupBuffers<'a> {
+    pub table: &'a mut [u32],
+    pub work: &'a mut [u32],
+    pub inward: &'a mut [u32],
+    pub outward: &'a mut [u32],
+}
+
+/// The pointers and lengths of these, in the order of the exported functions.
+macro_rules! ask_buffers {
+    ($call:ident, $from:expr, $over:expr, $list:expr, $lent:expr, $start:expr, $room:expr) => {{
+        let mut out = [0; 6];
+        let SubgroupBuffers { table: t, work: w, inward: i, outward: b } = $lent;
+        let (t, tn, w, wn) = (t.as_mut_ptr(), t.len(), w.as_mut_ptr(), w.len());
+        let (i, il, b, bl) = (i.as_mut_ptr(), i.len(), b.as_mut_ptr(), b.len());
+        let (list, len) = ($list.as_ptr(), $list.len());
+        ask_product!($call, $from, $over, list, len, t, tn, $start, w, wn, i, il, b, bl, $room, out.as_mut_ptr(), 6);
+        verdict(&out).map(|_| Handle { start: $start, room: $room, generators: out[5] as u8, elements: out[4] })
+    }};
+}
+
+/// The subgroup that elements of a product generate, built into the stretch of the table that starts at `start`.
+pub fn subgroup(from: &[u32], over: &Handles, generators: &[u32], lent: SubgroupBuffers<'_>, start: usize, room: u32) -> Answer<Handle> {
+    ask_buffers!(hg_subgroup, from, over, generators, lent, start, room)
+}
+
+/// The same from a byte for each element of the product, not 0 for a member; table and work are as for eight generators.
+pub fn subgroup_predicate(
+    from: &[u32],
+    over: &Handles,
+    members: &[u8],
+    lent: SubgroupBuffers<'_>,
+    start: usize,
+    room: u32,
+) -> Answer<Handle> {
+    ask_buffers!(hg_subgroup_predicate, from, over, members, lent, start, room)
+}
+
+/// The element of the overgroup that the subgroup's `e` is.
+pub fn subgroup_over(from: &[u32], table: &[u32], s: &Sides, outward: &[u32], e: u32) -> Answer<u32> {
+    coded(ask_subgroup!(hg_subgroup_over, from, table, s, outward.as_ptr(), outward.len(), e))
+}
+
+/// The element of the subgroup that the overgroup's `x` is; 4,294,967,295 where it is not in it.
+pub fn subgroup_back(from: &[u32], table: &[u32], s: &Sides, inward: &[u32], x: u32) -> Answer<u32> {
+    coded(ask_subgroup!(hg_subgroup_back, from, table, s, inward.as_ptr(), inward.len(), x))
+}
+
+/// The element of the overgroup that a generator of the subgroup is.
+pub fn subgroup_generator(from: &[u32], table: &[u32], s: &Sides, outward: &[u32], g: u8) -> Answer<u32> {
+    coded(ask_subgroup!(hg_subgroup_generator, from, table, s, outward.as_ptr(), outward.len(), g))
+}
+
+/// Whether the factors of `g`, which stand where the overgroup's do, can be multiplied on below the subgroup.
+pub fn subgroup_left(from: &[u32], table: &[u32], g: &Handles, s: &Sides) -> Answer<()> {
+    let mut out = [0; 4];
+    let (h, hn, sides, sn) = (g.numbers.as_ptr(), g.numbers.len(), s.numbers.as_ptr(), s.numbers.len());
+    // SAFETY: pointers and lengths of slices, as said at the head of this file.
+    unsafe { hg_subgroup_left(from.as_ptr(), from.len(), table.as_ptr(), table.len(), h, hn, g.count, sides, sn, out.as_mut_ptr(), 4) };
+    verdict(&out).map(drop)
+}
+
+/// Whether they can be multiplied on above it.
+pub fn subgroup_right(from: &[u32], table: &[u32], s: &Sides, g: &Handles) -> Answer<()> {
+    let mut out = [0; 4];
+    let (h, hn) = (g.numbers.as_ptr(), g.numbers.len());
+    ask_subgroup!(hg_subgroup_right, from, table, s, h, hn, g.count, out.as_mut_ptr(), 4);
+    verdict(&out).map(drop)
+}
+
+/// Generators as the bytes that an image's walk takes.
+pub(crate) fn letters(word: &[Generator]) -> &[u8] {
+    // SAFETY: `Generator` is `repr(transparent)` over `u8`, so the same bytes are as many letters.
+    unsafe { std::slice::from_raw_parts(word.as_ptr().cast(), word.len()) }
+}

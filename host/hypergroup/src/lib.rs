@@ -1,0 +1,87 @@
+//! Group tables for twisty puzzles, each checked before anything is asked of it.
+//!
+//! A live viewer of a match gets each turn as a generator; a viewer who is behind gets one element, the product of the turns missed.
+//! Both land on one state exactly when the table of moves is a group's. Whatever this crate hands out has been checked by a library
+//! in which every function is proved to meet its contract: a table is accepted exactly when some group has it, and everything else
+//! comes back as a [`Refusal`] with its number, its places and a sentence.
+//!
+//! | | |
+//! |---|---|
+//! | [`Factor`] | a group from pair orders, from composed rows, from an image, or step by step by a [`Builder`] |
+//! | [`Product`] | the direct product of up to eight factors |
+//! | [`Subgroup`] | a subgroup of a product, with its maps |
+//! | [`Image`] | a stored table: checked, walked, read back |
+//! | [`raw`] | the library's calls on lent buffers and plain numbers |
+//!
+//! ```
+//! use hypergroup::{Element, Factor, Generator, Image};
+//!
+//! // The symmetries of a triangle: two turns, each its own inverse, whose product has order 3.
+//! let triangle = Factor::from_orders(2, &[3], 100)?;
+//! assert_eq!(triangle.element_count(), 6);
+//!
+//! // What is sent to the viewers, and what each of them makes of it.
+//! let sent: Vec<u8> = triangle.to_image()?;
+//! let image = Image::check(&sent)?;
+//! let turns = [Generator(0), Generator(1), Generator(0)];
+//! let live = image.walk(Element(2), &turns)?;
+//! let missed = image.walk(Element::IDENTITY, &turns)?;
+//! assert_eq!(live, image.read()?.compose(Element(2), missed)?);
+//! # Ok::<(), hypergroup::Refusal>(())
+//! ```
+#![warn(missing_docs)]
+
+mod builder;
+mod factor;
+#[allow(missing_docs)]
+mod ffi;
+mod image;
+mod number;
+mod product;
+mod refusal;
+mod subgroup;
+
+pub use builder::{Builder, Stored};
+pub use factor::Factor;
+pub use image::Image;
+pub use number::{Element, Generator};
+pub use product::Product;
+pub use refusal::Refusal;
+pub use subgroup::Subgroup;
+
+/// The library's calls as they are: on lent buffers, handles and plain numbers. Each is safe, whatever it is given.
+///
+/// A refused question writes nothing. Arguments that are refused touch no buffer; a refusal once a build has started leaves the
+/// stretches that it needs zero. How much a build needs is [`table_need`](raw::table_need) and [`work_need`](raw::work_need).
+///
+/// ```
+/// use hypergroup::raw;
+/// let (mut table, mut work) = (vec![0; raw::table_need(1, 2)], vec![0; raw::work_need(1, 2)]);
+/// let handle = raw::composed(&mut table, 0, &mut work, &[1, 0], 1, 2)?;
+/// assert_eq!(raw::step(&table, handle, 1, 0), Ok(0));
+/// // A handle that does not fit its buffer is refused, with 17.
+/// assert_eq!(raw::step(&table[1..], handle, 1, 0).unwrap_err().number, 17);
+/// # Ok::<(), hypergroup::Refusal>(())
+/// ```
+pub mod raw {
+    pub use crate::ffi::*;
+
+    /// The numbers of table that a build with so many generators and so much room needs.
+    pub fn table_need(generators: u8, room: u32) -> usize {
+        room as usize * (2 * usize::from(generators) + 4)
+    }
+
+    /// The numbers of work that it needs.
+    pub fn work_need(generators: u8, room: u32) -> usize {
+        let n = usize::from(generators);
+        room as usize * (6 * n * n + 4 * n)
+    }
+
+    /// Zeroed table and work for a build; nothing where the generators or the room are to be refused anyway.
+    pub(crate) fn lent(generators: u8, room: u32) -> (Vec<u32>, Vec<u32>) {
+        if generators > 8 || room > 65_535 {
+            return (vec![], vec![]);
+        }
+        (vec![0; table_need(generators, room)], vec![0; work_need(generators, room)])
+    }
+}

@@ -1,0 +1,78 @@
+//! Images: written, read, checked and walked.
+use super::*;
+
+const BYTE: u8 = 0xa5;
+
+/// Bytes in hex; `-` or nothing for none.
+pub(crate) fn bytes(w: &[&str], i: usize) -> Result<Vec<u8>, No> {
+    let text = w.get(i).copied().unwrap_or("-");
+    let text = if text == "-" { "" } else { text };
+    let pair = |k| text.get(k..k + 2).and_then(|x| u8::from_str_radix(x, 16).ok());
+    (0..text.len()).step_by(2).map(pair).collect::<Option<_>>().ok_or_else(|| No::Says(format!("bad argument {i}")))
+}
+
+/// The generators and elements that a head says there are.
+pub(crate) fn head(image: &[u8]) -> (u8, u32) {
+    let at = |i| image.get(i).copied().unwrap_or(0);
+    (at(5), u32::from(at(6)) * 256 + u32::from(at(7)))
+}
+
+impl Ours {
+    /// The image of a factor that is made here, or of the one that is the current product, with a margin that must stay.
+    pub(crate) fn image(&mut self, w: &[&str]) -> Result<(), No> {
+        let made = if w.is_empty() { None } else { Some(self.build(w)?) };
+        let (t, h) = match (&made, self.product.single()) {
+            (Some(b), _) => (&b.table, b.handle),
+            (None, Some(h)) => (&self.product.table, h),
+            _ => return unsupported(),
+        };
+        let size = 8 + 2 * usize::from(h.generators) * h.elements.min(65_536) as usize;
+        let short = std::mem::take(&mut self.short.image);
+        let mut out = vec![BYTE; if short == 0 { size + MARGIN } else { size - 1 }];
+        let answer = raw::image_write(t, h, &mut out);
+        let len = answer.unwrap_or(0) as usize;
+        assert!(out[len..].iter().all(|&x| x == BYTE), "an image wrote past its end");
+        answer?;
+        self.say(format!("ok {}", out[..len].iter().map(|x| format!("{x:02x}")).collect::<String>()));
+        Ok(())
+    }
+
+    /// The factor that an image stores, printed as `table` does.
+    pub(crate) fn unimage(&mut self, image: &[u8]) -> Result<(), No> {
+        let (n, count) = head(image);
+        // Of a bad head no buffer's length is looked at.
+        let right = image.len() == 8 + 2 * usize::from(n) * count as usize;
+        let (n, count) = if right { (n, count) } else { (0, 1) };
+        let b = self.build_in(n.into(), count, |t, start, work| raw::image_read(image, t, start, work))?;
+        self.say_factor(&b)
+    }
+
+    /// The check's number. The work is as long as document 01 says, with a margin that must stay, or a byte shorter.
+    pub(crate) fn check_image(&mut self, image: &[u8]) {
+        let (n, count) = head(image);
+        let m = usize::from(n);
+        let right = n <= 8 && image.len() == 8 + 2 * m * count as usize;
+        let need = if right { count as usize * (32 * m * m + 100) } else { 0 };
+        let short = std::mem::take(&mut self.short.work);
+        let mut work = vec![BYTE; if short == 0 { need + MARGIN } else { need.saturating_sub(1) }];
+        let number = raw::image_check(image, &mut work);
+        let (used, beyond) = work.split_at(need.min(work.len()));
+        assert!(beyond.iter().all(|&x| x == BYTE), "an excess was touched");
+        let (zero, untouched) = (used.iter().all(|&x| x == 0), used.iter().all(|&x| x == BYTE));
+        match number {
+            1 | 4 => assert!(untouched, "refused arguments changed the work"),
+            16 => assert!(zero || untouched, "a refusal left something"),
+            _ => assert!(zero, "a check left something"),
+        }
+        self.say(number);
+    }
+
+    /// `imgwalk HEX START G..`: the walk's number.
+    pub(crate) fn walk_image(&mut self, w: &[&str]) -> Result<(), No> {
+        let image = bytes(w, 1)?;
+        let start = number(w, 2)?;
+        let word = (3..w.len()).map(|i| number(w, i)).collect::<Result<Vec<u8>, No>>()?;
+        self.say(raw::image_walk(&image, start, &word));
+        Ok(())
+    }
+}

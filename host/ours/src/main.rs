@@ -1,0 +1,246 @@
+//! The proved library, answering the oracle's commands in the oracle's words, and `refused NUMBER A B C` for a refusal.
+//!
+//! Beyond the oracle's commands (oracle/README.md):
+//!
+//! - `digest 0|1` adds, after each build, a line with a digest of every lent buffer: the needed stretch of the table, the excess around
+//!   it, the needed work and its excess.
+//! - `short table`, `short work`, `short rows` lend the next build one number less; `short work` also the next `imgcheck` one byte, and
+//!   `short image` the next `image`, and `short map` the maps of the next `sub`.
+//! - `alter I V` stores V at the I-th number of the table buffer of the current builder, or else of the current product. `forge START
+//!   ROOM N COUNT` puts another handle in the place of the builder's, or of the product's first factor; with five numbers the first
+//!   says which factor. `forgecount K` says how many factors the product has.
+//! - `altermap I V` and `altersub I V` do as `alter` does, in both maps and in the table of the current subgroup.
+//! - `checked ORDERS..` checks the one factor of the current product, as it stands, against pair orders.
+//! - `bench unimage HEX` and `bench imgcheck HEX`, beyond what the oracle measures.
+//! - `builder n` begins a build with the current room, `add e g` prints the new element, `set e g r` prints `new` or `known`, `build`
+//!   prints as `table` does and makes the factor the current product.
+//! - `count`, `length e`; `shortword e` writes a word into one byte less than it has; `part e` is the word by the call that hands back
+//!   the filled part of its buffer, nothing where it is refused.
+//! - `image enum ..`, `image table ..` or `image` alone, for the one factor of the current product, print `ok` and the bytes in hex;
+//!   `unimage HEX` prints as `table` does; `imgcheck HEX` and `imgwalk HEX START G..` print the number that comes back. `-` is no byte.
+//!
+//! What this program cannot answer yet it says with `unsupported`. Whatever a call leaves in the buffers is held to document 01 after
+//! every build, a product of one factor to the factor itself, and both ways to make a product to each other; a fault ends the program.
+mod bench;
+mod build;
+mod image;
+mod questions;
+mod say;
+mod subgroups;
+
+use hypergroup::Refusal;
+use hypergroup::raw::{self, Answer, Handle, Handles};
+use std::io::{BufRead, BufWriter, Write};
+
+/// What stands in a buffer before it is lent, and must stand in its excess afterwards.
+const FILL: u32 = 0xa5a5_a5a5;
+const MARGIN: usize = 7;
+
+/// A table buffer with a factor in it.
+struct Built {
+    table: Vec<u32>,
+    handle: Handle,
+}
+
+/// A table buffer with the factors of a product in it.
+#[derive(Default)]
+struct Product {
+    table: Vec<u32>,
+    handles: Handles,
+    /// The same, for the calls on one factor.
+    factors: Vec<Handle>,
+}
+
+impl Product {
+    fn of(table: Vec<u32>, factors: Vec<Handle>) -> Self {
+        let mut handles = Handles::default();
+        factors.iter().for_each(|&h| handles.push(h));
+        Product { table, handles, factors }
+    }
+
+    /// The one factor, where there is one.
+    fn single(&self) -> Option<Handle> {
+        match self.factors[..] {
+            [h] if self.handles.count == 1 => Some(h),
+            _ => None,
+        }
+    }
+}
+
+/// Why a command has no answer: a refusal, or words of this program's own.
+enum No {
+    Refused(Refusal),
+    Says(String),
+}
+impl From<Refusal> for No {
+    fn from(r: Refusal) -> Self {
+        No::Refused(r)
+    }
+}
+impl From<String> for No {
+    fn from(s: String) -> Self {
+        No::Says(s)
+    }
+}
+fn unsupported<T>() -> Result<T, No> {
+    Err(No::Says("unsupported".into()))
+}
+
+fn number<T: std::str::FromStr>(w: &[&str], i: usize) -> Result<T, No> {
+    w.get(i).and_then(|x| x.parse().ok()).ok_or_else(|| No::Says(format!("bad argument {i}")))
+}
+fn numbers(w: &[&str]) -> Result<Vec<u32>, No> {
+    (0..w.len()).map(|i| number(w, i)).collect()
+}
+
+/// What the next call is lent one less of.
+#[derive(Clone, Copy, Default)]
+struct Short {
+    table: usize,
+    work: usize,
+    rows: usize,
+    image: usize,
+    map: usize,
+}
+
+struct Ours {
+    out: BufWriter<std::io::Stdout>,
+    room: u32,
+    quiet: bool,
+    digest: bool,
+    short: Short,
+    /// The factors that were made, in one table buffer.
+    factors: Vec<Handle>,
+    space: Vec<u32>,
+    builder: Option<Built>,
+    product: Product,
+    sub: Option<subgroups::Sub>,
+}
+
+impl Ours {
+    fn say(&mut self, line: impl std::fmt::Display) {
+        writeln!(self.out, "{line}").unwrap();
+    }
+
+    fn alter(&mut self, i: usize, v: u32) {
+        let table = match &mut self.builder {
+            Some(b) => &mut b.table,
+            None => &mut self.product.table,
+        };
+        if !table.is_empty() {
+            let at = i % table.len();
+            table[at] = v;
+        }
+    }
+
+    /// `START ROOM N COUNT`, or these after the factor's place.
+    fn forge(&mut self, w: &[&str]) -> Result<(), No> {
+        let (k, w): (usize, _) = if w.len() == 5 { (number(w, 0)?, &w[1..]) } else { (0, w) };
+        let h = Handle { start: number(w, 0)?, room: number(w, 1)?, generators: number(w, 2)?, elements: number(w, 3)? };
+        if let Some(b) = &mut self.builder {
+            b.handle = h;
+        } else if let Some(place) = self.product.factors.get_mut(k) {
+            *place = h;
+            let count = self.product.handles.count;
+            self.product = Product::of(std::mem::take(&mut self.product.table), std::mem::take(&mut self.product.factors));
+            self.product.handles.count = count;
+        }
+        Ok(())
+    }
+
+    /// The product of the factors, whose number of generators and elements is printed. As in the oracle a refused one leaves the last.
+    fn prod(&mut self) -> Result<(), No> {
+        let p = Product::of(self.space.clone(), self.factors.clone());
+        let counted = raw::product_count(&p.table, &p.handles);
+        let (first, rest) = p.factors.split_at(p.factors.len() / 2);
+        let half = |part: &[Handle]| Product::of(vec![], part.to_vec()).handles;
+        let joined = raw::product(&p.table, &half(first), &half(rest));
+        assert_eq!(joined, counted.map(|_| p.handles.count.into()), "two ways to a product differ");
+        let line = format!("ok {} {}", raw::product_generators(&p.table, &p.handles)?, counted?);
+        self.builder = None;
+        self.product = p;
+        self.say(line);
+        Ok(())
+    }
+
+    fn answer(&mut self, w: &[&str]) -> Result<(), No> {
+        match w[0] {
+            "room" => self.room = number(w, 1)?,
+            "quiet" => self.quiet = number::<u8>(w, 1)? != 0,
+            "digest" => self.digest = number::<u8>(w, 1)? != 0,
+            "short" => match w.get(1) {
+                Some(&"table") => self.short.table = 1,
+                Some(&"work") => self.short.work = 1,
+                Some(&"image") => self.short.image = 1,
+                Some(&"map") => self.short.map = 1,
+                _ => self.short.rows = 1,
+            },
+            "alter" => self.alter(number(w, 1)?, number(w, 2)?),
+            "forge" => self.forge(&w[1..])?,
+            "forgecount" => self.product.handles.count = number(w, 1)?,
+            "bench" => self.bench(&w[1..])?,
+            "clear" => {
+                (self.factors, self.space) = (vec![], vec![]);
+                (self.builder, self.product, self.sub) = (None, Product::default(), None);
+            }
+            "enum" | "table" => {
+                let b = self.build(w)?;
+                self.say_factor(&b)?;
+            }
+            "against" => {
+                let bar = w.iter().position(|x| *x == "|").ok_or_else(|| "missing argument".to_string())?;
+                let b = self.build(&w[1..bar])?;
+                raw::check(&b.table, b.handle, &numbers(&w[bar + 1..])?)?;
+                self.say("ok");
+            }
+            "factor" => self.add_factor(&w[1..])?,
+            "prod" => self.prod()?,
+            "builder" => self.begin(number(w, 1)?)?,
+            "add" | "set" | "build" => self.building(w)?,
+            "flatten" => self.flatten()?,
+            "sub" => self.sub(&w[1..])?,
+            "subpred" => self.sub_predicate(&w[1..])?,
+            "subleft" | "subright" => self.sub_beside(w)?,
+            "s2o" | "o2s" | "subgens" => self.sub_question(w)?,
+            "altermap" | "altersub" => self.alter_sub(w[0], number(w, 1)?, number(w, 2)?),
+            "image" => self.image(&w[1..])?,
+            "unimage" => self.unimage(&image::bytes(w, 1)?)?,
+            "imgcheck" => self.check_image(&image::bytes(w, 1)?),
+            "imgwalk" => self.walk_image(w)?,
+            _ => self.question(w)?,
+        }
+        Ok(())
+    }
+}
+
+fn main() {
+    let echo = std::env::args().any(|a| a == "--echo");
+    let mut ours = Ours {
+        out: BufWriter::new(std::io::stdout()),
+        room: 65_535,
+        quiet: false,
+        digest: false,
+        short: Short::default(),
+        factors: vec![],
+        space: vec![],
+        builder: None,
+        product: Product::default(),
+        sub: None,
+    };
+    for line in std::io::stdin().lock().lines() {
+        let line = line.unwrap();
+        let words: Vec<&str> = line.split_whitespace().collect();
+        if words.is_empty() || words[0].starts_with('#') {
+            continue;
+        }
+        if echo {
+            ours.say(format!("> {line}"));
+        }
+        match ours.answer(&words) {
+            Ok(()) => {}
+            Err(No::Refused(Refusal { number, places: [a, b, c] })) => ours.say(format!("refused {number} {a} {b} {c}")),
+            Err(No::Says(s)) => ours.say(s),
+        }
+        ours.out.flush().unwrap();
+    }
+}

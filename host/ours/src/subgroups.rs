@@ -1,0 +1,162 @@
+//! Subgroups of the current product.
+use super::*;
+use hypergroup::raw::{Sides, SubgroupBuffers};
+
+/// A subgroup: the overgroup's buffer and factors, the buffer of its own factor, and both maps.
+#[derive(Clone)]
+pub(crate) struct Sub {
+    from: Vec<u32>,
+    below: Vec<Handle>,
+    over: Handles,
+    above: Vec<Handle>,
+    table: Vec<u32>,
+    factor: Handle,
+    inward: Vec<u32>,
+    outward: Vec<u32>,
+    /// How many elements the part of the overgroup has that the maps speak of.
+    mapped: u32,
+}
+
+impl Sub {
+    fn sides(&self) -> Sides {
+        let listed = |side: &[Handle]| side.iter().copied().collect::<Handles>();
+        Sides::new(self.factor, &listed(&self.below), &self.over, &listed(&self.above))
+    }
+
+    fn multiplied(&self) -> impl Iterator<Item = &Handle> {
+        self.below.iter().chain(&self.above)
+    }
+
+    /// Generators, elements, and elements of the overgroup.
+    fn counts(&self) -> (u32, u32, u32) {
+        let beside: u32 = self.multiplied().map(|h| h.elements).product();
+        let generators: u32 = self.multiplied().map(|h| u32::from(h.generators)).sum();
+        (generators + u32::from(self.factor.generators), beside * self.factor.elements, beside * self.mapped)
+    }
+
+    fn over(&self, e: u32) -> Answer<u32> {
+        raw::subgroup_over(&self.from, &self.table, &self.sides(), &self.outward, e)
+    }
+
+    fn back(&self, x: u32) -> Answer<u32> {
+        raw::subgroup_back(&self.from, &self.table, &self.sides(), &self.inward, x)
+    }
+
+    fn generators(&self) -> Answer<Vec<u32>> {
+        let generator = |g| raw::subgroup_generator(&self.from, &self.table, &self.sides(), &self.outward, g as u8);
+        (0..self.counts().0).map(generator).collect()
+    }
+}
+
+/// Both maps of a build that has ended, held to document 01.
+fn held_maps(answer: &Answer<Handle>, needed: [usize; 2], before: [&[u32]; 2], after: [&[u32]; 2]) {
+    let parts = |k: usize| after[k].split_at(needed[k].min(after[k].len()));
+    let (inward, outward) = (parts(0), parts(1));
+    let beyond = |k: usize| &before[k][needed[k].min(before[k].len())..];
+    assert!(inward.1 == beyond(0) && outward.1 == beyond(1), "an excess was touched");
+    let zero = inward.0.iter().chain(outward.0).all(|&x| x == 0);
+    let untouched = before == after;
+    match answer {
+        Ok(h) => {
+            assert!(outward.0[h.elements as usize..].iter().all(|&x| x == 0), "a place of a map beyond the last element is not zero");
+            assert!(inward.0.iter().all(|&x| x < h.elements || x == u32::MAX), "a map leads nowhere");
+        }
+        Err(Refusal { number: 1..=4 | 14, .. }) => assert!(untouched, "refused arguments changed a map"),
+        Err(Refusal { number: 15..=17, .. }) => assert!(untouched || zero, "a refusal left something in a map"),
+        Err(_) => assert!(zero, "a refused build left something in a map"),
+    }
+}
+
+impl Ours {
+    /// `sub g0 g1 ..`, of the current product.
+    pub(crate) fn sub(&mut self, w: &[&str]) -> Result<(), No> {
+        let generators = numbers(w)?;
+        self.sub_built(generators.len(), |from, over, lent, start, room| raw::subgroup(from, over, &generators, lent, start, room))
+    }
+
+    /// `subpred b0 b1 ..`: a number for each element of the current product, not 0 for a member.
+    pub(crate) fn sub_predicate(&mut self, w: &[&str]) -> Result<(), No> {
+        let members = (0..w.len()).map(|i| number(w, i)).collect::<Result<Vec<u8>, No>>()?;
+        self.sub_built(8, |from, over, lent, start, room| raw::subgroup_predicate(from, over, &members, lent, start, room))
+    }
+
+    /// Lends maps as well as table and work, and holds them to document 01.
+    fn sub_built(
+        &mut self,
+        n: usize,
+        call: impl FnOnce(&[u32], &Handles, SubgroupBuffers<'_>, usize, u32) -> Answer<Handle>,
+    ) -> Result<(), No> {
+        let (from, over) = (self.product.table.clone(), self.product.handles.clone());
+        let mapped = raw::product_count(&from, &over).unwrap_or(0);
+        let size = if mapped <= 65_535 { mapped as usize } else { 0 };
+        // A subgroup has no more elements than the overgroup, so that more room would change nothing.
+        let room = if self.room <= 65_535 { self.room.min(size.max(1) as u32) } else { self.room };
+        let short = std::mem::take(&mut self.short.map);
+        let lengths = [size, room.min(65_535) as usize].map(|n| if short == 0 { n + MARGIN } else { n.saturating_sub(1) });
+        let [mut inward, mut outward] = lengths.map(|n| vec![FILL; n]);
+        let before = [inward.clone(), outward.clone()];
+        let (table, answer) = self.build_after(vec![], n, room, |table, start, work| {
+            call(&from, &over, SubgroupBuffers { table, work, inward: &mut inward, outward: &mut outward }, start, room)
+        });
+        held_maps(&answer, [size, room as usize], [&before[0], &before[1]], [&inward, &outward]);
+        let sub = Sub { from, below: vec![], over, above: vec![], table, factor: answer?, inward, outward, mapped };
+        self.say_subgroup(&sub)?;
+        self.say_factor(&Built { table: sub.table.clone(), handle: sub.factor })?;
+        self.sub = Some(sub);
+        Ok(())
+    }
+
+    /// `subleft enum|table ..` or `subright ..`: a factor that is built behind the overgroup's.
+    pub(crate) fn sub_beside(&mut self, w: &[&str]) -> Result<(), No> {
+        let mut sub = self.sub.clone().ok_or_else(|| "no subgroup".to_string())?;
+        let sides = sub.sides();
+        let (from, answer) = self.made(std::mem::take(&mut sub.from), &w[1..])?;
+        let factor = answer?;
+        sub.from = from;
+        let more = [factor].into_iter().collect();
+        if w[0] == "subleft" {
+            raw::subgroup_left(&sub.from, &sub.table, &more, &sides)?;
+            sub.below.insert(0, factor);
+        } else {
+            raw::subgroup_right(&sub.from, &sub.table, &sides, &more)?;
+            sub.above.push(factor);
+        }
+        self.say_subgroup(&sub)?;
+        self.sub = Some(sub);
+        Ok(())
+    }
+
+    fn say_subgroup(&mut self, sub: &Sub) -> Result<(), No> {
+        let (n, inside, outside) = sub.counts();
+        let over = (0..inside).map(|e| sub.over(e)).collect::<Answer<Vec<_>>>()?;
+        let back = (0..outside).map(|x| sub.back(x)).collect::<Answer<Vec<_>>>()?;
+        self.say(format!("ok {n} {inside} of {outside}"));
+        self.say_long("s2o", &over);
+        self.say_long("o2s", &back);
+        Ok(())
+    }
+
+    /// `s2o x`, `o2s x` and `subgens`.
+    pub(crate) fn sub_question(&mut self, w: &[&str]) -> Result<(), No> {
+        let sub = self.sub.as_ref().ok_or_else(|| "no subgroup".to_string())?;
+        let line = match w[0] {
+            "s2o" => sub.over(number(w, 1)?)?.to_string(),
+            "o2s" => sub.back(number(w, 1)?)?.to_string(),
+            _ => say::listed(&sub.generators()?),
+        };
+        self.say(line);
+        Ok(())
+    }
+
+    /// `altermap I V` stores V at the I-th number of both maps, `altersub I V` in the subgroup's table.
+    pub(crate) fn alter_sub(&mut self, what: &str, i: usize, v: u32) {
+        let Some(sub) = &mut self.sub else { return };
+        let lists = if what == "altermap" { vec![&mut sub.inward, &mut sub.outward] } else { vec![&mut sub.table] };
+        for list in lists {
+            if !list.is_empty() {
+                let at = i % list.len();
+                list[at] = v;
+            }
+        }
+    }
+}

@@ -1,0 +1,200 @@
+/* The image's C functions as a C program calls them: document 01's images, each refusal's number, exact and short work,
+ * margins, lists that end where the memory ends, and NULL with length 0. Last line 'N passed, M failed'. */
+#define _DEFAULT_SOURCE
+#include "../host/hypergroup.h"
+
+#include <stdio.h>
+#include <stdlib.h>
+#include <string.h>
+#include <sys/mman.h>
+
+static unsigned passed, failed;
+
+static void expect(uint32_t got, uint32_t wanted, const char *what) {
+    if (got == wanted) {
+        passed++;
+    } else {
+        failed++;
+        printf("%s: %u, not %u\n", what, (unsigned)got, (unsigned)wanted);
+    }
+}
+
+/* Memory that ends at `end`, with a page after it that must not be touched. */
+enum { AREA = 1 << 20, PAGE = 1 << 16 };
+
+static uint8_t *guarded(void) {
+    uint8_t *at = mmap(NULL, AREA + PAGE, PROT_READ | PROT_WRITE, MAP_PRIVATE | MAP_ANONYMOUS, -1, 0);
+    if (at == MAP_FAILED || mprotect(at + AREA, PAGE, PROT_NONE) != 0) {
+        puts("no memory");
+        exit(1);
+    }
+    return at + AREA;
+}
+
+typedef struct {
+    uint8_t bytes[4096];
+    size_t length;
+} Image;
+
+static Image image_of(unsigned n, unsigned count, const unsigned *rows) {
+    Image made;
+    size_t rest = 4 + 2 * (size_t)n * count, i;
+    made.length = rest + 4;
+    for (i = 0; i < 4; i++) made.bytes[i] = (uint8_t)(rest >> (24 - 8 * i));
+    made.bytes[4] = 1;
+    made.bytes[5] = (uint8_t)n;
+    made.bytes[6] = (uint8_t)(count >> 8);
+    made.bytes[7] = (uint8_t)count;
+    for (i = 0; i < (size_t)n * count; i++) {
+        made.bytes[8 + 2 * i] = (uint8_t)(rows[i] >> 8);
+        made.bytes[9 + 2 * i] = (uint8_t)rows[i];
+    }
+    return made;
+}
+
+static uint8_t *image_end, *work_end;
+
+/* The image, so that its last byte is the memory's last. */
+static const uint8_t *lend(const Image *image) {
+    return memcpy(image_end - image->length, image->bytes, image->length);
+}
+
+static size_t need(const Image *image) {
+    size_t n = image->bytes[5], count = 256 * (size_t)image->bytes[6] + image->bytes[7];
+    return count * (32 * n * n + 100);
+}
+
+static bool all(const uint8_t *bytes, size_t length, uint8_t is) {
+    size_t i;
+    for (i = 0; i < length; i++)
+        if (bytes[i] != is) return false;
+    return true;
+}
+
+/* The number with exactly the work needed, with a margin before and after it, and with one byte less. */
+static void checks_to(const Image *image, uint32_t number, bool started, const char *what) {
+    size_t size = need(image), margin = 64;
+    const uint8_t *bytes = lend(image);
+    uint8_t *work = work_end - size;
+    memset(work_end - AREA, 0xA5, AREA);
+    expect(hg_image_check(bytes, image->length, work, size), number, what);
+    expect(all(work, size, started ? 0 : 0xA5) && all(work - margin, margin, 0xA5), true, what);
+    work -= margin;
+    memset(work_end - AREA, 0xA5, AREA);
+    expect(hg_image_check(bytes, image->length, work, size + margin), number, what);
+    expect(all(work, size, started ? 0 : 0xA5) && all(work + size, margin, 0xA5), true, what);
+    memset(work_end - AREA, 0xA5, AREA);
+    expect(hg_image_check(bytes, image->length, work_end - size + 1, size - 1), started ? 4 : number, what);
+    expect(all(work_end - AREA, AREA, 0xA5), true, what);
+    expect(memcmp(bytes, image->bytes, image->length), 0, what);
+}
+
+/* A number that comes from the head only where it is 16 or 1. */
+static void checks(const Image *image, uint32_t number, const char *what) {
+    checks_to(image, number, number != 16 && number != 1, what);
+}
+
+static uint32_t walks(const Image *image, uint32_t start, const char *word) {
+    size_t i, length = strlen(word);
+    uint8_t *letters = work_end - length;
+    for (i = 0; i < length; i++) letters[i] = (uint8_t)(word[i] - '0');
+    return hg_image_walk(lend(image), image->length, start, letters, length);
+}
+
+static const unsigned z2[] = {1, 0}, s3[] = {1, 2, 0, 3, 4, 0, 5, 1, 2, 5, 3, 4}, gap[] = {1, 1}, stays[] = {0};
+static const unsigned turned[] = {1, 2, 3, 3, 0, 0, 2, 1}, twice[] = {1, 1, 0, 0}, skips[] = {2, 1, 0}, more[] = {1, 2}, apart[] = {1, 0, 0};
+static const unsigned crossed[] = {
+    1,  2,  3, 4, 0,  5,  6, 7, 5,  0,  8, 9, 6,  8,  0, 10, 7, 9,  10, 0,  2, 1,  11, 12, 3, 12, 1, 13, 4, 11, 13, 1,
+    11, 3,  2, 14, 12, 4, 14, 2, 13, 14, 4, 3, 8, 7,  5, 15, 9, 6,  15, 5, 10, 15, 7, 6,  15, 10, 9, 8, 14, 13, 12, 11,
+};
+
+static void known(void) {
+    static const uint8_t z2_bytes[] = {0, 0, 0, 8, 1, 1, 0, 2, 0, 1, 0, 0}, one_bytes[] = {0, 0, 0, 4, 1, 0, 0, 1};
+    Image a = image_of(1, 2, z2), b = image_of(0, 1, NULL), c = image_of(2, 6, s3), d = image_of(4, 16, crossed);
+    expect(a.length == sizeof z2_bytes && memcmp(a.bytes, z2_bytes, sizeof z2_bytes) == 0, true, "the bytes of Z2");
+    expect(b.length == sizeof one_bytes && memcmp(b.bytes, one_bytes, sizeof one_bytes) == 0, true, "no generators");
+    checks(&a, 0, "Z2");
+    checks(&b, 0, "no generators");
+    checks(&c, 0, "S3");
+    checks(&d, 12, "the crossed table");
+    expect(walks(&c, 0, "010"), 5, "S3: 0,1,0");
+    expect(walks(&c, 3, "10"), 0, "S3: 1,0 from 3");
+    expect(walks(&c, 1, ""), 1, "S3: the empty word");
+    expect(walks(&d, 0, "021"), 12, "crossed: 0,2,1");
+    expect(walks(&d, 0, "012"), 11, "crossed: 0,1,2");
+    expect(walks(&b, 0, ""), 0, "no generators: the empty word");
+}
+
+static void refusals(void) {
+    Image gaps = image_of(1, 2, gap), fixed = image_of(1, 1, stays), ten = image_of(2, 4, turned), same = image_of(2, 2, twice);
+    Image seven = image_of(1, 3, skips), five = image_of(1, 2, more), fewer = image_of(1, 3, apart), s = image_of(2, 6, s3);
+    checks(&gaps, 8, "rows 1 / 1");
+    checks(&fixed, 9, "row 0");
+    checks(&ten, 10, "rows 1 2 / 3 3 / 0 0 / 2 1");
+    checks(&same, 11, "rows 1 1 / 0 0");
+    checks(&seven, 7, "2 at (0,0)");
+    checks(&five, 5, "a third element in an image of two");
+    checks_to(&fewer, 16, true, "an element that is not reached");
+    expect(walks(&s, 6, ""), 65536 + 14, "no element 6");
+    expect(walks(&s, 0, "012"), 65536 + 14, "no generator 2");
+    s.bytes[9] = 6;
+    expect(walks(&s, 0, "0"), 65536 + 17, "a number that is no element");
+    expect(walks(&s, 0, "1"), 2, "a number that is not read");
+}
+
+static void heads(void) {
+    size_t cut;
+    Image s = image_of(2, 6, s3), damaged;
+    for (cut = 0; cut < s.length; cut++) {
+        expect(hg_image_check(lend(&s) + s.length - cut, cut, NULL, 0), 16, "the end of an image");
+        expect(hg_image_walk(lend(&s), cut, 0, NULL, 0), 65536 + 16, "a cut image");
+    }
+    damaged = s, damaged.bytes[4] = 2;
+    checks(&damaged, 16, "version 2");
+    damaged = s, damaged.bytes[5] = 9;
+    checks(&damaged, 1, "nine generators");
+    damaged = s, damaged.bytes[5] = 9, damaged.bytes[4] = 0;
+    checks(&damaged, 16, "nine generators in version 0");
+    damaged = s, damaged.bytes[3]++;
+    checks(&damaged, 16, "a length one more");
+    damaged = s, damaged.bytes[7] = 5;
+    checks(&damaged, 16, "five elements");
+    damaged = s, damaged.bytes[7] = 0;
+    expect(hg_image_check(lend(&damaged), damaged.length, NULL, 0), 16, "no elements");
+}
+
+static void nothing_lent(void) {
+    Image s = image_of(2, 6, s3);
+    expect(hg_image_check(NULL, 0, NULL, 0), 16, "no image, no work");
+    expect(hg_image_check(lend(&s), s.length, NULL, 0), 4, "no work");
+    expect(hg_image_walk(NULL, 0, 0, NULL, 0), 65536 + 16, "no image, no word");
+    expect(hg_image_walk(lend(&s), s.length, 4, NULL, 0), 4, "no word");
+}
+
+/* An accepted image and the factor of the same rows: the turns one by one, and their product composed at once. Both archives in one program. */
+static void beside_a_factor(void) {
+    uint32_t rows[12], table[6 * 8], work[6 * 32], out[5], from, x, y;
+    size_t i;
+    Image s = image_of(2, 6, s3);
+    for (i = 0; i < 12; i++) rows[i] = s3[i];
+    hg_composed(table, 48, 0, work, 192, rows, 12, 2, 6, out, 5);
+    expect(out[0], 0, "S3 composed");
+    expect(out[4], 6, "its elements");
+    for (from = 0; from < 6; from++) {
+        x = walks(&s, from, "0110100");
+        y = (uint32_t)hg_compose(table, 48, 0, 6, 2, 6, from, walks(&s, 0, "0110100"));
+        expect(x, y, "live and delayed");
+    }
+}
+
+int main(void) {
+    image_end = guarded();
+    work_end = guarded();
+    known();
+    refusals();
+    heads();
+    nothing_lent();
+    beside_a_factor();
+    printf("%u passed, %u failed\n", passed, failed);
+    return failed != 0;
+}
