@@ -1,5 +1,5 @@
 #!/bin/sh
-# The Rust crate host/hypergroup, offline: its tests and the examples in its documentation, no warning, and the stream example, whose
+# After host/build.sh, which makes the archives. The Rust crate host/hypergroup, offline: its tests and the examples in its documentation, no warning, and the stream example, whose
 # two viewers must end at one state and whose bad images must be refused.
 set -eu
 cd "$(dirname "$0")/../host"

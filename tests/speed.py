@@ -79,13 +79,16 @@ def products():
 
 
 def subgroups():
+    """With as much room as the subgroup has elements, and with as much as the overgroup has, all of which is cleared."""
     table("subgroup", "ours, s", "Rust, s", "times as fast")
-    for name, orders, generators in (("H4, generators 1 2 3", H4, "1 2 3"), ("H4, generators 1 2 3 4", H4, "1 2 3 4"), ("B6, generators 1 2 3 4 5", B6, "1 2 3 4 5")):
+    for name, orders, generators in (("H4 by 1 2 3", H4, "1 2 3"), ("H4 by 1 2 3 4", H4, "1 2 3 4"), ("B6 by 1 2 3 4 5", B6, "1 2 3 4 5")):
         setup = ["clear", "factor enum " + orders, "prod"]
-        row(name, [*setup, "bench sub " + generators])
-        o2s = next(line for line in cases(run([*setup, "sub " + generators]))[-1][1] if line.startswith("o2s"))
-        members = " ".join("0" if x == "4294967295" else "1" for x in o2s.split()[1:])
-        row(name + ", by a predicate", [*setup, "bench subpred " + members])
+        lines = cases(run([*setup, "sub " + generators]))[-1][1]
+        _, _, size, _, over = lines[0].split()
+        members = " ".join("0" if x == "4294967295" else "1" for x in next(l for l in lines if l.startswith("o2s")).split()[1:])
+        for room in sorted({int(size), int(over)}):
+            row("%s, room %d" % (name, room), [*setup, "room %d" % room, "bench sub " + generators], form="%.5f")
+            row("%s, by a predicate, room %d" % (name, room), [*setup, "room %d" % room, "bench subpred " + members], form="%.5f")
 
 
 def images():

@@ -543,6 +543,11 @@ def differences():
             ["builder 2", "add 0 1", "add 0 0", *sets(2, [[1, 2], [2, 0], [0, 1]]), "build"],
         ),
         (
+            "A builder's element added elsewhere",
+            ["builder 2", "add 0 0", "add 0 1", "add 2 0"]
+            + [*sets(2, [[1, 2], [0, 3], [3, 0], [2, 1]]), "build"],
+        ),
+        (
             "A builder whose numbers skip",
             ["builder 2", "add 0 0", "add 0 1", "add 2 0", "add 1 1", "add 4 0"]
             + [*sets(2, [[1, 2], [0, 4], [3, 0], [2, 5], [5, 1], [4, 3]]), "build"],
@@ -550,7 +555,8 @@ def differences():
         (
             "A builder's element that nothing reaches",
             ["builder 1", "add 0 0", "add 1 0", "add 2 0"]
-            + [*sets(1, [[1], [0], [3], [2]]), "build"],
+            + [*sets(1, [[1], [0], [3], [2]]), "build"]
+            + ["builder 1", "add 0 0", "add 1 0", "set 1 0 1", "build"],
         ),
         (
             "A builder's arguments out of range",

@@ -91,8 +91,7 @@ def read(n, room, number, count=1, image=False):
 
 def build(n, rows, words, known=1):
     """Refusals 8 to 12 on the rows that were reached. Rows never reached are
-    no part of the table, so the first element that was not reached has no
-    predecessor."""
+    not read, so the first element that was not reached has no successor."""
     count = len(rows)
     back = [[None] * n for _ in rows]
     for e, g in places(count, n):
@@ -102,8 +101,8 @@ def build(n, rows, words, known=1):
         for e, g in places(count, n):
             if table[e][g] is None:
                 raise Refused(8, e, g)
-    if count < known:
-        raise Refused(8, count, 0)
+        if count < known:
+            raise Refused(8, count, 0)
     arrivals = [0] * count
     for e, g in places(count, n):
         v = rows[e][g]

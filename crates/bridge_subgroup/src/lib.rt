@@ -1,5 +1,5 @@
 // The calls on subgroups as C functions. The overgroup is a product, as in `bridge_group`; a subgroup is 128 numbers in a lent list: the handle of its factor,
-// how many factors are below, over and above, and their handles. Numbers that are missing are 0, and the call's own 17 comes.
+// how many factors are below, over and above, and their handles. A handle that is not wholly in the list is none, which fits no buffer (17); a count that is missing is 0.
 ghost use mathlib.Core.Path.{_≡_};
 ghost use lib.ListN.{length, getD};
 ghost use Rattle.bridge.specs.Bridge.{reachedCode, paperInto};

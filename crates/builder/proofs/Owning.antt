@@ -15,7 +15,6 @@ use Rattle.egg.specs.declared.Verdict.the-variants as verdict
 use Rattle.egg.specs.declared.Counted.{Counted}
 use Rattle.egg.specs.declared.Counted.the-variants.{Count, Refused}
 use Rattle.egg.specs.Table.{pick}
-use Rattle.egg.specs.Scan.{refusedOf, andThen}
 use Rattle.checks.specs.Checks.{check8}
 use Rattle.reading.specs.Build.{numbered}
 use Rattle.reading.specs.Reading.{Placed, placed, thenPlaced, readPlace}
@@ -84,14 +83,14 @@ module _ (t : List ℕ) (n elements : ℕ) {read : Counted} where
       unfolding allReached
       reached-none z = rw q (simp (lt-leb _ _ h, eq-eqb n 0 z))
 
-      module _ (z : n ≡ 0 → ⊥) {v : Verdict} (s : v ≡ check8 t n count) where
+      module _ (z : n ≡ 0 → ⊥) {v : Verdict} (s : v ≡ check8 t n elements) where
         pub reached-missing : {r : Refusal} → v ≡ verdict.Refused r → placed (Refused r) t ≡ reachesAll n elements (placed read t)
         unfolding allReached
         reached-missing p = rw q (simp (lt-leb _ _ h, ne-eqb n 0 z) (rw (← s, p)))
 
-        pub reached-not : v ≡ verdict.Fine → placed (Refused (numbered 8 count 0 0)) t ≡ reachesAll n elements (placed read t)
+        pub reached-fine : v ≡ verdict.Fine → placed (Count count) t ≡ reachesAll n elements (placed read t)
         unfolding allReached
-        reached-not p = rw q (simp (lt-leb _ _ h, ne-eqb n 0 z) (rw (← s, p)))
+        reached-fine p = rw q (simp (lt-leb _ _ h, ne-eqb n 0 z) (rw (← s, p)))
 
 -- Two sources that agree on the rows that may be read are read alike.
 then-same : (p : Placed) (f f′ : ℕ → List ℕ → Placed) → ((c : ℕ) (t : List ℕ) → f c t ≡ f′ c t) → thenPlaced p f ≡ thenPlaced p f′

@@ -10,7 +10,7 @@ use Rattle.egg.specs.declared.Verdict.the-variants as verdict
 use Rattle.egg.specs.declared.Counted.{Counted}
 use Rattle.egg.specs.declared.Counted.the-variants.{Count, Refused}
 use Rattle.egg.specs.Table.{pick, startOf}
-use Rattle.egg.specs.Scan.{refusedOf, andThen}
+use Rattle.egg.specs.Scan.{refusedOf}
 use Rattle.checks.specs.Checks.{check8}
 use Rattle.reading.specs.Build.{numbered}
 use Rattle.reading.specs.Reading.{Placed, placed, thenPlaced, readPlace}
@@ -44,13 +44,13 @@ ownFrom (suc k) own n room elements e count t =
 abbrev pub ownAll : (ℕ → ℕ → ℕ) → ℕ → ℕ → ℕ → List ℕ → Placed
 ownAll own n room elements t = ownFrom elements own n room elements 0 1 t
 
--- Rows never reached are no part of a table, so the steps that are stored in them are none, and the first element that is not reached has no predecessor:
--- 8, after those that the rows that were reached give. Without generators there is none by which a predecessor could be missing, and only a handle that
--- was altered has more than the identity: 17.
+-- "Rows never reached are not read", so in the table that was read into all their steps are missing: 8 over all the builder's elements, "successors are
+-- searched before predecessors", which refuses the first element that is not reached at the latest. Without generators there is none by which a step could
+-- be missing, and only a handle that was altered has more than the identity: 17.
 unfoldable pub allReached : List ℕ → ℕ → ℕ → ℕ → Verdict
 allReached t n elements count =
     pick (leb elements count) verdict.Fine
-    (pick (eqb n 0) (refusedOf 17 0 0 0) (andThen (check8 t n count) (refusedOf 8 count 0 0)))
+    (pick (eqb n 0) (refusedOf 17 0 0 0) (check8 t n elements))
 
 -- The count, unless it is refused.
 abbrev pub countUnless : ℕ → Verdict → Counted

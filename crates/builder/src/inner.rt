@@ -150,7 +150,7 @@ fn own_rows(t: &mut [u32], w: &[u32], n: u8, room: u32, elements: u32) -> Counte
     Counted::Count(count)
 }
 
-// 8 where an element is not reached: the first of them has no predecessor among the rows that were read.
+// 8 where an element is not reached: its row was not read, so that its successors are missing.
 fn reached_all(t: &[u32], n: u8, elements: u32, read: Counted) -> Counted
     ensures { λ r. ⌜ Placed.placed r (now (t .entry)) ≡ reachesAll n elements (Placed.placed read (now (t .entry))) ⌝ }
 {
@@ -168,14 +168,9 @@ fn reached_all(t: &[u32], n: u8, elements: u32, read: Counted) -> Counted
             c: 0,
         });
     }
-    match checks::inner::check8(t, n, count) {
+    match checks::inner::check8(t, n, elements) {
         Verdict::Refused(why) => Counted::Refused(why),
-        Verdict::Fine => Counted::Refused(Refusal {
-            number: 8,
-            a: count,
-            b: 0,
-            c: 0,
-        }),
+        Verdict::Fine => Counted::Count(count),
     }
 }
 

@@ -16,4 +16,4 @@ use Rattle.builders.specs.Cases.{Cases}
 
 pub cases : Cases
 unfolding putAt startOf scan hasRoom fitsIn stretch missingRow missing check8 rangeRow linksOf ranges wrongRow wrong check-table wiped arriveRow arrivals countsRight invertFrom fillInverses inversesRight identityRow columnsRow spelledRow spelled check-steps fillLeft goesRow allGo lefts check-rest check-group setStep setWord adds readPlace finished within ownPlace ownRow ownFrom allReached ownIn begins placed placedStep overLong grown grows stores builds
-cases = record { z3 = refl; s3-skips = refl; beyond = refl; no-successor = refl; unreached = refl; long-word = refl }
+cases = record { z3 = refl; s3-skips = refl; beyond = refl; no-successor = refl; unreached = refl; unreached-first = refl; long-word = refl }

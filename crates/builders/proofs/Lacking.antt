@@ -1,11 +1,11 @@
--- 8 of a table that a builder's own rows were read into: the first place that its rows lack.
+-- 8 of a table that a builder's own rows were read into: the first place that is lacking.
 -- Assumes nothing.
-use Prim.Native.Nat.{ℕ, zero, suc, _+_, _-_, _≤_, _<_}
+use Prim.Native.Nat.{ℕ, zero, suc, _+_, _*_, _-_, _≤_, _<_}
 use mathlib.Core.Path.{_≡_, refl, sym, ap, _∙_}
 use mathlib.Core.Logic.{_⊎_, ⊎-elim}
 use mathlib.Core.Bool.{Bool, true, false}
 use mathlib.Core.List.{List}
-use native.Mathlib.Nat.{eq-zero-or-pos}
+use native.Mathlib.Nat.{le-refl, eq-zero-or-pos}
 use native.Mathlib.Decide.{decLt}
 use native.Mathlib.Omega.{arith}
 use borrow.Author.Tests.{eqb-true, le-ltb, lt-ltb, eq-eqb}
@@ -71,6 +71,10 @@ module _ (t : List ℕ) (n N shift : ℕ) where
         earlier p q y k hk (row l) = at-fine y k (scan-each n (λ g. missingAt t n shift y g) 0 (p .4 y (omega arith) l) k (omega arith) (omega arith))
         earlier p q y k hk (column e l) = rw e (at-fine (p .0) k (q .4 k (omega arith) l))
 
+row-start : (n e : ℕ) → e * (2 * n + 4) ≤ startOf n e + 0
+unfolding startOf
+row-start n e = omega arith
+
 -- Of what was read: the cells are the rows' steps, and a predecessor is there exactly where a step leads.
 pub record ReadOwn (own : ℕ → ℕ → ℕ) (n room size N c : ℕ) (t : List ℕ) : Type 0 where
   pub numbers : List ℕ
@@ -120,36 +124,65 @@ module _ {own : ℕ → ℕ → ℕ} {n room size N c : ℕ} {t : List ℕ} (O :
       let p = andThen-fine (missing t n c 0) (missing t n c n) .0 h in
       (there (p .0), λ y k hy hk none. missing-fine t n c n .0 (p .1) y hy k hk (own-none y k hy hk none))
 
-  first-successor : {r : Refusal} → FirstZero t n c 0 r → Lacks own n N c r
-  first-successor {r} F =
-      let e = F .element in
-      let g = F .generator in
-      let i : (y k : ℕ) → startOf n y + 0 + k ≡ startOf n y + k = λ y k. omega arith in
-      rw (F .is)
-      (no-successor e g (F .inside) (F .column) (sym (own-cell e g (F .inside) (F .column)) ∙ (rw (i e g) at (F .zero-here)))
-      (λ y k hy hk a z. F .before y k hy hk a (rw (i y k) (own-cell y k hy hk ∙ z))))
+  -- Successors are searched in M rows, of which the first c were read.
+  module _ {M : ℕ} (long : c ≤ M) where
+    -- Of those no step is missing before the place that is found.
+    before-there : {r : Refusal} (F : FirstZero t n M 0 r) (y h : ℕ) → y < c → h < n → Ahead y h (F .element) (F .generator) → own y h ≡ 0 → ⊥
+    before-there F y h hy hh a z =
+        let i : startOf n y + 0 + h ≡ startOf n y + h = omega arith in
+        F .before y h (omega arith) hh a (rw i (own-cell y h hy hh ∙ z))
 
-  first-predecessor : {r : Refusal} → AllThere own n c → FirstZero t n c n r → Lacks own n N c r
-  first-predecessor {r} A F =
+    first-successor : {r : Refusal} (F : FirstZero t n M 0 r) → F .element < c → Lacks own n N c r
+    first-successor F he =
+        let e = F .element in
+        let g = F .generator in
+        let i : startOf n e + 0 + g ≡ startOf n e + g = omega arith in
+        rw (F .is)
+        (no-successor e g he (F .column) (sym (own-cell e g he (F .column)) ∙ (rw i at (F .zero-here))) (before-there F))
+
+  first-predecessor : {r : Refusal} → AllThere own n c → c ≡ N → FirstZero t n c n r → Lacks own n N c r
+  first-predecessor {r} A all F =
       rw (F .is)
-      (no-predecessor (F .element) (F .generator) A (F .inside) (F .column) (own-led (F .element) (F .generator) (F .inside) (F .column) (F .zero-here))
+      (no-predecessor (F .element) (F .generator) A all (F .inside) (F .column) (own-led (F .element) (F .generator) (F .inside) (F .column) (F .zero-here))
       (λ y k hy hk a none. F .before y k hy hk a (own-none y k hy hk none)))
 
-  pub lacks : {r : Refusal} → check8 t n c ≡ Refused r → Lacks own n N c r
+  pub lacks : {r : Refusal} → c ≡ N → check8 t n c ≡ Refused r → Lacks own n N c r
   unfolding check8
-  lacks {r} h = by (missing t n c 0) refl h where
+  lacks {r} all h = by (missing t n c 0) refl h where
     by : (v : Verdict) → missing t n c 0 ≡ v → andThen v (missing t n c n) ≡ Refused r → Lacks own n N c r
-    by Fine q p = first-predecessor (there q) (missing-first t n c n p)
-    by (Refused s) q p = let i : s ≡ r = cc in first-successor (missing-first t n c 0 (q ∙ ap Refused i))
+    by Fine q p = first-predecessor (there q) all (missing-first t n c n p)
+    by (Refused s) q p =
+        let i : s ≡ r = cc in
+        let F = missing-first t n c 0 (q ∙ ap Refused i) in
+        first-successor (le-refl c) F (F .inside)
 
-  pub unreached : {r : Refusal} → 0 < n → c < N → andThen (check8 t n c) (refusedOf 8 c 0 0) ≡ Refused r → Lacks own n N c r
-  unreached {r} pos less h = by (check8 t n c) refl h where
-    by : (v : Verdict) → check8 t n c ≡ v → andThen v (refusedOf 8 c 0 0) ≡ Refused r → Lacks own n N c r
-    by Fine q p =
-        let A = all-there q in
-        let i : numbered 8 c 0 0 ≡ r = cc in
-        rw (← i) (not-reached (A .0) (A .1) pos less)
-    by (Refused s) q p = let i : s ≡ r = cc in lacks (q ∙ ap Refused i)
+  -- Where an element is not reached, nothing stands in its row, and it is found at the latest.
+  module _ (pos : 0 < n) (less : c < N) where
+    row-empty : getD t (startOf n c + 0 + 0) 0 ≡ 0
+    row-empty =
+        let i : startOf n c + 0 + 0 ≡ startOf n c + 0 = omega arith in
+        rw i (⊎-elim (λ z. O .beside .missing pos z) (λ p. O .beside .stored pos (λ z. omega arith) ∙ O .read .beyond (row-start n c)) (eq-zero-or-pos (own c 0)))
+
+    first-unreached : {r : Refusal} → FirstZero t n N 0 r → Lacks own n N c r
+    first-unreached {r} F = by (places (F .element) (F .generator) c 0) where
+      by : Places (F .element) (F .generator) c 0 → Lacks own n N c r
+      by (sooner (row l)) = first-successor (O .most) F l
+      by (sooner (column e l)) = absurd (omega arith)
+      by (same p q) =
+          let i : r ≡ numbered 8 c 0 0 = F .is ∙ rw (p, q) in
+          rw i (not-reached (λ y h hy hh. before-there (O .most) F y h hy hh (row (omega arith))) pos less)
+      by (later a) = absurd (F .before c 0 less pos a row-empty)
+
+    pub unreached : {r : Refusal} → check8 t n N ≡ Refused r → Lacks own n N c r
+    unfolding check8
+    unreached {r} h = by (missing t n N 0) refl h where
+      by : (v : Verdict) → missing t n N 0 ≡ v → andThen v (missing t n N n) ≡ Refused r → Lacks own n N c r
+      by Fine q p = absurd (missing-fine t n N 0 .0 q c less 0 pos row-empty)
+      by (Refused s) q p = let i : s ≡ r = cc in first-unreached (missing-first t n N 0 (q ∙ ap Refused i))
+
+    pub never-fine : check8 t n N ≡ Fine → ⊥
+    unfolding check8
+    never-fine h = missing-fine t n N 0 .0 (andThen-fine (missing t n N 0) (missing t n N n) .0 h .0) c less 0 pos row-empty
 
 -- It is one refusal.
 module _ {own : ℕ → ℕ → ℕ} {n N c : ℕ} where
@@ -159,21 +192,21 @@ module _ {own : ℕ → ℕ → ℕ} {n N c : ℕ} where
     by (sooner a) = absurd (b′ e g he hg a z)
     by (same p q) = rw (p, q)
     by (later a) = absurd (b e′ g′ he′ hg′ a z′)
-  lacks-once (no-successor e g he hg z b) (no-predecessor e′ g′ A he′ hg′ x b′) = absurd (A e g he hg z)
-  lacks-once (no-successor e g he hg z b) (not-reached A L pos less) = absurd (A e g he hg z)
-  lacks-once (no-predecessor e g A he hg x b) (no-successor e′ g′ he′ hg′ z b′) = absurd (A e′ g′ he′ hg′ z)
-  lacks-once (no-predecessor e g A he hg x b) (no-predecessor e′ g′ A′ he′ hg′ x′ b′) = by (places e g e′ g′) where
+  lacks-once (no-successor e g he hg z b) (not-reached A pos less) = absurd (A e g he hg z)
+  lacks-once (no-successor e g he hg z b) (no-predecessor e′ g′ A all he′ hg′ x b′) = absurd (A e g he hg z)
+  lacks-once (not-reached A pos less) (no-successor e g he hg z b) = absurd (A e g he hg z)
+  lacks-once (not-reached A pos less) (not-reached A′ pos′ less′) = refl
+  lacks-once (not-reached A pos less) (no-predecessor e g A′ all he hg x b) = absurd (omega arith)
+  lacks-once (no-predecessor e g A all he hg x b) (no-successor e′ g′ he′ hg′ z b′) = absurd (A e′ g′ he′ hg′ z)
+  lacks-once (no-predecessor e g A all he hg x b) (not-reached A′ pos less) = absurd (omega arith)
+  lacks-once (no-predecessor e g A all he hg x b) (no-predecessor e′ g′ A′ all′ he′ hg′ x′ b′) = by (places e g e′ g′) where
     by : Places e g e′ g′ → numbered 8 e g 0 ≡ numbered 8 e′ g′ 0
     by (sooner a) = absurd (b′ e g he hg a x)
     by (same p q) = rw (p, q)
     by (later a) = absurd (b e′ g′ he′ hg′ a x′)
-  lacks-once (no-predecessor e g A he hg x b) (not-reached A′ L pos less) = absurd (L e g he hg x)
-  lacks-once (not-reached A L pos less) (no-successor e g he hg z b) = absurd (A e g he hg z)
-  lacks-once (not-reached A L pos less) (no-predecessor e g A′ he hg x b) = absurd (L e g he hg x)
-  lacks-once (not-reached A L pos less) (not-reached A′ L′ pos′ less′) = refl
 
   -- And its number is 8.
   pub lacks-8 : {r : Refusal} → Lacks own n N c r → r .number ≡ 8
   lacks-8 (no-successor e g he hg z b) = refl
-  lacks-8 (no-predecessor e g A he hg x b) = refl
-  lacks-8 (not-reached A L pos less) = refl
+  lacks-8 (not-reached A pos less) = refl
+  lacks-8 (no-predecessor e g A all he hg x b) = refl

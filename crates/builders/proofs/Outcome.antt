@@ -14,8 +14,6 @@ use Rattle.egg.specs.declared.Refusal.{Refusal}
 use Rattle.egg.specs.declared.Verdict.{Verdict}
 use Rattle.egg.specs.declared.Verdict.the-variants as verdict
 use Rattle.egg.specs.declared.Counted.the-variants.{Count, Refused}
-use Rattle.egg.specs.Scan.{refusedOf, andThen}
-use Rattle.egg.proofs.Scans.{refused-fine, andThen-fine}
 use Rattle.reading.specs.Build.{numbered}
 use Rattle.reading.specs.Reading.{Placed, placed, readAll}
 use Rattle.checks.specs.Checks.{check8, check-table, check-group}
@@ -27,7 +25,7 @@ use Rattle.builders.specs.Own.{ownNumber, ownRefusal}
 use Rattle.builders.specs.Refusals.{Lacks}
 use Rattle.builders.proofs.Alike.{Alike}
 use Rattle.builders.proofs.Missing.{Beside, OwnRefusal, own-beside}
-use Rattle.builders.proofs.Lacking.{ReadOwn, lacks, unreached}
+use Rattle.builders.proofs.Lacking.{ReadOwn, lacks, unreached, never-fine}
 
 pub data Comes (own : ℕ → ℕ → ℕ) (n room size N : ℕ) (w : List ℕ) (B : Built) : Type 0 where
   stopped : (r : Refusal) → Refuses (ownNumber N own) n room r → B ≡ built (Refused (ownRefusal N r)) (replicate size 0) (replicate (length w) 0)
@@ -62,7 +60,7 @@ module _ (own : ℕ → ℕ → ℕ) (n room size N : ℕ) (w : List ℕ) where
     unfolding finished allReached
     end-nowhere h z = rw (lt-leb N c h, eq-eqb n 0 z)
 
-    end-unreached : c < N → (n ≡ 0 → ⊥) → {r : Refusal} → andThen (check8 t n c) (refusedOf 8 c 0 0) ≡ verdict.Refused r
+    end-unreached : c < N → (n ≡ 0 → ⊥) → {r : Refusal} → check8 t n N ≡ verdict.Refused r
         → end ≡ built (Refused r) (zeroed t) (zeroed (zeroed w))
     unfolding finished allReached
     end-unreached h z q = rw (lt-leb N c h, ne-eqb n 0 z, q)
@@ -72,19 +70,19 @@ module _ (own : ℕ → ℕ → ℕ) (n room size N : ℕ) (w : List ℕ) where
   all-read t all O = by (check8 t n N) refl where
     by : (v : Verdict) → check8 t n N ≡ v → Comes own n room size N w (settledBy N (check-group t (zeroed w) n N))
     by verdict.Fine q = whole t all O q refl
-    by (verdict.Refused r) q = lacking N r (read-readable (O .read)) (lacks O q) (refused-8 t q ∙ zeros-left r t (O .beside .whole))
+    by (verdict.Refused r) q = lacking N r (read-readable (O .read)) (lacks O refl q) (refused-8 t q ∙ zeros-left r t (O .beside .whole))
 
   some-read : (c : ℕ) (t : List ℕ) → ReadOwn own n room size N c t → c < N
       → Comes own n room size N w (finishedPlaced (reachesAll n N (placed (Count c) t)) n (zeroed w))
   some-read c t O less = none-or-some (ℕ-discrete n 0) where
-    by : (v : Verdict) → (n ≡ 0 → ⊥) → 0 < n → andThen (check8 t n c) (refusedOf 8 c 0 0) ≡ v → Comes own n room size N w (end c t)
-    by verdict.Fine z pos q = absurd (refused-fine (andThen-fine (check8 t n c) (refusedOf 8 c 0 0) .0 q .1))
+    by : (v : Verdict) → (n ≡ 0 → ⊥) → 0 < n → check8 t n N ≡ v → Comes own n room size N w (end c t)
+    by verdict.Fine z pos q = absurd (never-fine O pos less q)
     by (verdict.Refused r) z pos q =
         lacking c r (read-readable (O .read)) (unreached O pos less q) (end-unreached c t less z q ∙ zeros-left r t (O .beside .whole))
 
     none-or-some : Dec (n ≡ 0) → Comes own n room size N w (end c t)
     none-or-some (yes z) = nowhere z (omega (arith, O .some)) (end-nowhere c t less z ∙ zeros-left (numbered 17 0 0 0) t (O .beside .whole))
-    none-or-some (no z) = by (andThen (check8 t n c) (refusedOf 8 c 0 0)) z (⊎-elim (λ q. absurd (z q)) (λ p. p) (eq-zero-or-pos n)) refl
+    none-or-some (no z) = by (check8 t n N) z (⊎-elim (λ q. absurd (z q)) (λ p. p) (eq-zero-or-pos n)) refl
 
 module _ (own : ℕ → ℕ → ℕ) (n room size N : ℕ) (w : List ℕ) (least : n ≤ 8) (lo : 1 ≤ N) (hi : N ≤ room) (limit : room ≤ 65535) (fits : room * (2 * n + 4) ≤ size) where
   end-refused : (s : Refusal) (t : List ℕ) → finished (Refused s) n t (zeroed w) ≡ built (Refused s) (zeroed t) (zeroed (zeroed w))

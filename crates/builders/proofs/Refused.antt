@@ -91,7 +91,7 @@ module _ (t : List ℕ) (b : Builder) (w : List ℕ) (fits : fitsIn (length t) (
     from-none (z, l, is) (lacking c x R L e) = absurd (some-generator L z)
     from-none (z, l, is) (whole t₁ all O fine e) = absurd (omega (arith, alone z (O .read .by-rule .known)))
 
-  -- 8: "a successor or predecessor missing", at the first place that the rows lack.
+  -- 8: "a successor or predecessor missing", at the first place that is lacking.
   pub build-8 : (r : Refusal) → (RefusedBy t b w r × (r .number ≡ 8))
       ↔ ((c : ℕ) × Readable (ownNumber (b .0 .elements) (ownAt t (b .0))) (b .0 .generators) (b .0 .room) c
       × Lacks (ownAt t (b .0)) (b .0 .generators) (b .0 .elements) c r)

@@ -56,10 +56,10 @@ alone z (next-row K l) = absurd (omega (arith, alone z K))
 -- What lacks something has a generator; and nothing is lacking where every step and every arrival is there.
 pub some-generator : {own : ℕ → ℕ → ℕ} {n N c : ℕ} {r : Refusal} → Lacks own n N c r → n ≡ 0 → ⊥
 some-generator (no-successor e g he hg z b) q = omega arith
-some-generator (no-predecessor e g A he hg x b) q = omega arith
-some-generator (not-reached A L pos less) q = omega arith
+some-generator (not-reached A pos less) q = omega arith
+some-generator (no-predecessor e g A all he hg x b) q = omega arith
 
 pub nothing-lacks : {own : ℕ → ℕ → ℕ} {n N : ℕ} {r : Refusal} → AllThere own n N → AllLedTo own n N → Lacks own n N N r → ⊥
 nothing-lacks A L (no-successor e g he hg z b) = A e g he hg z
-nothing-lacks A L (no-predecessor e g A′ he hg x b) = L e g he hg x
-nothing-lacks A L (not-reached A′ L′ pos less) = omega arith
+nothing-lacks A L (not-reached A′ pos less) = omega arith
+nothing-lacks A L (no-predecessor e g A′ all he hg x b) = L e g he hg x

@@ -29,7 +29,7 @@ pub data BuildPaper (t : List ℕ) (b : Builder) (w : List ℕ) : Paper → Type
   stops : {r : Refusal} → Right t b w → Refuses (ownNumber (b .0 .elements) (ownAt t (b .0))) (b .0 .generators) (b .0 .room) r
       → BuildPaper t b w (refusalPaper (ownRefusal (b .0 .elements) r))
   nowhere : Right t b w → b .0 .generators ≡ 0 → 1 < b .0 .elements → BuildPaper t b w (refusalPaper (numbered 17 0 0 0))
-  -- 8, at the first place that the c rows that are reached lack.
+  -- 8, at the first place that is lacking where c elements are reached.
   lacks : {r : Refusal} (c : ℕ) → Right t b w → Readable (ownNumber (b .0 .elements) (ownAt t (b .0))) (b .0 .generators) (b .0 .room) c
       → Lacks (ownAt t (b .0)) (b .0 .generators) (b .0 .elements) c r → BuildPaper t b w (refusalPaper r)
   -- All is there and all is reached: 9 to 12 by the fault of the rows, or 0, where some group has them.

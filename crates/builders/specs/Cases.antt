@@ -55,8 +55,10 @@ pub record Cases : Type 0 where
   pub beyond : built (altering 0 4 (setting 1 0 0 (adding 0 0 (begunWith 1 2)))) ≡ refusedOf 17 0 0 0
   -- A step missing: 8 at its place.
   pub no-successor : built (adding 0 0 (begunWith 1 2)) ≡ refusedOf 8 1 0 0
-  -- A chain of three whose last element was cut off: it is not reached, so it has no predecessor.
+  -- A chain of three whose last element was cut off: it is not reached, so its row is not read, and its successor is missing.
   pub unreached : built (setting 2 0 2 (setting 1 0 0 (adding 1 0 (adding 0 0 (begunWith 1 3))))) ≡ refusedOf 8 2 0 0
+  -- The same where the identity has no predecessor: the successor comes first.
+  pub unreached-first : built (setting 1 0 1 (adding 1 0 (adding 0 0 (begunWith 1 3)))) ≡ refusedOf 8 2 0 0
   -- A recorded length altered to 4,097: a new element is refused by 17, and the stretch is zero.
   pub long-word : grows (altering 4 4097 (begunWith 1 2) .table) (builderOf 0 2 1 1) (record { 0 = 0 }) (record { 0 = 0 })
       ≡ leaving (record { answer = refusedReach 17 0; builder = builderOf 0 0 0 0 }) (replicate (tableNeed 1 2) 0)

@@ -68,7 +68,7 @@ digits-in k t (h ∷ hs) a b =
     reached-on (digitOf k t h (a % h .elements) (b % h .elements)) _ (digit-in k t h _ _)
     (λ x. reached-on (digitwise (digitOf k t) hs (a / h .elements) (b / h .elements)) _ (digits-in k t hs _ _) (λ y. reached-element _))
 
-stepped-in : (t : List ℕ) (hs : List Factor) (e x : ℕ) → ReachedIn (14 ∷ 15 ∷ 17 ∷ []) (stepIn t hs e x)
+pub stepped-in : (t : List ℕ) (hs : List Factor) (e x : ℕ) → ReachedIn (14 ∷ 15 ∷ 17 ∷ []) (stepIn t hs e x)
 unfolding stepIn
 stepped-in t [] e x = reached-refused _ refl
 stepped-in t (h ∷ hs) e x =

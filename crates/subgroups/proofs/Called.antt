@@ -116,18 +116,18 @@ module _ (from : List ℕ) (over : Group) (gens table : List ℕ) (start : ℕ) 
   gen g = getD gens g 0
 
   -- A refusal before the start: nothing is touched.
-  early-arguments : {r : Refusal} → admitsGenerators (length from) over gens ≡ Refused r
+  pub early-arguments : {r : Refusal} → admitsGenerators (length from) over gens ≡ Refused r
       → fromGenerators from over gens table start work inn outw room
       ≡ subgrouping (subgroupOf over (record { answer = Refused r; factor = noFactor })) table work inn outw
   unfolding fromGenerators
   early-arguments q = rw q
 
-  early-many : admitsGenerators (length from) over gens ≡ Fine → 8 < n
+  pub early-many : admitsGenerators (length from) over gens ≡ Fine → 8 < n
       → fromGenerators from over gens table start work inn outw room ≡ subgrouping (subgroupOf over (refusedMade 1 (shown n))) table work inn outw
   unfolding fromGenerators generatedInto
   early-many q h = rw (q, lt-ltb 8 n h)
 
-  early-short : admitsGenerators (length from) over gens ≡ Fine → n ≤ 8
+  pub early-short : admitsGenerators (length from) over gens ≡ Fine → n ≤ 8
       → mapsRight (length table) start (length work) (length inn) (length outw) room n M ≡ false
       → fromGenerators from over gens table start work inn outw room ≡ subgrouping (subgroupOf over (refusedMade 4 0)) table work inn outw
   unfolding fromGenerators generatedInto
@@ -231,6 +231,29 @@ module _ (from : List ℕ) (over : Group) (gens table : List ℕ) (start : ℕ) 
     go (early r z) = absurd (fine-refused (sym z ∙ q))
     go (late S) = S
 
+  -- What has started: the room is within its limits, and the stretches are long enough.
+  module _ (S : Started from over gens table start work inn outw room) where
+    pub small : M ≤ 4294967295
+    small = omega (arith, small-elements over (S .small))
+
+    lent : lentRight (length table) start (length work) room n ≡ true
+    lent = maps-lent (length table) start (length work) (length inn) (length outw) room n M (S .lent)
+
+    pub has : hasRoom (length table) start room n ≡ true
+    has = lent-table (length table) start (length work) room n lent
+
+    pub lo : 1 ≤ room
+    lo = positive (length table) start room n has
+
+    pub hi : room ≤ 65535
+    hi = limited (length table) start room n has
+
+    pub work-long : length (take (workNeed n room) work) ≡ workNeed n room
+    work-long = length-take-le (workNeed n room) work (leb-true _ _ (lent-enough (length table) start (length work) room n lent))
+
+    pub work-fits : room * (6 * n * n + 4 * n) ≤ length (take (workNeed n room) work)
+    work-fits = rw work-long (le-refl (workNeed n room))
+
   -- What has started, over accepted factors.
   module _ (S : Started from over gens table start work inn outw room) (As : AllAccepted from (handles over)) where
     abbrev op : ℕ → ℕ → ℕ
@@ -255,32 +278,11 @@ module _ (from : List ℕ) (over : Group) (gens table : List ℕ) (start : ℕ) 
     unfolding entriesRight
     gens-below g h = entry-below (gen g) g (scan-each n (entryRight M gens) 0 (S .entries) g zero-le (omega arith))
 
-    pub small : M ≤ 4294967295
-    small = omega (arith, small-elements over (S .small))
-
     inside : {x : ℕ} → x < M → x < product (parts from (handles over)) .elements
     inside h = rw (parts-elements from (handles over)) h
 
     pub answering : Answering n M (rightBy op gen) source
     answering = record { answers = λ {x} {g} hx hg. product-answers from As x (gen g) (inside hx) (inside (gens-below g hg)) }
-
-    lent : lentRight (length table) start (length work) room n ≡ true
-    lent = maps-lent (length table) start (length work) (length inn) (length outw) room n M (S .lent)
-
-    pub has : hasRoom (length table) start room n ≡ true
-    has = lent-table (length table) start (length work) room n lent
-
-    pub lo : 1 ≤ room
-    lo = positive (length table) start room n has
-
-    pub hi : room ≤ 65535
-    hi = limited (length table) start room n has
-
-    work-long : length (take (workNeed n room) work) ≡ workNeed n room
-    work-long = length-take-le (workNeed n room) work (leb-true _ _ (lent-enough (length table) start (length work) room n lent))
-
-    pub work-fits : room * (6 * n * n + 4 * n) ≤ length (take (workNeed n room) work)
-    work-fits = rw work-long (le-refl (workNeed n room))
 
     abbrev build : Renumbering
     build = renumberIn (tableNeed n room) (take (workNeed n room) work) source n room M room 0
@@ -288,11 +290,11 @@ module _ (from : List ℕ) (over : Group) (gens table : List ℕ) (start : ℕ) 
     module _ {c : ℕ} {t w i o : List ℕ} (q : build ≡ renumbering (built (counted.Count c) t w) i o) where
       made : SubgroupMade op inv n M room room (tableNeed n room) (length (take (workNeed n room) work)) gen c t w i o
       made =
-          subgroup-made G small gens-below source answering room room lo hi (le-refl room) (tableNeed n room) (take (workNeed n room) work) (S .few)
-          (le-refl (tableNeed n room)) work-fits q
+          subgroup-made G (small S) gens-below source answering room room (lo S) (hi S) (le-refl room) (tableNeed n room) (take (workNeed n room) work) (S .few)
+          (le-refl (tableNeed n room)) (work-fits S) q
 
       part : stretch (lentTable table start n room t) (handle start n room c) ≡ t
-      part = stretch-part table start n room has t (made .size-kept) c
+      part = stretch-part table start n room (has S) t (made .size-kept) c
 
       over-same : (e : ℕ) → e < c → getD o e 0 ≡ getD (within outw 0 room o) e 0
       over-same e h = sym (front-cell outw o room (made .held .outw-size) e (omega (arith, made .held .within)))
@@ -311,7 +313,7 @@ module _ (from : List ℕ) (over : Group) (gens table : List ℕ) (start : ℕ) 
         value = refl;
         handle = refl;
         accepted = record {
-          fits = fits-still table start n room has t (made .size-kept) c (made .sound .table .origin) (made .held .within);
+          fits = fits-still table start n room (has S) t (made .size-kept) c (made .sound .table .origin) (made .held .within);
           sound = rw part (made .sound);
           ruled = rw part (made .ruled);
         };
@@ -324,7 +326,7 @@ module _ (from : List ℕ) (over : Group) (gens table : List ℕ) (start : ℕ) 
         beyond = λ {k} h. rw part (made .beyond h);
         map-beyond = λ {e} h l. front-cell outw o room (made .held .outw-size) e l ∙ made .held .beyond h;
         table-kept = rw part;
-        work-zero = ap (λ (x : List ℕ). within work 0 (workNeed n room) x) (made .work-zero ∙ ap (λ (k : ℕ). replicate k 0) work-long);
+        work-zero = ap (λ (x : List ℕ). within work 0 (workNeed n room) x) (made .work-zero ∙ ap (λ (k : ℕ). replicate k 0) (work-long S));
         inn-size = front-long inn i M (made .held .inn-size)
             (maps-inn (length table) start (length work) (length inn) (length outw) room n M (S .lent));
         outw-size = front-long outw o room (made .held .outw-size)
@@ -350,12 +352,12 @@ module _ (from : List ℕ) (over : Group) (gens table : List ℕ) (start : ℕ) 
           × (fromGenerators from over gens table start work inn outw room ≡ subgrouping (record { answer = Fine; subgroup = s }) t w i o))
           ↔ Acceptable op n room N gen elt
       generators-exactly =
-          let E = subgroup-exactly G gens-below A small source answering room room lo hi (le-refl room) (tableNeed n room) (take (workNeed n room) work)
-          (S .few) (le-refl (tableNeed n room)) work-fits in (
+          let E = subgroup-exactly G gens-below A (small S) source answering room room (lo S) (hi S) (le-refl room) (tableNeed n room) (take (workNeed n room) work)
+          (S .few) (le-refl (tableNeed n room)) (work-fits S) in (
             λ a.
                 let B = back-accepted build (sym (is-build S) ∙ a .5) in
-                let H = renumber-holds A (right-inside G gens-below) small source answering room room lo hi (le-refl room) (tableNeed n room)
-                (take (workNeed n room) work) (S .few) (le-refl (tableNeed n room)) work-fits (B .is) in
+                let H = renumber-holds A (right-inside G gens-below) (small S) source answering room room (lo S) (hi S) (le-refl room) (tableNeed n room)
+                (take (workNeed n room) work) (S .few) (le-refl (tableNeed n room)) (work-fits S) (B .is) in
                 let e : B .count ≡ N = numbered-once (H .taken .readable .by-rule) (A .by-rule) in
                 let X = E .0 (
                   B .table′,
@@ -384,8 +386,8 @@ module _ (from : List ℕ) (over : Group) (gens table : List ℕ) (start : ℕ) 
           ⊎ (((g : ℕ) × FirstIdentity n gen g × (r ≡ numbered 9 0 g 0)) ⊎ ((g : ℕ) × FirstRepeat n gen g × (r ≡ numbered 11 g 0 0)))
       generators-refused q =
           let T = back-refused build (sym (is-build S) ∙ q) in
-          subgroup-refused G gens-below A small source answering room room lo hi (le-refl room) (tableNeed n room) (take (workNeed n room) work)
-          (S .few) (le-refl (tableNeed n room)) work-fits (T .is)
+          subgroup-refused G gens-below A (small S) source answering room room (lo S) (hi S) (le-refl room) (tableNeed n room) (take (workNeed n room) work)
+          (S .few) (le-refl (tableNeed n room)) (work-fits S) (T .is)
 
   -- What an accepted call gives, whatever the arguments: it has started.
   pub generators-given : AllAccepted from (handles over) → {s : Subgroup} {t w i o : List ℕ}

@@ -29,7 +29,7 @@ orbit-as op e origin = origin
 orbit-as op e (onward {g = i} o h) = rw (e i h) (onward {g = i} (orbit-as op e o) h)
 
 module _ (gens : List ℕ) (x : ℕ) where
-  more-length : length (gens ++ (x ∷ [])) ≡ length gens + 1
+  pub more-length : length (gens ++ (x ∷ [])) ≡ length gens + 1
   more-length = length-append gens (x ∷ [])
 
   old : {g : ℕ} → g < length gens → getD (gens ++ (x ∷ [])) g 0 ≡ getD gens g 0
@@ -114,7 +114,7 @@ module _ {op : ℕ → ℕ → ℕ} {byte : ℕ → ℕ} {x : ℕ} {gens : List 
 true-false : true ≡ false → ⊥
 true-false h = false-true (sym h)
 
-pick-ends : (P : Picked → Type 0) (b d : Bool) {A B C : Picked} → (b ≡ true → d ≡ true → P A) → (b ≡ true → d ≡ false → P C) → (b ≡ false → P B)
+pub pick-ends : (P : Picked → Type 0) (b d : Bool) {A B C : Picked} → (b ≡ true → d ≡ true → P A) → (b ≡ true → d ≡ false → P C) → (b ≡ false → P B)
     → P (pick b (pick d A C) B)
 pick-ends P true true a c b = a refl refl
 pick-ends P true false a c b = c refl refl
@@ -122,13 +122,13 @@ pick-ends P false d a c b = b refl
 
 module _ {op : ℕ → ℕ → ℕ} {byte : ℕ → ℕ} {M L : ℕ} {again : List ℕ → List ℕ → Renumbering} (F : Faithful op M L again) where
   module _ {x : ℕ} {gens : List ℕ} (C : Chosen op byte x gens) (l : x < M) {inn w : List ℕ} (K : Knows op M L gens inn w) where
-    new-member : isNew inn byte x ≡ true → ¬ (byte x ≡ 0)
+    pub new-member : isNew inn byte x ≡ true → ¬ (byte x ≡ 0)
     new-member h q = eqb-false (byte x) 0 (not-true _ (and-second (eqb (getD inn x 0) appear.none) _ h)) q
 
-    new-outside : isNew inn byte x ≡ true → ¬ Reach op gens (length gens) x
+    pub new-outside : isNew inn byte x ≡ true → ¬ Reach op gens (length gens) x
     new-outside h = K .missing l (eqb-true (getD inn x 0) appear.none (and-first (eqb (getD inn x 0) appear.none) _ h))
 
-    not-new : isNew inn byte x ≡ false → (byte x ≡ 0) ⊎ Reach op gens (length gens) x
+    pub not-new : isNew inn byte x ≡ false → (byte x ≡ 0) ⊎ Reach op gens (length gens) x
     not-new h = by (ℕ-discrete (byte x) 0) (ℕ-discrete (getD inn x 0) appear.none) where
       by : Dec (byte x ≡ 0) → Dec (getD inn x 0 ≡ appear.none) → (byte x ≡ 0) ⊎ Reach op gens (length gens) x
       by (yes z) d = inl z
@@ -137,7 +137,7 @@ module _ {op : ℕ → ℕ → ℕ} {byte : ℕ → ℕ} {M L : ℕ} {again : Li
           let t : isNew inn byte x ≡ true = rw (eq-eqb (getD inn x 0) appear.none k, ne-eqb (byte x) 0 z) in
           let u : true ≡ false = sym t ∙ h in absurd (true-false u)
 
-  knowing : {x : ℕ} {gens : List ℕ} → Chosen op byte x gens → x ≤ M → {w₀ : List ℕ} → length w₀ ≡ L → {c : ℕ} {t w inn outw : List ℕ}
+  pub knowing : {x : ℕ} {gens : List ℕ} → Chosen op byte x gens → x ≤ M → {w₀ : List ℕ} → length w₀ ≡ L → {c : ℕ} {t w inn outw : List ℕ}
       → again gens w₀ ≡ renumbering (built (Count c) t w) inn outw → Knows op M L gens inn w
   knowing C l h q = F .knows (C .few) (λ g k. omega (arith, C .before k)) h q
 

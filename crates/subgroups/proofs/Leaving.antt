@@ -1,14 +1,12 @@
 -- What a refused `from_generators` leaves, on any input: nothing touched, or zeros. A numbering keeps the lengths of its lists, whatever the source says.
 -- Assumes nothing.
-use Prim.Native.Nat.{ℕ, zero, suc, _+_, _*_, _≤_, _<_}
-use mathlib.Core.Path.{_≡_, refl, sym, ap, _∙_, subst}
+use Prim.Native.Nat.{ℕ, zero, suc, _+_}
+use mathlib.Core.Path.{_≡_, refl, sym, ap, _∙_}
 use mathlib.Core.Bool.{Bool, true, false}
 use mathlib.Core.List.{List}
 use native.Mathlib.Omega.{arith}
-use borrow.Author.Tests.{leb-true}
 use lib.Dec.{eqb, ltb}
 use lib.ListN.{length, getD, take, replicate, length-replicate}
-use lib.Seq.{length-take-le}
 use Rattle.egg.specs.declared.Refusal.{Refusal}
 use Rattle.egg.specs.declared.GroupElementId.{GroupElementId}
 use Rattle.egg.specs.declared.GeneratorId.{GeneratorId}
@@ -21,9 +19,8 @@ use Rattle.egg.specs.Table.{pick, putAt}
 use Rattle.checks.specs.Checks.{Checked, checked, check-group}
 use Rattle.reading.specs.Build.{setStep, adds}
 use Rattle.reading.specs.Reading.{placed}
-use Rattle.builder.specs.Finish.{Built, built, zeroed, settledBy, finished, finishedPlaced}
-use Rattle.builder.specs.Lending.{tableNeed, workNeed, lentRight, within}
-use Rattle.builder.proofs.Lending.{lent-enough}
+use Rattle.builder.specs.Finish.{built, zeroed, settledBy, finished}
+use Rattle.builder.specs.Lending.{tableNeed, workNeed, within}
 use Rattle.meaning.proofs.Lengths.{checks-work}
 use Rattle.derived.proofs.Marking.{set-length}
 use Rattle.promises.proofs.ReadLengths.{adds-length}
@@ -31,15 +28,13 @@ use Rattle.meaning.proofs.Accepted.{checks-kept}
 use Rattle.group.specs.declared.Group.{Group}
 use Rattle.group.specs.Handles.{handles, elementsOf}
 use Rattle.appearance.specs.Renumber.{none, Mapped, mapped, thenMapped, onNew, mapPlace, mapFrom, mapRow, mapRows, mapAll}
-use Rattle.appearance.specs.Build.{Renumbering, renumbering, settledMaps, finishedMapped, renumberIn}
+use Rattle.appearance.specs.Build.{renumbering, finishedMapped, renumberIn}
 use Rattle.renumbering.proofs.Builds.{builtOf, settled-built, refused-maps}
 use Rattle.subgroup.specs.declared.Subgroup.{Subgroup}
-use Rattle.subgroup.specs.declared.Subgrouped.{Subgrouped}
-use Rattle.subgroup.specs.Lent.{subgroupOf, Subgrouping, subgrouping, mapsRight, mapsBack}
+use Rattle.subgroup.specs.Lent.{subgrouping}
 use Rattle.subgroup.specs.Generated.{productOf, fromGenerators}
-use Rattle.subgroup.proofs.Admits.{maps-lent}
 use Rattle.subgroups.specs.Generates.{Started, Leaving, untouched, zeros}
-use Rattle.subgroups.proofs.Called.{Ways, early, late, ways, is-build, back-refused, Turned}
+use Rattle.subgroups.proofs.Called.{Ways, early, late, ways, is-build, back-refused, work-long}
 
 abbrev pub tableIn : Mapped → List ℕ
 tableIn (mapped (placed c t) inn outw) = t
@@ -126,35 +121,35 @@ refused-stretches size w₀ source n room M K x₀ {r} {t} {w} {inn} {outw} q =
         (F .0 ∙ ap (λ (k : ℕ). replicate k 0) h, F .1)
 
 module _ (from : List ℕ) (over : Group) (gens table : List ℕ) (start : ℕ) (work inn outw : List ℕ) (room : ℕ) where
+  -- Once it has started, every needed stretch is zero after a refusal.
+  pub generators-cleared : Started from over gens table start work inn outw room → {r : Refusal} {s : Subgroup} {t w i o : List ℕ}
+      → fromGenerators from over gens table start work inn outw room ≡ subgrouping (record { answer = verdict.Refused r; subgroup = s }) t w i o
+      → (t ≡ within table start (start + tableNeed (length gens) room) (replicate (tableNeed (length gens) room) 0))
+      × ((w ≡ within work 0 (workNeed (length gens) room) (replicate (workNeed (length gens) room) 0))
+      × ((i ≡ within inn 0 (elementsOf (handles over)) (replicate (elementsOf (handles over)) 0)) × (o ≡ within outw 0 room (replicate room 0))))
+  generators-cleared S q =
+      let n : ℕ = length gens in
+      let T = back-refused from over gens table start work inn outw room _ (sym (is-build from over gens table start work inn outw room S) ∙ q) in
+      let Z = refused-stretches (tableNeed n room) (take (workNeed n room) work) (productOf from (handles over) gens) n room (elementsOf (handles over)) room 0
+      (T .is) in
+      let Y = refused-maps (tableNeed n room) (take (workNeed n room) work) (productOf from (handles over) gens) n room (elementsOf (handles over)) room 0
+      (T .is) in
+      let l : length (take (workNeed n room) work) ≡ workNeed n room = work-long from over gens table start work inn outw room S in (
+        T .table-is ∙ ap (λ (x : List ℕ). within table start (start + tableNeed n room) x) (Z .0),
+        (
+          T .work-is ∙ ap (λ (x : List ℕ). within work 0 (workNeed n room) x) (Z .1 ∙ ap (λ (k : ℕ). replicate k 0) l),
+          (T .inn-is ∙ ap (λ (x : List ℕ). within inn 0 (elementsOf (handles over)) x) (Y .0), T .outw-is ∙ ap (λ (x : List ℕ). within outw 0 room x) (Y .1)),
+        ),
+      )
+
   -- "1 to 4, 14, and 15 to 17 given before a build starts .. change nothing. Once it has started, any refusal .. leaves the needed stretch of table and work,
   -- and subgroup maps, zero."
   pub generators-leave : {r : Refusal} {s : Subgroup} {t w i o : List ℕ}
       → fromGenerators from over gens table start work inn outw room ≡ subgrouping (record { answer = verdict.Refused r; subgroup = s }) t w i o
       → Leaving over (length gens) table start work inn outw room t w i o
   generators-leave {r} {s} {t} {w} {i} {o} q = go (ways from over gens table start work inn outw room) where
-    started : (S : Started from over gens table start work inn outw room) → Leaving over (length gens) table start work inn outw room t w i o
-    started S =
-        let n : ℕ = length gens in
-        let T = back-refused from over gens table start work inn outw room _ (sym (is-build from over gens table start work inn outw room S) ∙ q) in
-        let Z = refused-stretches (tableNeed n room) (take (workNeed n room) work) (productOf from (handles over) gens) n room (elementsOf (handles over)) room 0
-        (T .is) in
-        let Y = refused-maps (tableNeed n room) (take (workNeed n room) work) (productOf from (handles over) gens) n room (elementsOf (handles over)) room 0
-        (T .is) in
-        let l : length (take (workNeed n room) work) ≡ workNeed n room =
-        length-take-le (workNeed n room) work (leb-true _ _ (lent-enough (length table) start (length work) room n
-        (maps-lent (length table) start (length work) (length inn) (length outw) room n (elementsOf (handles over)) (S .lent)))) in
-        zeros (T .table-is ∙ ap (λ (x : List ℕ). within table start (start + tableNeed n room) x) (Z .0))
-        (T .work-is ∙ ap (λ (x : List ℕ). within work 0 (workNeed n room) x) (Z .1 ∙ ap (λ (k : ℕ). replicate k 0) l))
-        (T .inn-is ∙ ap (λ (x : List ℕ). within inn 0 (elementsOf (handles over)) x) (Y .0))
-        (T .outw-is ∙ ap (λ (x : List ℕ). within outw 0 room x) (Y .1))
-
     go : Ways from over gens table start work inn outw room → Leaving over (length gens) table start work inn outw room t w i o
     go (early r′ z) =
         let e = sym q ∙ z in
         untouched (cc) (cc) (cc) (cc)
-    go (late S) = started S
-
--- "That the answer is unique is proved": two outcomes that meet the contract of a call that makes a subgroup are the same, answer and buffers.
-pub determined-subgrouping : {defined : Subgrouping} {s s′ : Subgrouped} {t t′ w w′ i i′ o o′ : List ℕ}
-    → subgrouping s t w i o ≡ defined → subgrouping s′ t′ w′ i′ o′ ≡ defined → (s ≡ s′) × ((t ≡ t′) × ((w ≡ w′) × ((i ≡ i′) × (o ≡ o′))))
-determined-subgrouping p q = let e = p ∙ sym q in (cc, (cc, (cc, (cc, cc))))
+    go (late S) = let C = generators-cleared S q in zeros (C .0) (C .1 .0) (C .1 .1 .0) (C .1 .1 .1)

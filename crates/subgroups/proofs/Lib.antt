@@ -21,3 +21,11 @@ pub mod RoomierCalls
 pub mod Sides
 pub mod AtWork
 pub mod ToldKnown
+pub mod Unique
+pub mod Refuses
+pub mod Altered
+pub mod Firsts
+pub mod ToldExactly
+pub mod RoomierToldCalls
+pub mod AlteredTold
+pub mod Before

@@ -44,7 +44,7 @@ module _ {M : ℕ} {op : ℕ → ℕ → ℕ} {inv : ℕ → ℕ} (G : GroupOn M
     (work : room * (6 * n * n + 4 * n) ≤ length w)
     (room′ K′ : ℕ) (lo′ : 1 ≤ room′) (hi′ : room′ ≤ 65535) (lent′ : room′ ≤ K′) (size′ : ℕ) (w′ : List ℕ) (fits′ : room′ * (2 * n + 4) ≤ size′)
     (work′ : room′ * (6 * n * n + 4 * n) ≤ length w′) (more : room ≤ room′) (wider : size ≤ size′) where
-  build-roomier : {c : ℕ} {t w₁ i o : List ℕ} → renumberIn size w source n room M K 0 ≡ renumbering (built (Count c) t w₁) i o
+  pub build-roomier : {c : ℕ} {t w₁ i o : List ℕ} → renumberIn size w source n room M K 0 ≡ renumbering (built (Count c) t w₁) i o
       → (w₂ : List ℕ) × (i′ : List ℕ) × (o′ : List ℕ) × ((renumberIn size′ w′ source n room′ M K′ 0 ≡ renumbering (built (Count c) (longer (size′ - size) t) w₂) i′ o′)
       × ((i ≡ i′) × ((e : ℕ) → getD o e 0 ≡ getD o′ e 0)))
   build-roomier {c} {t} {w₁} {i} {o} q =
@@ -97,12 +97,12 @@ module _ (from : List ℕ) (over : Group) (gens table : List ℕ) (start : ℕ) 
       ≡ renumbering (built (Count (B .count)) (longer (tableNeed n room′ - tableNeed n room) (B .table′)) w₂) i′ o′)
       × ((B .inn′ ≡ i′) × ((e : ℕ) → getD (B .outw′) e 0 ≡ getD o′ e 0)))
   R =
-      build-roomier (called.G from over gens table start work inn outw room S As) (called.small from over gens table start work inn outw room S As)
+      build-roomier (called.G from over gens table start work inn outw room S As) (called.small from over gens table start work inn outw room S)
       (called.gens-below from over gens table start work inn outw room S As) source (called.answering from over gens table start work inn outw room S As) (S .few)
-      room room (called.lo from over gens table start work inn outw room S As) (called.hi from over gens table start work inn outw room S As) (le-refl room)
-      (tableNeed n room) (take (workNeed n room) work) (le-refl (tableNeed n room)) (called.work-fits from over gens table start work inn outw room S As)
-      room′ room′ (called.lo from over gens table′ start′ work′ inn′ outw′ room′ S′ As) (called.hi from over gens table′ start′ work′ inn′ outw′ room′ S′ As) (le-refl room′)
-      (tableNeed n room′) (take (workNeed n room′) work′) (le-refl (tableNeed n room′)) (called.work-fits from over gens table′ start′ work′ inn′ outw′ room′ S′ As)
+      room room (called.lo from over gens table start work inn outw room S) (called.hi from over gens table start work inn outw room S) (le-refl room)
+      (tableNeed n room) (take (workNeed n room) work) (le-refl (tableNeed n room)) (called.work-fits from over gens table start work inn outw room S)
+      room′ room′ (called.lo from over gens table′ start′ work′ inn′ outw′ room′ S′) (called.hi from over gens table′ start′ work′ inn′ outw′ room′ S′) (le-refl room′)
+      (tableNeed n room′) (take (workNeed n room′) work′) (le-refl (tableNeed n room′)) (called.work-fits from over gens table′ start′ work′ inn′ outw′ room′ S′)
       more wider (B .is)
 
   abbrev longest : List ℕ
@@ -118,12 +118,12 @@ module _ (from : List ℕ) (over : Group) (gens table : List ℕ) (start : ℕ) 
       → getD (within table′ start′ (start′ + tableNeed n room′) longest) (start′ + k) 0 ≡ getD t (start + k) 0
   same-cell {k} h =
       let l : k < tableNeed n room′ = omega (arith, wider) in
-      stretch-cell table′ start′ n room′ (called.has from over gens table′ start′ work′ inn′ outw′ room′ S′ As) longest (second .0) (B .count) k l
+      stretch-cell table′ start′ n room′ (called.has from over gens table′ start′ work′ inn′ outw′ room′ S′) longest (second .0) (B .count) k l
       ∙ longer-get (tableNeed n room′ - tableNeed n room) (B .table′) k
-      ∙ sym (stretch-cell table start n room (called.has from over gens table start work inn outw room S As) (B .table′) (first .0) (B .count) k h)
+      ∙ sym (stretch-cell table start n room (called.has from over gens table start work inn outw room S) (B .table′) (first .0) (B .count) k h)
       ∙ ap (λ (x : List ℕ). getD x (start + k) 0) (sym (B .table-is))
 
-  pub generators-roomier : RoomierGenerates over gens start room s t i o start′ room′ (fromGenerators from over gens table′ start′ work′ inn′ outw′ room′)
+  pub generators-roomier : RoomierGenerates over (length gens) start room s t i o start′ room′ (fromGenerators from over gens table′ start′ work′ inn′ outw′ room′)
   generators-roomier = record {
     subgroup′ = record { below = groupOf []; factor = handle start′ n room′ (B .count); over = over; above = groupOf [] };
     table′ = within table′ start′ (start′ + tableNeed n room′) longest;
@@ -132,6 +132,7 @@ module _ (from : List ℕ) (over : Group) (gens table : List ℕ) (start : ℕ) 
     outw′ = within outw′ 0 room′ (R .2);
     accepted = called.is-build from over gens table′ start′ work′ inn′ outw′ room′ S′
         ∙ ap (λ (x : Renumbering). mapsBack over table′ start′ work′ inn′ outw′ M n n room′ x) (R .3 .0);
+    generators = sym (ap (λ (x : Subgroup). x .factor .generators) (B .value));
     elements = sym (ap (λ (x : Subgroup). x .factor .elements) (B .value));
     same = λ {k} h. same-cell h;
     inn-same = λ {x} h.

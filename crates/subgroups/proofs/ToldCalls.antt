@@ -59,13 +59,13 @@ module _ (from : List ℕ) (over : Group) (members table : List ℕ) (start : �
   abbrev whole : Picked
   whole = predicateIn (tableNeed 8 room) (take (workNeed 8 room) work) (composes from (handles over)) room M room (λ x. getD members x 0)
 
-  early-arguments : {r : Refusal} → admitsOver (length from) over ≡ Refused r
+  pub early-arguments : {r : Refusal} → admitsOver (length from) over ≡ Refused r
       → fromPredicate from over members table start work inn outw room
       ≡ subgrouping (subgroupOf over (record { answer = Refused r; factor = noFactor })) table work inn outw
   unfolding fromPredicate
   early-arguments q = rw q
 
-  early-short : admitsOver (length from) over ≡ Fine
+  pub early-short : admitsOver (length from) over ≡ Fine
       → mapsRight (length table) start (length work) (length inn) (length outw) room 8 M && leb M (length members) ≡ false
       → fromPredicate from over members table start work inn outw room ≡ subgrouping (subgroupOf over (refusedMade 4 0)) table work inn outw
   unfolding fromPredicate toldInto
@@ -100,7 +100,7 @@ module _ (from : List ℕ) (over : Group) (members table : List ℕ) (start : �
             bytes = leb-true _ _ (and-second (mapsRight (length table) start (length work) (length inn) (length outw) room 8 M) _ l);
           })
 
-  record Backed (b : Picked) (s : Subgroup) (t w i o : List ℕ) : Type 0 where
+  pub record Backed (b : Picked) (s : Subgroup) (t w i o : List ℕ) : Type 0 where
     pub gens : List ℕ
     pub count : ℕ
     pub table′ : List ℕ
@@ -114,7 +114,7 @@ module _ (from : List ℕ) (over : Group) (members table : List ℕ) (start : �
     pub inn-is : i ≡ within inn 0 M inn′
     pub outw-is : o ≡ within outw 0 room outw′
 
-  back-accepted : (b : Picked) {s : Subgroup} {t w i o : List ℕ}
+  pub back-accepted : (b : Picked) {s : Subgroup} {t w i o : List ℕ}
       → toldBack over table start work inn outw M room b ≡ subgrouping (record { answer = Fine; subgroup = s }) t w i o → Backed b s t w i o
   back-accepted (picked gens (renumbering (built (counted.Count c) t′ w′) i′ o′)) {s} q =
       let m : subgroupOf over (madeOf start room (length gens) (counted.Count c)) ≡ record { answer = Fine; subgroup = s } = cc in
@@ -134,13 +134,66 @@ module _ (from : List ℕ) (over : Group) (members table : List ℕ) (start : �
       }
   back-accepted (picked gens (renumbering (built (counted.Refused r) t′ w′) i′ o′)) q = absurd (fine-refused q)
 
-  back-refused : (b : Picked) {r : Refusal} {s : Subgroup} {t w i o : List ℕ}
+  pub back-refused : (b : Picked) {r : Refusal} {s : Subgroup} {t w i o : List ℕ}
       → toldBack over table start work inn outw M room b ≡ subgrouping (record { answer = Refused r; subgroup = s }) t w i o
       → (gens : List ℕ) × (t′ : List ℕ) × (w′ : List ℕ) × (i′ : List ℕ) × (o′ : List ℕ) × (b ≡ picked gens (renumbering (built (counted.Refused r) t′ w′) i′ o′))
   back-refused (picked gens (renumbering (built (counted.Count c) t′ w′) i′ o′)) q = absurd (fine-refused (sym q))
   back-refused (picked gens (renumbering (built (counted.Refused f) t′ w′) i′ o′)) {r} q =
       let e : f ≡ r = same-refusal q in
       (gens, t′, w′, i′, o′, ap (λ (x : Refusal). picked gens (renumbering (built (counted.Refused x) t′ w′) i′ o′)) e)
+
+  -- What has started: the room is within its limits, and the stretches are long enough.
+  module _ (S : Predicated from over members table start work inn outw room) where
+    pub small : M ≤ 4294967295
+    small = omega (arith, small-elements over (S .small))
+
+    lent : lentRight (length table) start (length work) room 8 ≡ true
+    lent = maps-lent (length table) start (length work) (length inn) (length outw) room 8 M (S .lent)
+
+    pub has : hasRoom (length table) start room 8 ≡ true
+    has = lent-table (length table) start (length work) room 8 lent
+
+    pub lo : 1 ≤ room
+    lo = positive (length table) start room 8 has
+
+    pub hi : room ≤ 65535
+    hi = limited (length table) start room 8 has
+
+    pub work-long : length (take (workNeed 8 room) work) ≡ workNeed 8 room
+    work-long = length-take-le (workNeed 8 room) work (leb-true _ _ (lent-enough (length table) start (length work) room 8 lent))
+
+    pub work-fits : room * (6 * 8 * 8 + 4 * 8) ≤ length (take (workNeed 8 room) work)
+    work-fits = rw work-long (le-refl (workNeed 8 room))
+
+    -- The part of the stretch that n generators need, at most 8, in the buffer.
+    module _ (n c : ℕ) (t : List ℕ) (few : n ≤ 8) (size-kept : length t ≡ tableNeed 8 room) where
+      end-fits : start + tableNeed 8 room ≤ length table
+      end-fits = within-length (length table) start room 8 has
+
+      narrower : tableNeed n room ≤ tableNeed 8 room
+      narrower = eight-rows n room (tableNeed 8 room) few (le-refl (tableNeed 8 room))
+
+      pub part : stretch (within table start (start + tableNeed 8 room) t) (handle start n room c) ≡ take (tableNeed n room) t
+      unfolding stretch within
+      part =
+          let k : start ≤ length table = omega (arith, end-fits) in
+          let l : tableNeed n room ≤ length t = rw size-kept narrower in
+          ap (λ (x : List ℕ). take (tableNeed n room) x)
+          (drop-at (take start table) (t ++ drop (start + tableNeed 8 room) table) start (length-take-le start table k))
+          ∙ take-append-le (tableNeed n room) t (drop (start + tableNeed 8 room) table) l
+
+      pub handle-fits : 1 ≤ c → c ≤ room → fitsIn (length (within table start (start + tableNeed 8 room) t)) (handle start n room c) ≡ true
+      unfolding fitsIn hasRoom
+      handle-fits one most =
+          let e : start + room * (2 * n + 4) ≤ length table = omega (arith, end-fits, narrower) in
+          rw (within-long table start (tableNeed 8 room) end-fits t size-kept) (simp (
+            le-leb _ _ one,
+            le-leb _ _ most,
+            le-leb _ _ few,
+            le-leb _ _ lo,
+            le-leb _ _ hi,
+            le-leb _ _ e,
+          ))
 
   module _ (S : Predicated from over members table start work inn outw room) (As : AllAccepted from (handles over)) where
     abbrev op : ℕ → ℕ → ℕ
@@ -149,74 +202,25 @@ module _ (from : List ℕ) (over : Group) (members table : List ℕ) (start : �
     abbrev inv : ℕ → ℕ
     inv = direct from over .inv
 
-    G : GroupOn M op inv
+    pub G : GroupOn M op inv
     G = subst (λ (k : ℕ). GroupOn k op inv) (parts-elements from (handles over)) (product-overgroup from As)
-
-    small : M ≤ 4294967295
-    small = omega (arith, small-elements over (S .small))
 
     inside : {x : ℕ} → x < M → x < product (parts from (handles over)) .elements
     inside h = rw (parts-elements from (handles over)) h
 
-    answers : (y x : ℕ) → y < M → x < M → composes from (handles over) y x ≡ reached.Element (record { 0 = op y x })
+    pub answers : (y x : ℕ) → y < M → x < M → composes from (handles over) y x ≡ reached.Element (record { 0 = op y x })
     answers y x hy hx = product-answers from As y x (inside hy) (inside hx)
-
-    lent : lentRight (length table) start (length work) room 8 ≡ true
-    lent = maps-lent (length table) start (length work) (length inn) (length outw) room 8 M (S .lent)
-
-    has : hasRoom (length table) start room 8 ≡ true
-    has = lent-table (length table) start (length work) room 8 lent
-
-    lo : 1 ≤ room
-    lo = positive (length table) start room 8 has
-
-    hi : room ≤ 65535
-    hi = limited (length table) start room 8 has
-
-    work-long : length (take (workNeed 8 room) work) ≡ workNeed 8 room
-    work-long = length-take-le (workNeed 8 room) work (leb-true _ _ (lent-enough (length table) start (length work) room 8 lent))
-
-    work-fits : room * (6 * 8 * 8 + 4 * 8) ≤ length (take (workNeed 8 room) work)
-    work-fits = rw work-long (le-refl (workNeed 8 room))
 
     told-of : {gens : List ℕ} {c : ℕ} {t w i o : List ℕ} → whole ≡ picked gens (renumbering (built (counted.Count c) t w) i o)
         → Told op inv byte M room room (tableNeed 8 room) (workNeed 8 room) gens c t w i o
     told-of {gens} {c} {t} {w} {i} {o} q =
-        subst (λ (L : ℕ). Told op inv byte M room room (tableNeed 8 room) L gens c t w i o) work-long
-        (predicate-told G small (composes from (handles over)) answers room room lo hi (le-refl room) (tableNeed 8 room) (le-refl (tableNeed 8 room)) byte
-        (take (workNeed 8 room) work) work-fits gens q)
+        subst (λ (L : ℕ). Told op inv byte M room room (tableNeed 8 room) L gens c t w i o) (work-long S)
+        (predicate-told G (small S) (composes from (handles over)) answers room room (lo S) (hi S) (le-refl room) (tableNeed 8 room) (le-refl (tableNeed 8 room)) byte
+        (take (workNeed 8 room) work) (work-fits S) gens q)
 
     module _ {gens : List ℕ} {c : ℕ} {t w i o : List ℕ} (q : whole ≡ picked gens (renumbering (built (counted.Count c) t w) i o)) where
       T : Told op inv byte M room room (tableNeed 8 room) (workNeed 8 room) gens c t w i o
       T = told-of q
-
-      end-fits : start + tableNeed 8 room ≤ length table
-      end-fits = within-length (length table) start room 8 has
-
-      narrower : tableNeed (length gens) room ≤ tableNeed 8 room
-      narrower = eight-rows (length gens) room (tableNeed 8 room) (T .chosen .few) (le-refl (tableNeed 8 room))
-
-      part : stretch (within table start (start + tableNeed 8 room) t) (handle start (length gens) room c) ≡ take (tableNeed (length gens) room) t
-      unfolding stretch within
-      part =
-          let k : start ≤ length table = omega (arith, end-fits) in
-          let l : tableNeed (length gens) room ≤ length t = rw (T .size-kept) narrower in
-          ap (λ (x : List ℕ). take (tableNeed (length gens) room) x)
-          (drop-at (take start table) (t ++ drop (start + tableNeed 8 room) table) start (length-take-le start table k))
-          ∙ take-append-le (tableNeed (length gens) room) t (drop (start + tableNeed 8 room) table) l
-
-      handle-fits : fitsIn (length (within table start (start + tableNeed 8 room) t)) (handle start (length gens) room c) ≡ true
-      unfolding fitsIn hasRoom
-      handle-fits =
-          let e : start + room * (2 * length gens + 4) ≤ length table = omega (arith, end-fits, narrower) in
-          rw (within-long table start (tableNeed 8 room) end-fits t (T .size-kept)) (simp (
-            le-leb _ _ (T .sound .table .origin),
-            le-leb _ _ (T .held .within),
-            le-leb _ _ (T .chosen .few),
-            le-leb _ _ lo,
-            le-leb _ _ hi,
-            le-leb _ _ e,
-          ))
 
       over-same : (e : ℕ) → e < c → getD o e 0 ≡ getD (within outw 0 room o) e 0
       over-same e h = sym (front-cell outw o room (T .held .outw-size) e (omega (arith, T .held .within)))
@@ -226,8 +230,8 @@ module _ (from : List ℕ) (over : Group) (members table : List ℕ) (start : �
 
       narrowed : Sound (take (tableNeed (length gens) room) t) (length gens) c × Ruled (take (tableNeed (length gens) room) t) (length gens) c
       narrowed =
-          predicate-narrow G small (composes from (handles over)) answers room room lo hi (le-refl room) (tableNeed 8 room) (le-refl (tableNeed 8 room)) byte
-          (take (workNeed 8 room) work) work-fits gens q
+          predicate-narrow G (small S) (composes from (handles over)) answers room room (lo S) (hi S) (le-refl room) (tableNeed 8 room) (le-refl (tableNeed 8 room)) byte
+          (take (workNeed 8 room) work) (work-fits S) gens q
 
       tells : Tells from over members table start work inn outw room
           (record { below = groupOf []; factor = handle start (length gens) room c; over = over; above = groupOf [] })
@@ -242,9 +246,9 @@ module _ (from : List ℕ) (over : Group) (members table : List ℕ) (start : �
         value = refl;
         handle = refl;
         accepted = record {
-          fits = handle-fits;
-          sound = rw part (narrowed .0);
-          ruled = rw part (narrowed .1);
+          fits = handle-fits S (length gens) c t (T .chosen .few) (T .size-kept) (T .sound .table .origin) (T .held .within);
+          sound = rw (part S (length gens) c t (T .chosen .few) (T .size-kept)) (narrowed .0);
+          ruled = rw (part S (length gens) c t (T .chosen .few) (T .size-kept)) (narrowed .1);
         };
         told = T;
         table-is = refl;
@@ -253,8 +257,8 @@ module _ (from : List ℕ) (over : Group) (members table : List ℕ) (start : �
         outw-is = refl;
         carried = carried-as over-same sub-same (T .carried);
         exactly = λ B exact y h.
-            let P = told-subgroup G small (composes from (handles over)) answers room room lo hi (le-refl room) (tableNeed 8 room)
-            (le-refl (tableNeed 8 room)) byte (take (workNeed 8 room) work) work-fits gens q B exact y h in
+            let P = told-subgroup G (small S) (composes from (handles over)) answers room room (lo S) (hi S) (le-refl room) (tableNeed 8 room)
+            (le-refl (tableNeed 8 room)) byte (take (workNeed 8 room) work) (work-fits S) gens q B exact y h in
             (λ k. P .0 (λ z. k (sym (sub-same y h) ∙ z)), λ k z. P .1 k (sub-same y h ∙ z));
       }
 
@@ -276,8 +280,8 @@ module _ (from : List ℕ) (over : Group) (members table : List ℕ) (start : �
     predicate-refused q =
         let T = back-refused whole (sym (is-told S) ∙ q) in (
           T .0,
-          predicate-untold G small (composes from (handles over)) answers room room lo hi (le-refl room) (tableNeed 8 room) (le-refl (tableNeed 8 room)) byte
-              (take (workNeed 8 room) work) work-fits (T .0) (T .5),
+          predicate-untold G (small S) (composes from (handles over)) answers room room (lo S) (hi S) (le-refl room) (tableNeed 8 room) (le-refl (tableNeed 8 room)) byte
+              (take (workNeed 8 room) work) (work-fits S) (T .0) (T .5),
         )
 
   -- What an accepted call gives, whatever the arguments.

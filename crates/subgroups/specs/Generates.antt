@@ -66,16 +66,17 @@ pub record Acceptable (op : ℕ → ℕ → ℕ) (n room N : ℕ) (gen elt : ℕ
   pub proper : Proper n gen
 
 -- "More room never changes an accepted table": the call with the marked start and room gives m, accepted with as many elements; its stretch holds the same
--- numbers as far as the first call's goes, and so do the maps.
-pub record RoomierGenerates (over : Group) (gens : List ℕ) (start room : ℕ) (s : Subgroup) (t i o : List ℕ) (start′ room′ : ℕ) (m : Subgrouping) : Type 0 where
+-- numbers as far as the first call's goes, and so do the maps. The stretches are as n generators need them.
+pub record RoomierGenerates (over : Group) (n start room : ℕ) (s : Subgroup) (t i o : List ℕ) (start′ room′ : ℕ) (m : Subgrouping) : Type 0 where
   pub subgroup′ : Subgroup
   pub table′ : List ℕ
   pub work′ : List ℕ
   pub inn′ : List ℕ
   pub outw′ : List ℕ
   pub accepted : m ≡ subgrouping (record { answer = Fine; subgroup = subgroup′ }) table′ work′ inn′ outw′
+  pub generators : subgroup′ .factor .generators ≡ s .factor .generators
   pub elements : subgroup′ .factor .elements ≡ s .factor .elements
-  pub same : {k : ℕ} → k < tableNeed (length gens) room → getD table′ (start′ + k) 0 ≡ getD t (start + k) 0
+  pub same : {k : ℕ} → k < tableNeed n room → getD table′ (start′ + k) 0 ≡ getD t (start + k) 0
   pub inn-same : {x : ℕ} → x < elementsOf (handles over) → getD inn′ x 0 ≡ getD i x 0
   pub outw-same : {e : ℕ} → e < room → getD outw′ e 0 ≡ getD o e 0
 

@@ -5,3 +5,6 @@ pub mod Made
 pub mod Generates
 pub mod Asked
 pub mod Tells
+pub mod Refuses
+pub mod Altered
+pub mod Tellable

@@ -73,7 +73,7 @@ impl<'a> Image<'a> {
     /// The position of the first argument of a walk that is out of range; 0 where none is.
     fn first_beyond(&self, from: Element, turns: &[Generator]) -> u32 {
         let beyond = turns.iter().position(|g| g.0 >= self.generator_count());
-        if from.0 >= self.element_count() { 0 } else { beyond.map_or(0, |i| i as u32 + 1) }
+        if from.0 >= self.element_count() { 0 } else { beyond.map_or(0, |i| (i as u32).saturating_add(1)) }
     }
 
     /// The factor that is stored.

@@ -1,5 +1,5 @@
 -- One law for each answer.
-use Rattle.builder.proofs.Owning.{reached-refused, reached-whole, reached-none, reached-missing, reached-not}
+use Rattle.builder.proofs.Owning.{reached-refused, reached-whole, reached-none, reached-missing, reached-fine}
 use borrow.Author.Needs.{needs}
 use Rattle.builder.proofs.inner.reached_all.Statement.{statement}
 use Rattle.builder.proofs.inner.reached_all.Tie as tie
@@ -32,7 +32,7 @@ returns-4 : tie.Need-returns-4
 returns-4 c = let a = (c .before .before .before .before .before .before .before .before .before .before .args) in reached-missing (a .t .now) (a .n) (a .elements) ((c .before .before .before .before .before .before .before .read .given .1)) ((c .before .before .before .before .before .if1 .left)) ((c .before .before .before .before .if2 .left)) ((c .before .before .before .check8 .ensures)) ((c .before .why .given .1))
 
 returns-5 : tie.Need-returns-5
-returns-5 c = let a = (c .before .before .before .before .before .before .before .before .before .args) in reached-not (a .t .now) (a .n) (a .elements) ((c .before .before .before .before .before .before .read .given .1)) ((c .before .before .before .before .if1 .left)) ((c .before .before .before .if2 .left)) ((c .before .before .check8 .ensures)) ((c .enum-told2 .given .1))
+returns-5 c = let a = (c .before .before .before .before .before .before .before .before .before .args) in reached-fine (a .t .now) (a .n) (a .elements) ((c .before .before .before .before .before .before .read .given .1)) ((c .before .before .before .before .if1 .left)) ((c .before .before .before .if2 .left)) ((c .before .before .check8 .ensures)) ((c .enum-told2 .given .1))
 
 pub reached-all-spec : {M : Type 1} → statement M
 reached-all-spec =

@@ -1,0 +1,224 @@
+-- `from_predicate` over any buffer, altered or not: what is accepted is an accepted factor, by at most eight generators; and by what it is refused once it has
+-- started.
+-- Assumes nothing.
+use Prim.Native.Nat.{ℕ, zero, suc, _+_, _*_, _≤_}
+use mathlib.Core.Path.{_≡_, refl, sym, ap, _∙_, subst}
+use mathlib.Core.Logic.{_⊎_, inl, inr}
+use mathlib.Core.List.{List, [], _∷_, _++_}
+use native.Mathlib.Nat.{le-refl}
+use native.Mathlib.Omega.{arith}
+use borrow.Author.Tests.{ltb-true}
+use lib.Dec.{ltb}
+use lib.ListN.{length, getD, take}
+use Rattle.egg.specs.declared.Refusal.{Refusal}
+use Rattle.egg.specs.declared.Reached.{Reached}
+use Rattle.egg.specs.declared.Reached.the-variants as reached
+use Rattle.egg.specs.declared.Verdict.the-variants as verdict
+use Rattle.egg.specs.declared.Counted.the-variants.{Count, Refused}
+use Rattle.reading.specs.Build.{numbered}
+use Rattle.builder.specs.Finish.{built, zeroed}
+use Rattle.builder.specs.Lending.{tableNeed, workNeed, within}
+use Rattle.theory.proofs.Reading.{numbered-once}
+use Rattle.meaning.specs.Sound.{Sound, Ruled}
+use Rattle.answers.specs.Accepted.{Accepted}
+use Rattle.promises.specs.Composed.{Taken, Holding}
+use Rattle.promises.proofs.Lent.{handle}
+use Rattle.group.specs.declared.Group.{Group}
+use Rattle.group.specs.Handles.{handles, elementsOf}
+use Rattle.group.specs.Powers.{composes}
+use Rattle.appearance.specs.Build.{Renumbering, renumbering, renumberIn}
+use Rattle.renumbering.specs.Orbit.{Inside, numberedStep, Appearing}
+use Rattle.renumbering.proofs.Order.{appearing}
+use Rattle.renumbering.proofs.Partial.{total, total-answering, partial-build}
+use Rattle.renumbering.proofs.Builds.{builtOf, renumber-built, renumber-holds}
+use Rattle.subgroup.specs.declared.Subgroup.{Subgroup}
+use Rattle.subgroup.specs.Lent.{subgrouping}
+use Rattle.subgroup.specs.Generated.{productOf}
+use Rattle.predicate.specs.Predicate.{Picked, picked, isNew, chooses, againIn, predicateIn, fromPredicate}
+use Rattle.predicate.specs.Predicate as predicate
+use Rattle.subgroups.specs.Tells.{Predicated}
+use Rattle.subgroups.specs.Altered.{stepsRead, Regardless, ToldStops, ninth, stopped, by-steps}
+use Rattle.subgroups.proofs.Choosing.{more-length, pick-ends}
+use Rattle.subgroups.proofs.Telling.{eight-rows, eight-work, same-gens, same-build, not-refused}
+use Rattle.subgroups.proofs.Narrow.{narrow}
+use Rattle.subgroups.proofs.ToldLeaving.{accepted-lengths}
+use Rattle.subgroups.proofs.ToldCalls as told
+use Rattle.subgroups.proofs.Altered.{composes-17, steps-inside, accepted-total}
+
+-- The last build, by at most eight elements; or a ninth was needed.
+data Last (L : ℕ) (again : List ℕ → List ℕ → Renumbering) : Picked → Type 0 where
+  by-few : {gens : List ℕ} {r : Renumbering} (w₀ : List ℕ) → length gens ≤ 8 → length w₀ ≡ L → again gens w₀ ≡ r → Last L again (picked gens r)
+  by-ninth : (gens t w i o : List ℕ) → Last L again (picked gens (predicate.ninth t w i o))
+
+module _ (L : ℕ) (again : List ℕ → List ℕ → Renumbering)
+    (keeps : (gens w₀ : List ℕ) (c : ℕ) (t w i o : List ℕ) → again gens w₀ ≡ renumbering (built (Count c) t w) i o → length w ≡ length w₀) (byte : ℕ → ℕ) where
+  chooses-last : (k x : ℕ) (gens : List ℕ) (r : Renumbering) (w₀ : List ℕ) → length gens ≤ 8 → length w₀ ≡ L → again gens w₀ ≡ r
+      → Last L again (chooses k again byte x gens r)
+  unfolding chooses
+  chooses-last zero x gens r w₀ h l q = by-few w₀ h l q
+  chooses-last (suc k) x gens (renumbering (built (Refused f) t w) i o) w₀ h l q = by-few w₀ h l q
+  chooses-last (suc k) x gens (renumbering (built (Count c) t w) i o) w₀ h l q =
+      pick-ends (Last L again) (isNew i byte x) (ltb (length gens) 8)
+      (λ n d. chooses-last k (x + 1) (gens ++ (x ∷ [])) (again (gens ++ (x ∷ [])) w) w (omega (arith, more-length gens x, ltb-true (length gens) 8 d))
+      (keeps gens w₀ c t w i o q ∙ l) refl)
+      (λ n d. by-ninth gens t w i o)
+      (λ n. chooses-last k (x + 1) gens (renumbering (built (Count c) t w) i o) w₀ h l q)
+
+predicate-last : (size : ℕ) (w : List ℕ) (source : ℕ → ℕ → Reached) (room M K : ℕ) (byte : ℕ → ℕ)
+    → Last (length w) (againIn size source room M K) (predicateIn size w source room M K byte)
+predicate-last size w source room M K byte =
+    chooses-last (length w) (againIn size source room M K)
+    (λ gens w₀ c t w₁ i o q. accepted-lengths size w₀ (λ y g. source y (getD gens g 0)) (length gens) room M K 0 q .1 .0) byte M 0 []
+    (againIn size source room M K [] w) w (omega arith) refl refl
+
+last-counted : {L : ℕ} {again : List ℕ → List ℕ → Renumbering} {p : Picked} {gens : List ℕ} {c : ℕ} {t w i o : List ℕ} → Last L again p
+    → p ≡ picked gens (renumbering (built (Count c) t w) i o)
+    → (length gens ≤ 8) × ((w₀ : List ℕ) × (length w₀ ≡ L) × (again gens w₀ ≡ renumbering (built (Count c) t w) i o))
+last-counted {again = again} (by-few w₀ h l z) q =
+    let e = same-gens q in
+    (subst (λ (g : List ℕ). length g ≤ 8) e h, (w₀, l, ap (λ (g : List ℕ). again g w₀) (sym e) ∙ z ∙ same-build q))
+last-counted (by-ninth gens t w i o) q = absurd (not-refused (same-build q))
+
+same-refusal : {f f′ : Refusal} {t t₁ w w₁ i i₁ o o₁ : List ℕ}
+    → renumbering (built (Refused f) t₁ w₁) i₁ o₁ ≡ renumbering (built (Refused f′) t w) i o → f ≡ f′
+same-refusal h = cc
+
+last-refused : {L : ℕ} {again : List ℕ → List ℕ → Renumbering} {p : Picked} {gens : List ℕ} {r : Refusal} {t w i o : List ℕ} → Last L again p
+    → p ≡ picked gens (renumbering (built (Refused r) t w) i o)
+    → (r ≡ numbered 15 0 0 0) ⊎ ((length gens ≤ 8) × ((w₀ : List ℕ) × (length w₀ ≡ L) × (again gens w₀ ≡ renumbering (built (Refused r) t w) i o)))
+last-refused {again = again} (by-few w₀ h l z) q =
+    let e = same-gens q in
+    inr (subst (λ (g : List ℕ). length g ≤ 8) e h, (w₀, l, ap (λ (g : List ℕ). again g w₀) (sym e) ∙ z ∙ same-build q))
+last-refused (by-ninth gens t w i o) q = inl (sym (same-refusal (same-build q)))
+
+module _ (from : List ℕ) (over : Group) (members table : List ℕ) (start : ℕ) (work inn outw : List ℕ) (room : ℕ)
+    (S : Predicated from over members table start work inn outw room) {s : Subgroup} {t w i o : List ℕ}
+    (q : fromPredicate from over members table start work inn outw room ≡ subgrouping (record { answer = verdict.Fine; subgroup = s }) t w i o) where
+  abbrev M : ℕ
+  M = elementsOf (handles over)
+
+  B : told.Backed from over members table start work inn outw room
+      (predicateIn (tableNeed 8 room) (take (workNeed 8 room) work) (composes from (handles over)) room M room (λ x. getD members x 0)) s t w i o
+  B = told.back-accepted from over members table start work inn outw room _ (sym (told.is-told from over members table start work inn outw room S) ∙ q)
+
+  D : (length (B .gens) ≤ 8) × ((w₀ : List ℕ) × (length w₀ ≡ length (take (workNeed 8 room) work))
+      × (againIn (tableNeed 8 room) (composes from (handles over)) room M room (B .gens) w₀
+      ≡ renumbering (built (Count (B .count)) (B .table′) (B .work′)) (B .inn′) (B .outw′)))
+  D = last-counted (predicate-last (tableNeed 8 room) (take (workNeed 8 room) work) (composes from (handles over)) room M room (λ x. getD members x 0)) (B .is)
+
+  abbrev n : ℕ
+  n = length (B .gens)
+
+  I : Inside n M (stepsRead from over (B .gens)) 0
+  I = steps-inside from over (B .gens) (S .fits)
+
+  A : Appearing n M (stepsRead from over (B .gens)) 0 (appearing I .0) (appearing I .1)
+  A = appearing I .2
+
+  abbrev src : ℕ → ℕ → ℕ
+  src = numberedStep (appearing I .0) (appearing I .1) (stepsRead from over (B .gens))
+
+  lo : 1 ≤ room
+  lo = told.lo from over members table start work inn outw room S
+
+  hi : room ≤ 65535
+  hi = told.hi from over members table start work inn outw room S
+
+  rows : room * (2 * n + 4) ≤ tableNeed 8 room
+  rows = eight-rows n room (tableNeed 8 room) (D .0) (le-refl (tableNeed 8 room))
+
+  enough : room * (6 * n * n + 4 * n) ≤ length (D .1 .0)
+  enough = eight-work n room (length (D .1 .0)) (D .0) (rw (D .1 .1) (told.work-fits from over members table start work inn outw room S))
+
+  same : renumberIn (tableNeed 8 room) (D .1 .0) (total (productOf from (handles over) (B .gens)) 0) n room M room 0
+      ≡ renumbering (built (Count (B .count)) (B .table′) (B .work′)) (B .inn′) (B .outw′)
+  same = accepted-total (tableNeed 8 room) (D .1 .0) (productOf from (handles over) (B .gens)) n room M room 0 (D .1 .2)
+
+  H : Holding src n room (tableNeed 8 room) (B .count) (B .table′)
+  H =
+      renumber-holds A I (told.small from over members table start work inn outw room S) (total (productOf from (handles over) (B .gens)) 0)
+      (total-answering n M (productOf from (handles over) (B .gens)) 0) room room lo hi (le-refl room) (tableNeed 8 room) (D .1 .0) (D .0) rows enough same
+
+  narrowed : (length (take (tableNeed n room) (B .table′)) ≡ tableNeed n room) × Sound (take (tableNeed n room) (B .table′)) n (B .count)
+      × Ruled (take (tableNeed n room) (B .table′)) n (B .count)
+  narrowed =
+      narrow src n room (tableNeed 8 room) (D .1 .0) (D .0) lo hi rows enough
+      (sym (renumber-built A I (told.small from over members table start work inn outw room S) (total (productOf from (handles over) (B .gens)) 0)
+      (total-answering n M (productOf from (handles over) (B .gens)) 0) room room lo hi (le-refl room) (tableNeed 8 room) (D .1 .0) (D .0) rows enough)
+      ∙ ap builtOf same)
+
+  accepted : Accepted (within table start (start + tableNeed 8 room) (B .table′)) (handle start n room (B .count))
+  accepted =
+      let part = told.part from over members table start work inn outw room S n (B .count) (B .table′) (D .0) (H .size-kept) in
+      record {
+        fits = told.handle-fits from over members table start work inn outw room S n (B .count) (B .table′) (D .0) (H .size-kept) (H .sound .table .origin)
+            (H .taken .readable .within);
+        sound = rw part (narrowed .1);
+        ruled = rw part (narrowed .2);
+      }
+
+  whole : B .count ≡ appearing I .0
+  whole = numbered-once (H .taken .readable .by-rule) (A .by-rule)
+
+  regardless-at : {s s′ : Subgroup} {t t′ : List ℕ} → s ≡ s′ → t ≡ t′ → Regardless from over (B .gens) room s′ t′ → Regardless from over (B .gens) room s t
+  regardless-at a b R = rw (a, b) R
+
+  -- What is accepted is an accepted factor, whatever the buffer was, by at most eight generators.
+  pub told-regardless : (gens : List ℕ) × (length gens ≤ 8) × Regardless from over gens room s t
+  told-regardless = (
+    B .gens,
+    D .0,
+    regardless-at (B .value) (B .table-is) (record {
+      elt = appearing I .1;
+      appearing = subst (λ (k : ℕ). Appearing n M (stepsRead from over (B .gens)) 0 k (appearing I .1)) (sym whole) A;
+      taken = subst (λ (k : ℕ). Taken (numberedStep k (appearing I .1) (stepsRead from over (B .gens))) n room (B .count)) (sym whole) (H .taken);
+      accepted = accepted;
+    }),
+  )
+
+module _ (from : List ℕ) (over : Group) (members table : List ℕ) (start : ℕ) (work inn outw : List ℕ) (room : ℕ)
+    (S : Predicated from over members table start work inn outw room) where
+  abbrev size : ℕ
+  size = tableNeed 8 room
+
+  refused-by : (gens w₀ : List ℕ) {r : Refusal} {t w i o : List ℕ} → length gens ≤ 8 → length w₀ ≡ length (take (workNeed 8 room) work)
+      → renumberIn (tableNeed 8 room) w₀ (productOf from (handles over) gens) (length gens) room (elementsOf (handles over)) room 0
+      ≡ renumbering (built (Refused r) t w) i o → ToldStops from over room r
+  refused-by gens w₀ {r} {t} {w} {i} {o} few l z =
+      go (partial-build (tableNeed 8 room) w₀ (productOf from (handles over) gens) (length gens) room (elementsOf (handles over)) room 0)
+    where
+      go : (renumberIn size w₀ (productOf from (handles over) gens) (length gens) room (elementsOf (handles over)) room 0
+          ≡ renumberIn size w₀ (total (productOf from (handles over) gens) 0) (length gens) room (elementsOf (handles over)) room 0)
+          ⊎ ((r : Refusal) × (x : ℕ) × (g : ℕ) × (t : List ℕ) × (i : List ℕ) × (o : List ℕ) × (productOf from (handles over) gens x g ≡ reached.Refused r)
+          × (renumberIn size w₀ (productOf from (handles over) gens) (length gens) room (elementsOf (handles over)) room 0
+          ≡ renumbering (built (Refused r) (zeroed t) (zeroed w₀)) (zeroed i) (zeroed o)))
+          → ToldStops from over room r
+      go (inl e) =
+          let I = steps-inside from over gens (S .fits) in
+          by-steps gens (appearing I .0) (appearing I .1) w₀ t w few (appearing I .2)
+          (sym (renumber-built (appearing I .2) I (told.small from over members table start work inn outw room S) (total (productOf from (handles over) gens) 0)
+          (total-answering (length gens) (elementsOf (handles over)) (productOf from (handles over) gens) 0) room room
+          (told.lo from over members table start work inn outw room S) (told.hi from over members table start work inn outw room S) (le-refl room)
+          (tableNeed 8 room) w₀ few (eight-rows (length gens) room (tableNeed 8 room) few (le-refl (tableNeed 8 room)))
+          (eight-work (length gens) room (length w₀) few (rw l (told.work-fits from over members table start work inn outw room S))))
+          ∙ ap builtOf (sym e ∙ z))
+      go (inr (f, x, g, t′, i′, o′, p, e)) =
+          let y : f ≡ r = same-refusal (sym e ∙ z) in
+          let m : productOf from (handles over) gens x g ≡ reached.Refused r = p ∙ ap reached.Refused y in
+          stopped gens x g few (composes-17 from (handles over) x (getD gens g 0) .of r m) m
+
+  -- Refused once it has started.
+  pub told-stops : {r : Refusal} {s : Subgroup} {t w i o : List ℕ}
+      → fromPredicate from over members table start work inn outw room ≡ subgrouping (record { answer = verdict.Refused r; subgroup = s }) t w i o
+      → ToldStops from over room r
+  told-stops {r} q =
+      let T = told.back-refused from over members table start work inn outw room _ (sym (told.is-told from over members table start work inn outw room S) ∙ q) in
+      by (T .0) (last-refused (predicate-last (tableNeed 8 room) (take (workNeed 8 room) work) (composes from (handles over)) room (elementsOf (handles over)) room
+      (λ x. getD members x 0)) (T .5))
+    where
+      by : (gens : List ℕ) {t w i o : List ℕ}
+          → (r ≡ numbered 15 0 0 0) ⊎ ((length gens ≤ 8) × ((w₀ : List ℕ) × (length w₀ ≡ length (take (workNeed 8 room) work))
+          × (againIn (tableNeed 8 room) (composes from (handles over)) room (elementsOf (handles over)) room gens w₀ ≡ renumbering (built (Refused r) t w) i o)))
+          → ToldStops from over room r
+      by gens (inl e) = ninth e
+      by gens (inr (few, (w₀, l, z))) = refused-by gens w₀ few l z
