@@ -204,6 +204,21 @@ def short_buffers():
     print("short: %d compared" % len(got))
 
 
+def other_calls():
+    """The calls that have no command of the oracle's: the word by the part that is handed back, its length, the count."""
+    factors = {"enum 0": 1, "enum 2 3": 6, "enum 3 3 2 3": 24}
+    for line, count in factors.items():
+        commands = ["factor " + line, "prod", "count", "part %d" % count, "length %d" % count]
+        commands += [c for e in range(count) for c in ("word %d" % e, "part %d" % e, "length %d" % e)]
+        got = [lines for _, lines in cases(run(commands, OURS))][2:]
+        if got[:3] != [[str(count)], ["ok"], ["refused 14 0 0 0"]]:
+            differs("other calls", commands[2], [str(count), "ok", "refused 14 0 0 0"], got[:3])
+        for e, (word, part, length) in enumerate(zip(*[iter(got[3:])] * 3)):
+            if word != part or length != [str(len(word[0].split()) - 1)]:
+                differs("other calls", "part %d" % e, word, [part, length])
+    print("other calls: %d factors" % len(factors))
+
+
 # The refusals that are due of each question, whatever stands in the buffers and the handles.
 DUE = {
     "checked": (1, 2, 3, 13, 17),
@@ -277,6 +292,7 @@ if __name__ == "__main__":
     seed = sys.argv[1] if len(sys.argv) > 1 else str(random.randrange(10**6))
     replay_recorded()
     short_buffers()
+    other_calls()
     images(seed)
     garbage(seed)
     if ORACLE.exists():

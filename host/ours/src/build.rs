@@ -46,11 +46,6 @@ impl Ours {
             Err(Refusal { number: 15..=17, .. }) => assert!(untouched || zero, "a refusal left something"),
             Err(_) => assert!(zero, "a refused build left something"),
         }
-        if self.digest {
-            let excess = [around[0], around[1], beyond].concat();
-            let (inside, excess, used) = (say::digest(inside), say::digest(&excess), say::digest(used));
-            self.say(format!("digest table {inside:016x} excess {excess:016x} work {used:016x}"));
-        }
         (lent, answer)
     }
 

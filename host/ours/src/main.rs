@@ -2,8 +2,6 @@
 //!
 //! Beyond the oracle's commands (oracle/README.md):
 //!
-//! - `digest 0|1` adds, after each build, a line with a digest of every lent buffer: the needed stretch of the table, the excess around
-//!   it, the needed work and its excess.
 //! - `short table`, `short work`, `short rows` lend the next build one number less; `short work` also the next `imgcheck` one byte, and
 //!   `short image` the next `image`, and `short map` the maps of the next `sub`.
 //! - `alter I V` stores V at the I-th number of the table buffer of the current builder, or else of the current product. `forge START
@@ -107,7 +105,6 @@ struct Ours {
     out: BufWriter<std::io::Stdout>,
     room: u32,
     quiet: bool,
-    digest: bool,
     short: Short,
     /// The factors that were made, in one table buffer.
     factors: Vec<Handle>,
@@ -167,7 +164,6 @@ impl Ours {
         match w[0] {
             "room" => self.room = number(w, 1)?,
             "quiet" => self.quiet = number::<u8>(w, 1)? != 0,
-            "digest" => self.digest = number::<u8>(w, 1)? != 0,
             "short" => match w.get(1) {
                 Some(&"table") => self.short.table = 1,
                 Some(&"work") => self.short.work = 1,
@@ -219,7 +215,6 @@ fn main() {
         out: BufWriter::new(std::io::stdout()),
         room: 65_535,
         quiet: false,
-        digest: false,
         short: Short::default(),
         factors: vec![],
         space: vec![],
