@@ -1,0 +1,5 @@
+pub mod Factors
+pub mod Builders
+pub mod Products
+pub mod Subgroups
+pub mod Listing
