@@ -113,6 +113,9 @@ def product_commands(rng):
         yield from one_product(rng, choices)
     for most, size in ((8, 10**7), (8, 2**32 - 1), (9, 10**6)):
         yield from one_product(rng, FACTORS[:4], most, size)
+    yield from ("clear", "factor enum 2 3", "factor enum 1", "prod")
+    for power in (-(2**31), 1 - 2**31, -2, -1, 0, 1, 2, 2**31 - 2, 2**31 - 1):
+        yield from ("powi %d %d" % (e, power) for e in (0, 3, 9, 11, 12))
     # One factor more than fits: 15 by the count, and by the size.
     yield from ("clear", *["factor enum 1"] * 9, "prod", "clear", *["factor enum 8" + " 2" * 28] * 4, "prod", "clear")
     yield from (*["factor enum 8" + " 2" * 28] * 3, *["factor enum 1"] * 7 + [cycle(rng.randint(2, 9))], "prod", "clear")
