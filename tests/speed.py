@@ -72,7 +72,6 @@ def questions():
 
 def products():
     table("product, question", "ours, ns", "Rust, ns", "times as fast")
-    asked("H3 alone", [H3], ALL)
     asked("H3 by H3", [H3] * 2, ALL)
     asked("eight S3", [S3] * 8, ALL)
     asked("H4 by E6", [H4, E6], ALL[:-1])
