@@ -4,9 +4,15 @@ for what takes less than a second and once for the rest, each turn being the lea
 counts. Both answer the same arguments, and the sums of their answers are compared. Ours fills lent buffers that it first
 zeroes, and checks 8 to 13; the Rust allocates, and checks 8 to 10.
 
-Arguments choose the tables (enumerations, questions, products, subgroups, images); without any, all are measured."""
+GAP (Debian's gap-core, installed if it is missing) is beside where it can do the same: it enumerates the cosets of the
+trivial subgroup, in a numbering of its own and with no checks.
+
+Arguments choose the tables (enumerations, questions, products, ones, subgroups, maps, images); without any, all are
+measured."""
 
 import pathlib
+import shutil
+import subprocess
 import sys
 
 sys.path.insert(0, str(pathlib.Path(__file__).resolve().parent / "recorded"))
@@ -24,18 +30,23 @@ def seconds(commands, *program):
     return given, float(took)
 
 
-def least(commands):
-    """Ours and the Rust's."""
-    ours, rust = [], []
-    while not rust or len(rust) < 5 and rust[0] < 1:
-        for took, program in ((ours, (OURS,)), (rust, ())):
+def least(*runs):
+    """The least seconds of each run, commands and a program; all give the same answer."""
+    took = [[] for _ in runs]
+    while not took[-1] or len(took[-1]) < 5 and took[-1][0] < 1:
+        answers = set()
+        for times, (commands, program) in zip(took, runs):
             given, s = seconds(commands, *program)
-            took.append(s)
-            if program:
-                want = given
-            elif given != want:
-                sys.exit("%s: the Rust gives %s, ours %s" % (commands[-1], given, want))
-    return min(ours), min(rust)
+            times.append(s)
+            answers.add(given)
+        if len(answers) != 1:
+            sys.exit("%s: the answers differ: %s" % (runs[0][0][-1], " ".join(sorted(answers))))
+    return [min(times) for times in took]
+
+
+def beside(commands):
+    """Ours and the Rust's."""
+    return least((commands, (OURS,)), (commands, ()))
 
 
 def table(*heads):
@@ -43,15 +54,50 @@ def table(*heads):
 
 
 def row(name, commands, unit=1, form="%.4f"):
-    ours, rust = least(commands)
+    ours, rust = beside(commands)
     print(("| %s | " + form + " | " + form + " | %.2f |") % (name, ours * unit, rust * unit, rust / ours), flush=True)
 
 
+GAP = """
+n := %d; orders := [%s];
+free := GeneratorsOfGroup(FreeGroup(n));
+relations := List(free, x -> x^2);
+k := 0;
+for j in [2..n] do for i in [1..j-1] do k := k + 1; Add(relations, (free[i]*free[j])^orders[k]); od; od;
+least := infinity;
+for turn in [1..3] do
+  start := NanosecondsSinceEpoch();
+  cosets := CosetTableFromGensAndRels(free, relations, []);
+  least := Minimum(least, NanosecondsSinceEpoch() - start);
+od;
+Print(Length(cosets[1]), " ", least, "\n");
+"""
+
+
+def gap(size, orders):
+    """GAP's least seconds of three as text, or why there are none."""
+    if not shutil.which("gap"):
+        install = "apt-get install -y -qq --no-install-recommends gap-core"
+        subprocess.run(["sh", "-c", "%s || { apt-get update -qq && %s; }" % (install, install)], capture_output=True)
+    if not shutil.which("gap"):
+        return "not installed"
+    n, *listed = orders.split()
+    try:
+        done = subprocess.run(["gap", "-q", "-A"], input=GAP % (int(n), ",".join(listed)), capture_output=True, text=True, timeout=120)
+    except subprocess.TimeoutExpired:
+        return "three times take over 120"
+    count, took = done.stdout.split()[-2:]
+    if int(count) != size:
+        sys.exit("GAP gives %s for %s" % (count, orders))
+    return "%.4f" % (int(took) / 1e9)
+
+
 def enumerations():
-    table("group", "ours, s", "Rust, s", "times as fast")
+    table("group", "ours, s", "Rust, s", "times as fast", "GAP, s")
     for name, size, orders in (("H4", 14400, H4), ("E6", 51840, E6), ("B6", 46080, B6), ("order 4096", 8192, "2 4096"),
                                ("4092,2,2,2,2,2,2,2,2,2", 65472, LONG)):
-        row(name, ["room %d" % size, "bench enum " + orders])
+        ours, rust = beside(["room %d" % size, "bench enum " + orders])
+        print("| %s | %.4f | %.4f | %.2f | %s |" % (name, ours, rust, rust / ours, gap(size, orders)), flush=True)
 
 
 def asked(name, factors, questions):
@@ -75,6 +121,28 @@ def products():
     asked("H3 by H3", [H3] * 2, ALL)
     asked("eight S3", [S3] * 8, ALL)
     asked("H4 by E6", [H4, E6], ALL[:-1])
+
+
+def ones():
+    """A product of one factor: by the calls on products, and by those on the factor itself."""
+    table("factor, question", "as a product, ns", "the factor alone, ns", "Rust, ns", "times as fast as the Rust", "as the factor alone")
+    for name, orders in (("S3", S3), ("H3", H3), ("H4", H4)):
+        setup = ["clear", "factor enum " + orders, "prod"]
+        for question, turns in ALL[:5]:
+            plain, whole = ([*setup, "bench %s%s %d" % (kind, question, turns)] for kind in ("", "product "))
+            product, alone, rust = (s * 1e9 / turns for s in least((whole, (OURS,)), (plain, (OURS,)), (plain, ())))
+            print("| %s, %s | %.0f | %.0f | %.0f | %.2f | %.2f |" % (name, question, product, alone, rust, rust / product, alone / product), flush=True)
+
+
+def maps():
+    """One place of a subgroup's maps, and one digit of a product."""
+    table("question", "ours, ns", "Rust, ns", "times as fast")
+    turns = 100000
+    for name, orders, generators in (("S3 by 1", S3, "1"), ("H4 by 1 2 3", H4, "1 2 3")):
+        setup = ["clear", "factor enum " + orders, "prod", "sub " + generators]
+        for what, question in (("to the overgroup", "s2o"), ("to the subgroup", "o2s")):
+            row("%s, %s" % (name, what), [*setup, "bench %s %d" % (question, turns)], 1e9 / turns, "%.0f")
+    row("H3 by H3, project", ["clear", "factor enum " + H3, "factor enum " + H3, "prod", "bench project %d" % turns], 1e9 / turns, "%.0f")
 
 
 def subgroups():
@@ -119,7 +187,7 @@ def images():
 
 
 if __name__ == "__main__":
-    tables = {f.__name__: f for f in (enumerations, questions, products, subgroups, images)}
+    tables = {f.__name__: f for f in (enumerations, questions, products, ones, subgroups, maps, images)}
     for name in sys.argv[1:] or tables:
         print("\n%s\n" % name.capitalize())
         tables[name]()

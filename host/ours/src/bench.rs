@@ -24,38 +24,42 @@ impl Room {
     }
 }
 
+/// The sum of the answers to one question, over many arguments. The call is chosen before, as in the oracle.
+pub(crate) fn summed(asked: &[(u32, u32)], ask: &mut dyn FnMut(u32, u32) -> Answer<u32>) -> Result<u32, No> {
+    let mut sum = 0u32;
+    for &(a, b) in asked {
+        sum = sum.wrapping_add(ask(a, b)?);
+    }
+    Ok(sum)
+}
+
 impl Product {
-    /// The sum of the answers to one question, by the calls on one factor where the product has one.
-    fn ask_often(&self, name: &str, asked: &[(u32, u32)]) -> Result<u32, No> {
+    /// By the calls on one factor if it is given, else by those on products.
+    fn ask_often(&self, name: &str, single: Option<Handle>, asked: &[(u32, u32)]) -> Result<u32, No> {
         let (t, p) = (&self.table, &self.handles);
         let (n, count) = (raw::product_generators(t, p)?, raw::product_count(t, p)?);
+        let factors = u32::from(p.count.max(1));
+        let e = |x: u32| x % count;
+        let g = |x: u32| (x % n) as u8;
+        let f = |x: u32| (x % factors) as u8;
         let mut word = [0; 8 * 4096];
-        let mut sum = 0u32;
-        for &(a, b) in asked {
-            let (x, y, g) = (a % count, b % count, (b % n.max(1)) as u8);
-            let answer = match (name, self.single()) {
-                ("step", Some(h)) => raw::step(t, h, x, g),
-                ("step", None) => raw::product_step(t, p, x, g),
-                ("compose", Some(h)) => raw::compose(t, h, x, y),
-                ("compose", None) => raw::product_compose(t, p, x, y),
-                ("conjugate", Some(h)) => raw::conjugate(t, h, x, y),
-                ("conjugate", None) => raw::product_conjugate(t, p, x, y),
-                ("inverse", Some(h)) => raw::inverse(t, h, x),
-                ("inverse", None) => raw::product_inverse(t, p, x),
-                ("powi", _) => raw::product_powi(t, p, x, b as i32),
-                ("period", _) => raw::product_period(t, p, x),
-                ("word", single) => {
-                    let len = match single {
-                        Some(h) => raw::word(t, h, x, &mut word),
-                        None => raw::product_word(t, p, x, &mut word),
-                    }?;
-                    Ok(word[..len as usize].iter().map(|&g| u32::from(g) + 1).sum())
-                }
-                _ => return unsupported(),
-            };
-            sum = sum.wrapping_add(answer?);
+        let letters = |word: &[u8]| word.iter().map(|&g| u32::from(g) + 1).sum();
+        match (name, single) {
+            ("step", Some(h)) => summed(asked, &mut |a, b| raw::step(t, h, e(a), g(b))),
+            ("step", None) => summed(asked, &mut |a, b| raw::product_step(t, p, e(a), g(b))),
+            ("compose", Some(h)) => summed(asked, &mut |a, b| raw::compose(t, h, e(a), e(b))),
+            ("compose", None) => summed(asked, &mut |a, b| raw::product_compose(t, p, e(a), e(b))),
+            ("conjugate", Some(h)) => summed(asked, &mut |a, b| raw::conjugate(t, h, e(a), e(b))),
+            ("conjugate", None) => summed(asked, &mut |a, b| raw::product_conjugate(t, p, e(a), e(b))),
+            ("inverse", Some(h)) => summed(asked, &mut |a, _| raw::inverse(t, h, e(a))),
+            ("inverse", None) => summed(asked, &mut |a, _| raw::product_inverse(t, p, e(a))),
+            ("word", Some(h)) => summed(asked, &mut |a, _| raw::word(t, h, e(a), &mut word).map(|k| letters(&word[..k as usize]))),
+            ("word", None) => summed(asked, &mut |a, _| raw::product_word(t, p, e(a), &mut word).map(|k| letters(&word[..k as usize]))),
+            ("powi", _) => summed(asked, &mut |a, b| raw::product_powi(t, p, e(a), b as i32)),
+            ("period", _) => summed(asked, &mut |a, _| raw::product_period(t, p, e(a))),
+            ("project", _) => summed(asked, &mut |a, b| raw::product_project(t, p, f(b), e(a))),
+            _ => unsupported(),
         }
-        Ok(sum)
     }
 }
 
@@ -109,9 +113,18 @@ impl Ours {
                     Ok(made?.elements)
                 })
             }
+            "s2o" | "o2s" => {
+                let asked = pairs(number(w, 1)?);
+                let sub = self.sub.clone().ok_or_else(|| "no subgroup".to_string())?;
+                self.least(|_| sub.ask_often(w[0], &asked))
+            }
+            "product" => {
+                let asked = pairs(number(w, 2)?);
+                self.least(|p| p.ask_often(w[1], None, &asked))
+            }
             name => {
                 let asked = pairs(number(w, 1)?);
-                self.least(|p| p.ask_often(name, &asked))
+                self.least(|p| p.ask_often(name, p.single(), &asked))
             }
         }
     }

@@ -48,6 +48,19 @@ impl Sub {
     }
 }
 
+impl Sub {
+    /// One place of a map, over many arguments: the sum of the answers.
+    pub(crate) fn ask_often(&self, name: &str, asked: &[(u32, u32)]) -> Result<u32, No> {
+        let (sides, (_, elements, over)) = (self.sides(), self.counts());
+        let out = |e| raw::subgroup_over(&self.from, &self.table, &sides, &self.outward, e);
+        let back = |x| raw::subgroup_back(&self.from, &self.table, &sides, &self.inward, x);
+        match name {
+            "s2o" => bench::summed(asked, &mut |a, _| out(a % elements)),
+            _ => bench::summed(asked, &mut |a, _| back(a % over)),
+        }
+    }
+}
+
 /// Both maps of a build that has ended, held to document 01.
 fn held_maps(answer: &Answer<Handle>, needed: [usize; 2], before: [&[u32]; 2], after: [&[u32]; 2]) {
     let parts = |k: usize| after[k].split_at(needed[k].min(after[k].len()));

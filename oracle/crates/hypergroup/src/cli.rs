@@ -346,6 +346,19 @@ impl Oracle {
             "powi" => sum(&|a, b| g.powi(e(a), b as i32).0),
             "period" => sum(&|a, _| g.period(e(a)) as u32),
             "word" => sum(&|a, _| g.factorization(e(a)).map(|k| k.0 as u32 + 1).sum()),
+            "project" => {
+                let factors = self.factors.len().max(1) as u32;
+                sum(&|a, b| g.project_element_to_factor(FactorGroup((b % factors) as u8), e(a)).0)
+            }
+            "s2o" => {
+                let s = self.subgroup()?;
+                let elements = s.subgroup_action.group().element_count() as u32;
+                sum(&|a, _| s.subgroup_to_overgroup(GroupElementId(a % elements)).0)
+            }
+            "o2s" => {
+                let s = self.subgroup()?;
+                sum(&|a, _| s.overgroup_to_subgroup(e(a)).map_or(u32::MAX, |x| x.0))
+            }
             x => return Err(format!("no question {x}")),
         })
     }
