@@ -54,14 +54,14 @@ fn keep(w: &mut [u32], i: usize, x: u32)
     }
 }
 
-fn copy_row(t: &[u32], w: &mut [u32], n: u8, e: u32)
-    ensures { λ r. ⌜ now (w .exit) ≡ copiedRow n (now (t .entry)) n e 0 (now (w .entry)) ⌝ }
+fn copy_row(t: &[u32], w: &mut [u32], n: u8, e: GroupElementId)
+    ensures { λ r. ⌜ now (w .exit) ≡ copiedRow n (now (t .entry)) n (e .0) 0 (now (w .entry)) ⌝ }
 {
     let mut g: u8 = 0;
     while g < n {
-        let at = egg::inner::successor_at(n, GroupElementId(e), GeneratorId(g));
+        let at = egg::inner::successor_at(n, e, GeneratorId(g));
         let x = egg::inner::get(t, at);
-        keep(w, (e as usize) * (n as usize) + (g as usize), x);
+        keep(w, (e.0 as usize) * (n as usize) + (g as usize), x);
         g += 1;
     }
 }
@@ -72,7 +72,7 @@ fn copy_rows(t: &[u32], w: &mut [u32], n: u8, elements: u32)
 {
     let mut e: u32 = 0;
     while e < elements {
-        copy_row(t, w, n, e);
+        copy_row(t, w, n, GroupElementId(e));
         e += 1;
     }
 }
@@ -104,23 +104,22 @@ fn own_place(
     reading::inner::place(t, n, room, count, e, g, x - 1)
 }
 
-fn own_row(t: &mut [u32], w: &[u32], n: u8, room: u32, elements: u32, e: u32, first: u32) -> Counted
-    ensures { λ r. ⌜ Placed.placed r (now (t .exit)) ≡ ownRow n (copyAt (now (w .entry)) n) n room elements e 0 first (now (t .entry)) ⌝ }
+fn own_row(
+    t: &mut [u32],
+    w: &[u32],
+    n: u8,
+    room: u32,
+    elements: u32,
+    e: GroupElementId,
+    first: u32,
+) -> Counted
+    ensures { λ r. ⌜ Placed.placed r (now (t .exit)) ≡ ownRow n (copyAt (now (w .entry)) n) n room elements (e .0) 0 first (now (t .entry)) ⌝ }
 {
     let mut g: u8 = 0;
     let mut count = first;
     while g < n {
-        let x = egg::inner::get(w, (e as usize) * (n as usize) + (g as usize));
-        let c = own_place(
-            t,
-            n,
-            room,
-            elements,
-            count,
-            GroupElementId(e),
-            GeneratorId(g),
-            x,
-        );
+        let x = egg::inner::get(w, (e.0 as usize) * (n as usize) + (g as usize));
+        let c = own_place(t, n, room, elements, count, e, GeneratorId(g), x);
         let Counted::Count(k) = c else {
             return c;
         };
@@ -140,7 +139,7 @@ fn own_rows(t: &mut [u32], w: &[u32], n: u8, room: u32, elements: u32) -> Counte
         if count <= e {
             return Counted::Count(count);
         }
-        let c = own_row(t, w, n, room, elements, e, count);
+        let c = own_row(t, w, n, room, elements, GroupElementId(e), count);
         let Counted::Count(k) = c else {
             return c;
         };

@@ -12,7 +12,7 @@ use Rattle.builder.proofs.inner.copy_row.Statement.{statement}
 use Rattle.builder.proofs.inner.copy_row.Tie as tie
 
 abbrev Inv-loop : tie.InvT-loop
-Inv-loop t w₀ n e g₀ w g = (copiedRow (n - g) t n e g w ≡ copiedRow n t n e 0 w₀) × (length w ≡ length w₀)
+Inv-loop t w₀ n e g₀ w g = (copiedRow (n - g) t n (e .0) g w ≡ copiedRow n t n (e .0) 0 w₀) × (length w ≡ length w₀)
 
 abbrev μ-loop : tie.MeasureT-loop
 μ-loop t w₀ n e g₀ w g = n - g
@@ -26,14 +26,17 @@ successor-at-requires c κs = search needs
 get-requires : tie.Need-get-requires Inv-loop μ-loop
 get-requires c κs = search needs
 
-mul-keep : tie.Need-mul-keep Inv-loop μ-loop
-mul-keep c = let a = (c .before .before .before .before .before .before .before .args) in omega (arith, product-small (a .e) (a .n) ((c .before .before .before .before .before .before .before .fits .e .fits)) (omega arith))
-
 cast-keep : tie.Need-cast-keep Inv-loop μ-loop
 cast-keep c = search needs
 
+mul-keep : tie.Need-mul-keep Inv-loop μ-loop
+mul-keep c = let a = (c .before .before .before .before .before .before .before .before .args) in omega (arith, product-small (a .e .0) (a .n) (search needs) (omega arith))
+
+cast-keep-2 : tie.Need-cast-keep-2 Inv-loop μ-loop
+cast-keep-2 c = search needs
+
 add-keep : tie.Need-add-keep Inv-loop μ-loop
-add-keep c = let a = (c .before .before .before .before .before .before .before .args) in omega (arith, product-small (a .e) (a .n) ((c .before .before .before .before .before .before .before .fits .e .fits)) (omega arith))
+add-keep c = let a = (c .before .before .before .before .before .before .before .before .args) in omega (arith, product-small (a .e .0) (a .n) (search needs) (omega arith))
 
 keep-requires : tie.Need-keep-requires Inv-loop μ-loop
 keep-requires c κs = search needs
@@ -46,14 +49,14 @@ loop-less c = search needs
 
 loop-again : tie.Need-loop-again Inv-loop μ-loop
 unfolding copiedRow
-loop-again c = (rw ((c .before .before .keep .ensures), (c .before .before .before .before .get .ensures), (c .before .before .before .before .before .successor-at .ensures .at)) (rw (left-suc ((c .before .before .before .before .before .before .loop-test .taken))) at ((c .before .before .before .before .before .before .before .loop .inv .0))), (c .before .before .keep .kept .0) ∙ (c .before .before .before .before .before .before .before .loop .inv .1))
+loop-again c = (rw ((c .before .before .keep .ensures), (c .before .before .before .before .before .get .ensures), (c .before .before .before .before .before .before .successor-at .ensures .at)) (rw (left-suc (c .before .before .before .before .before .before .before .loop-test .taken)) at (c .before .before .before .before .before .before .before .before .loop .inv .0)), (c .before .before .keep .kept .0) ∙ (c .before .before .before .before .before .before .before .before .loop .inv .1))
 
 same-length : tie.Need-same-length Inv-loop μ-loop
 same-length c = (c .before .loop .inv .1)
 
 returns : tie.Need-returns Inv-loop μ-loop
 unfolding copiedRow
-returns c = rw (sub-eq-zero-of-le ((c .loop-test .left))) at ((c .before .loop .inv .0))
+returns c = rw (sub-eq-zero-of-le (c .loop-test .left)) at (c .before .loop .inv .0)
 
 pub copy-row-spec : {M : Type 1} → statement M
 copy-row-spec =
@@ -64,8 +67,9 @@ copy-row-spec =
     loop-holds
     successor-at-requires
     get-requires
-    mul-keep
     cast-keep
+    mul-keep
+    cast-keep-2
     add-keep
     keep-requires
     add-g
