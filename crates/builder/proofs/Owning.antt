@@ -8,7 +8,7 @@ use mathlib.Core.List.{List}
 use native.Mathlib.Omega.{arith}
 use borrow.Author.Tests.{eq-eqb, ne-eqb, lt-ltb, le-ltb, le-leb, lt-leb, ltb-true}
 use lib.Dec.{ltb}
-use lib.ListN.{length, replicate}
+use lib.ListN.{length}
 use Rattle.egg.specs.declared.Refusal.{Refusal}
 use Rattle.egg.specs.declared.Verdict.{Verdict}
 use Rattle.egg.specs.declared.Verdict.the-variants as verdict
@@ -20,7 +20,7 @@ use Rattle.reading.specs.Build.{numbered}
 use Rattle.reading.specs.Reading.{Placed, placed, thenPlaced, readPlace}
 use Rattle.builder.specs.Finish.{built, zeroed, finished, finishedPlaced}
 use Rattle.builder.specs.Own.{storedAt, copyAt, copied, ownPlace, ownRow, ownFrom, ownAll, allReached, reachesAll, ownIn}
-use Rattle.builder.proofs.Copying.{copied-at, copied-length}
+use Rattle.builder.proofs.Copying.{copied-at}
 
 module _ (t : List ℕ) (n room elements count e g x : ℕ) where
   pub own-missing : x ≡ 0 → placed (Count count) t ≡ ownPlace t n room elements count e g x
@@ -115,13 +115,12 @@ module _ (own own′ : ℕ → ℕ → ℕ) (n room elements : ℕ) where
       ∙ then-same (ownRow n own′ n room elements e 0 count t) _ _ (λ c l. own-agrees same k (e + 1) c l (omega arith)))
 
 -- The whole build: what is read from the copy is what stood in the stretch.
-pub own-built : (s w : List ℕ) (n room elements : ℕ) → elements * n ≤ length w → {w₁ t₁ t₂ w₂ t₃ w₃ : List ℕ} {read whole c : Counted}
+pub own-built : (s w : List ℕ) (n room elements : ℕ) → elements * n ≤ length w → {w₁ t₁ t₂ t₃ w₃ : List ℕ} {read whole c : Counted}
     → w₁ ≡ copied elements s n 0 w → t₁ ≡ zeroed s → placed read t₂ ≡ ownAll (copyAt w₁ n) n room elements t₁
-    → w₂ ≡ zeroed w₁ → placed whole t₂ ≡ reachesAll n elements (placed read t₂) → built c t₃ w₃ ≡ finished whole n t₂ w₂
+    → placed whole t₂ ≡ reachesAll n elements (placed read t₂) → built c t₃ w₃ ≡ finished whole n t₂ w₁
     → built c t₃ w₃ ≡ ownIn s w n room elements
 unfolding ownIn
-own-built s w n room elements long {w₁} {t₁} {t₂} {w₂} {read = read} {whole} a b p d q f =
+own-built s w n room elements long {w₁} {t₁} {t₂} {read = read} {whole} a b p q f =
     let same = own-agrees (copyAt (copied elements s n 0 w) n) (storedAt s n) n room elements (copied-at s n elements w long) elements 0 1 (zeroed s) (omega arith) in
     let r : placed read t₂ ≡ ownAll (storedAt s n) n room elements (zeroed s) = p ∙ rw (a, b) same in
-    let z : w₂ ≡ zeroed w = d ∙ ap (λ (k : ℕ). replicate k 0) (ap length a ∙ copied-length s n elements 0 w) in
-    f ∙ rw z (ap (λ (x : Placed). finishedPlaced x n (zeroed w)) (q ∙ ap (λ (x : Placed). reachesAll n elements x) r))
+    f ∙ rw a (ap (λ (x : Placed). finishedPlaced x n (copied elements s n 0 w)) (q ∙ ap (λ (x : Placed). reachesAll n elements x) r))

@@ -61,11 +61,6 @@ abbrev pub reachesAll : ℕ → ℕ → Placed → Placed
 reachesAll n elements (placed (Count count) t) = placed (countUnless count (allReached t n elements count)) t
 reachesAll n elements (placed (Refused r) t) = placed (Refused r) t
 
--- The build in its stretches: the table's is zeroed first, and what stood there is read into it; then the checks, in a work of zeros.
-unfoldable pub ownIn : List ℕ → List ℕ → ℕ → ℕ → ℕ → Built
-ownIn s w n room elements =
-    finishedPlaced (reachesAll n elements (ownAll (storedAt s n) n room elements (zeroed s))) n (zeroed w)
-
 -- While the table is zeroed and read into, the successors stand in the work: row after row, n numbers each.
 abbrev pub copyAt : List ℕ → ℕ → ℕ → ℕ → ℕ
 copyAt w n e g = getD w (e * n + g) 0
@@ -79,3 +74,9 @@ copiedRow (suc k) t n e g w = copiedRow k t n e (g + 1) (set w (e * n + g) (stor
 unfoldable pub copied : ℕ → List ℕ → ℕ → ℕ → List ℕ → List ℕ
 copied zero t n e w = w
 copied (suc k) t n e w = copied k t n (e + 1) (copiedRow n t n e 0 w)
+
+-- The build in its stretches: the table's is zeroed first, and what stood there is read into it; then the checks, in the work as the copy has left it. What
+-- the work holds then decides nothing: the checks store a number of it before they read it, and it is zeroed at their end.
+unfoldable pub ownIn : List ℕ → List ℕ → ℕ → ℕ → ℕ → Built
+ownIn s w n room elements =
+    finishedPlaced (reachesAll n elements (ownAll (storedAt s n) n room elements (zeroed s))) n (copied elements s n 0 w)

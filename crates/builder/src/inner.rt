@@ -181,7 +181,6 @@ pub fn complete(t: &mut [u32], w: &mut [u32], n: u8, room: u32, elements: u32) -
     copy_rows(&t[..], w, n, elements);
     egg::inner::clear(t);
     let read = own_rows(t, &w[..], n, room, elements);
-    egg::inner::clear(w);
     let whole = reached_all(&t[..], n, elements, read);
     finish(t, w, n, whole)
 }

@@ -9,7 +9,7 @@ use native.Mathlib.Nat.{eq-zero-or-pos, eq-or-lt-of-le}
 use native.Mathlib.Decide.{ℕ-discrete, decLt}
 use native.Mathlib.Omega.{arith}
 use lib.Dec.{ltb}
-use lib.ListN.{length, getD, set, replicate}
+use lib.ListN.{length, getD, set, replicate, length-replicate}
 use lib.Seq.{getD-set-same, getD-set-other, set-out}
 use Rattle.egg.specs.declared.Verdict.{Verdict}
 use Rattle.egg.specs.declared.Verdict.the-variants.{Fine, Refused}
@@ -19,11 +19,16 @@ use Rattle.egg.proofs.Cells.{put-other, put-length}
 use Rattle.egg.proofs.Scans.{refused-fine}
 use Rattle.checks.specs.Checks.{wiped, arriveRow, arrivals, countsRight, leftOf, fillLeft, goesRow, allGo, Lefts, left, thenLeft, lefts}
 use Rattle.checks.specs.Checks.{Checked, checked, thenChecked, withTable, counted, check-table, fillInverses, inversesRight, check-steps, check-rest, check-group}
+use Rattle.egg.specs.declared.Counted.{Counted}
 use Rattle.egg.specs.declared.Counted.the-variants as counted-by
 use Rattle.egg.specs.declared.Counted.the-variants.{Count}
-use Rattle.builder.specs.Finish.{built, zeroed, settledBy, finished}
+use Rattle.reading.specs.Reading.{Placed, placed}
+use Rattle.builder.specs.Finish.{built, zeroed, settledBy, finished, finishedPlaced}
+use Rattle.builder.specs.Own.{storedAt, copied, ownAll, reachesAll, ownIn}
+use Rattle.builder.proofs.Copying.{copied-length}
 use Rattle.meaning.proofs.Arrivals.{put-zero}
 use Rattle.meaning.proofs.Inverses.{fill-kept}
+use Rattle.meaning.proofs.Tests.{ranges-fine, table-fine}
 
 -- Two works that are as long as each other and agree at the first N numbers.
 record Same (N : ℕ) (w w′ : List ℕ) : Type 0 where
@@ -144,11 +149,12 @@ module _ (t : List ℕ) (n N : ℕ) (closed : (e g : ℕ) → e < N → g < n �
 abbrev Like : Checked → Checked → Type 0
 Like (checked v t w) (checked v′ t′ w′) = (v ≡ v′) × (t ≡ t′) × (length w ≡ length w′)
 
-then-like : (v : Verdict) {v′ : Verdict} (t w w′ : List ℕ) (c c′ : Checked) → v ≡ v′ → length w ≡ length w′ → Like c c′ → Like (thenChecked v t w c) (thenChecked v′ t w′ c′)
-then-like v {v′} t w w′ c c′ e q L = rw (← e) (by v) where
-  by : (u : Verdict) → Like (thenChecked u t w c) (thenChecked u t w′ c′)
-  by Fine = L
-  by (Refused r) = (refl, refl, q)
+then-like : (v : Verdict) {v′ : Verdict} (t w w′ : List ℕ) (c c′ : Checked) → v ≡ v′ → length w ≡ length w′ → (v ≡ Fine → Like c c′)
+    → Like (thenChecked v t w c) (thenChecked v′ t w′ c′)
+then-like v {v′} t w w′ c c′ e q L = rw (← e) (by v refl) where
+  by : (u : Verdict) → v ≡ u → Like (thenChecked u t w c) (thenChecked u t w′ c′)
+  by Fine p = L p
+  by (Refused r) p = (refl, refl, q)
 
 table-like : (t : List ℕ) (l l′ : Lefts) → LeftLike l l′ → Like (withTable t l) (withTable t l′)
 table-like t (left v w) (left v′ w′) L = (L .0, refl, L .1)
@@ -160,8 +166,8 @@ settled-like N (checked v t w) (checked v′ t′ w′) L =
       by Fine = ap (λ (k : ℕ). built (Count N) t′ (replicate k 0)) (L .2)
       by (Refused r) = ap (λ (k : ℕ). built (counted-by.Refused r) (zeroed t′) (replicate k 0)) (L .2)
 
-module _ (t : List ℕ) (n N : ℕ) (closed : (e g : ℕ) → e < N → g < n → stepOf t n e g < N) (parents : (e : ℕ) → 0 < e → e < N → parentOf t n e < N)
-    (w w′ : List ℕ) (long : length w ≡ length w′) where
+module _ (t : List ℕ) (n N : ℕ) (w w′ : List ℕ) (long : length w ≡ length w′) where
+  -- The tests of the table come first: where they pass, every step and every parent is an element.
   group-like : Like (check-group t w n N) (check-group t w′ n N)
   unfolding check-group check-rest
   group-like =
@@ -171,13 +177,30 @@ module _ (t : List ℕ) (n N : ℕ) (closed : (e g : ℕ) → e < N → g < n �
       let c = counted t w n N in
       let c′ = counted t w′ n N in
       then-like (check-table t n N) t w w′ _ _ refl long
-      (then-like (countsRight c n N) t c c′ _ _ (counts-same n N c c′ C) (C .long)
-      (then-like (inversesRight f n N) f c c′ _ _ refl (C .long)
-      (then-like (check-steps f n N) f c c′ _ _ refl (C .long)
-      (table-like f (lefts n f n N c 0) (lefts n f n N c′ 0)
-      (lefts-like f n N (λ e g he hg. rw (K .step-same e hg) (closed e g he hg)) (λ e p he. rw (K .parent-same e) (parents e p he)) n 0 c c′ C)))))
+      (λ fine.
+      let R = ranges-fine t n N .0 (table-fine t n N .0 fine .1 .0) in
+      then-like (countsRight c n N) t c c′ _ _ (counts-same n N c c′ C) (C .long)
+      (λ p. then-like (inversesRight f n N) f c c′ _ _ refl (C .long)
+      (λ p. then-like (check-steps f n N) f c c′ _ _ refl (C .long)
+      (λ p. table-like f (lefts n f n N c 0) (lefts n f n N c′ 0)
+      (lefts-like f n N
+      (λ e g he hg. rw (K .step-same e hg) (omega (arith, R e he .0 g (omega arith))))
+      (λ e pos he. rw (K .parent-same e) (omega (arith, R e he .1 .1 pos .0)))
+      n 0 c c′ C)))))
 
-  -- The end of a build is the same in both.
-  pub any-work : finished (Count N) n t w ≡ finished (Count N) n t w′
-  unfolding finished
-  any-work = settled-like N (check-group t w n N) (check-group t w′ n N) group-like
+-- The end of a build is the same in every work that is as long.
+pub any-work : (c : Counted) (n : ℕ) (t w w′ : List ℕ) → length w ≡ length w′ → finished c n t w ≡ finished c n t w′
+unfolding finished
+any-work (Count N) n t w w′ long = settled-like N (check-group t w n N) (check-group t w′ n N) (group-like t n N w w′ long)
+any-work (counted-by.Refused r) n t w w′ long = ap (λ (k : ℕ). built (counted-by.Refused r) (zeroed t) (replicate k 0)) long
+
+placed-any-work : (p : Placed) (n : ℕ) (w w′ : List ℕ) → length w ≡ length w′ → finishedPlaced p n w ≡ finishedPlaced p n w′
+placed-any-work (placed c t) n w w′ long = any-work c n t w w′ long
+
+-- So the copy of the rows in the work decides nothing: `build` comes to what it would in a work of zeros.
+pub own-in-zeros : (s w : List ℕ) (n room N : ℕ)
+    → ownIn s w n room N ≡ finishedPlaced (reachesAll n N (ownAll (storedAt s n) n room N (zeroed s))) n (zeroed w)
+unfolding ownIn
+own-in-zeros s w n room N =
+    placed-any-work (reachesAll n N (ownAll (storedAt s n) n room N (zeroed s))) n (copied N s n 0 w) (zeroed w)
+    (copied-length s n N 0 w ∙ sym (length-replicate (length w) 0))

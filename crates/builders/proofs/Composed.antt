@@ -16,7 +16,7 @@ use Rattle.egg.specs.Factor.{hasRoom, fitsIn, stretch}
 use Rattle.egg.proofs.Rooms.{has, some, room-enough, few, limited, within-length}
 use Rattle.reading.specs.Reading.{Placed, placed, readPlace, readAll}
 use Rattle.builder.specs.declared.Builder.{Builder}
-use Rattle.builder.specs.Finish.{built, zeroed, finished, finishedPlaced}
+use Rattle.builder.specs.Finish.{zeroed, finishedPlaced}
 use Rattle.builder.specs.Lending.{tableNeed, workNeed, lentRight, lentBack}
 use Rattle.builder.specs.Own.{storedAt, copied, ownPlace, ownAll, allReached, reachesAll, ownIn}
 use Rattle.builder.specs.Calls.{builds}
@@ -24,11 +24,10 @@ use Rattle.builder.proofs.Copying.{copied-at, copied-length}
 use Rattle.builder.proofs.Owning.{own-read}
 use Rattle.factor.specs.Composed.{composedAt, composedIn, composed}
 use Rattle.theory.specs.Numbering.{Numbered}
-use Rattle.theory.proofs.Counting.{numbered-table}
-use Rattle.numbering.proofs.Readings.{accepted-read, read-steps}
+use Rattle.numbering.proofs.Readings.{accepted-read}
 use Rattle.promises.proofs.Composed.{composed-is-build}
 use Rattle.builders.specs.Own.{ownAt, ownRows, Filled}
-use Rattle.builders.proofs.AnyWork.{any-work}
+use Rattle.builders.proofs.AnyWork.{any-work, own-in-zeros}
 use Rattle.builders.proofs.Alike.{Alike, all-alike, read-alike}
 
 abbrev Same : Refusal → Refusal → List ℕ → List ℕ → Type 0
@@ -65,21 +64,17 @@ module _ (s w : List ℕ) (src : ℕ → ℕ → ℕ) (n room size N : ℕ) (lea
     (same : (e g : ℕ) → e < N → g < n → storedAt s n e g ≡ suc (src e g)) (inside : (e g : ℕ) → e < N → g < n → src e g < N)
     (reached : (c : ℕ) → Numbered n c src → c ≡ N) where
   end : (p : Placed) → readAll src n room (replicate size 0) ≡ p → finishedPlaced (reachesAll n N p) n (zeroed w) ≡ finishedPlaced p n w
-  unfolding finished allReached
-  end (placed (Refused r) t) q = ap (λ (k : ℕ). built (Refused r) (zeroed t) (replicate k 0)) (length-replicate (length w) 0)
+  unfolding allReached
+  end (placed (Refused r) t) q = any-work (Refused r) n t (zeroed w) w (length-replicate (length w) 0)
   end (placed (Count c) t) q =
       let R = accepted-read src n room size least (omega arith) limit fits q in
       let e : c ≡ N = reached c (R .by-rule) in
-      let T = numbered-table (R .by-rule) in
-      rw (le-leb N c (omega arith))
-      (any-work t n c (λ x g hx hg. rw (read-steps R x g hx hg) (T .closed hx hg)) (λ x p hx. omega (arith, R .appearance .first p hx .earlier))
-      (zeroed w) w (length-replicate (length w) 0))
+      rw (le-leb N c (omega arith)) (any-work (Count c) n t (zeroed w) w (length-replicate (length w) 0))
 
   pub own-reads : ownIn s w n room N ≡ finishedPlaced (readAll src n room (replicate size 0)) n w
-  unfolding ownIn
   own-reads =
       let z : zeroed s ≡ replicate size 0 = ap (λ (k : ℕ). replicate k 0) long in
-      rw (z, own-is-read (storedAt s n) src n room N lo hi same inside (replicate size 0)) (end (readAll src n room (replicate size 0)) refl)
+      rw (own-in-zeros s w n room N, z, own-is-read (storedAt s n) src n room N lo hi same inside (replicate size 0)) (end (readAll src n room (replicate size 0)) refl)
 
 -- A handle that fits, and a work that is long enough.
 module _ (t : List ℕ) (b : Builder) (w : List ℕ) (fits : fitsIn (length t) (b .0) ≡ true) (enough : workNeed (b .0 .generators) (b .0 .room) ≤ length w) where

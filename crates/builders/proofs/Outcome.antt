@@ -23,6 +23,7 @@ use Rattle.numbering.specs.Read.{Read, Readable, Refuses}
 use Rattle.numbering.proofs.Readings.{accepted-read, refused-read, read-readable}
 use Rattle.builders.specs.Own.{ownNumber, ownRefusal}
 use Rattle.builders.specs.Refusals.{Lacks}
+use Rattle.builders.proofs.AnyWork.{own-in-zeros}
 use Rattle.builders.proofs.Alike.{Alike}
 use Rattle.builders.proofs.Missing.{Beside, OwnRefusal, own-beside}
 use Rattle.builders.proofs.Lacking.{ReadOwn, lacks, unreached, never-fine}
@@ -118,10 +119,9 @@ module _ (own : ℕ → ℕ → ℕ) (n room size N : ℕ) (w : List ℕ) (least
 module _ (s w : List ℕ) (n room size N : ℕ) (least : n ≤ 8) (lo : 1 ≤ N) (hi : N ≤ room) (limit : room ≤ 65535) (fits : room * (2 * n + 4) ≤ size)
     (long : length s ≡ size) where
   pub comes : Comes (storedAt s n) n room size N w (ownIn s w n room N)
-  unfolding ownIn
   comes =
       let z : zeroed s ≡ replicate size 0 = ap (λ (k : ℕ). replicate k 0) long in
       let own = storedAt s n in
-      rw z
+      rw (own-in-zeros s w n room N, z)
       (came own n room size N w least lo hi limit fits (ownAll own n room N (replicate size 0)) (readAll (ownNumber N own) n room (replicate size 0)) refl refl
       (own-beside own n room size N lo hi limit fits))

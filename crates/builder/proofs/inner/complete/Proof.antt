@@ -13,9 +13,6 @@ clear-requires c κs = search needs
 own-rows-requires : tie.Need-own-rows-requires
 own-rows-requires c κs = search needs
 
-clear-requires-2 : tie.Need-clear-requires-2
-clear-requires-2 c κs = search needs
-
 reached-all-requires : tie.Need-reached-all-requires
 reached-all-requires c κs = search needs
 
@@ -29,7 +26,7 @@ same-length-2 : tie.Need-same-length-2
 same-length-2 c = search needs
 
 returns : tie.Need-returns
-returns c = let a = (c .before .before .before .before .before .before .before .before .before .before .before .before .before .before .before .before .before .before .before .before .before .before .before .before .before .before .before .before .before .args) in own-built (a .t .now) (a .w .now) (a .n) (a .room) (a .elements) ((c .before .before .before .before .before .before .before .before .before .before .before .before .before .before .before .before .before .before .before .before .before .before .before .before .before .before .before .before .before .pre)) ((c .before .before .before .before .before .before .before .before .before .before .before .before .before .before .before .before .before .before .before .before .before .before .before .before .copy-rows .ensures)) ((c .before .before .before .before .before .before .before .before .before .before .before .before .before .before .before .before .before .before .before .before .clear .ensures)) ((c .before .before .before .before .before .before .before .before .before .before .before .before .before .before .before .own-rows .ensures)) ((c .before .before .before .before .before .before .before .before .before .before .before .clear2 .ensures)) ((c .before .before .before .before .before .before .before .reached-all .ensures)) ((c .before .before .before .before .finish .ensures))
+returns c = let a = (c .before .before .before .before .before .before .before .before .before .before .before .before .before .before .before .before .before .before .before .before .before .before .before .before .before .args) in own-built (a .t .now) (a .w .now) (a .n) (a .room) (a .elements) (c .before .before .before .before .before .before .before .before .before .before .before .before .before .before .before .before .before .before .before .before .before .before .before .before .before .pre) (c .before .before .before .before .before .before .before .before .before .before .before .before .before .before .before .before .before .before .before .before .copy-rows .ensures) (c .before .before .before .before .before .before .before .before .before .before .before .before .before .before .before .before .clear .ensures) (c .before .before .before .before .before .before .before .before .before .before .before .own-rows .ensures) (c .before .before .before .before .before .before .before .reached-all .ensures) (c .before .before .before .before .finish .ensures)
 
 pub complete-spec : {M : Type 1} → statement M
 complete-spec =
@@ -38,7 +35,6 @@ complete-spec =
     copy-rows-requires
     clear-requires
     own-rows-requires
-    clear-requires-2
     reached-all-requires
     finish-requires
     same-length
