@@ -15,3 +15,4 @@ pub mod Unaltered
 pub mod Unique
 pub mod Faults
 pub mod Answers
+pub mod Calls
