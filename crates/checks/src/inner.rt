@@ -2,9 +2,10 @@
 // so that a build over an altered buffer is refused as well: 17 where a number is out of range.
 ghost use mathlib.Core.Path.{_≡_};
 ghost use mathlib.Core.Bool.{true};
-ghost use Prim.Native.Nat.{_≤_};
+ghost use Prim.Native.Nat.{_≤_, _<_};
 ghost use Rattle.checks.specs.Checks.{missingRow, missing, check8, rangeRow, linksOf, ranges, wrongAt, wrongRow, wrong, check-table, wiped, arriveRow, arrivals, countsRight, invertFrom, invertOf, fillInverses, inversesRight, identityRow, columnsRow, spelledRow, spelled, leftOf, fillLeft, goesRow, allGo, Lefts, lefts, check-steps, Checked, check-rest, check-group};
 ghost use Rattle.checks.specs.Undoing.{undoneRest};
+ghost use Rattle.checks.specs.Hints.{Packs, Follows, Hint, Hints, inverseBy, Hinted, Counted};
 ghost use Rattle.egg.specs.Table.{stillLeft};
 use egg::GeneratorId;
 use egg::GroupElementId;
@@ -328,13 +329,109 @@ fn invert(t: &[u32], n: u8, e: GroupElementId) -> GroupElementId
     GroupElementId(x)
 }
 
-fn fill_inverses(t: &mut [u32], n: u8, count: u32)
+// A hint: the element that the word leads to without its first letter, and that letter, in one number. 0 is no hint.
+fn pack(tail: GroupElementId, first: u32) -> u32
+    ensures { λ r. ⌜ (first < 256 → Packs (tail .0) first r) ⌝ }
+{
+    let h = (tail.0 as usize) * 256 + (first as usize) + 1;
+    if h < 4294967296 { h as u32 } else { 0 }
+}
+
+// Whether the word of y, an earlier element than e, is that of `from` and the last letter of e, and one letter shorter.
+fn follows_on(t: &[u32], n: u8, from: GroupElementId, y: GroupElementId, e: GroupElementId) -> bool
+    ensures { λ r. ⌜ (r ≡ true → Follows (now (t .entry)) n (from .0) (y .0) (e .0)) ⌝ }
+{
+    if e.0 <= y.0 {
+        return false;
+    }
+    if egg::inner::parent(t, n, y) != from.0 {
+        return false;
+    }
+    if egg::inner::last(t, n, y) != egg::inner::last(t, n, e) {
+        return false;
+    }
+    let long = egg::inner::word_length(t, n, y) as usize;
+    if long != (egg::inner::word_length(t, n, from) as usize) + 1 {
+        return false;
+    }
+    (egg::inner::word_length(t, n, e) as usize) == long + 1
+}
+
+// The hint of e, where the work has those of the elements before it. The first letter of a word is that of its parent's
+// word, and what comes after it is one letter longer.
+fn hint_of(t: &[u32], w: &[u32], n: u8, e: GroupElementId) -> u32
+    ensures { λ r. ⌜ (Hints (now (t .entry)) (now (w .entry)) n (e .0) → Hint (now (t .entry)) n (e .0) r) ⌝ }
+{
+    let g = egg::inner::last(t, n, e);
+    if (n as u32) <= g {
+        return 0;
+    }
+    if egg::inner::word_length(t, n, e) == 1 {
+        if egg::inner::word_length(t, n, GroupElementId(0)) != 0 {
+            return 0;
+        }
+        return pack(GroupElementId(0), g);
+    }
+    let p = egg::inner::parent(t, n, e);
+    if e.0 <= p {
+        return 0;
+    }
+    let h = egg::inner::get(w, p as usize);
+    if h == 0 {
+        return 0;
+    }
+    let from = GroupElementId((h - 1) / 256);
+    let y = egg::inner::step_last(t, n, from, e);
+    if !follows_on(t, n, from, y, e) {
+        return 0;
+    }
+    pack(y, (h - 1) % 256)
+}
+
+// The hints of all elements, into the start of the work.
+fn fill_hints(t: &[u32], w: &mut [u32], n: u8, count: u32)
+    ensures { λ r. ⌜ Hinted (now (t .entry)) (now (w .entry)) (now (w .exit)) n count ⌝ }
+{
+    let mut e: u32 = 0;
+    while e < count {
+        let h = hint_of(t, &w[..], n, GroupElementId(e));
+        egg::inner::put(w, e as usize, h as usize);
+        e += 1;
+    }
+}
+
+// The inverse of e by its hint: one step back from an inverse that is written already, and not a walk of the word.
+fn inverse_by(t: &[u32], n: u8, e: GroupElementId, h: u32) -> GroupElementId
+    ensures { λ r. ⌜ r .0 ≡ inverseBy (now (t .entry)) n (e .0) h ⌝ }
+{
+    if h == 0 {
+        return invert(t, n, e);
+    }
+    let tail = GroupElementId((h - 1) / 256);
+    let x = egg::inner::get(t, egg::inner::inverse_at(n, tail));
+    egg::inner::element(egg::inner::cell(t, n, GroupElementId(x), n, (h - 1) % 256))
+}
+
+fn fill_inverses(t: &mut [u32], w: &[u32], n: u8, count: u32)
+    requires { ⌜ Hints (now t) (now w) n count ⌝ }
     ensures { λ r. ⌜ now (t .exit) ≡ fillInverses count (now (t .entry)) n 0 ⌝ }
 {
     let mut e: u32 = 0;
     while e < count {
-        let x = invert(&t[..], n, GroupElementId(e)).0;
+        let h = egg::inner::get(w, e as usize);
+        let x = inverse_by(&t[..], n, GroupElementId(e), h).0;
         egg::inner::put(t, egg::inner::inverse_at(n, GroupElementId(e)), x as usize);
+        e += 1;
+    }
+}
+
+// The arrivals again, where the hints were: they are n at each element, or 9 would have been given.
+fn count_again(w: &mut [u32], n: u8, count: u32)
+    ensures { λ r. ⌜ Counted (now (w .entry)) (now (w .exit)) n count count ⌝ }
+{
+    let mut e: u32 = 0;
+    while e < count {
+        egg::inner::put(w, e as usize, n as usize);
         e += 1;
     }
 }
@@ -533,6 +630,8 @@ pub fn check_group(t: &mut [u32], w: &mut [u32], n: u8, count: u32) -> Verdict
     let Verdict::Fine = u else {
         return u;
     };
-    fill_inverses(t, n, count);
+    fill_hints(&t[..], w, n, count);
+    fill_inverses(t, &w[..], n, count);
+    count_again(w, n, count);
     check_rest(&t[..], w, n, count)
 }

@@ -1,6 +1,8 @@
--- The first refusal decides each `thenChecked`; the last answer is `check_rest`'s.
+-- The first refusal decides each `thenChecked`; the last answer is `check_rest`'s. The hints are gone from the work by then.
+use mathlib.Core.Path.{sym, _∙_}
 use borrow.Author.Needs.{needs}
 use Rattle.checks.specs.Checks.{check-group}
+use Rattle.checks.proofs.Hints.{counted-again}
 use Rattle.checks.proofs.inner.check_group.Statement.{statement}
 use Rattle.checks.proofs.inner.check_group.Tie as tie
 
@@ -44,15 +46,22 @@ same-length-3 c = search needs
 returns-2 : tie.Need-returns-2
 unfolding check-group
 returns-2 c =
-    let at-counts-right = c .before .before in
-    let at-arrivals = at-counts-right .before .before .before .before in
+    let at-arrivals = c .before .before .before .before .before .before in
     let at-wipe = at-arrivals .before .before .before .before .before in
     let at-enum-told = at-wipe .before .before in
     let at-check-table = at-enum-told .before .before in
-    rw (← at-check-table .check-table .ensures, at-enum-told .enum-told .given .1, ← at-wipe .wipe .ensures, ← at-arrivals .arrivals .ensures, ← at-counts-right .counts-right .ensures, c .enum-told4 .given .1)
+    rw (← at-check-table .check-table .ensures, at-enum-told .enum-told .given .1, ← at-wipe .wipe .ensures, ← at-arrivals .arrivals .ensures, ← c .before .before .counts-right .ensures, c .enum-told4 .given .1)
+
+fill-hints-requires : tie.Need-fill-hints-requires
+fill-hints-requires c κs = search needs
 
 fill-inverses-requires : tie.Need-fill-inverses-requires
-fill-inverses-requires c κs = search needs
+fill-inverses-requires c κs =
+    let at-fill-hints = c .before .before .before .before in
+    at-fill-hints .fill-hints .ensures .hints
+
+count-again-requires : tie.Need-count-again-requires
+count-again-requires c κs = search needs
 
 check-rest-requires : tie.Need-check-rest-requires
 check-rest-requires c κs = search needs
@@ -66,16 +75,19 @@ same-length-5 c = search needs
 returns-3 : tie.Need-returns-3
 unfolding check-group
 returns-3 c =
-    let at-check-rest = c .before .before in
-    let at-fill-inverses = at-check-rest .before .before .before .before .before in
-    let at-enum-told3 = at-fill-inverses .before .before in
+    let at-count-again = c .before .before .before .before .before .before .before in
+    let at-fill-inverses = at-count-again .before .before .before .before in
+    let at-fill-hints = at-fill-inverses .before .before .before .before .before in
+    let at-enum-told3 = at-fill-hints .before .before .before in
     let at-counts-right = at-enum-told3 .before .before in
     let at-arrivals = at-counts-right .before .before .before .before in
     let at-wipe = at-arrivals .before .before .before .before .before in
     let at-enum-told = at-wipe .before .before in
     let at-check-table = at-enum-told .before .before in
-    rw (← at-check-table .check-table .ensures, at-enum-told .enum-told .given .1, ← at-wipe .wipe .ensures, ← at-arrivals .arrivals .ensures, ← at-counts-right .counts-right .ensures, at-enum-told3 .enum-told3 .given .1, ← at-fill-inverses .fill-inverses .ensures)
-    (at-check-rest .check-rest .ensures)
+    let again = counted-again (sym (at-counts-right .counts-right .ensures) ∙ at-enum-told3 .enum-told3 .given .1)
+    (at-fill-hints .fill-hints .ensures) (at-count-again .count-again .ensures) in
+    rw (← at-check-table .check-table .ensures, at-enum-told .enum-told .given .1, ← at-wipe .wipe .ensures, ← at-arrivals .arrivals .ensures, ← at-counts-right .counts-right .ensures, at-enum-told3 .enum-told3 .given .1, ← at-fill-inverses .fill-inverses .ensures, ← again)
+    (c .before .before .check-rest .ensures)
 
 pub check-group-spec : {M : Type 1} → statement M
 check-group-spec =
@@ -94,7 +106,9 @@ check-group-spec =
     same-length-2
     same-length-3
     returns-2
+    fill-hints-requires
     fill-inverses-requires
+    count-again-requires
     check-rest-requires
     same-length-4
     same-length-5

@@ -1,25 +1,29 @@
--- The invariant: the inverses that are left, on the table as it is, give what all give. A turn is one step of `fillInverses`.
-use Prim.Native.Nat.{_-_}
-use mathlib.Core.Path.{_≡_, refl, _∙_}
-use native.Mathlib.Nat.{sub-zero, sub-eq-zero-of-le}
-use lib.ListN.{length}
+-- The invariant is `Filling`: the inverses that are left, on the table as it is, give what all give, and those that were written are what the walk gives.
+-- A turn is one step of `fillInverses`.
+use Prim.Native.Nat.{_-_, _<_}
+use mathlib.Core.Path.{_∙_}
 use borrow.Author.Needs.{needs}
-use Rattle.checks.specs.Checks.{fillInverses}
-use Rattle.egg.proofs.Scans.{left-suc}
+use Rattle.checks.proofs.Hints.{Filling, filling, by-hint, fills, filled}
 use Rattle.checks.proofs.inner.fill_inverses.Statement.{statement}
 use Rattle.checks.proofs.inner.fill_inverses.Tie as tie
 
 abbrev Inv-loop : tie.InvT-loop
-Inv-loop t₀ n count e₀ t e = (fillInverses (count - e) t n e ≡ fillInverses count t₀ n 0) × (length t ≡ length t₀)
+Inv-loop t₀ w n count e₀ t e = Filling t₀ n count e t
 
 abbrev μ-loop : tie.MeasureT-loop
-μ-loop t₀ n count e₀ t e = count - e
+μ-loop t₀ w n count e₀ t e = count - e
 
 loop-holds : tie.Need-loop-holds Inv-loop μ-loop
-loop-holds c = (rw sub-zero, refl)
+loop-holds c = filling _ _ _
 
-invert-requires : tie.Need-invert-requires Inv-loop μ-loop
-invert-requires c κs = search needs
+cast-get : tie.Need-cast-get Inv-loop μ-loop
+cast-get c = search needs
+
+get-requires : tie.Need-get-requires Inv-loop μ-loop
+get-requires c κs = search needs
+
+inverse-by-requires : tie.Need-inverse-by-requires Inv-loop μ-loop
+inverse-by-requires c κs = search needs
 
 inverse-at-requires : tie.Need-inverse-at-requires Inv-loop μ-loop
 inverse-at-requires c κs = search needs
@@ -37,23 +41,23 @@ loop-less : tie.Need-loop-less Inv-loop μ-loop
 loop-less c = search needs
 
 loop-again : tie.Need-loop-again Inv-loop μ-loop
-unfolding fillInverses
 loop-again c =
-    let at-put = c .before .before in
-    let at-inverse-at = at-put .before in
-    let at-invert = at-inverse-at .before .before in
-    let at-loop-test = at-invert .before .before in
-    let at-loop = at-loop-test .before in (
-      rw (at-put .put .ensures, at-invert .invert .ensures, at-inverse-at .inverse-at .ensures .at) (rw (left-suc (at-loop-test .loop-test .taken)) at (at-loop .loop .inv .0)),
-      at-put .put .kept .0 ∙ at-loop .loop .inv .1,
-    )
+    let small : c .before .before .before .before .before .inverse-by .result .0 < 4294967296 = search needs in
+    let at-inverse-at = c .before .before .before in
+    let at-inverse-by = at-inverse-at .before .before in
+    let at-get = at-inverse-by .before .before in
+    let at-loop-test = at-get .before in
+    let at-loop = at-loop-test .before in
+    let at-pre = at-loop .before .before .before in
+    rw (c .before .before .put .ensures, at-inverse-at .inverse-at .ensures .at)
+    (fills (at-loop .loop .inv) (at-loop-test .loop-test .taken) small
+    (at-inverse-by .inverse-by .ensures ∙ by-hint (at-loop .loop .inv) (at-get .get .ensures) (at-pre .pre .each _ (at-loop-test .loop-test .taken))))
 
 same-length : tie.Need-same-length Inv-loop μ-loop
-same-length c = c .before .loop .inv .1
+same-length c = c .before .loop .inv .size
 
 returns : tie.Need-returns Inv-loop μ-loop
-unfolding fillInverses
-returns c = rw (sub-eq-zero-of-le (c .loop-test .left)) at (c .before .loop .inv .0)
+returns c = filled (c .before .loop .inv) (c .loop-test .left)
 
 pub fill-inverses-spec : {M : Type 1} → statement M
 fill-inverses-spec =
@@ -62,7 +66,9 @@ fill-inverses-spec =
     Inv-loop
     μ-loop
     loop-holds
-    invert-requires
+    cast-get
+    get-requires
+    inverse-by-requires
     inverse-at-requires
     cast-put
     put-requires
