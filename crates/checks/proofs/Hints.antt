@@ -19,7 +19,7 @@ use Rattle.egg.proofs.Laws.{putAt-out}
 use Rattle.egg.proofs.Cells.{inside, put-same, put-other, put-length, other-cell, other-row}
 use Rattle.egg.proofs.Scans.{refused-fine, left-suc, scan-fine}
 use Rattle.checks.specs.Checks.{countsRight, invertFrom, invertOf, fillInverses}
-use Rattle.checks.specs.Hints.{Alike, Steady, Tail, tailOf, firstOf, Packs, Hint, Hints, Follows, inverseBy, Beyond, Hinted, Counted}
+use Rattle.checks.specs.Hints.{Alike, Steady, Tail, tailOf, firstOf, Packs, Hint, Hints, Follows, inverseBy, Beyond, Hinted, CountedAgain}
 
 -- What is read of tables that are alike.
 module _ {t t′ : List ℕ} {n : ℕ} (A : Alike t t′ n) (e : ℕ) where
@@ -127,10 +127,10 @@ next-hint {t} {w} {n} {e} {h} H small hint = record { each = λ i l. by i (ℕ-d
   by i (yes q) l = rw q (here (decLt e (length w)))
   by i (no d) l = rw (put-other w e h d) (H .each i (omega arith))
 
-pub none-counted : (w : List ℕ) (n count : ℕ) → Counted w w n 0 count
+pub none-counted : (w : List ℕ) (n count : ℕ) → CountedAgain w w n 0 count
 none-counted w n count = record { each = λ i h. absurd (omega arith); rest = all-kept w count }
 
-pub next-counted : {w₀ w : List ℕ} {n e count : ℕ} → n < 4294967296 → Counted w₀ w n e count → e < count → Counted w₀ (putAt w e n) n (e + 1) count
+pub next-counted : {w₀ w : List ℕ} {n e count : ℕ} → n < 4294967296 → CountedAgain w₀ w n e count → e < count → CountedAgain w₀ (putAt w e n) n (e + 1) count
 next-counted {w₀} {w} {n} {e} {count} small C l = record { each = λ i h m. by i (ℕ-discrete i e) h m; rest = put-beyond n (C .rest) l } where
   by : (i : ℕ) → Dec (i ≡ e) → i < e + 1 → i < length w₀ → getD (putAt w e n) i 0 ≡ n
   by i (yes q) h m = rw q (put-same w e n (omega (arith, C .rest .size)) small)
@@ -140,11 +140,11 @@ next-counted {w₀} {w} {n} {e} {count} small C l = record { each = λ i h m. by
 pub hints-end : {t w : List ℕ} {n e : ℕ} (count : ℕ) → Hints t w n e → count ≤ e → Hints t w n count
 hints-end count H l = record { each = λ i h. H .each i (omega arith) }
 
-pub counted-end : {w₀ w : List ℕ} {n e count : ℕ} → Counted w₀ w n e count → count ≤ e → Counted w₀ w n count count
+pub counted-end : {w₀ w : List ℕ} {n e count : ℕ} → CountedAgain w₀ w n e count → count ≤ e → CountedAgain w₀ w n count count
 counted-end C l = record { each = λ i h m. C .each i (omega arith) m; rest = C .rest }
 
 -- The arrivals were n at each element, and are so again.
-pub counted-again : {t w w₁ w₂ : List ℕ} {n count : ℕ} → countsRight w n count ≡ Fine → Hinted t w w₁ n count → Counted w₁ w₂ n count count → w₂ ≡ w
+pub counted-again : {t w w₁ w₂ : List ℕ} {n count : ℕ} → countsRight w n count ≡ Fine → Hinted t w w₁ n count → CountedAgain w₁ w₂ n count count → w₂ ≡ w
 unfolding countsRight
 counted-again {t} {w} {w₁} {w₂} {n} {count} fine H C =
     ext-getD 0 w₂ w (C .rest .size ∙ H .rest .size) (λ i h. by i h (decLt i count)) where

@@ -1,7 +1,7 @@
 -- Hints, by which an inverse comes from an earlier one. Document 01: "The inverse follows the reversed word through predecessors from the identity." Where
--- the word of e is a letter and then the word of an earlier element, the inverse of e is that element's and then a step back by that letter. So it is with
--- every word of an accepted table, since first appearance gives the least words; elsewhere there is no hint, and the word is walked. The definitions of the
--- checks have no hints: an inverse that comes by one is proved to be the one that the walk gives.
+-- the word of e is a letter and then the word of an earlier element, the inverse of e is that element's and then a step back by that letter. In a group's
+-- table that follows the numbering rule every word is so, since it is the first of those that lead to its element; elsewhere there may be no hint, and the
+-- word is walked. The definitions of the checks have no hints: an inverse that comes by one is proved to be the one that the walk gives.
 -- Assumes nothing.
 use Prim.Native.Nat.{ℕ, _+_, _*_, _-_, _/_, _%_, _≤_, _<_}
 use mathlib.Core.Path.{_≡_}
@@ -64,11 +64,12 @@ pub record Beyond (w w₁ : List ℕ) (count : ℕ) : Type 0 where
   pub size : length w₁ ≡ length w
   pub beyond : (i : ℕ) → count ≤ i → getD w₁ i 0 ≡ getD w i 0
 
--- The hints of all elements there; or n there, at each of the elements before e.
+-- There the hints of all elements.
 pub record Hinted (t w w₁ : List ℕ) (n count : ℕ) : Type 0 where
   pub hints : Hints t w₁ n count
   pub rest : Beyond w w₁ count
 
-pub record Counted (w w₁ : List ℕ) (n e count : ℕ) : Type 0 where
+-- There n, at each of the elements before e: what the arrivals are where 9 has passed.
+pub record CountedAgain (w w₁ : List ℕ) (n e count : ℕ) : Type 0 where
   pub each : (i : ℕ) → i < e → i < length w → getD w₁ i 0 ≡ n
   pub rest : Beyond w w₁ count

@@ -5,7 +5,7 @@ ghost use mathlib.Core.Bool.{true};
 ghost use Prim.Native.Nat.{_≤_, _<_};
 ghost use Rattle.checks.specs.Checks.{missingRow, missing, check8, rangeRow, linksOf, ranges, wrongAt, wrongRow, wrong, check-table, wiped, arriveRow, arrivals, countsRight, invertFrom, invertOf, fillInverses, inversesRight, identityRow, columnsRow, spelledRow, spelled, leftOf, fillLeft, goesRow, allGo, Lefts, lefts, check-steps, Checked, check-rest, check-group};
 ghost use Rattle.checks.specs.Undoing.{undoneRest};
-ghost use Rattle.checks.specs.Hints.{Packs, Follows, Hint, Hints, inverseBy, Hinted, Counted};
+ghost use Rattle.checks.specs.Hints.{Packs, Follows, Hint, Hints, inverseBy, Hinted, CountedAgain};
 ghost use Rattle.egg.specs.Table.{stillLeft};
 use egg::GeneratorId;
 use egg::GroupElementId;
@@ -427,7 +427,7 @@ fn fill_inverses(t: &mut [u32], w: &[u32], n: u8, count: u32)
 
 // The arrivals again, where the hints were: they are n at each element, or 9 would have been given.
 fn count_again(w: &mut [u32], n: u8, count: u32)
-    ensures { λ r. ⌜ Counted (now (w .entry)) (now (w .exit)) n count count ⌝ }
+    ensures { λ r. ⌜ CountedAgain (now (w .entry)) (now (w .exit)) n count count ⌝ }
 {
     let mut e: u32 = 0;
     while e < count {

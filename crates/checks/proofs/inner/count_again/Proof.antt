@@ -1,13 +1,13 @@
 -- The invariant: n stands at the elements that were passed, and nothing else of the work has changed.
 use Prim.Native.Nat.{_-_}
 use borrow.Author.Needs.{needs}
-use Rattle.checks.specs.Hints.{Counted}
+use Rattle.checks.specs.Hints.{CountedAgain}
 use Rattle.checks.proofs.Hints.{none-counted, next-counted, counted-end}
 use Rattle.checks.proofs.inner.count_again.Statement.{statement}
 use Rattle.checks.proofs.inner.count_again.Tie as tie
 
 abbrev Inv-loop : tie.InvT-loop
-Inv-loop w₀ n count e₀ w e = Counted w₀ w n e count
+Inv-loop w₀ n count e₀ w e = CountedAgain w₀ w n e count
 
 abbrev μ-loop : tie.MeasureT-loop
 μ-loop w₀ n count e₀ w e = count - e
