@@ -1,10 +1,11 @@
--- What a refused `from_generators` leaves, on any input: nothing touched, or zeros. A numbering keeps the lengths of its lists, whatever the source says.
+-- A refused `from_generators` that has started leaves zeros in its needed stretches. A numbering keeps the lengths of its lists, whatever the source says.
 -- Assumes nothing.
-use Prim.Native.Nat.{ℕ, zero, suc, _+_}
+use Prim.Native.Nat.{ℕ, zero, suc, _+_, _≤_}
 use mathlib.Core.Path.{_≡_, refl, sym, ap, _∙_}
 use mathlib.Core.Bool.{Bool, true, false}
 use mathlib.Core.List.{List}
 use native.Mathlib.Omega.{arith}
+use borrow.Author.Tests.{leb-true}
 use lib.Dec.{eqb, ltb}
 use lib.ListN.{length, getD, take, replicate, length-replicate}
 use Rattle.egg.specs.declared.Refusal.{Refusal}
@@ -16,13 +17,16 @@ use Rattle.egg.specs.declared.Verdict.the-variants as verdict
 use Rattle.egg.specs.declared.Counted.{Counted}
 use Rattle.egg.specs.declared.Counted.the-variants.{Count, Refused}
 use Rattle.egg.specs.Table.{pick, putAt}
+use Rattle.egg.proofs.Rooms.{within-length}
 use Rattle.checks.specs.Checks.{Checked, checked, check-group}
 use Rattle.reading.specs.Build.{setStep, adds}
 use Rattle.reading.specs.Reading.{placed}
 use Rattle.builder.specs.Finish.{built, zeroed, settledBy, finished}
 use Rattle.builder.specs.Lending.{tableNeed, workNeed, within}
+use Rattle.builder.proofs.Lending.{lent-table, lent-enough}
 use Rattle.meaning.proofs.Lengths.{checks-work}
 use Rattle.derived.proofs.Marking.{set-length}
+use Rattle.promises.specs.Leaves.{Cleared, AllCleared}
 use Rattle.promises.proofs.ReadLengths.{adds-length}
 use Rattle.meaning.proofs.Accepted.{checks-kept}
 use Rattle.group.specs.declared.Group.{Group}
@@ -31,10 +35,12 @@ use Rattle.appearance.specs.Renumber.{none, Mapped, mapped, thenMapped, onNew, 
 use Rattle.appearance.specs.Build.{renumbering, finishedMapped, renumberIn}
 use Rattle.renumbering.proofs.Builds.{builtOf, settled-built, refused-maps}
 use Rattle.subgroup.specs.declared.Subgroup.{Subgroup}
-use Rattle.subgroup.specs.Lent.{subgrouping}
+use Rattle.subgroup.specs.Lent.{subgrouping, mapsRight}
 use Rattle.subgroup.specs.Generated.{productOf, fromGenerators}
-use Rattle.subgroups.specs.Generates.{Started, Leaving, untouched, zeros}
-use Rattle.subgroups.proofs.Called.{Ways, early, late, ways, is-build, back-refused, work-long}
+use Rattle.subgroup.proofs.Admits.{maps-lent, maps-inn, maps-outw}
+use Rattle.subgroups.specs.Generates.{Started}
+use Rattle.subgroups.specs.Leaves.{mapsFor}
+use Rattle.subgroups.proofs.Called.{is-build, back-refused, work-long}
 
 abbrev pub tableIn : Mapped → List ℕ
 tableIn (mapped (placed c t) inn outw) = t
@@ -120,13 +126,31 @@ refused-stretches size w₀ source n room M K x₀ {r} {t} {w} {inn} {outw} q =
         let F = finished-zero c n t₀ w₀ (sym (settled-built (finished c n t₀ w₀) i o) ∙ ap builtOf z) in
         (F .0 ∙ ap (λ (k : ℕ). replicate k 0) h, F .1)
 
+-- The four stretches, as they are put back, are zero, and they are in their buffers.
+front-cleared : (l : List ℕ) (k : ℕ) → k ≤ length l → {x : List ℕ} → x ≡ within l 0 k (replicate k 0) → Cleared (record { entry = l; start = 0; need = k; exit = x })
+front-cleared l k h q = let end : 0 + k ≡ k = omega arith in record { inside = rw end h; zero = q ∙ rw end }
+
+pub four-cleared : (table : List ℕ) (start : ℕ) (work inn outw : List ℕ) (n M room : ℕ)
+    → mapsRight (length table) start (length work) (length inn) (length outw) room n M ≡ true → {t w i o : List ℕ}
+    → t ≡ within table start (start + tableNeed n room) (replicate (tableNeed n room) 0) → w ≡ within work 0 (workNeed n room) (replicate (workNeed n room) 0)
+    → i ≡ within inn 0 M (replicate M 0) → o ≡ within outw 0 room (replicate room 0) → AllCleared (mapsFor table start work inn outw n M room t w i o)
+four-cleared table start work inn outw n M room right a b c d =
+    let lent = maps-lent (length table) start (length work) (length inn) (length outw) room n M right in (
+      record { inside = within-length (length table) start room n (lent-table (length table) start (length work) room n lent); zero = a },
+      (
+        front-cleared work (workNeed n room) (leb-true _ _ (lent-enough (length table) start (length work) room n lent)) b,
+        (
+          front-cleared inn M (maps-inn (length table) start (length work) (length inn) (length outw) room n M right) c,
+          (front-cleared outw room (maps-outw (length table) start (length work) (length inn) (length outw) room n M right) d, tt),
+        ),
+      ),
+    )
+
 module _ (from : List ℕ) (over : Group) (gens table : List ℕ) (start : ℕ) (work inn outw : List ℕ) (room : ℕ) where
   -- Once it has started, every needed stretch is zero after a refusal.
   pub generators-cleared : Started from over gens table start work inn outw room → {r : Refusal} {s : Subgroup} {t w i o : List ℕ}
       → fromGenerators from over gens table start work inn outw room ≡ subgrouping (record { answer = verdict.Refused r; subgroup = s }) t w i o
-      → (t ≡ within table start (start + tableNeed (length gens) room) (replicate (tableNeed (length gens) room) 0))
-      × ((w ≡ within work 0 (workNeed (length gens) room) (replicate (workNeed (length gens) room) 0))
-      × ((i ≡ within inn 0 (elementsOf (handles over)) (replicate (elementsOf (handles over)) 0)) × (o ≡ within outw 0 room (replicate room 0))))
+      → AllCleared (mapsFor table start work inn outw (length gens) (elementsOf (handles over)) room t w i o)
   generators-cleared S q =
       let n : ℕ = length gens in
       let T = back-refused from over gens table start work inn outw room _ (sym (is-build from over gens table start work inn outw room S) ∙ q) in
@@ -134,22 +158,8 @@ module _ (from : List ℕ) (over : Group) (gens table : List ℕ) (start : ℕ) 
       (T .is) in
       let Y = refused-maps (tableNeed n room) (take (workNeed n room) work) (productOf from (handles over) gens) n room (elementsOf (handles over)) room 0
       (T .is) in
-      let l : length (take (workNeed n room) work) ≡ workNeed n room = work-long from over gens table start work inn outw room S in (
-        T .table-is ∙ ap (λ (x : List ℕ). within table start (start + tableNeed n room) x) (Z .0),
-        (
-          T .work-is ∙ ap (λ (x : List ℕ). within work 0 (workNeed n room) x) (Z .1 ∙ ap (λ (k : ℕ). replicate k 0) l),
-          (T .inn-is ∙ ap (λ (x : List ℕ). within inn 0 (elementsOf (handles over)) x) (Y .0), T .outw-is ∙ ap (λ (x : List ℕ). within outw 0 room x) (Y .1)),
-        ),
-      )
-
-  -- "1 to 4, 14, and 15 to 17 given before a build starts .. change nothing. Once it has started, any refusal .. leaves the needed stretch of table and work,
-  -- and subgroup maps, zero."
-  pub generators-leave : {r : Refusal} {s : Subgroup} {t w i o : List ℕ}
-      → fromGenerators from over gens table start work inn outw room ≡ subgrouping (record { answer = verdict.Refused r; subgroup = s }) t w i o
-      → Leaving over (length gens) table start work inn outw room t w i o
-  generators-leave {r} {s} {t} {w} {i} {o} q = go (ways from over gens table start work inn outw room) where
-    go : Ways from over gens table start work inn outw room → Leaving over (length gens) table start work inn outw room t w i o
-    go (early r′ z) =
-        let e = sym q ∙ z in
-        untouched (cc) (cc) (cc) (cc)
-    go (late S) = let C = generators-cleared S q in zeros (C .0) (C .1 .0) (C .1 .1 .0) (C .1 .1 .1)
+      let l : length (take (workNeed n room) work) ≡ workNeed n room = work-long from over gens table start work inn outw room S in
+      four-cleared table start work inn outw n (elementsOf (handles over)) room (S .lent)
+      (T .table-is ∙ ap (λ (x : List ℕ). within table start (start + tableNeed n room) x) (Z .0))
+      (T .work-is ∙ ap (λ (x : List ℕ). within work 0 (workNeed n room) x) (Z .1 ∙ ap (λ (k : ℕ). replicate k 0) l))
+      (T .inn-is ∙ ap (λ (x : List ℕ). within inn 0 (elementsOf (handles over)) x) (Y .0)) (T .outw-is ∙ ap (λ (x : List ℕ). within outw 0 room x) (Y .1))

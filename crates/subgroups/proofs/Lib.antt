@@ -28,4 +28,4 @@ pub mod Firsts
 pub mod ToldExactly
 pub mod RoomierToldCalls
 pub mod AlteredTold
-pub mod Before
+pub mod Leaves

@@ -1,4 +1,4 @@
--- What a refused `from_predicate` leaves, on any input: nothing touched, or zeros. Every build keeps the lengths of its lists, or leaves zeros.
+-- A refused `from_predicate` that has started leaves zeros in its needed stretches. Every build keeps the lengths of its lists, or leaves zeros.
 -- Assumes nothing.
 use Prim.Native.Nat.{ℕ, zero, suc, _+_}
 use mathlib.Core.Path.{_≡_, refl, sym, ap, _∙_}
@@ -19,6 +19,7 @@ use Rattle.builder.specs.Finish.{built, zeroed, settledBy, finished}
 use Rattle.builder.specs.Lending.{tableNeed, workNeed, within}
 use Rattle.meaning.proofs.Lengths.{checks-work}
 use Rattle.meaning.proofs.Accepted.{checks-kept}
+use Rattle.promises.specs.Leaves.{AllCleared}
 use Rattle.group.specs.declared.Group.{Group}
 use Rattle.group.specs.Handles.{handles, elementsOf}
 use Rattle.group.specs.Powers.{composes}
@@ -29,11 +30,11 @@ use Rattle.renumbering.proofs.Sizes.{Long, all-long}
 use Rattle.subgroup.specs.declared.Subgroup.{Subgroup}
 use Rattle.subgroup.specs.Lent.{subgrouping}
 use Rattle.predicate.specs.Predicate.{Picked, picked, isNew, ninth, chooses, againIn, predicateIn, toldBack, fromPredicate}
-use Rattle.subgroups.specs.Generates.{Leaving, untouched, zeros}
+use Rattle.subgroups.specs.Leaves.{mapsFor}
 use Rattle.subgroups.specs.Tells.{Predicated}
-use Rattle.subgroups.proofs.Leaving.{tableIn, rows-long, refused-stretches}
+use Rattle.subgroups.proofs.Leaving.{tableIn, rows-long, refused-stretches, four-cleared}
 use Rattle.subgroups.proofs.Called.{fine-refused}
-use Rattle.subgroups.proofs.ToldCalls.{Ways, early, late, ways, is-told, work-long}
+use Rattle.subgroups.proofs.ToldCalls.{is-told, work-long}
 
 -- Lists of these lengths, or zeros.
 data Kept (size L M K : ℕ) : Renumbering → Type 0 where
@@ -117,9 +118,7 @@ module _ (from : List ℕ) (over : Group) (members table : List ℕ) (start : �
   -- Once it has started, every needed stretch is zero after a refusal.
   pub predicate-cleared : Predicated from over members table start work inn outw room → {r : Refusal} {s : Subgroup} {t w i o : List ℕ}
       → fromPredicate from over members table start work inn outw room ≡ subgrouping (record { answer = verdict.Refused r; subgroup = s }) t w i o
-      → (t ≡ within table start (start + tableNeed 8 room) (replicate (tableNeed 8 room) 0))
-      × ((w ≡ within work 0 (workNeed 8 room) (replicate (workNeed 8 room) 0))
-      × ((i ≡ within inn 0 (elementsOf (handles over)) (replicate (elementsOf (handles over)) 0)) × (o ≡ within outw 0 room (replicate room 0))))
+      → AllCleared (mapsFor table start work inn outw 8 (elementsOf (handles over)) room t w i o)
   predicate-cleared S {r} {s} {t} {w} {i} {o} q =
       put (length (take (workNeed 8 room) work)) (work-long from over members table start work inn outw room S)
       (predicateIn (tableNeed 8 room) (take (workNeed 8 room) work) (composes from (handles over)) room (elementsOf (handles over)) room (λ x. getD members x 0))
@@ -128,26 +127,14 @@ module _ (from : List ℕ) (over : Group) (members table : List ℕ) (start : �
     where
       put : (L : ℕ) → L ≡ workNeed 8 room → (b : Picked) → Kept (tableNeed 8 room) L (elementsOf (handles over)) room (lastOf b)
           → toldBack over table start work inn outw (elementsOf (handles over)) room b ≡ subgrouping (record { answer = verdict.Refused r; subgroup = s }) t w i o
-          → (t ≡ within table start (start + tableNeed 8 room) (replicate (tableNeed 8 room) 0))
-          × ((w ≡ within work 0 (workNeed 8 room) (replicate (workNeed 8 room) 0))
-          × ((i ≡ within inn 0 (elementsOf (handles over)) (replicate (elementsOf (handles over)) 0)) × (o ≡ within outw 0 room (replicate room 0))))
+          → AllCleared (mapsFor table start work inn outw 8 (elementsOf (handles over)) room t w i o)
       put L l (picked gens (renumbering (built (Count c) t′ w′) i′ o′)) k e = absurd (fine-refused (sym e))
       put L l (picked gens (renumbering (built (Refused f) t′ w′) i′ o′)) (cleared a b c d) e =
           let x₁ : t ≡ within table start (start + tableNeed 8 room) t′ = cc in
           let x₂ : w ≡ within work 0 (workNeed 8 room) w′ = cc in
           let x₃ : i ≡ within inn 0 (elementsOf (handles over)) i′ = cc in
-          let x₄ : o ≡ within outw 0 room o′ = cc in (
-            x₁ ∙ ap (λ (y : List ℕ). within table start (start + tableNeed 8 room) y) a,
-            (
-              x₂ ∙ ap (λ (y : List ℕ). within work 0 (workNeed 8 room) y) (b ∙ ap (λ (m : ℕ). replicate m 0) l),
-              (x₃ ∙ ap (λ (y : List ℕ). within inn 0 (elementsOf (handles over)) y) c, x₄ ∙ ap (λ (y : List ℕ). within outw 0 room y) d),
-            ),
-          )
-
-  pub predicate-leave : {r : Refusal} {s : Subgroup} {t w i o : List ℕ}
-      → fromPredicate from over members table start work inn outw room ≡ subgrouping (record { answer = verdict.Refused r; subgroup = s }) t w i o
-      → Leaving over 8 table start work inn outw room t w i o
-  predicate-leave {r} {s} {t} {w} {i} {o} q = go (ways from over members table start work inn outw room) where
-    go : Ways from over members table start work inn outw room → Leaving over 8 table start work inn outw room t w i o
-    go (early r′ z) = let e = sym q ∙ z in untouched (cc) (cc) (cc) (cc)
-    go (late S) = let C = predicate-cleared S q in zeros (C .0) (C .1 .0) (C .1 .1 .0) (C .1 .1 .1)
+          let x₄ : o ≡ within outw 0 room o′ = cc in
+          four-cleared table start work inn outw 8 (elementsOf (handles over)) room (S .lent)
+          (x₁ ∙ ap (λ (y : List ℕ). within table start (start + tableNeed 8 room) y) a)
+          (x₂ ∙ ap (λ (y : List ℕ). within work 0 (workNeed 8 room) y) (b ∙ ap (λ (m : ℕ). replicate m 0) l))
+          (x₃ ∙ ap (λ (y : List ℕ). within inn 0 (elementsOf (handles over)) y) c) (x₄ ∙ ap (λ (y : List ℕ). within outw 0 room y) d)

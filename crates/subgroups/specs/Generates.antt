@@ -1,4 +1,4 @@
--- What `from_generators` gives where it is accepted, when it is, and what it leaves where it is refused.
+-- What `from_generators` gives where it is accepted, and when it is.
 -- Assumes nothing.
 use Prim.Native.Nat.{ℕ, _+_, _*_, _≤_, _<_}
 use mathlib.Core.Path.{_≡_}
@@ -6,7 +6,6 @@ use mathlib.Core.Bool.{true}
 use mathlib.Core.List.{List, []}
 use lib.ListN.{length, getD, take, replicate}
 use Rattle.egg.specs.declared.Factor.{Factor}
-use Rattle.egg.specs.declared.Refusal.{Refusal}
 use Rattle.egg.specs.declared.Verdict.the-variants.{Fine}
 use Rattle.egg.specs.Factor.{stretch}
 use Rattle.builder.specs.Lending.{tableNeed, workNeed, within}
@@ -79,11 +78,3 @@ pub record RoomierGenerates (over : Group) (n start room : ℕ) (s : Subgroup) (
   pub same : {k : ℕ} → k < tableNeed n room → getD table′ (start′ + k) 0 ≡ getD t (start + k) 0
   pub inn-same : {x : ℕ} → x < elementsOf (handles over) → getD inn′ x 0 ≡ getD i x 0
   pub outw-same : {e : ℕ} → e < room → getD outw′ e 0 ≡ getD o e 0
-
--- What a refused call leaves whose stretches are as n generators need them: everything as it was where it had not started, else zeros in the needed stretches and maps, and the excess as it was.
-pub data Leaving (over : Group) (n : ℕ) (table : List ℕ) (start : ℕ) (work inn outw : List ℕ) (room : ℕ) (t w i o : List ℕ) : Type 0 where
-  untouched : t ≡ table → w ≡ work → i ≡ inn → o ≡ outw → Leaving over n table start work inn outw room t w i o
-  zeros : t ≡ within table start (start + tableNeed n room) (replicate (tableNeed n room) 0)
-      → w ≡ within work 0 (workNeed n room) (replicate (workNeed n room) 0)
-      → i ≡ within inn 0 (elementsOf (handles over)) (replicate (elementsOf (handles over)) 0) → o ≡ within outw 0 room (replicate room 0)
-      → Leaving over n table start work inn outw room t w i o

@@ -3,6 +3,7 @@ pub mod Predicate
 pub mod Told
 pub mod Made
 pub mod Generates
+pub mod Leaves
 pub mod Asked
 pub mod Tells
 pub mod Refuses
