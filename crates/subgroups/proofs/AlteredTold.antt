@@ -17,20 +17,14 @@ use Rattle.egg.specs.declared.Verdict.the-variants as verdict
 use Rattle.egg.specs.declared.Counted.the-variants.{Count, Refused}
 use Rattle.reading.specs.Build.{numbered}
 use Rattle.builder.specs.Finish.{built, zeroed}
-use Rattle.builder.specs.Lending.{tableNeed, workNeed, within}
-use Rattle.theory.proofs.Reading.{numbered-once}
-use Rattle.meaning.specs.Sound.{Sound, Ruled}
-use Rattle.answers.specs.Accepted.{Accepted}
-use Rattle.promises.specs.Composed.{Taken, Holding}
-use Rattle.promises.proofs.Lent.{handle}
+use Rattle.builder.specs.Lending.{tableNeed, workNeed}
 use Rattle.group.specs.declared.Group.{Group}
 use Rattle.group.specs.Handles.{handles, elementsOf}
 use Rattle.group.specs.Powers.{composes}
 use Rattle.appearance.specs.Build.{Renumbering, renumbering, renumberIn}
-use Rattle.renumbering.specs.Orbit.{Inside, numberedStep, Appearing}
 use Rattle.renumbering.proofs.Order.{appearing}
 use Rattle.renumbering.proofs.Partial.{total, total-answering, partial-build}
-use Rattle.renumbering.proofs.Builds.{builtOf, renumber-built, renumber-holds}
+use Rattle.renumbering.proofs.Builds.{builtOf, renumber-built}
 use Rattle.subgroup.specs.declared.Subgroup.{Subgroup}
 use Rattle.subgroup.specs.Lent.{subgrouping}
 use Rattle.subgroup.specs.Generated.{productOf}
@@ -40,10 +34,9 @@ use Rattle.subgroups.specs.Tells.{Predicated}
 use Rattle.subgroups.specs.Altered.{stepsRead, Regardless, ToldStops, ninth, stopped, by-steps}
 use Rattle.subgroups.proofs.Choosing.{more-length, pick-ends}
 use Rattle.subgroups.proofs.Telling.{eight-rows, eight-work, same-gens, same-build, not-refused}
-use Rattle.subgroups.proofs.Narrow.{narrow}
 use Rattle.subgroups.proofs.ToldLeaving.{accepted-lengths}
 use Rattle.subgroups.proofs.ToldCalls as told
-use Rattle.subgroups.proofs.Altered.{composes-17, steps-inside, accepted-total}
+use Rattle.subgroups.proofs.Regardless.{composes-17, steps-inside, regardless, regardless-at}
 
 -- The last build, by at most eight elements; or a ninth was needed.
 data Last (L : ℕ) (again : List ℕ → List ℕ → Renumbering) : Picked → Type 0 where
@@ -91,90 +84,23 @@ last-refused {again = again} (by-few w₀ h l z) q =
     inr (subst (λ (g : List ℕ). length g ≤ 8) e h, (w₀, l, ap (λ (g : List ℕ). again g w₀) (sym e) ∙ z ∙ same-build q))
 last-refused (by-ninth gens t w i o) q = inl (sym (same-refusal (same-build q)))
 
-module _ (from : List ℕ) (over : Group) (members table : List ℕ) (start : ℕ) (work inn outw : List ℕ) (room : ℕ)
-    (S : Predicated from over members table start work inn outw room) {s : Subgroup} {t w i o : List ℕ}
+-- What is accepted is an accepted factor, whatever the arguments and the buffers were, by at most eight generators.
+module _ (from : List ℕ) (over : Group) (members table : List ℕ) (start : ℕ) (work inn outw : List ℕ) (room : ℕ) {s : Subgroup} {t w i o : List ℕ}
     (q : fromPredicate from over members table start work inn outw room ≡ subgrouping (record { answer = verdict.Fine; subgroup = s }) t w i o) where
-  abbrev M : ℕ
-  M = elementsOf (handles over)
-
-  B : told.Backed from over members table start work inn outw room
-      (predicateIn (tableNeed 8 room) (take (workNeed 8 room) work) (composes from (handles over)) room M room (λ x. getD members x 0)) s t w i o
-  B = told.back-accepted from over members table start work inn outw room _ (sym (told.is-told from over members table start work inn outw room S) ∙ q)
-
-  D : (length (B .gens) ≤ 8) × ((w₀ : List ℕ) × (length w₀ ≡ length (take (workNeed 8 room) work))
-      × (againIn (tableNeed 8 room) (composes from (handles over)) room M room (B .gens) w₀
-      ≡ renumbering (built (Count (B .count)) (B .table′) (B .work′)) (B .inn′) (B .outw′)))
-  D = last-counted (predicate-last (tableNeed 8 room) (take (workNeed 8 room) work) (composes from (handles over)) room M room (λ x. getD members x 0)) (B .is)
-
-  abbrev n : ℕ
-  n = length (B .gens)
-
-  I : Inside n M (stepsRead from over (B .gens)) 0
-  I = steps-inside from over (B .gens) (S .fits)
-
-  A : Appearing n M (stepsRead from over (B .gens)) 0 (appearing I .0) (appearing I .1)
-  A = appearing I .2
-
-  abbrev src : ℕ → ℕ → ℕ
-  src = numberedStep (appearing I .0) (appearing I .1) (stepsRead from over (B .gens))
-
-  lo : 1 ≤ room
-  lo = told.lo from over members table start work inn outw room S
-
-  hi : room ≤ 65535
-  hi = told.hi from over members table start work inn outw room S
-
-  rows : room * (2 * n + 4) ≤ tableNeed 8 room
-  rows = eight-rows n room (tableNeed 8 room) (D .0) (le-refl (tableNeed 8 room))
-
-  enough : room * (6 * n * n + 4 * n) ≤ length (D .1 .0)
-  enough = eight-work n room (length (D .1 .0)) (D .0) (rw (D .1 .1) (told.work-fits from over members table start work inn outw room S))
-
-  same : renumberIn (tableNeed 8 room) (D .1 .0) (total (productOf from (handles over) (B .gens)) 0) n room M room 0
-      ≡ renumbering (built (Count (B .count)) (B .table′) (B .work′)) (B .inn′) (B .outw′)
-  same = accepted-total (tableNeed 8 room) (D .1 .0) (productOf from (handles over) (B .gens)) n room M room 0 (D .1 .2)
-
-  H : Holding src n room (tableNeed 8 room) (B .count) (B .table′)
-  H =
-      renumber-holds A I (told.small from over members table start work inn outw room S) (total (productOf from (handles over) (B .gens)) 0)
-      (total-answering n M (productOf from (handles over) (B .gens)) 0) room room lo hi (le-refl room) (tableNeed 8 room) (D .1 .0) (D .0) rows enough same
-
-  narrowed : (length (take (tableNeed n room) (B .table′)) ≡ tableNeed n room) × Sound (take (tableNeed n room) (B .table′)) n (B .count)
-      × Ruled (take (tableNeed n room) (B .table′)) n (B .count)
-  narrowed =
-      narrow src n room (tableNeed 8 room) (D .1 .0) (D .0) lo hi rows enough
-      (sym (renumber-built A I (told.small from over members table start work inn outw room S) (total (productOf from (handles over) (B .gens)) 0)
-      (total-answering n M (productOf from (handles over) (B .gens)) 0) room room lo hi (le-refl room) (tableNeed 8 room) (D .1 .0) (D .0) rows enough)
-      ∙ ap builtOf same)
-
-  accepted : Accepted (within table start (start + tableNeed 8 room) (B .table′)) (handle start n room (B .count))
-  accepted =
-      let part = told.part from over members table start work inn outw room S n (B .count) (B .table′) (D .0) (H .size-kept) in
-      record {
-        fits = told.handle-fits from over members table start work inn outw room S n (B .count) (B .table′) (D .0) (H .size-kept) (H .sound .table .origin)
-            (H .taken .readable .within);
-        sound = rw part (narrowed .1);
-        ruled = rw part (narrowed .2);
-      }
-
-  whole : B .count ≡ appearing I .0
-  whole = numbered-once (H .taken .readable .by-rule) (A .by-rule)
-
-  regardless-at : {s s′ : Subgroup} {t t′ : List ℕ} → s ≡ s′ → t ≡ t′ → Regardless from over (B .gens) room s′ t′ → Regardless from over (B .gens) room s t
-  regardless-at a b R = rw (a, b) R
-
-  -- What is accepted is an accepted factor, whatever the buffer was, by at most eight generators.
-  pub told-regardless : (gens : List ℕ) × (length gens ≤ 8) × Regardless from over gens room s t
-  told-regardless = (
-    B .gens,
-    D .0,
-    regardless-at (B .value) (B .table-is) (record {
-      elt = appearing I .1;
-      appearing = subst (λ (k : ℕ). Appearing n M (stepsRead from over (B .gens)) 0 k (appearing I .1)) (sym whole) A;
-      taken = subst (λ (k : ℕ). Taken (numberedStep k (appearing I .1) (stepsRead from over (B .gens))) n room (B .count)) (sym whole) (H .taken);
-      accepted = accepted;
-    }),
-  )
+  pub told-regardless : (gens : List ℕ) × (length gens ≤ 8) × Regardless from over gens 8 table start work inn outw room s t w i o
+  told-regardless =
+      let M : ℕ = elementsOf (handles over) in
+      let v : List ℕ = take (workNeed 8 room) work in
+      let p : Picked = predicateIn (tableNeed 8 room) v (composes from (handles over)) room M room (λ x. getD members x 0) in
+      let S = told.accepted-started from over members table start work inn outw room q in
+      let B = told.back-accepted from over members table start work inn outw room p (sym (told.is-told from over members table start work inn outw room S) ∙ q) in
+      let D = last-counted (predicate-last (tableNeed 8 room) v (composes from (handles over)) room M room (λ x. getD members x 0)) (B .is) in (
+        B .gens,
+        D .0,
+        regardless-at (B .value) (B .table-is) (B .work-is) (B .inn-is) (B .outw-is)
+            (regardless from over (B .gens) 8 table start work inn outw room (S .fits) (told.small from over members table start work inn outw room S) (S .lent)
+            (D .0) (le-refl 8) (D .1 .0) (D .1 .1 ∙ told.work-long from over members table start work inn outw room S) (D .1 .2)),
+      )
 
 module _ (from : List ℕ) (over : Group) (members table : List ℕ) (start : ℕ) (work inn outw : List ℕ) (room : ℕ)
     (S : Predicated from over members table start work inn outw room) where

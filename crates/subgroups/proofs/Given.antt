@@ -110,7 +110,7 @@ module _ {M : ℕ} {op : ℕ → ℕ → ℕ} {inv : ℕ → ℕ} (G : GroupOn M
         ∙ ap builtOf z in
         let m = narrow (numberedStep (appearing (right-inside G below) .0) (appearing (right-inside G below) .1) (rightBy op (λ g. getD gens g 0))) (length gens) room size
         w₀ (C .few) lo hi rows enough b in
-        (m .1, m .2)
+        (m .sound, m .ruled)
 
     -- A predicate that is true of exactly a subgroup gives that subgroup.
     pub told-subgroup : {H : ℕ → Type 0} → Subgroup M op inv H → ((y : ℕ) → y < M → H y ↔ ¬ (byte y ≡ 0))

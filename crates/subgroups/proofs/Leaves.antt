@@ -53,7 +53,8 @@ use Rattle.subgroups.proofs.ToldCalls as told
 use Rattle.subgroups.proofs.Telling.{eight-rows}
 use Rattle.subgroups.proofs.Leaving.{generators-cleared}
 use Rattle.subgroups.proofs.ToldLeaving.{predicate-cleared}
-use Rattle.subgroups.proofs.Altered.{steps-inside, generators-any}
+use Rattle.subgroups.proofs.Regardless.{steps-inside}
+use Rattle.subgroups.proofs.Altered.{generators-any}
 use Rattle.subgroups.proofs.AlteredTold.{told-stops}
 
 -- The steps that are read, numbered in order of first appearance: a build of them is refused by 5 or 6 in its reading, where 7 never comes, or by 8 to 12.

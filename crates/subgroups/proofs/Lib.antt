@@ -4,6 +4,7 @@ pub mod Loop
 pub mod Choosing
 pub mod Telling
 pub mod Narrow
+pub mod Stretches
 pub mod Given
 pub mod Overgroup
 pub mod Sample
@@ -23,9 +24,11 @@ pub mod AtWork
 pub mod ToldKnown
 pub mod Unique
 pub mod Refuses
+pub mod Regardless
 pub mod Altered
 pub mod Firsts
 pub mod ToldExactly
 pub mod RoomierToldCalls
 pub mod AlteredTold
 pub mod Leaves
+pub mod Wrote

@@ -1,4 +1,4 @@
--- A build in a stretch that is longer than it needs: its first part, as long as is needed, is a sound table by itself.
+-- A build in a stretch that is longer than it needs: its first part, as long as is needed, holds the same by itself.
 -- Assumes nothing.
 use Prim.Native.Nat.{ℕ, _+_, _*_, _-_, _≤_}
 use mathlib.Core.Path.{_≡_, sym, ap, _∙_}
@@ -10,8 +10,8 @@ use Rattle.egg.specs.declared.Counted.the-variants.{Count}
 use Rattle.builder.specs.Finish.{Built, built, finishedPlaced}
 use Rattle.builder.specs.Lending.{tableNeed, workNeed}
 use Rattle.reading.specs.Reading.{readAll}
-use Rattle.meaning.specs.Sound.{Sound, Ruled}
 use Rattle.roomier.specs.Longer.{longer}
+use Rattle.promises.specs.Composed.{Holding}
 use Rattle.promises.proofs.Built.{built-holds, taken-built}
 use Rattle.promises.proofs.Roomier.{built-roomier}
 
@@ -25,8 +25,7 @@ same-table h = cc
 module _ (src : ℕ → ℕ → ℕ) (n room size : ℕ) (w : List ℕ) (few : n ≤ 8) (lo : 1 ≤ room) (hi : room ≤ 65535) (fits : room * (2 * n + 4) ≤ size)
     (work : room * (6 * n * n + 4 * n) ≤ length w) where
   pub narrow : {N : ℕ} {t w₁ : List ℕ} → finishedPlaced (readAll src n room (replicate size 0)) n w ≡ built (Count N) t w₁
-      → (length (take (tableNeed n room) t) ≡ tableNeed n room) × Sound (take (tableNeed n room) t) n N
-      × Ruled (take (tableNeed n room) t) n N
+      → Holding src n room (tableNeed n room) N (take (tableNeed n room) t)
   narrow {N} {t} q =
       let v : List ℕ = replicate (workNeed n room) 0 in
       let enough : room * (6 * n * n + 4 * n) ≤ length v = rw (length-replicate {A = ℕ} (workNeed n room) 0) (le-refl (workNeed n room)) in
@@ -37,4 +36,4 @@ module _ (src : ℕ → ℕ → ℕ) (n room size : ℕ) (w : List ℕ) (few : n
       let e : t ≡ longer (size - tableNeed n room) (b .0) = same-table (sym q ∙ r .1) in
       let z : take (tableNeed n room) t ≡ b .0 =
       ap (λ (l : List ℕ). take (tableNeed n room) l) e ∙ cut-longer (size - tableNeed n room) (tableNeed n room) (b .0) (H .size-kept) in
-      (ap length z ∙ H .size-kept, rw z (H .sound), rw z (H .ruled))
+      rw z H

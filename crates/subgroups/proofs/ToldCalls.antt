@@ -4,28 +4,28 @@ use Prim.Native.Nat.{ℕ, _+_, _*_, _≤_, _<_}
 use mathlib.Core.Path.{_≡_, refl, sym, ap, _∙_, subst}
 use mathlib.Core.Logic.{_↔_}
 use mathlib.Core.Bool.{Bool, true, false, _&&_}
-use mathlib.Core.List.{List, [], _++_}
+use mathlib.Core.List.{List, []}
 use native.Mathlib.Nat.{le-refl}
 use native.Mathlib.Omega.{arith}
 use borrow.Author.Tests.{le-leb, leb-true}
 use lib.Dec.{leb}
-use lib.ListN.{length, getD, take, drop}
-use lib.Seq.{length-take-le, drop-at, take-append-le}
+use lib.ListN.{length, getD, take}
+use lib.Seq.{length-take-le}
 use Rattle.egg.specs.declared.Factor.{Factor}
 use Rattle.egg.specs.declared.Refusal.{Refusal}
 use Rattle.egg.specs.declared.Reached.the-variants as reached
 use Rattle.egg.specs.declared.Verdict.{Verdict}
 use Rattle.egg.specs.declared.Verdict.the-variants.{Fine, Refused}
 use Rattle.egg.specs.declared.Counted.the-variants as counted
-use Rattle.egg.specs.Factor.{hasRoom, fitsIn, stretch}
-use Rattle.egg.proofs.Rooms.{positive, limited, within-length, and-first, and-second}
+use Rattle.egg.specs.Factor.{hasRoom}
+use Rattle.egg.proofs.Rooms.{positive, limited, and-first, and-second}
 use Rattle.egg.proofs.Scans.{refused-fine}
 use Rattle.reading.specs.Build.{numbered}
 use Rattle.builder.specs.Finish.{built}
 use Rattle.builder.specs.Lending.{tableNeed, workNeed, lentRight, within, noFactor, refusedMade, madeOf}
 use Rattle.builder.proofs.Lending.{lent-table, lent-enough}
 use Rattle.theory.specs.Group.{GroupOn}
-use Rattle.promises.proofs.Lent.{handle, within-long}
+use Rattle.promises.proofs.Lent.{handle}
 use Rattle.products.specs.Product.{product}
 use Rattle.group.specs.declared.Group.{Group}
 use Rattle.group.specs.Handles.{handles, elementsOf, groupOf}
@@ -46,7 +46,7 @@ use Rattle.subgroups.specs.Told.{Told, Untold}
 use Rattle.subgroups.specs.Tells.{Predicated, Tells}
 use Rattle.subgroups.proofs.Overgroup.{product-answers, product-overgroup}
 use Rattle.subgroups.proofs.Given.{predicate-told, predicate-untold, told-subgroup, predicate-narrow}
-use Rattle.subgroups.proofs.Telling.{eight-rows}
+use Rattle.subgroups.proofs.Stretches.{first-part, handle-fits}
 use Rattle.subgroups.proofs.Called.{front-cell, carried-as, fine-refused, same-refusal}
 
 module _ (from : List ℕ) (over : Group) (members table : List ℕ) (start : ℕ) (work inn outw : List ℕ) (room : ℕ) where
@@ -165,36 +165,6 @@ module _ (from : List ℕ) (over : Group) (members table : List ℕ) (start : �
     pub work-fits : room * (6 * 8 * 8 + 4 * 8) ≤ length (take (workNeed 8 room) work)
     work-fits = rw work-long (le-refl (workNeed 8 room))
 
-    -- The part of the stretch that n generators need, at most 8, in the buffer.
-    module _ (n c : ℕ) (t : List ℕ) (few : n ≤ 8) (size-kept : length t ≡ tableNeed 8 room) where
-      end-fits : start + tableNeed 8 room ≤ length table
-      end-fits = within-length (length table) start room 8 has
-
-      narrower : tableNeed n room ≤ tableNeed 8 room
-      narrower = eight-rows n room (tableNeed 8 room) few (le-refl (tableNeed 8 room))
-
-      pub part : stretch (within table start (start + tableNeed 8 room) t) (handle start n room c) ≡ take (tableNeed n room) t
-      unfolding stretch within
-      part =
-          let k : start ≤ length table = omega (arith, end-fits) in
-          let l : tableNeed n room ≤ length t = rw size-kept narrower in
-          ap (λ (x : List ℕ). take (tableNeed n room) x)
-          (drop-at (take start table) (t ++ drop (start + tableNeed 8 room) table) start (length-take-le start table k))
-          ∙ take-append-le (tableNeed n room) t (drop (start + tableNeed 8 room) table) l
-
-      pub handle-fits : 1 ≤ c → c ≤ room → fitsIn (length (within table start (start + tableNeed 8 room) t)) (handle start n room c) ≡ true
-      unfolding fitsIn hasRoom
-      handle-fits one most =
-          let e : start + room * (2 * n + 4) ≤ length table = omega (arith, end-fits, narrower) in
-          rw (within-long table start (tableNeed 8 room) end-fits t size-kept) (simp (
-            le-leb _ _ one,
-            le-leb _ _ most,
-            le-leb _ _ few,
-            le-leb _ _ lo,
-            le-leb _ _ hi,
-            le-leb _ _ e,
-          ))
-
   module _ (S : Predicated from over members table start work inn outw room) (As : AllAccepted from (handles over)) where
     abbrev op : ℕ → ℕ → ℕ
     op = direct from over .op
@@ -246,9 +216,9 @@ module _ (from : List ℕ) (over : Group) (members table : List ℕ) (start : �
         value = refl;
         handle = refl;
         accepted = record {
-          fits = handle-fits S (length gens) c t (T .chosen .few) (T .size-kept) (T .sound .table .origin) (T .held .within);
-          sound = rw (part S (length gens) c t (T .chosen .few) (T .size-kept)) (narrowed .0);
-          ruled = rw (part S (length gens) c t (T .chosen .few) (T .size-kept)) (narrowed .1);
+          fits = handle-fits table start 8 room (has S) (le-refl 8) (length gens) c t (T .chosen .few) (T .size-kept) (T .sound .table .origin) (T .held .within);
+          sound = rw (first-part table start 8 room (has S) (le-refl 8) (length gens) c t (T .chosen .few) (T .size-kept)) (narrowed .0);
+          ruled = rw (first-part table start 8 room (has S) (le-refl 8) (length gens) c t (T .chosen .few) (T .size-kept)) (narrowed .1);
         };
         told = T;
         table-is = refl;
@@ -284,11 +254,16 @@ module _ (from : List ℕ) (over : Group) (members table : List ℕ) (start : �
               (take (workNeed 8 room) work) (work-fits S) (T .0) (T .5),
         )
 
+  pub accepted-started : {s : Subgroup} {t w i o : List ℕ}
+      → fromPredicate from over members table start work inn outw room ≡ subgrouping (record { answer = Fine; subgroup = s }) t w i o
+      → Predicated from over members table start work inn outw room
+  accepted-started q = go ways where
+    go : Ways → Predicated from over members table start work inn outw room
+    go (early r z) = absurd (fine-refused (sym z ∙ q))
+    go (late S) = S
+
   -- What an accepted call gives, whatever the arguments.
   pub predicate-given : AllAccepted from (handles over) → {s : Subgroup} {t w i o : List ℕ}
       → fromPredicate from over members table start work inn outw room ≡ subgrouping (record { answer = Fine; subgroup = s }) t w i o
       → Tells from over members table start work inn outw room s t w i o
-  predicate-given As {s} {t} {w} {i} {o} q = go ways where
-    go : Ways → Tells from over members table start work inn outw room s t w i o
-    go (early r z) = absurd (fine-refused (sym z ∙ q))
-    go (late S) = started-tells S As q
+  predicate-given As q = started-tells (accepted-started q) As q
