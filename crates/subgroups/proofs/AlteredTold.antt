@@ -1,7 +1,7 @@
 -- `from_predicate` over any buffer, altered or not: what is accepted is an accepted factor, by at most eight generators; and by what it is refused once it has
 -- started.
 -- Assumes nothing.
-use Prim.Native.Nat.{ℕ, zero, suc, _+_, _*_, _≤_}
+use Prim.Native.Nat.{ℕ, zero, suc, _+_, _≤_}
 use mathlib.Core.Path.{_≡_, refl, sym, ap, _∙_, subst}
 use mathlib.Core.Logic.{_⊎_, inl, inr}
 use mathlib.Core.List.{List, [], _∷_, _++_}
@@ -31,7 +31,7 @@ use Rattle.subgroup.specs.Generated.{productOf}
 use Rattle.predicate.specs.Predicate.{Picked, picked, isNew, chooses, againIn, predicateIn, fromPredicate}
 use Rattle.predicate.specs.Predicate as predicate
 use Rattle.subgroups.specs.Tells.{Predicated}
-use Rattle.subgroups.specs.Altered.{stepsRead, Regardless, ToldStops, ninth, stopped, by-steps}
+use Rattle.subgroups.specs.Altered.{Regardless, ToldStops, ninth, stopped, by-steps}
 use Rattle.subgroups.proofs.Choosing.{more-length, pick-ends}
 use Rattle.subgroups.proofs.Telling.{eight-rows, eight-work, same-gens, same-build, not-refused}
 use Rattle.subgroups.proofs.ToldLeaving.{accepted-lengths}

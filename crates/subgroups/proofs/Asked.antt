@@ -26,9 +26,9 @@ use Rattle.appearance.specs.Renumber as appear
 use Rattle.subgroup.specs.declared.Subgroup.{Subgroup}
 use Rattle.subgroup.specs.declared.Subgrouped.{Subgrouped}
 use Rattle.subgroup.specs.declared.Within.the-variants as within
-use Rattle.subgroup.specs.Indices.{factorIndices, unfactorIndices, withWithin, overOf, subOf}
+use Rattle.subgroup.specs.Indices.{overOf, subOf}
 use Rattle.subgroup.specs.Sides.{overSide, subSide, sidesFit, fewFactors, sidesLimited, admitsSides, leftOf, rightOf, refusedSubgroup, ifLimited, joinable, multiplied, leftProduct, rightProduct}
-use Rattle.subgroup.specs.Questions.{withinPaper, refusedWithin, strideOf, overCount, carriedOver, carriedBack, toOverAnswer, toSubAnswer}
+use Rattle.subgroup.specs.Questions.{withinPaper, refusedWithin, strideOf, carriedOver, carriedBack, toOverAnswer, toSubAnswer}
 use Rattle.subgroup.proofs.Counts.{over-count, sub-count}
 use Rattle.subgroup.proofs.IndexLaws.{within-small}
 use Rattle.subgroup.proofs.Carries.{first-some, second-some, third-some, second-small}
@@ -36,7 +36,6 @@ use Rattle.subgroup.proofs.SideLaws.{fit-law, sides-fine, over-within, sub-with
 use Rattle.subgroups.specs.Carried.{Carried}
 use Rattle.subgroups.specs.Asked.{Known, MapAnswers}
 use Rattle.subgroups.proofs.Carrying.{carried-product}
-use Rattle.subgroups.proofs.Called.{carried-as}
 
 module _ {from table : ℕ} {s : Subgroup} {inn outw : List ℕ} (K : Known from table s inn outw) where
   abbrev B : ℕ
@@ -179,47 +178,3 @@ module _ {from table : ℕ} {s : Subgroup} {inn outw : List ℕ} (K : Known from
         outw-long = K .outw-long;
         carried = K .carried;
       })
-
--- Unaltered maps, in whatever buffers: where the handles still fit and the needed part of each map holds the same numbers, it is known as before, and every
--- answer is the same.
-module _ {from table : ℕ} {s : Subgroup} {inn outw : List ℕ} (K : Known from table s inn outw) (from′ table′ : ℕ) (inn′ outw′ : List ℕ) (fits : sidesFit from′ table′ s ≡ true)
-    (inn-long : overCount s ≤ length inn′) (outw-long : s .factor .elements ≤ length outw′)
-    (inn-same : (x : ℕ) → x < overCount s → getD inn′ x 0 ≡ getD inn x 0)
-    (outw-same : (e : ℕ) → e < s .factor .elements → getD outw′ e 0 ≡ getD outw e 0) where
-  pub still-known : Known from′ table′ s inn′ outw′
-  still-known = record {
-    fits = fits;
-    limited = K .limited;
-    inn-long = inn-long;
-    outw-long = outw-long;
-    carried = carried-as (λ e h. sym (outw-same e h)) (λ x h. sym (inn-same x h)) (K .carried);
-  }
-
-  abbrev stride : ℕ
-  stride = elementsOf (handles (s .below))
-
-  abbrev over : ℕ
-  over = elementsOf (handles (s .over))
-
-  abbrev sub : ℕ
-  sub = s .factor .elements
-
-  abbrev above : ℕ
-  above = elementsOf (handles (s .above))
-
-  pub still-outward : {e : ℕ} → e < elementsOf (subSide s)
-      → toOverAnswer from′ table′ s outw′ (record { 0 = e }) ≡ toOverAnswer from table s outw (record { 0 = e })
-  still-outward {e} h =
-      let c : e < stride * (sub * above) = subst (λ (k : ℕ). e < k) (sub-count s) h in
-      maps-answer still-known .outward h
-      ∙ ap (λ (y : ℕ). reach (unfactorIndices (withWithin (factorIndices e stride sub) y) stride over)) (outw-same (e / stride % sub) (within-small stride sub above e c))
-      ∙ sym (maps-answer K .outward h)
-
-  pub still-inward : {x : ℕ} → x < elementsOf (overSide s)
-      → withinPaper (toSubAnswer from′ table′ s inn′ (record { 0 = x })) ≡ withinPaper (toSubAnswer from table s inn (record { 0 = x }))
-  still-inward {x} h =
-      let c : x < stride * (over * above) = subst (λ (k : ℕ). x < k) (over-count s) h in
-      maps-answer still-known .inward h
-      ∙ ap (λ (y : ℕ). record { number = 0; a = pick (eqb y appear.none) appear.none (unfactorIndices (withWithin (factorIndices x stride over) y) stride sub); b = 0; c = 0 })
-      (inn-same (x / stride % over) (within-small stride over above x c))
-      ∙ sym (maps-answer K .inward h)

@@ -32,3 +32,4 @@ pub mod RoomierToldCalls
 pub mod AlteredTold
 pub mod Leaves
 pub mod Wrote
+pub mod Unaltered

@@ -5,6 +5,7 @@ pub mod Made
 pub mod Generates
 pub mod Leaves
 pub mod Asked
+pub mod Unaltered
 pub mod Tells
 pub mod Refuses
 pub mod Altered
