@@ -1,9 +1,8 @@
--- `from_generators` in its buffers: refused with nothing touched, or the build put back; what an accepted call gives; when it is accepted; and by which
--- refusals it is refused when it has started.
+-- `from_generators` in its buffers: refused with nothing touched, or the build put back; what an accepted call gives; and when it is accepted.
 -- Assumes nothing.
 use Prim.Native.Nat.{ℕ, _+_, _*_, _≤_, _<_, zero-le}
 use mathlib.Core.Path.{_≡_, refl, sym, ap, _∙_, subst}
-use mathlib.Core.Logic.{_↔_, _⊎_, inl, inr}
+use mathlib.Core.Logic.{_↔_}
 use mathlib.Core.Bool.{Bool, true, false}
 use mathlib.Core.List.{List, [], _++_}
 use native.Mathlib.Nat.{le-refl}
@@ -30,7 +29,6 @@ use Rattle.builder.specs.Lending.{tableNeed, workNeed, lentRight, within, noFac
 use Rattle.builder.proofs.Lending.{lent-table, lent-enough}
 use Rattle.theory.specs.Group.{GroupOn}
 use Rattle.theory.proofs.Reading.{numbered-once}
-use Rattle.numbering.specs.Read.{Refuses}
 use Rattle.meaning.proofs.Accepted.{sound-group}
 use Rattle.promises.proofs.Lent.{handle, lentTable, stretch-part, fits-still}
 use Rattle.products.specs.Product.{product}
@@ -40,12 +38,12 @@ use Rattle.groups.specs.Products.{parts, AllAccepted, direct}
 use Rattle.groups.proofs.Parts.{parts-elements}
 use Rattle.appearance.specs.Renumber as appear
 use Rattle.appearance.specs.Build.{Renumbering, renumbering, renumberIn}
-use Rattle.renumbering.specs.Orbit.{numberedStep, Appearing}
+use Rattle.renumbering.specs.Orbit.{Appearing}
 use Rattle.renumbering.specs.Source.{Answering}
-use Rattle.renumbering.specs.Subgroup.{rightBy, FirstIdentity, FirstRepeat}
+use Rattle.renumbering.specs.Subgroup.{rightBy}
 use Rattle.renumbering.proofs.Subgroups.{right-inside, generator-outside}
 use Rattle.renumbering.proofs.Builds.{renumber-holds}
-use Rattle.renumbering.proofs.SubgroupBuilds.{subgroup-exactly, subgroup-refused}
+use Rattle.renumbering.proofs.SubgroupBuilds.{subgroup-exactly}
 use Rattle.subgroup.specs.declared.Subgroup.{Subgroup}
 use Rattle.subgroup.specs.declared.Subgrouped.{Subgrouped}
 use Rattle.subgroup.specs.Lent.{shown, subgroupOf, Subgrouping, subgrouping, mapsRight, mapsBack}
@@ -377,17 +375,6 @@ module _ (from : List ℕ) (over : Group) (gens table : List ℕ) (start : ℕ) 
                   is-build S ∙ ap (λ (x : Renumbering). mapsBack over table start work inn outw M n n room x) (b .4),
                 ),
           )
-
-      -- Refused when it has started: by 5 or 6 as the numbering meets them, else by 9 for the first generator that is the identity, else by 11 for the first
-      -- that is as an earlier one; by nothing else.
-      pub generators-refused : {r : Refusal} {s : Subgroup} {t w i o : List ℕ}
-          → fromGenerators from over gens table start work inn outw room ≡ subgrouping (record { answer = Refused r; subgroup = s }) t w i o
-          → Refuses (numberedStep N elt (rightBy op gen)) n room r
-          ⊎ (((g : ℕ) × FirstIdentity n gen g × (r ≡ numbered 9 0 g 0)) ⊎ ((g : ℕ) × FirstRepeat n gen g × (r ≡ numbered 11 g 0 0)))
-      generators-refused q =
-          let T = back-refused build (sym (is-build S) ∙ q) in
-          subgroup-refused G gens-below A (small S) source answering room room (lo S) (hi S) (le-refl room) (tableNeed n room) (take (workNeed n room) work)
-          (S .few) (le-refl (tableNeed n room)) (work-fits S) (T .is)
 
   -- What an accepted call gives, whatever the arguments: it has started.
   pub generators-given : AllAccepted from (handles over) → {s : Subgroup} {t w i o : List ℕ}

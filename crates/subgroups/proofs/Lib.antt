@@ -33,3 +33,4 @@ pub mod AlteredTold
 pub mod Leaves
 pub mod Wrote
 pub mod Unaltered
+pub mod Answers

@@ -10,3 +10,4 @@ pub mod Tells
 pub mod Refuses
 pub mod Altered
 pub mod Tellable
+pub mod Answers
