@@ -34,3 +34,4 @@ pub mod Leaves
 pub mod Wrote
 pub mod Unaltered
 pub mod Answers
+pub mod AlteredCases

@@ -11,3 +11,4 @@ pub mod Refuses
 pub mod Altered
 pub mod Tellable
 pub mod Answers
+pub mod AlteredCases

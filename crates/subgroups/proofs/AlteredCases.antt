@@ -1,0 +1,40 @@
+-- Each case by computing.
+-- Assumes nothing.
+use mathlib.Core.Path.{refl}
+use Rattle.egg.specs.Table.{putAt, startOf}
+use Rattle.egg.specs.Scan.{scan}
+use Rattle.egg.specs.Factor.{hasRoom, fitsIn, stretch, readStep}
+use Rattle.checks.specs.Checks.{missingRow, missing, check8, rangeRow, linksOf, ranges, wrongRow, wrong, check-table, wiped, arriveRow, arrivals, countsRight}
+use Rattle.checks.specs.Checks.{invertFrom, fillInverses, inversesRight, identityRow, columnsRow, spelledRow, spelled, check-steps, fillLeft, goesRow, allGo, lefts, check-rest, check-group}
+use Rattle.reading.specs.Build.{setStep, setWord, adds}
+use Rattle.builder.specs.Finish.{finished}
+use Rattle.builder.specs.Lending.{lentRight, within}
+use Rattle.factor.specs.Questions.{along, readBack, backAlong, composeIn}
+use Rattle.group.specs.Handles.{limited}
+use Rattle.group.specs.Digits.{digitwise}
+use Rattle.appearance.specs.Renumber.{mapPlace, mapRow, mapRows}
+use Rattle.appearance.specs.Build.{renumberIn}
+use Rattle.subgroup.specs.Lent.{mapsRight}
+use Rattle.subgroup.specs.Generated.{entriesRight, smallEnough, admitsGenerators, generatedInto, fromGenerators}
+use Rattle.predicate.specs.Predicate.{chooses, admitsOver, toldInto, fromPredicate}
+use Rattle.subgroups.specs.AlteredCases.{AlteredCases}
+
+pub altered-cases : AlteredCases
+unfolding putAt startOf scan hasRoom fitsIn stretch readStep missingRow missing check8 rangeRow linksOf ranges wrongRow wrong check-table wiped arriveRow arrivals countsRight invertFrom fillInverses inversesRight identityRow columnsRow spelledRow spelled check-steps fillLeft goesRow allGo lefts check-rest check-group setStep setWord adds finished lentRight within along readBack backAlong composeIn limited digitwise mapPlace mapRow mapRows renumberIn mapsRight entriesRight smallEnough admitsGenerators generatedInto fromGenerators chooses admitsOver toldInto fromPredicate
+altered-cases = record {
+  generators-5 = refl;
+  generators-8 = refl;
+  generators-9 = refl;
+  generators-10 = refl;
+  generators-11 = refl;
+  generators-12 = refl;
+  generators-17 = refl;
+  predicate-5 = refl;
+  predicate-8 = refl;
+  predicate-9 = refl;
+  predicate-10 = refl;
+  predicate-11 = refl;
+  predicate-12 = refl;
+  predicate-15 = refl;
+  predicate-17 = refl;
+}
