@@ -140,5 +140,5 @@ module _ (from : List ℕ) (over : Group) (gens table : List ℕ) (start : ℕ) 
       (renumberIn (tableNeed k room) (take (workNeed k room) work) (productOf from (handles over) gens) k room (elementsOf (handles over)) room 0)
       (sym (called.is-build from over gens table start work inn outw room S) ∙ q) in
       regardless-at (B .value) (B .table-is) (B .work-is) (B .inn-is) (B .outw-is)
-      (regardless from over gens k table start work inn outw room (S .fits) (called.small from over gens table start work inn outw room S) (S .lent) (le-refl k) (S .few)
+      (regardless from over gens k table start work inn outw room (S .fits) (S .small) (S .lent) (le-refl k) (S .few)
       (take (workNeed k room) work) (called.work-long from over gens table start work inn outw room S) (B .is))

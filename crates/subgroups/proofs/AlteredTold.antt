@@ -98,7 +98,7 @@ module _ (from : List ℕ) (over : Group) (members table : List ℕ) (start : �
         B .gens,
         D .0,
         regardless-at (B .value) (B .table-is) (B .work-is) (B .inn-is) (B .outw-is)
-            (regardless from over (B .gens) 8 table start work inn outw room (S .fits) (told.small from over members table start work inn outw room S) (S .lent)
+            (regardless from over (B .gens) 8 table start work inn outw room (S .fits) (S .small) (S .lent)
             (D .0) (le-refl 8) (D .1 .0) (D .1 .1 ∙ told.work-long from over members table start work inn outw room S) (D .1 .2)),
       )
 

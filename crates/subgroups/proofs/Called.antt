@@ -308,19 +308,22 @@ module _ (from : List ℕ) (over : Group) (gens table : List ℕ) (start : ℕ) 
           (lentTable table start n room t) (within work 0 (workNeed n room) w) (within inn 0 M i) (within outw 0 room o)
       generates = record {
         started = S;
-        value = refl;
-        handle = refl;
-        accepted = record {
-          fits = fits-still table start n room (has S) t (made .size-kept) c (made .sound .table .origin) (made .held .within);
-          sound = rw part (made .sound);
-          ruled = rw part (made .ruled);
+        holds = record {
+          value = refl;
+          count = refl;
+          accepted = record {
+            fits = fits-still table start n room (has S) t (made .size-kept) c (made .sound .table .origin) (made .held .within);
+            sound = rw part (made .sound);
+            ruled = rw part (made .ruled);
+          };
+          proper = made .proper;
+          members = generated-as known (made .generated);
+          carried = carried-as over-same sub-same (made .carried);
+          homomorphic = rw part (homomorphic-as (sound-group (made .sound)) over-same (made .homomorphic));
+          generators = λ {g} h. rw part (sym (over-same (stepOf t n 0 g) (made .sound .table .closed (made .sound .table .origin) h))
+              ∙ generator-outside G gens-below (made .held .renumbered) h);
         };
-        proper = made .proper;
-        members = generated-as known (made .generated);
-        carried = carried-as over-same sub-same (made .carried);
-        homomorphic = rw part (homomorphic-as (sound-group (made .sound)) over-same (made .homomorphic));
-        generators = λ {g} h. rw part (sym (over-same (stepOf t n 0 g) (made .sound .table .closed (made .sound .table .origin) h))
-            ∙ generator-outside G gens-below (made .held .renumbered) h);
+        handle = refl;
         beyond = λ {k} h. rw part (made .beyond h);
         map-beyond = λ {e} h l. front-cell outw o room (made .held .outw-size) e l ∙ made .held .beyond h;
         table-kept = rw part;

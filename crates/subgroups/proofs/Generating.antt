@@ -1,16 +1,13 @@
 -- The generators of a subgroup as it was made, asked of it, are the elements that it was made by.
 -- Assumes nothing.
-use Prim.Native.Nat.{ℕ, _+_, _*_, _-_, _/_, _%_, _<_, _≤_, zero-le}
+use Prim.Native.Nat.{ℕ, _-_, _/_, _%_, _<_, zero-le}
 use mathlib.Core.Path.{_≡_, refl, sym, ap, _∙_, subst}
 use mathlib.Core.List.{List, []}
 use native.Mathlib.Nat.{div-one, mod-one, mod-eq-of-lt, div-eq-of-lt, one-mul}
 use native.Mathlib.Omega.{arith}
 use lib.ListN.{length, getD}
-use Rattle.egg.specs.declared.Factor.{Factor}
-use Rattle.egg.specs.declared.Reached.{Reached}
 use Rattle.egg.specs.declared.Verdict.the-variants.{Fine}
 use Rattle.egg.specs.Factor.{stretch, readStep}
-use Rattle.factor.specs.Questions.{onReached}
 use Rattle.answers.specs.Accepted.{factorStep, reach}
 use Rattle.answers.proofs.Steps.{read-step}
 use Rattle.group.specs.declared.Group.{Group}
@@ -22,26 +19,25 @@ use Rattle.subgroup.specs.Sides.{subSide, admitsSides}
 use Rattle.subgroup.specs.Questions.{carriedOver, scaled, sideGenerator, generatorAnswer}
 use Rattle.subgroup.proofs.SideLaws.{sides-fine}
 use Rattle.subgroup.proofs.Generators.{generator-within}
-use Rattle.subgroups.specs.Generates.{Generates}
+use Rattle.subgroups.specs.Generates.{Holds}
 use Rattle.subgroups.specs.Asked.{Known}
 use Rattle.subgroups.proofs.Asked.{over-cell}
-use Rattle.subgroups.proofs.MadeKnown.{as-made}
 
 -- With nothing below, the formula is the map.
 formula-alone : (M N : ℕ) (f : ℕ → ℕ) {e : ℕ} → e < N → overOf 1 M N f e ≡ f e
 formula-alone M N f {e} h = rw (div-one e, mod-one e, mod-eq-of-lt h, div-eq-of-lt h) (omega arith)
 
-module _ {from : List ℕ} {over : Group} {gens table : List ℕ} {start : ℕ} {work inn outw : List ℕ} {room : ℕ} {s : Subgroup} {t w i o : List ℕ}
-    (H : Generates from over gens table start work inn outw room s t w i o) where
+module _ {from : List ℕ} {over : Group} {gens : List ℕ} {s : Subgroup} {t i o : List ℕ} (H : Holds from over gens s t i o)
+    (known : Known (length from) (length t) s i o) where
   abbrev made : Subgroup
   made = record { below = groupOf []; factor = s .factor; over = over; above = groupOf [] }
 
   K : Known (length from) (length t) (record { below = groupOf []; factor = s .factor; over = over; above = groupOf [] }) i o
-  K = as-made H
+  K = subst (λ (x : Subgroup). Known (length from) (length t) x i o) (H .value) known
 
   module _ {g : ℕ} (h : g < length gens) where
     here : g < s .factor .generators
-    here = rw (ap (λ (f : Factor). f .generators) (H .handle)) h
+    here = rw (H .count) h
 
     abbrev e : ℕ
     e = factorStep t (s .factor) 0 g

@@ -21,7 +21,6 @@ pub mod Generating
 pub mod RoomierCalls
 pub mod Sides
 pub mod AtWork
-pub mod ToldKnown
 pub mod Unique
 pub mod Refuses
 pub mod Regardless

@@ -44,13 +44,13 @@ use Rattle.renumbering.proofs.Partial.{ranged-inside, total, total-answering, p
 use Rattle.renumbering.proofs.Builds.{builtOf, renumber-built, renumber-holds, renumber-work, renumber-filled, renumber-maps}
 use Rattle.subgroup.specs.declared.Subgroup.{Subgroup}
 use Rattle.subgroup.specs.Lent.{mapsRight}
-use Rattle.subgroup.specs.Generated.{productOf}
-use Rattle.subgroup.proofs.Admits.{maps-lent, maps-inn, maps-outw}
+use Rattle.subgroup.specs.Generated.{productOf, smallEnough}
+use Rattle.subgroup.proofs.Admits.{small-elements, maps-lent, maps-inn, maps-outw}
 use Rattle.subgroups.specs.Altered.{stepsRead, Regardless}
 use Rattle.subgroups.proofs.Narrow.{narrow}
 use Rattle.subgroups.proofs.Stretches.{fewer-rows, fewer-work, first-part, handle-fits}
 use Rattle.subgroups.proofs.Given.{held-carried}
-use Rattle.subgroups.proofs.Called.{front-cell, front-part, carried-as}
+use Rattle.subgroups.proofs.Called.{front-cell, front-part, front-long, carried-as}
 
 -- A product in whatever buffer is an element of the overgroup, or is refused by 17.
 then-below : {N M : ℕ} {f : ℕ → Reached} (r : Reached) → Below N r → ((y : ℕ) → y < N → Below M (f y)) → Below M (onReached r f)
@@ -102,7 +102,7 @@ front-wrote l k h p size = let end : 0 + k ≡ k = omega arith in part p (rw end
 
 -- An accepted build by at most k ≤ 8 elements, put back into stretches as k generators need them.
 module _ (from : List ℕ) (over : Group) (gens : List ℕ) (k : ℕ) (table : List ℕ) (start : ℕ) (work inn outw : List ℕ) (room : ℕ)
-    (fits : allFit (length from) (handles over) ≡ true) (small : elementsOf (handles over) ≤ 4294967295)
+    (fits : allFit (length from) (handles over) ≡ true) (few-elements : smallEnough over ≡ true)
     (right : mapsRight (length table) start (length work) (length inn) (length outw) room k (elementsOf (handles over)) ≡ true)
     (few : length gens ≤ k) (most : k ≤ 8) (v : List ℕ) (long : length v ≡ workNeed k room) {c : ℕ} {t w i o : List ℕ}
     (q : renumberIn (tableNeed k room) v (productOf from (handles over) gens) (length gens) room (elementsOf (handles over)) room 0
@@ -116,6 +116,9 @@ module _ (from : List ℕ) (over : Group) (gens : List ℕ) (k : ℕ) (table : L
 
     abbrev source : ℕ → ℕ → Reached
     source = total (productOf from (handles over) gens) 0
+
+    small : elementsOf (handles over) ≤ 4294967295
+    small = omega (arith, small-elements over few-elements)
 
     lent : lentRight (length table) start (length work) room k ≡ true
     lent = maps-lent (length table) start (length work) (length inn) (length outw) room k M right
@@ -188,7 +191,11 @@ module _ (from : List ℕ) (over : Group) (gens : List ℕ) (k : ℕ) (table : L
         let W = renumber-work A I small source answering room room lo hi (le-refl room) (tableNeed k room) v eight rows enough same in
         let D = renumber-maps A I small source answering room room lo hi (le-refl room) (tableNeed k room) v eight rows enough same in
         let ends : length w ≡ workNeed k room = ap length W ∙ length-replicate {A = ℕ} (length v) 0 ∙ long in
+        let hi-inn = maps-inn (length table) start (length work) (length inn) (length outw) room k M right in
+        let hi-outw = maps-outw (length table) start (length work) (length inn) (length outw) room k M right in
         record {
+          fits = fits;
+          small = few-elements;
           value = refl;
           handle = refl;
           elt = appearing I .1;
@@ -200,6 +207,8 @@ module _ (from : List ℕ) (over : Group) (gens : List ℕ) (k : ℕ) (table : L
             ruled = rw cut (own .ruled);
           };
           steps = λ {e} {g} h hg. rw cut (numbered-so .steps h hg);
+          inn-long = rw (front-long inn i M (F .inn-size) hi-inn) hi-inn;
+          outw-long = rw (front-long outw o room (F .outw-size) hi-outw) hi-outw;
           maps = rw (front-part inn i M (F .inn-size), front-part outw o room (F .outw-size)) F;
           carried = carried-as (λ e h. sym (front-cell outw o room (F .outw-size) e (omega (arith, F .within))))
               (λ x h. sym (front-cell inn i M (F .inn-size) x h)) (held-carried D hi);
@@ -210,8 +219,8 @@ module _ (from : List ℕ) (over : Group) (gens : List ℕ) (k : ℕ) (table : L
             (
               front-wrote work (workNeed k room) (leb-true _ _ (lent-enough (length table) start (length work) room k lent)) w ends,
               (
-                front-wrote inn M (maps-inn (length table) start (length work) (length inn) (length outw) room k M right) i (F .inn-size),
-                (front-wrote outw room (maps-outw (length table) start (length work) (length inn) (length outw) room k M right) o (F .outw-size), tt),
+                front-wrote inn M hi-inn i (F .inn-size),
+                (front-wrote outw room hi-outw o (F .outw-size), tt),
               ),
             ),
           );

@@ -1,5 +1,5 @@
--- A subgroup as `from_generators` made it, with accepted factors multiplied on below and above: the index formula carries the direct product of the subgroup's
--- side to that of the overgroup's.
+-- A subgroup as it was made, by generators or by a predicate, with accepted factors multiplied on below and above: the index formula carries the direct product
+-- of the subgroup's side to that of the overgroup's.
 -- Assumes nothing.
 use Prim.Native.Nat.{ℕ, _*_}
 use mathlib.Core.Path.{_≡_}
@@ -16,11 +16,10 @@ use Rattle.groups.proofs.Parts.{all-groups, parts-elements}
 use Rattle.subgroup.specs.declared.Subgroup.{Subgroup}
 use Rattle.subgroup.specs.Indices.{overOf}
 use Rattle.subgroups.specs.Carried.{Carried, Homomorphic}
-use Rattle.subgroups.specs.Generates.{Generates}
+use Rattle.subgroups.specs.Generates.{Holds}
 use Rattle.subgroups.proofs.Products.{homomorphic-product}
 
-module _ {from : List ℕ} {over : Group} {gens table : List ℕ} {start : ℕ} {work inn outw : List ℕ} {room : ℕ} {s : Subgroup} {t w i o : List ℕ}
-    (H : Generates from over gens table start work inn outw room s t w i o) (As : AllAccepted from (handles over)) {low high : List Factor}
+module _ {from : List ℕ} {over : Group} {gens : List ℕ} {s : Subgroup} {t i o : List ℕ} (H : Holds from over gens s t i o) (As : AllAccepted from (handles over)) {low high : List Factor}
     (Ls : AllAccepted from low) (Hs : AllAccepted from high) where
   pub sides-homomorphic : Homomorphic (product (parts from low) .elements * (s .factor .elements * product (parts from high) .elements))
       (pair (product (parts from low)) (pair (part t (s .factor)) (product (parts from high))) .op)

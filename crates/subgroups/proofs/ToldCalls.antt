@@ -17,7 +17,8 @@ use Rattle.egg.specs.declared.Reached.the-variants as reached
 use Rattle.egg.specs.declared.Verdict.{Verdict}
 use Rattle.egg.specs.declared.Verdict.the-variants.{Fine, Refused}
 use Rattle.egg.specs.declared.Counted.the-variants as counted
-use Rattle.egg.specs.Factor.{hasRoom}
+use Rattle.egg.specs.Table.{stepOf}
+use Rattle.egg.specs.Factor.{hasRoom, stretch}
 use Rattle.egg.proofs.Rooms.{positive, limited, and-first, and-second}
 use Rattle.egg.proofs.Scans.{refused-fine}
 use Rattle.reading.specs.Build.{numbered}
@@ -42,12 +43,17 @@ use Rattle.subgroup.proofs.Admits.{small-elements, maps-lent}
 use Rattle.predicate.specs.Predicate.{Picked, picked, predicateIn, admitsOver, toldBack, toldInto, fromPredicate}
 use Rattle.predicate.proofs.Choices.{over-fine, over-admitted}
 use Rattle.meaning.specs.Sound.{Sound, Ruled}
+use Rattle.meaning.proofs.Accepted.{sound-group}
+use Rattle.renumbering.specs.Maps.{Held}
+use Rattle.renumbering.specs.Subgroup.{rightBy}
+use Rattle.renumbering.proofs.Subgroups.{generator-outside}
+use Rattle.subgroups.specs.Predicate.{Reach}
 use Rattle.subgroups.specs.Told.{Told, Untold}
 use Rattle.subgroups.specs.Tells.{Predicated, Tells}
-use Rattle.subgroups.proofs.Overgroup.{product-answers, product-overgroup}
-use Rattle.subgroups.proofs.Given.{predicate-told, predicate-untold, told-subgroup, predicate-narrow}
-use Rattle.subgroups.proofs.Stretches.{first-part, handle-fits}
-use Rattle.subgroups.proofs.Called.{front-cell, carried-as, fine-refused, same-refusal}
+use Rattle.subgroups.proofs.Overgroup.{product-answers, product-overgroup, generated-as}
+use Rattle.subgroups.proofs.Given.{held-homomorphic, predicate-told, predicate-untold, told-subgroup, predicate-narrow}
+use Rattle.subgroups.proofs.Stretches.{step-cut, held-steps, first-part, handle-fits}
+use Rattle.subgroups.proofs.Called.{front-cell, carried-as, homomorphic-as, fine-refused, same-refusal}
 
 module _ (from : List ℕ) (over : Group) (members table : List ℕ) (start : ℕ) (work inn outw : List ℕ) (room : ℕ) where
   abbrev M : ℕ
@@ -203,6 +209,22 @@ module _ (from : List ℕ) (over : Group) (members table : List ℕ) (start : �
           predicate-narrow G (small S) (composes from (handles over)) answers room room (lo S) (hi S) (le-refl room) (tableNeed 8 room) (le-refl (tableNeed 8 room)) byte
           (take (workNeed 8 room) work) (work-fits S) gens q
 
+      cut : stretch (within table start (start + tableNeed 8 room) t) (handle start (length gens) room c) ≡ take (tableNeed (length gens) room) t
+      cut = first-part table start 8 room (has S) (le-refl 8) (length gens) c t (T .chosen .few) (T .size-kept)
+
+      below : (g : ℕ) → g < length gens → getD gens g 0 < M
+      below g h = T .chosen .before h
+
+      -- The maps hold the numbering of the factor's own stretch.
+      own : Held (length gens) M room room (rightBy op (λ g. getD gens g 0)) 0 c (stepOf (take (tableNeed (length gens) room) t) (length gens)) i o
+      own = held-steps (T .held) (λ e g h hg. step-cut t (length gens) room e g (omega (arith, T .held .within)) hg)
+
+      known : (x : ℕ) → Reach op gens (length gens) x ↔ ((x < M) × ¬ (getD (within inn 0 M i) x 0 ≡ appear.none))
+      known x = (
+        λ r. let h = T .generated .subgroup .below r in (h, λ z. T .in-map x h .1 r (sub-same x h ∙ z)),
+        λ p. T .in-map x (p .0) .0 (λ z. p .1 (sym (sub-same x (p .0)) ∙ z)),
+      )
+
       tells : Tells from over members table start work inn outw room
           (record { below = groupOf []; factor = handle start (length gens) room c; over = over; above = groupOf [] })
           (within table start (start + tableNeed 8 room) t) (within work 0 (workNeed 8 room) w) (within inn 0 M i) (within outw 0 room o)
@@ -213,19 +235,27 @@ module _ (from : List ℕ) (over : Group) (members table : List ℕ) (start : �
         work₈ = w;
         inn₈ = i;
         outw₈ = o;
-        value = refl;
         handle = refl;
-        accepted = record {
-          fits = handle-fits table start 8 room (has S) (le-refl 8) (length gens) c t (T .chosen .few) (T .size-kept) (T .sound .table .origin) (T .held .within);
-          sound = rw (first-part table start 8 room (has S) (le-refl 8) (length gens) c t (T .chosen .few) (T .size-kept)) (narrowed .0);
-          ruled = rw (first-part table start 8 room (has S) (le-refl 8) (length gens) c t (T .chosen .few) (T .size-kept)) (narrowed .1);
+        holds = record {
+          value = refl;
+          count = refl;
+          accepted = record {
+            fits = handle-fits table start 8 room (has S) (le-refl 8) (length gens) c t (T .chosen .few) (T .size-kept) (T .sound .table .origin) (T .held .within);
+            sound = rw cut (narrowed .0);
+            ruled = rw cut (narrowed .1);
+          };
+          proper = T .proper;
+          members = generated-as known (T .generated);
+          carried = carried-as over-same sub-same (T .carried);
+          homomorphic = rw cut (homomorphic-as (sound-group (narrowed .0)) over-same (held-homomorphic G below own (narrowed .0)));
+          generators = λ {g} h. rw cut (sym (over-same (stepOf (take (tableNeed (length gens) room) t) (length gens) 0 g)
+              (narrowed .0 .table .closed (narrowed .0 .table .origin) h)) ∙ generator-outside G below (own .renumbered) h);
         };
         told = T;
         table-is = refl;
         work-is = refl;
         inn-is = refl;
         outw-is = refl;
-        carried = carried-as over-same sub-same (T .carried);
         exactly = λ B exact y h.
             let P = told-subgroup G (small S) (composes from (handles over)) answers room room (lo S) (hi S) (le-refl room) (tableNeed 8 room)
             (le-refl (tableNeed 8 room)) byte (take (workNeed 8 room) work) (work-fits S) gens q B exact y h in

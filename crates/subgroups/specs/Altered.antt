@@ -3,6 +3,7 @@
 -- Assumes nothing.
 use Prim.Native.Nat.{ℕ, _+_, _*_, _≤_, _<_}
 use mathlib.Core.Path.{_≡_}
+use mathlib.Core.Bool.{true}
 use mathlib.Core.List.{List, [], _∷_}
 use lib.ListN.{length, getD, take, replicate}
 use Rattle.egg.specs.declared.Refusal.{Refusal}
@@ -17,14 +18,14 @@ use Rattle.meaning.specs.Numbers.{In}
 use Rattle.answers.specs.Accepted.{Accepted, factorStep}
 use Rattle.promises.specs.Composed.{Taken}
 use Rattle.group.specs.declared.Group.{Group}
-use Rattle.group.specs.Handles.{handles, elementsOf, groupOf}
+use Rattle.group.specs.Handles.{handles, elementsOf, allFit, groupOf}
 use Rattle.appearance.specs.Build.{renumbering}
 use Rattle.renumbering.specs.Orbit.{numberedStep, Appearing}
 use Rattle.renumbering.specs.Source.{outOf}
 use Rattle.renumbering.specs.Maps.{Filled}
 use Rattle.subgroup.specs.declared.Subgroup.{Subgroup}
 use Rattle.subgroup.specs.Lent.{subgroupOf, Subgrouping, subgrouping, mapsBack}
-use Rattle.subgroup.specs.Generated.{productOf}
+use Rattle.subgroup.specs.Generated.{productOf, smallEnough}
 use Rattle.subgroups.specs.Carried.{Carried}
 use Rattle.subgroups.specs.Leaves.{mapsFor, AllWrote}
 
@@ -69,6 +70,8 @@ pub record Stopped (from : List ℕ) (over : Group) (gens table : List ℕ) (sta
 -- buffers as it was.
 pub record Regardless (from : List ℕ) (over : Group) (gens : List ℕ) (k : ℕ) (table : List ℕ) (start : ℕ) (work inn outw : List ℕ) (room : ℕ) (s : Subgroup)
     (t w i o : List ℕ) : Type 1 where
+  pub fits : allFit (length from) (handles over) ≡ true
+  pub small : smallEnough over ≡ true
   pub value : s ≡ record { below = groupOf []; factor = s .factor; over = over; above = groupOf [] }
   pub handle : s .factor ≡ record { start = start; room = room; generators = length gens; elements = s .factor .elements }
   pub elt : ℕ → ℕ
@@ -77,6 +80,8 @@ pub record Regardless (from : List ℕ) (over : Group) (gens : List ℕ) (k : �
   pub accepted : Accepted t (s .factor)
   pub steps : {e g : ℕ} → e < s .factor .elements → g < length gens
       → factorStep t (s .factor) e g ≡ numberedStep (s .factor .elements) elt (stepsRead from over gens) e g
+  pub inn-long : elementsOf (handles over) ≤ length i
+  pub outw-long : room ≤ length o
   pub maps : Filled (elementsOf (handles over)) room room elt (s .factor .elements) (take (elementsOf (handles over)) i) (take room o)
   pub carried : Carried (elementsOf (handles over)) (s .factor .elements) (λ e. getD o e 0) (λ x. getD i x 0)
   pub beyond : {j : ℕ} → s .factor .elements * (2 * length gens + 4) ≤ j → j < tableNeed k room → getD t (start + j) 0 ≡ 0

@@ -16,57 +16,57 @@ use Rattle.subgroups.specs.Answers.{subgroupPaper}
 
 -- Rows as an altered buffer may have them: no steps, and any steps back, each stored one more than its number. The word of one element is the generator g, and
 -- its inverse is itself, so that `compose` with it reads the steps back by g; the word of the other is empty, and `compose` with it stays.
-abbrev byLetter : List ℕ → ℕ → ℕ → List ℕ
+abbrev pub byLetter : List ℕ → ℕ → ℕ → List ℕ
 byLetter back g e = replicate (length back) 0 ++ back ++ (0 ∷ g ∷ 1 ∷ e ∷ [])
 
-abbrev staying : List ℕ → List ℕ
+abbrev pub staying : List ℕ → List ℕ
 staying back = replicate (length back) 0 ++ back ++ (0 ∷ 0 ∷ 0 ∷ 0 ∷ [])
 
 -- One factor with n generators and N elements; and the calls on it, in buffers that are just long enough.
-abbrev alone : ℕ → ℕ → Group
+abbrev pub alone : ℕ → ℕ → Group
 alone n N = groupOf (record { start = 0; room = N; generators = n; elements = N } ∷ [])
 
-abbrev byGenerators : List ℕ → ℕ → ℕ → List ℕ → ℕ → Paper
+abbrev pub byGenerators : List ℕ → ℕ → ℕ → List ℕ → ℕ → Paper
 byGenerators from n N gens room =
     subgroupPaper (fromGenerators from (alone n N) gens (replicate (tableNeed (length gens) room) 0) 0 (replicate (workNeed (length gens) room) 0) (replicate N 0)
     (replicate room 0) room)
 
-abbrev byPredicate : List ℕ → ℕ → ℕ → List ℕ → ℕ → Paper
+abbrev pub byPredicate : List ℕ → ℕ → ℕ → List ℕ → ℕ → Paper
 byPredicate from n N members room =
     subgroupPaper (fromPredicate from (alone n N) members (replicate (tableNeed 8 room) 0) 0 (replicate (workNeed 8 room) 0) (replicate N 0) (replicate room 0) room)
 
 -- Two elements: the second leads to itself; the first does; the second leads nowhere; each leads to the other.
-abbrev missing : List ℕ
+abbrev pub missing : List ℕ
 missing = staying (2 ∷ []) ++ byLetter (2 ∷ []) 0 1
 
-abbrev fixed : List ℕ
+abbrev pub fixed : List ℕ
 fixed = staying (1 ∷ []) ++ byLetter (1 ∷ []) 0 1
 
-abbrev unknown : List ℕ
+abbrev pub unknown : List ℕ
 unknown = staying (2 ∷ []) ++ byLetter (0 ∷ []) 0 1
 
-abbrev turning : List ℕ
+abbrev pub turning : List ℕ
 turning = staying (2 ∷ []) ++ byLetter (1 ∷ []) 0 1
 
 -- Rows 1 2 / 3 3 / 0 0 / 2 1, where 10 applies; the element 3 has the word of 1.
-abbrev twisted : List ℕ
+abbrev pub twisted : List ℕ
 twisted = staying (2 ∷ 3 ∷ []) ++ byLetter (4 ∷ 4 ∷ []) 0 1 ++ byLetter (1 ∷ 1 ∷ []) 1 2 ++ byLetter (3 ∷ 2 ∷ []) 0 3
 
 -- Three elements, of which 1 and 2 have the same word.
-abbrev repeated : List ℕ
+abbrev pub repeated : List ℕ
 repeated = staying (2 ∷ []) ++ byLetter (1 ∷ []) 0 1 ++ byLetter (1 ∷ []) 0 2
 
 -- Rows 1 2 / 0 3 / 4 0 / 2 4 / 3 1: 8 to 11 pass, and no group has these right steps.
-abbrev groupless : List ℕ
+abbrev pub groupless : List ℕ
 groupless =
     staying (2 ∷ 3 ∷ []) ++ byLetter (1 ∷ 4 ∷ []) 0 1 ++ byLetter (5 ∷ 1 ∷ []) 1 2 ++ staying (3 ∷ 5 ∷ []) ++ staying (4 ∷ 2 ∷ [])
 
 -- The numbers modulo 9, and nine further elements: the first eight have the words of 1 to 8, and the last that of 1.
-abbrev modulo : ℕ → List ℕ
+abbrev pub modulo : ℕ → List ℕ
 modulo e =
     suc ((e + 1) % 9) ∷ suc ((e + 2) % 9) ∷ suc ((e + 3) % 9) ∷ suc ((e + 4) % 9) ∷ suc ((e + 5) % 9) ∷ suc ((e + 6) % 9) ∷ suc ((e + 7) % 9) ∷ suc ((e + 8) % 9) ∷ []
 
-abbrev eighteen : List ℕ
+abbrev pub eighteen : List ℕ
 eighteen =
     staying (modulo 0) ++ staying (modulo 1) ++ staying (modulo 2) ++ staying (modulo 3) ++ staying (modulo 4) ++ staying (modulo 5) ++ staying (modulo 6)
     ++ staying (modulo 7) ++ staying (modulo 8) ++ byLetter (modulo 0) 0 9 ++ byLetter (modulo 0) 1 10 ++ byLetter (modulo 0) 2 11 ++ byLetter (modulo 0) 3 12

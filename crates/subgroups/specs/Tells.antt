@@ -4,19 +4,18 @@ use Prim.Native.Nat.{ℕ, _+_, _≤_, _<_}
 use mathlib.Core.Path.{_≡_}
 use mathlib.Core.Logic.{_↔_}
 use mathlib.Core.Bool.{true}
-use mathlib.Core.List.{List, []}
+use mathlib.Core.List.{List}
 use lib.ListN.{length, getD}
 use Rattle.builder.specs.Lending.{tableNeed, workNeed, within}
-use Rattle.answers.specs.Accepted.{Accepted}
 use Rattle.group.specs.declared.Group.{Group}
-use Rattle.group.specs.Handles.{handles, elementsOf, allFit, groupOf}
+use Rattle.group.specs.Handles.{handles, elementsOf, allFit}
 use Rattle.groups.specs.Products.{direct}
 use Rattle.appearance.specs.Renumber as appear
 use Rattle.renumbering.specs.Subgroup as sub
 use Rattle.subgroup.specs.declared.Subgroup.{Subgroup}
 use Rattle.subgroup.specs.Lent.{mapsRight}
 use Rattle.subgroup.specs.Generated.{smallEnough}
-use Rattle.subgroups.specs.Carried.{Carried}
+use Rattle.subgroups.specs.Generates.{Holds}
 use Rattle.subgroups.specs.Told.{Told}
 
 -- 17 in the handles, 15 and 4 have passed: table and work are lent as for 8 generators, and there is a byte for each element of the overgroup.
@@ -26,8 +25,8 @@ pub record Predicated (from : List ℕ) (over : Group) (members table : List ℕ
   pub lent : mapsRight (length table) start (length work) (length inn) (length outw) room 8 (elementsOf (handles over)) ≡ true
   pub bytes : elementsOf (handles over) ≤ length members
 
--- What an accepted call gives: the generators that were chosen; an accepted factor; `Told` of the four stretches, which stand in their buffers; and a
--- predicate that is true of exactly a subgroup gives that subgroup.
+-- What an accepted call gives: the generators that were chosen, with all that holds of a subgroup by them; `Told` of the four stretches, which stand in their
+-- buffers; and a predicate that is true of exactly a subgroup gives that subgroup.
 pub record Tells (from : List ℕ) (over : Group) (members table : List ℕ) (start : ℕ) (work inn outw : List ℕ) (room : ℕ) (s : Subgroup)
     (t w i o : List ℕ) : Type 1 where
   pub started : Predicated from over members table start work inn outw room
@@ -36,16 +35,14 @@ pub record Tells (from : List ℕ) (over : Group) (members table : List ℕ) (st
   pub work₈ : List ℕ
   pub inn₈ : List ℕ
   pub outw₈ : List ℕ
-  pub value : s ≡ record { below = groupOf []; factor = s .factor; over = over; above = groupOf [] }
+  pub holds : Holds from over gens s t i o
   pub handle : s .factor ≡ record { start = start; room = room; generators = length gens; elements = s .factor .elements }
-  pub accepted : Accepted t (s .factor)
   pub told : Told (direct from over .op) (direct from over .inv) (λ x. getD members x 0) (elementsOf (handles over)) room room (tableNeed 8 room)
       (workNeed 8 room) gens (s .factor .elements) table₈ work₈ inn₈ outw₈
   pub table-is : t ≡ within table start (start + tableNeed 8 room) table₈
   pub work-is : w ≡ within work 0 (workNeed 8 room) work₈
   pub inn-is : i ≡ within inn 0 (elementsOf (handles over)) inn₈
   pub outw-is : o ≡ within outw 0 room outw₈
-  pub carried : Carried (elementsOf (handles over)) (s .factor .elements) (λ e. getD o e 0) (λ x. getD i x 0)
   pub exactly : {H : ℕ → Type 0} → sub.Subgroup (elementsOf (handles over)) (direct from over .op) (direct from over .inv) H
       → ((y : ℕ) → y < elementsOf (handles over) → H y ↔ ¬ (getD members y 0 ≡ 0))
       → (y : ℕ) → y < elementsOf (handles over) → (¬ (getD i y 0 ≡ appear.none)) ↔ H y
