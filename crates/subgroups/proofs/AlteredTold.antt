@@ -33,7 +33,7 @@ use Rattle.predicate.specs.Predicate as predicate
 use Rattle.subgroups.specs.Tells.{Predicated}
 use Rattle.subgroups.specs.Altered.{Regardless, ToldStops, ninth, stopped, by-steps}
 use Rattle.subgroups.proofs.Choosing.{more-length, pick-ends}
-use Rattle.subgroups.proofs.Telling.{eight-rows, eight-work, same-gens, same-build, not-refused}
+use Rattle.subgroups.proofs.Telling.{eight-rows, eight-work, same-gens, same-build, not-refused, same-refusal}
 use Rattle.subgroups.proofs.ToldLeaving.{accepted-lengths}
 use Rattle.subgroups.proofs.ToldCalls as told
 use Rattle.subgroups.proofs.Regardless.{composes-17, steps-inside, regardless, regardless-at}
@@ -71,10 +71,6 @@ last-counted {again = again} (by-few w₀ h l z) q =
     let e = same-gens q in
     (subst (λ (g : List ℕ). length g ≤ 8) e h, (w₀, l, ap (λ (g : List ℕ). again g w₀) (sym e) ∙ z ∙ same-build q))
 last-counted (by-ninth gens t w i o) q = absurd (not-refused (same-build q))
-
-same-refusal : {f f′ : Refusal} {t t₁ w w₁ i i₁ o o₁ : List ℕ}
-    → renumbering (built (Refused f) t₁ w₁) i₁ o₁ ≡ renumbering (built (Refused f′) t w) i o → f ≡ f′
-same-refusal h = cc
 
 last-refused : {L : ℕ} {again : List ℕ → List ℕ → Renumbering} {p : Picked} {gens : List ℕ} {r : Refusal} {t w i o : List ℕ} → Last L again p
     → p ≡ picked gens (renumbering (built (Refused r) t w) i o)

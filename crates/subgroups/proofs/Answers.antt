@@ -81,17 +81,23 @@ all-below M gens q g h = below-so (decides-fine (entry-decides M gens g) (scan-e
     by true e = absurd (f (leb-true _ _ e))
     by false e = leb-false M (getD gens g 0) e
 
-small-true : (over : Group) → Small over → smallEnough over ≡ true
+pub small-true : (over : Group) → Small over → smallEnough over ≡ true
 unfolding smallEnough handling.limited
 small-true over S =
     let m : elementsOf (handles over) ≤ 4294967295 = omega (arith, S .most) in
     simp (le-leb _ _ (S .few), le-leb _ _ m, le-leb _ _ (S .most))
 
-true-small : (over : Group) → smallEnough over ≡ true → Small over
+pub true-small : (over : Group) → smallEnough over ≡ true → Small over
 true-small over h = record { few = few-factors over (small-limited over h); most = small-elements over h }
 
+pub not-small : (over : Group) → ¬ (Small over) → smallEnough over ≡ false
+not-small over h = by (smallEnough over) refl where
+  by : (b : Bool) → smallEnough over ≡ b → b ≡ false
+  by false q = refl
+  by true q = absurd (h (true-small over q))
+
 module _ (over : Group) (n : ℕ) (table : List ℕ) (start : ℕ) (work inn outw : List ℕ) (room : ℕ) where
-  enough-true : n ≤ 8 → Enough over n table start work inn outw room
+  pub enough-true : n ≤ 8 → Enough over n table start work inn outw room
       → mapsRight (length table) start (length work) (length inn) (length outw) room n (elementsOf (handles over)) ≡ true
   unfolding mapsRight lentRight hasRoom
   enough-true few E = simp (
@@ -104,7 +110,7 @@ module _ (over : Group) (n : ℕ) (table : List ℕ) (start : ℕ) (work inn out
     le-leb _ _ (E .outw-long),
   )
 
-  true-enough : mapsRight (length table) start (length work) (length inn) (length outw) room n (elementsOf (handles over)) ≡ true
+  pub true-enough : mapsRight (length table) start (length work) (length inn) (length outw) room n (elementsOf (handles over)) ≡ true
       → Enough over n table start work inn outw room
   true-enough h =
       let lent = maps-lent (length table) start (length work) (length inn) (length outw) room n (elementsOf (handles over)) h in
@@ -154,12 +160,6 @@ module _ (from : List ℕ) (over : Group) (gens table : List ℕ) (start : ℕ) 
   admits-15 : Elements from over gens → smallEnough over ≡ false → admitsGenerators (length from) over gens ≡ Refused (numbered 15 0 0 0)
   unfolding admitsGenerators
   admits-15 E s = rw (E .fits, entries-below (elementsOf (handles over)) gens (λ g h. E .below h), s)
-
-  not-small : ¬ (Small over) → smallEnough over ≡ false
-  not-small h = by (smallEnough over) refl where
-    by : (b : Bool) → smallEnough over ≡ b → b ≡ false
-    by false q = refl
-    by true q = absurd (h (true-small over q))
 
   not-enough : ¬ (Enough over (length gens) table start work inn outw room)
       → mapsRight (length table) start (length work) (length inn) (length outw) room (length gens) (elementsOf (handles over)) ≡ false
@@ -241,7 +241,7 @@ module _ (from : List ℕ) (over : Group) (gens table : List ℕ) (start : ℕ) 
   given : {p : Paper} → GeneratorsPaper from over gens table start work inn outw room p → subgroupPaper (fromGenerators from over gens table start work inn outw room) ≡ p
   given (no-handle h) = ap subgroupPaper (called.early-arguments from over gens table start work inn outw room (admits-17 h))
   given (no-element h F) = ap subgroupPaper (called.early-arguments from over gens table start work inn outw room (admits-14 h F))
-  given (too-large E s) = ap subgroupPaper (called.early-arguments from over gens table start work inn outw room (admits-15 E (not-small s)))
+  given (too-large E s) = ap subgroupPaper (called.early-arguments from over gens table start work inn outw room (admits-15 E (not-small over s)))
   given (many E s h) = ap subgroupPaper (called.early-many from over gens table start work inn outw room (admits E s) h)
   given (short E s few h) = ap subgroupPaper (called.early-short from over gens table start work inn outw room (admits E s) few (not-enough h))
   given (stops Q F) = is-stopped Q F

@@ -19,7 +19,7 @@ use Rattle.renumbering.proofs.Chosen.{orbit-more}
 use Rattle.predicate.specs.Predicate.{Picked, picked, isNew, chooses}
 use Rattle.subgroups.specs.Predicate.{Reach, Chosen, Faithful, Ends, accepted, refused, too-many}
 use Rattle.subgroups.proofs.Choosing.{orbit-as, more-length, pick-ends, new-member, new-outside, not-new, knowing, chosen-same, chosen-more, nothing-chosen, chooses-ends}
-use Rattle.subgroups.proofs.Telling.{not-refused}
+use Rattle.subgroups.proofs.Telling.{not-refused, ends-accepted}
 use Rattle.subgroups.proofs.Roomier.{Counts, Accepts}
 
 -- The chosen below x are the first of those that are chosen in the end.
@@ -84,9 +84,9 @@ module _ {op : ℕ → ℕ → ℕ} {byte : ℕ → ℕ} {M L : ℕ} {again : Li
     (asks : (x : ℕ) (gens w : List ℕ) → x ≤ M → Chosen op byte x gens → length w ≡ L → Counts (again gens w) → P gens)
     (suffices : (x : ℕ) (gens w : List ℕ) → x ≤ M → Chosen op byte x gens → length w ≡ L → P gens → Counts (again gens w)) where
   abbrev EachOf : Picked → Type 0
-  EachOf (picked gs r) = Counts r → (j : ℕ) → j ≤ length gs → P (take j gs)
+  EachOf (picked gs r) = (j : ℕ) → j < length gs → P (take j gs)
 
-  each-of : (gens : List ℕ) → P gens → ((j : ℕ) → j < length gens → P (take j gens)) → (j : ℕ) → j ≤ length gens → P (take j gens)
+  pub each-of : (gens : List ℕ) → P gens → ((j : ℕ) → j < length gens → P (take j gens)) → (j : ℕ) → j ≤ length gens → P (take j gens)
   each-of gens p B j h = by (decLt j (length gens)) where
     by : Dec (j < length gens) → P (take j gens)
     by (yes d) = B j d
@@ -95,8 +95,8 @@ module _ {op : ℕ → ℕ → ℕ} {byte : ℕ → ℕ} {M L : ℕ} {again : Li
   each-ends : (k x : ℕ) (gens : List ℕ) (r : Renumbering) (w₀ : List ℕ) → k + x ≡ M → Chosen op byte x gens → length w₀ ≡ L → again gens w₀ ≡ r
       → ((j : ℕ) → j < length gens → P (take j gens)) → EachOf (chooses k again byte x gens r)
   unfolding chooses
-  each-ends zero x gens r w₀ z C l q B = λ c. each-of gens (asks x gens w₀ (omega arith) C l (subst Counts (sym q) c)) B
-  each-ends (suc k) x gens (renumbering (built (Refused f) t w) inn outw) w₀ z C l q B = λ c. absurd (not-refused (c .is))
+  each-ends zero x gens r w₀ z C l q B = B
+  each-ends (suc k) x gens (renumbering (built (Refused f) t w) inn outw) w₀ z C l q B = B
   each-ends (suc k) x gens (renumbering (built (Count c) t w) inn outw) w₀ z C l q B =
       let h : x < M = omega arith in
       let K = knowing F C (omega arith) l q in
@@ -107,14 +107,20 @@ module _ {op : ℕ → ℕ → ℕ} {byte : ℕ → ℕ} {M L : ℕ} {again : Li
       (λ j i.
       let i′ : j ≤ length gens = omega (arith, more-length gens x) in
       subst P (sym (take-append-le j gens (x ∷ []) i′)) (each-of gens p B j i′)))
-      (λ n d e. absurd (not-refused (e .is)))
+      (λ n d. B)
       (λ n. each-ends k (x + 1) gens (renumbering (built (Count c) t w) inn outw) w₀ (omega arith) (chosen-same C (not-new F C h K n)) l q B)
+
+  -- However it ends, every list before the last one was accepted.
+  pub each-before : (w gs : List ℕ) {r : Renumbering} → length w ≡ L → chooses M again byte 0 [] (again [] w) ≡ picked gs r → (j : ℕ) → j < length gs → P (take j gs)
+  each-before w gs l q = subst EachOf q (each-ends M 0 [] (again [] w) w (add-zero M) (nothing-chosen F) l refl (λ j i. absurd (omega arith)))
 
   -- Where it is accepted, every list on the way was.
   pub each-asked : (w gs : List ℕ) → length w ≡ L → Accepts gs (chooses M again byte 0 [] (again [] w)) → (j : ℕ) → j ≤ length gs → P (take j gs)
   each-asked w gs l A =
-      let E = each-ends M 0 [] (again [] w) w (add-zero M) (nothing-chosen F) l refl (λ j i. absurd (omega arith)) in
-      (subst EachOf (A .is) E) (A .counts)
+      let B = A .counts in
+      let E = ends-accepted (chooses-ends F w l) (A .is ∙ ap (λ (r : Renumbering). picked gs r) (B .is)) in
+      each-of gs (asks M gs (E .1 .0) (le-refl M) (E .0) (E .1 .1)
+      (record { count = B .count; table = B .table; work = B .work; inn = B .inn; outw = B .outw; is = E .1 .2 })) (each-before w gs l (A .is))
 
   -- And where there are elements to be chosen, each list on the way as it has to be, it is accepted by them.
   pub each-suffices : (w gs : List ℕ) → length w ≡ L → Chosen op byte M gs → ((j : ℕ) → j ≤ length gs → P (take j gs))

@@ -1,41 +1,34 @@
--- What an accepted predicate form gives, and which refusals it has.
+-- What an accepted predicate form gives.
 -- Assumes nothing.
-use Prim.Native.Nat.{ℕ, zero, suc, _+_, _*_, _<_, _≤_}
-use mathlib.Core.Path.{_≡_, refl, sym, _∙_, ap, subst}
-use mathlib.Core.Logic.{_↔_, _⊎_, inl, inr}
+use Prim.Native.Nat.{ℕ, _+_, _*_, _<_, _≤_}
+use mathlib.Core.Path.{_≡_, refl, sym, _∙_, ap}
+use mathlib.Core.Logic.{_↔_}
 use mathlib.Core.List.{List}
 use native.Mathlib.Omega.{arith}
-use lib.ListN.{length, getD, replicate, length-replicate, take}
-use Rattle.egg.specs.declared.Refusal.{Refusal}
+use lib.ListN.{length, getD, replicate, take}
 use Rattle.egg.specs.declared.Reached.{Reached}
 use Rattle.egg.specs.declared.Reached.the-variants as reached
-use Rattle.egg.specs.declared.Counted.the-variants.{Count, Refused}
+use Rattle.egg.specs.declared.Counted.the-variants.{Count}
 use Rattle.egg.specs.Table.{stepOf, backOf}
 use Rattle.builder.specs.Finish.{built}
 use Rattle.builder.specs.Lending.{tableNeed}
-use Rattle.reading.specs.Build.{numbered}
 use Rattle.theory.specs.Group.{GroupOn}
 use Rattle.theory.specs.Regular.{compose, inverse}
 use Rattle.meaning.specs.Stored.{wordOf}
 use Rattle.meaning.specs.Sound.{Sound, Ruled}
-use Rattle.numbering.specs.Read.{Refuses}
 use Rattle.appearance.specs.Renumber as appear
-use Rattle.appearance.specs.Build.{Renumbering, renumbering, renumberIn}
+use Rattle.appearance.specs.Build.{renumbering}
 use Rattle.renumbering.specs.Orbit.{numberedStep}
 use Rattle.renumbering.specs.Maps.{Held}
-use Rattle.renumbering.specs.Subgroup.{rightBy, Subgroup, Proper, FirstIdentity, FirstRepeat}
+use Rattle.renumbering.specs.Subgroup.{rightBy, Subgroup}
 use Rattle.renumbering.proofs.Order.{appearing}
-use Rattle.renumbering.proofs.Numberings.{refused-5-or-6}
 use Rattle.renumbering.proofs.Subgroups.{right-inside, orbit-generated, outward-composes, outward-inverts}
-use Rattle.renumbering.proofs.Builds.{builtOf, renumber-built, renumber-holds, renumber-work}
-use Rattle.renumbering.proofs.Chosen.{chosen-proper}
-use Rattle.renumbering.proofs.SubgroupBuilds.{subgroup-refused}
+use Rattle.renumbering.proofs.Builds.{builtOf, renumber-built, renumber-holds}
 use Rattle.subgroups.specs.Carried.{Carried, Homomorphic}
-use Rattle.predicate.specs.Predicate.{Picked, picked, againIn, predicateIn}
-use Rattle.subgroups.specs.Predicate.{Reach, Chosen}
-use Rattle.subgroups.specs.Told.{Told, Untold}
+use Rattle.predicate.specs.Predicate.{picked, predicateIn}
+use Rattle.subgroups.specs.Told.{Told}
 use Rattle.subgroups.proofs.Narrow.{narrow}
-use Rattle.subgroups.proofs.Telling.{eight-rows, eight-work, answering, again-held, again-work, predicate-ends, ends-accepted, ends-refused, predicate-proper, predicate-subgroup}
+use Rattle.subgroups.proofs.Telling.{eight-rows, eight-work, answering, again-held, again-work, predicate-ends, ends-accepted, predicate-proper, predicate-subgroup}
 
 -- The two lists of an accepted build are a pair of maps, by which the index formulas go on.
 pub held-carried : {n M room K x₀ c : ℕ} {out step : ℕ → ℕ → ℕ} {inn outw : List ℕ} → Held n M room K out x₀ c step inn outw → room ≤ 65535
@@ -119,39 +112,3 @@ module _ {M : ℕ} {op : ℕ → ℕ → ℕ} {inv : ℕ → ℕ} (G : GroupOn M
         let T = predicate-told in
         let P = predicate-subgroup (T .chosen) G S exact y in
         (λ k. P .0 (T .in-map y h .0 k), λ k. T .in-map y h .1 (P .1 k))
-
-  module _ {x : ℕ} (h : x ≤ M) (C : Chosen op byte x gens) (w₀ : List ℕ) (l : length w₀ ≡ length w) where
-    below : (g : ℕ) → g < length gens → getD gens g 0 < M
-    below g k = omega (arith, C .before k)
-
-    proper : Proper (length gens) (λ g. getD gens g 0)
-    proper = chosen-proper G below (λ g k. C .outside k)
-
-    build-refused : {f : Refusal} {t w₁ inn outw : List ℕ} → againIn size source room M K gens w₀ ≡ renumbering (built (Refused f) t w₁) inn outw
-        → (e : ℕ) × (g : ℕ) × (g < length gens) × ((f ≡ numbered 5 e g 0) ⊎ (f ≡ numbered 6 e g 0))
-    build-refused {f} z =
-        by (subgroup-refused G below (appearing (right-inside G below) .2) small (λ y g. source y (getD gens g 0))
-        (answering G small source answers room K lo hi lent size (length w) fits work gens (C .few) below) room K lo hi lent size w₀ (C .few)
-        (eight-rows (length gens) room size (C .few) fits) (eight-work (length gens) room (length w₀) (C .few) (rw l work)) z)
-      where
-        by : Refuses (numberedStep (appearing (right-inside G below) .0) (appearing (right-inside G below) .1) (rightBy op (λ g. getD gens g 0))) (length gens) room f
-            ⊎ (((g : ℕ) × FirstIdentity (length gens) (λ g. getD gens g 0) g × (f ≡ numbered 9 0 g 0))
-            ⊎ ((g : ℕ) × FirstRepeat (length gens) (λ g. getD gens g 0) g × (f ≡ numbered 11 g 0 0)))
-            → (e : ℕ) × (g : ℕ) × (g < length gens) × ((f ≡ numbered 5 e g 0) ⊎ (f ≡ numbered 6 e g 0))
-        by (inl R) =
-            refused-5-or-6 (appearing (right-inside G below) .2) (right-inside G below) small (λ y g. source y (getD gens g 0))
-            (answering G small source answers room K lo hi lent size (length w) fits work gens (C .few) below) room K lo hi lent R
-        by (inr (inl (g, F, e))) = absurd (proper .moves (F .place) (F .identity))
-        by (inr (inr (g, F, e))) =
-            let k : F .earlier ≡ g = proper .apart (omega (arith, F .sooner, F .place)) (F .place) (F .same) in
-            absurd (omega (arith, F .sooner))
-
-  module _ {f : Refusal} {t w₁ inn outw : List ℕ} (q : predicateIn size w source room M K byte ≡ picked gens (renumbering (built (Refused f) t w₁) inn outw)) where
-    pub predicate-untold : Untold op byte M gens f
-    predicate-untold = by (ends-refused (predicate-ends G small source answers room K lo hi lent size (length w) fits work byte w refl) q) where
-      by : ((x : ℕ) × (x ≤ M) × (Chosen op byte x gens × ((w₀ : List ℕ) × (length w₀ ≡ length w)
-          × (againIn size source room M K gens w₀ ≡ renumbering (built (Refused f) t w₁) inn outw))))
-          ⊎ ((x : ℕ) × (x < M) × (Chosen op byte x gens × ((f ≡ numbered 15 0 0 0) × ((length gens ≡ 8) × ((¬ (byte x ≡ 0)) × (¬ Reach op gens 8 x))))))
-          → Untold op byte M gens f
-      by (inr (x, h, (C, (e, (l, (m, n)))))) = record { at = x; within = omega arith; chosen = C; why = inr (e, (l, (h, (m, n)))) }
-      by (inl (x, h, (C, (w₀, l, z)))) = record { at = x; within = h; chosen = C; why = inl (build-refused h C w₀ l z) }

@@ -34,3 +34,4 @@ pub mod Wrote
 pub mod Unaltered
 pub mod Answers
 pub mod AlteredCases
+pub mod ToldAnswers

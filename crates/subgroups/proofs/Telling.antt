@@ -14,7 +14,6 @@ use Rattle.egg.specs.declared.Reached.the-variants as reached
 use Rattle.egg.specs.declared.Counted.the-variants.{Count, Refused}
 use Rattle.egg.specs.Table.{stepOf}
 use Rattle.builder.specs.Finish.{built}
-use Rattle.reading.specs.Build.{numbered}
 use Rattle.theory.specs.Group.{GroupOn}
 use Rattle.appearance.specs.Renumber as appear
 use Rattle.appearance.specs.Build.{Renumbering, renumbering, renumberIn}
@@ -26,7 +25,7 @@ use Rattle.renumbering.proofs.Order.{appearing}
 use Rattle.renumbering.proofs.Subgroups.{right-inside, orbit-generated}
 use Rattle.renumbering.proofs.Builds.{renumber-work, renumber-maps}
 use Rattle.renumbering.proofs.Chosen.{chosen-proper, chosen-all, orbit-more}
-use Rattle.predicate.specs.Predicate.{Picked, picked, ninth, chooses, againIn, predicateIn}
+use Rattle.predicate.specs.Predicate.{Picked, picked, againIn, predicateIn}
 use Rattle.subgroups.specs.Predicate.{Reach, Chosen, Knows, Faithful, Ends, accepted, refused, too-many}
 use Rattle.subgroups.proofs.Choosing.{chooses-ends}
 
@@ -88,7 +87,7 @@ pub not-refused : {f : Refusal} {c : ℕ} {t t₁ w w₁ i inn o outw : List ℕ
     → renumbering (built (Refused f) t₁ w₁) i o ≡ renumbering (built (Count c) t w) inn outw → ⊥
 not-refused h = let z : _≡_ {A = ℕ} 0 1 = cc in omega arith
 
-same-refusal : {f f′ : Refusal} {t t₁ w w₁ i inn o outw : List ℕ}
+pub same-refusal : {f f′ : Refusal} {t t₁ w w₁ i inn o outw : List ℕ}
     → renumbering (built (Refused f) t₁ w₁) i o ≡ renumbering (built (Refused f′) t w) inn outw → f ≡ f′
 same-refusal h = cc
 
@@ -100,18 +99,6 @@ module _ {op : ℕ → ℕ → ℕ} {byte : ℕ → ℕ} {M L : ℕ} {again : Li
       (subst (Chosen op byte M) e C, (w₀, l, ap (λ (gs : List ℕ). again gs w₀) (sym e) ∙ z ∙ same-build q))
   ends-accepted (refused x w₀ h l C z) q = absurd (not-refused (same-build q))
   ends-accepted (too-many x w₀ h l C e m n z) q = absurd (not-refused (same-build q))
-
-  -- A refusal is the first that a build gave, or 15 for a ninth.
-  pub ends-refused : {p : Picked} {f : Refusal} {t w inn outw : List ℕ} → Ends op byte M L again p → p ≡ picked gens (renumbering (built (Refused f) t w) inn outw)
-      → ((x : ℕ) × (x ≤ M) × (Chosen op byte x gens × ((w₀ : List ℕ) × (length w₀ ≡ L) × (again gens w₀ ≡ renumbering (built (Refused f) t w) inn outw))))
-      ⊎ ((x : ℕ) × (x < M) × (Chosen op byte x gens × ((f ≡ numbered 15 0 0 0) × ((length gens ≡ 8) × ((¬ (byte x ≡ 0)) × (¬ Reach op gens 8 x))))))
-  ends-refused (accepted w₀ l C z) q = absurd (not-refused (sym (same-build q)))
-  ends-refused (refused x w₀ h l C z) q =
-      let e = same-gens q in
-      inl (x, h, (subst (Chosen op byte x) e C, (w₀, l, ap (λ (gs : List ℕ). again gs w₀) (sym e) ∙ z ∙ same-build q)))
-  ends-refused (too-many x w₀ h l C e m n z) q =
-      let d = same-gens q in
-      inr (x, h, (subst (Chosen op byte x) d C, (sym (same-refusal (same-build q)), (ap length (sym d) ∙ e, (m, subst (λ (gs : List ℕ). ¬ Reach op gs 8 x) d n)))))
 
 -- The chosen are exactly the members, by the predicate, that the chosen ones before them do not generate.
 module _ {M : ℕ} {op : ℕ → ℕ → ℕ} {byte : ℕ → ℕ} {gens : List ℕ} (C : Chosen op byte M gens) where

@@ -48,10 +48,10 @@ use Rattle.renumbering.specs.Maps.{Held}
 use Rattle.renumbering.specs.Subgroup.{rightBy}
 use Rattle.renumbering.proofs.Subgroups.{generator-outside}
 use Rattle.subgroups.specs.Predicate.{Reach}
-use Rattle.subgroups.specs.Told.{Told, Untold}
+use Rattle.subgroups.specs.Told.{Told}
 use Rattle.subgroups.specs.Tells.{Predicated, Tells}
 use Rattle.subgroups.proofs.Overgroup.{product-answers, product-overgroup, generated-as}
-use Rattle.subgroups.proofs.Given.{held-homomorphic, predicate-told, predicate-untold, told-subgroup, predicate-narrow}
+use Rattle.subgroups.proofs.Given.{held-homomorphic, predicate-told, told-subgroup, predicate-narrow}
 use Rattle.subgroups.proofs.Stretches.{step-cut, held-steps, first-part, handle-fits}
 use Rattle.subgroups.proofs.Called.{front-cell, carried-as, homomorphic-as, fine-refused, same-refusal}
 
@@ -272,17 +272,6 @@ module _ (from : List ℕ) (over : Group) (members table : List ℕ) (start : �
     started-tells q =
         let B = back-accepted whole (sym (is-told S) ∙ q) in
         tells-at (B .value) (B .table-is) (B .work-is) (B .inn-is) (B .outw-is) (tells (B .is))
-
-    -- Refused when it has started: by 5 or 6, as the build by the elements chosen so far meets it, or by 15 with eight chosen and a ninth needed.
-    pub predicate-refused : {r : Refusal} {s : Subgroup} {t w i o : List ℕ}
-        → fromPredicate from over members table start work inn outw room ≡ subgrouping (record { answer = Refused r; subgroup = s }) t w i o
-        → (gens : List ℕ) × Untold op byte M gens r
-    predicate-refused q =
-        let T = back-refused whole (sym (is-told S) ∙ q) in (
-          T .0,
-          predicate-untold G (small S) (composes from (handles over)) answers room room (lo S) (hi S) (le-refl room) (tableNeed 8 room) (le-refl (tableNeed 8 room)) byte
-              (take (workNeed 8 room) work) (work-fits S) (T .0) (T .5),
-        )
 
   pub accepted-started : {s : Subgroup} {t w i o : List ℕ}
       → fromPredicate from over members table start work inn outw room ≡ subgrouping (record { answer = Fine; subgroup = s }) t w i o

@@ -55,7 +55,7 @@ module _ {M : ℕ} {op : ℕ → ℕ → ℕ} {inv : ℕ → ℕ} (G : GroupOn M
     enough = eight-work (length gens) room (length w) (C .few) (rw l work)
 
     -- What a build asks, and all that it asks.
-    asks : Counts (againIn size source room M K gens w) → Buildable op M room gens
+    pub asks : Counts (againIn size source room M K gens w) → Buildable op M room gens
     asks B =
         let I = right-inside G below in
         let A = appearing I .2 in
@@ -65,7 +65,7 @@ module _ {M : ℕ} {op : ℕ → ℕ → ℕ} {inv : ℕ → ℕ} (G : GroupOn M
         let R = subst (Readable (numberedStep (appearing I .0) (appearing I .1) (rightBy op (λ g. getD gens g 0))) (length gens) room) e (T .readable) in
         record { count = appearing I .0; elt = appearing I .1; appearing = A; within-room = R .within; short = λ e k. R .short k }
 
-    suffices : Buildable op M room gens → Counts (againIn size source room M K gens w)
+    pub suffices : Buildable op M room gens → Counts (againIn size source room M K gens w)
     suffices B =
         let b = subgroup-exactly G below (B .appearing) small (λ y g. source y (getD gens g 0))
         (answering G small source answers room K lo hi lent size L fits work gens (C .few) below) room K lo hi lent size w (C .few) rows enough

@@ -12,3 +12,4 @@ pub mod Altered
 pub mod Tellable
 pub mod Answers
 pub mod AlteredCases
+pub mod ToldAnswers

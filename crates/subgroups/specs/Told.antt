@@ -1,13 +1,11 @@
--- What an accepted predicate form gives, over any group on 0 .. M-1; and how it is refused.
+-- What an accepted predicate form gives, over any group on 0 .. M-1.
 -- Assumes nothing.
 use Prim.Native.Nat.{ℕ, _+_, _*_, _≤_, _<_}
 use mathlib.Core.Path.{_≡_}
-use mathlib.Core.Logic.{_↔_, _⊎_}
+use mathlib.Core.Logic.{_↔_}
 use mathlib.Core.List.{List}
 use lib.ListN.{length, getD, replicate}
-use Rattle.egg.specs.declared.Refusal.{Refusal}
 use Rattle.egg.specs.Table.{stepOf, backOf}
-use Rattle.reading.specs.Build.{numbered}
 use Rattle.theory.specs.Regular.{compose, inverse}
 use Rattle.meaning.specs.Stored.{wordOf}
 use Rattle.meaning.specs.Sound.{Sound}
@@ -30,11 +28,3 @@ pub record Told (op : ℕ → ℕ → ℕ) (inv byte : ℕ → ℕ) (M room K si
   pub size-kept : length t ≡ size
   pub beyond : {i : ℕ} → c * (2 * length gens + 4) ≤ i → getD t i 0 ≡ 0
   pub work-zero : w ≡ replicate L 0
-
--- A refusal: 5 or 6, as the build by the elements chosen so far (below x) meets it; or 15 at x, the ninth.
-pub record Untold (op : ℕ → ℕ → ℕ) (byte : ℕ → ℕ) (M : ℕ) (gens : List ℕ) (f : Refusal) : Type 0 where
-  pub at : ℕ
-  pub within : at ≤ M
-  pub chosen : Chosen op byte at gens
-  pub why : ((e : ℕ) × (g : ℕ) × (g < length gens) × ((f ≡ numbered 5 e g 0) ⊎ (f ≡ numbered 6 e g 0)))
-      ⊎ ((f ≡ numbered 15 0 0 0) × ((length gens ≡ 8) × ((at < M) × ((¬ (byte at ≡ 0)) × (¬ Reach op gens 8 at)))))
