@@ -2,7 +2,8 @@
 -- stretches of its overgroup's factors only.
 -- Assumes nothing.
 use Prim.Native.Nat.{ℕ, _-_, _/_, _≤_, _<_}
-use mathlib.Core.Path.{_≡_, refl, sym, _∙_, fun-ext}
+use mathlib.Core.Path.{_≡_, refl, sym, ap, _∙_, fun-ext}
+use mathlib.Core.Logic.{_↔_}
 use mathlib.Core.Bool.{Bool, true, false, _&&_}
 use mathlib.Core.List.{List, [], _∷_, _++_}
 use native.Mathlib.Nat.{mod-lt, le-refl, le-trans}
@@ -15,23 +16,30 @@ use Rattle.egg.specs.declared.GroupElementId.{GroupElementId}
 use Rattle.egg.specs.declared.GeneratorId.{GeneratorId}
 use Rattle.egg.specs.Factor.{fitsIn}
 use Rattle.egg.proofs.Rooms.{and-first, and-second}
+use Rattle.meaning.proofs.Accepted.{sound-group}
+use Rattle.answers.specs.Accepted.{factorStep}
 use Rattle.answers.specs.Unaltered.{Unaltered}
+use Rattle.products.specs.Product.{product}
 use Rattle.group.specs.declared.Group.{Group}
 use Rattle.group.specs.Handles.{handles, elementsOf, generatorsOf, allFit, capped}
 use Rattle.group.specs.Digits.{digitwise, stepIn}
 use Rattle.group.specs.Powers.{composes}
 use Rattle.group.proofs.Caps.{cap-small, cap-large}
 use Rattle.group.proofs.Lists.{positive}
+use Rattle.groups.specs.Products.{parts, direct}
 use Rattle.groups.specs.Unaltered.{AllUnaltered, none, more}
+use Rattle.appearance.specs.Renumber as appear
 use Rattle.subgroup.specs.declared.Subgroup.{Subgroup}
 use Rattle.subgroup.specs.Sides.{overSide, subSide, sidesFit, admitsSides, leftProduct, rightProduct}
 use Rattle.subgroup.specs.Questions.{carriedOver, carriedBack, toOverAnswer, toSubAnswer, sideGenerator, generatorAnswer}
 use Rattle.subgroup.specs.Generated.{productOf, admitsGenerators, generatedInto, fromGenerators}
 use Rattle.subgroup.proofs.SideLaws.{fit-law}
 use Rattle.predicate.specs.Predicate.{admitsOver, toldInto, fromPredicate}
+use Rattle.subgroups.specs.Generates.{Holds}
 use Rattle.subgroups.specs.Asked.{Known}
 use Rattle.subgroups.specs.Unaltered.{SameMaps, UnalteredMaps, EachSame, all, also, SameStretches}
-use Rattle.subgroups.proofs.Called.{carried-as}
+use Rattle.subgroups.proofs.Overgroup.{generated-as}
+use Rattle.subgroups.proofs.Called.{carried-as, homomorphic-as}
 
 -- Reading in stretches that hold the same.
 module _ {t t′ : List ℕ} where
@@ -177,3 +185,36 @@ module _ {from from′ table table′ : List ℕ} (s : Subgroup) (U : Unaltered 
   pub unaltered-fits : sidesFit (length from′) (length table′) s ≡ true
   unfolding sidesFit
   unaltered-fits = rw (U .accepted .fits, each-fits Us)
+
+-- All that holds of a subgroup as it was made holds still, where its factor is unaltered, the stretches of the overgroup's factors hold the same, and the needed
+-- parts of the maps do.
+parts-same : {t t′ : List ℕ} {hs : List Factor} → EachSame t t′ hs → parts t′ hs ≡ parts t hs
+parts-same all = refl
+parts-same (also q S) = rw (q, parts-same S)
+
+module _ {from from′ : List ℕ} {over : Group} {gens : List ℕ} {s : Subgroup} {t t′ i o : List ℕ} (H : Holds from over gens s t i o)
+    (U : Unaltered t t′ (s .factor)) (same : EachSame from from′ (handles over)) (i′ o′ : List ℕ)
+    (inn-same : (x : ℕ) → x < elementsOf (handles over) → getD i′ x 0 ≡ getD i x 0)
+    (outw-same : (e : ℕ) → e < s .factor .elements → getD o′ e 0 ≡ getD o e 0) where
+  over-alike : direct from′ over ≡ direct from over
+  over-alike = ap product (parts-same same)
+
+  members-alike : (x : ℕ) → ((x < elementsOf (handles over)) × ¬ (getD i x 0 ≡ appear.none)) ↔ ((x < elementsOf (handles over)) × ¬ (getD i′ x 0 ≡ appear.none))
+  members-alike x = (
+    λ p. (p .0, λ z. p .1 (sym (inn-same x (p .0)) ∙ z)),
+    λ p. (p .0, λ z. p .1 (inn-same x (p .0) ∙ z)),
+  )
+
+  pub still-holds : Holds from′ over gens s t′ i′ o′
+  still-holds = record {
+    value = H .value;
+    count = H .count;
+    accepted = U .accepted;
+    proper = H .proper;
+    members = rw over-alike (generated-as members-alike (H .members));
+    carried = carried-as (λ e h. sym (outw-same e h)) (λ x h. sym (inn-same x h)) (H .carried);
+    homomorphic = rw (over-alike, U .stretches) (homomorphic-as (sound-group (H .accepted .sound)) (λ e h. sym (outw-same e h)) (H .homomorphic));
+    generators = λ {g} h.
+        let k : g < s .factor .generators = rw (H .count) h in
+        rw (U .stretches) (outw-same (factorStep t (s .factor) 0 g) (H .accepted .sound .table .closed (H .accepted .sound .table .origin) k) ∙ H .generators h);
+  }
