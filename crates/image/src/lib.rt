@@ -31,7 +31,7 @@ fn byte(s: &[u8], i: usize) -> u8
 fn said_length(image: &[u8]) -> u32
     ensures { λ r. ⌜ r ≡ lengthOf (now (image .entry)) ⌝ }
 {
-    cells::spell(
+    cells::inner::spell(
         byte(image, 3),
         byte(image, 2),
         byte(image, 1),
@@ -52,7 +52,7 @@ pub fn elements(image: &[u8]) -> u32
 {
     let a = byte(image, 6);
     let b = byte(image, 7);
-    cells::spell_half(a, b)
+    cells::inner::spell_half(a, b)
 }
 
 // 16 and 1 in the head, or 0.
@@ -119,7 +119,7 @@ pub fn check(image: &[u8], work: &mut [u8]) -> u32
         n,
         count,
     );
-    cells::clear(&mut work[..need]);
+    cells::inner::clear(&mut work[..need]);
     number
 }
 

@@ -6,19 +6,21 @@ ghost use Rattle.egg.specs.Table.{putAt};
 ghost use Rattle.checks.specs.Checks.{leftOf, fillLeft, allGo, Lefts, lefts};
 ghost use Rattle.cells.specs.Cells.{cells, halves};
 ghost use Rattle.packed.specs.Short.{shortTable, short, verdictNumber, judged};
-use super::checking;
-use super::placing;
 use egg::Counted;
 use egg::GeneratorId;
 use egg::GroupElementId;
 use egg::Verdict;
+
+pub mod checking;
+pub mod placing;
+pub mod table;
 
 // Stores v in cell i of the work.
 fn put_work(b: &mut [u8], at: usize, i: usize, v: usize)
     requires { ⌜ at ≤ length (now b) ⌝ }
     ensures { λ r. ⌜ (take at (now (b .exit)) ≡ take at (now (b .entry))) × (cells (drop at (now (b .exit))) ≡ putAt (cells (drop at (now (b .entry)))) i v) ⌝ }
 {
-    cells::put(&mut b[at..], i, v);
+    cells::inner::put(&mut b[at..], i, v);
 }
 
 fn left_at(b: &[u8], at: usize, n: u8, s: GeneratorId, x: GroupElementId) -> GroupElementId
@@ -110,7 +112,7 @@ pub fn judge(b: &mut [u8], at: usize, rows: &[u8], n: u8, room: u32) -> u32
     requires { ⌜ at ≤ length (now b) ⌝ }
     ensures { λ r. ⌜ r ≡ judged (at / 4) (cells (drop at (now (b .entry)))) (halves (now (rows .entry))) n room ⌝ }
 {
-    cells::clear(&mut b[..at]);
+    cells::inner::clear(&mut b[..at]);
     match placing::read_rows(&mut b[..at], rows, n, room) {
         Counted::Refused(why) => why.number,
         Counted::Count(k) => {

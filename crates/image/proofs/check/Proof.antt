@@ -9,7 +9,7 @@ use Rattle.image.proofs.check.Statement.{statement}
 use Rattle.image.proofs.check.Tie as tie
 use Rattle.image.proofs.check.Reads as reads
 use Rattle.image.proofs.check.Lts as lts
-use Rattle.cells.proofs.clear.Reads as clear-reads
+use Rattle.cells.proofs.inner.clear.Reads as clear-reads
 use Rattle.image.proofs.bytes_need.Reads as bytes-need-reads
 use Rattle.image.proofs.elements.Reads as elements-reads
 use Rattle.image.proofs.generators.Reads as generators-reads

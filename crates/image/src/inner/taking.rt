@@ -18,7 +18,7 @@ fn read_row(t: &mut [u32], rows: &[u8], n: u8, room: u32, e: u32, first: u32) ->
     let mut g: u8 = 0;
     let mut count = first;
     while g < n {
-        let v = cells::half(rows, (e as usize) * (n as usize) + (g as usize));
+        let v = cells::inner::half(rows, (e as usize) * (n as usize) + (g as usize));
         let c = reading::inner::place(t, n, room, count, GroupElementId(e), GeneratorId(g), v);
         let Counted::Count(k) = c else {
             return c;

@@ -8,11 +8,11 @@ use Rattle.packed.proofs.inner.check_table.Statement.{statement}
 use Rattle.packed.proofs.inner.check_table.Tie as tie
 use Rattle.packed.proofs.inner.check_table.Reads as reads
 use Rattle.packed.proofs.inner.check_table.Lts as lts
-use Rattle.packed.proofs.checking.fill_inverses.Reads as fill-inverses-reads
-use Rattle.packed.proofs.checking.identity_row.Reads as identity-row-reads
-use Rattle.packed.proofs.checking.inverses_right.Reads as inverses-right-reads
-use Rattle.packed.proofs.checking.missing.Reads as missing-reads
-use Rattle.packed.proofs.checking.wrong.Reads as wrong-reads
+use Rattle.packed.proofs.inner.checking.fill_inverses.Reads as fill-inverses-reads
+use Rattle.packed.proofs.inner.checking.identity_row.Reads as identity-row-reads
+use Rattle.packed.proofs.inner.checking.inverses_right.Reads as inverses-right-reads
+use Rattle.packed.proofs.inner.checking.missing.Reads as missing-reads
+use Rattle.packed.proofs.inner.checking.wrong.Reads as wrong-reads
 
 missing-requires : tie.Need-missing-requires
 missing-requires c κs = search needs

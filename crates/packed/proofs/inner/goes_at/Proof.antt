@@ -12,7 +12,7 @@ use Rattle.packed.proofs.inner.goes_at.Statement.{statement}
 use Rattle.packed.proofs.inner.goes_at.Tie as tie
 use Rattle.packed.proofs.inner.goes_at.Reads as reads
 use Rattle.packed.proofs.inner.goes_at.Lts as lts
-use Rattle.packed.proofs.checking.all_go.Reads as all-go-reads
+use Rattle.packed.proofs.inner.checking.all_go.Reads as all-go-reads
 
 slice-aggregate-all-go : tie.Need-slice-aggregate-all-go
 slice-aggregate-all-go c = sym (length-take-le (c .before .before .args .at) (c .before .before .args .b .now) (c .before .before .pre))

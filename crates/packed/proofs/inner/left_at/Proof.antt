@@ -12,7 +12,7 @@ use Rattle.packed.proofs.inner.left_at.Statement.{statement}
 use Rattle.packed.proofs.inner.left_at.Tie as tie
 use Rattle.packed.proofs.inner.left_at.Reads as reads
 use Rattle.packed.proofs.inner.left_at.Lts as lts
-use Rattle.packed.proofs.checking.left_of.Reads as left-of-reads
+use Rattle.packed.proofs.inner.checking.left_of.Reads as left-of-reads
 
 slice-aggregate-left-of : tie.Need-slice-aggregate-left-of
 slice-aggregate-left-of c = sym (length-take-le (c .before .before .args .at) (c .before .before .args .b .now) (c .before .before .pre))

@@ -5,7 +5,7 @@ use Rattle.packed.proofs.inner.put_work.Statement.{statement}
 use Rattle.packed.proofs.inner.put_work.Tie as tie
 use Rattle.packed.proofs.inner.put_work.Reads as reads
 use Rattle.packed.proofs.inner.put_work.Lts as lts
-use Rattle.cells.proofs.put.Reads as put-reads
+use Rattle.cells.proofs.inner.put.Reads as put-reads
 
 sub-put : tie.Need-sub-put
 sub-put c = search needs

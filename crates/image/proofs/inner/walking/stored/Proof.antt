@@ -6,7 +6,7 @@ use Rattle.image.proofs.inner.walking.stored.Statement.{statement}
 use Rattle.image.proofs.inner.walking.stored.Tie as tie
 use Rattle.image.proofs.inner.walking.stored.Reads as reads
 use Rattle.image.proofs.inner.walking.stored.Lts as lts
-use Rattle.cells.proofs.half.Reads as half-reads
+use Rattle.cells.proofs.inner.half.Reads as half-reads
 
 mul-half : tie.Need-mul-half
 mul-half c = omega (arith, product-small (c .before .args .x) (c .before .args .n) (c .before .fits .x .fits) (omega arith))

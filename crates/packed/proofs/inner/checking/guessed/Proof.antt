@@ -1,0 +1,15 @@
+-- Both tests hold where the answer is true.
+use Rattle.cells.specs.Cells.{cells, halves}
+use borrow.Author.Tests.{eqb-true}
+use Rattle.egg.proofs.Rooms.{false-true}
+use Rattle.packed.proofs.inner.checking.guessed.Statement.{statement}
+use Rattle.packed.proofs.inner.checking.guessed.Tie as tie
+
+returns : tie.Need-returns
+returns c = λ h. absurd (false-true h)
+
+returns-2 : tie.Need-returns-2
+returns-2 c = λ h. ((c .if1 .left), eqb-true _ _ h)
+
+pub guessed-spec : {M : Type 1} → statement M
+guessed-spec = tie.close (tie.spec returns returns-2)

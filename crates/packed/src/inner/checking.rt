@@ -1,0 +1,278 @@
+// Those checks of `checks` that a reading which ended leaves to be made, over lent bytes.
+ghost use mathlib.Core.Path.{_≡_};
+ghost use mathlib.Core.Bool.{true};
+ghost use Prim.Native.Nat.{_+_, _<_, _-_, _≤_};
+ghost use Rattle.egg.specs.Table.{stillLeft};
+ghost use Rattle.checks.specs.Checks.{missingRow, missing, wrongAt, wrongRow, wrong, invertFrom, invertOf, fillInverses, inversesRight, identityRow, leftOf, goesRow, allGo};
+ghost use Rattle.checks.specs.Undoing.{undoneRest};
+ghost use Rattle.cells.specs.Cells.{cells};
+use super::table;
+use checks::inner::Undone;
+use egg::GeneratorId;
+use egg::GroupElementId;
+use egg::Verdict;
+
+// 8 in one row: the first generator whose number, from `shift` on, is not known.
+pub fn missing_row(t: &[u8], n: u8, shift: u8, e: GroupElementId) -> Verdict
+    ensures { λ r. ⌜ r ≡ missingRow (cells (now (t .entry))) n shift (e .0) ⌝ }
+{
+    let mut g: u8 = 0;
+    while g < n {
+        if table::cell(t, n, e, shift, g as u32) == 0 {
+            return egg::inner::refused(8, e.0, g as u32, 0);
+        }
+        g += 1;
+    }
+    Verdict::Fine
+}
+
+pub fn missing(t: &[u8], n: u8, count: u32, shift: u8) -> Verdict
+    ensures { λ r. ⌜ r ≡ missing (cells (now (t .entry))) n count shift ⌝ }
+{
+    let mut e: u32 = 0;
+    while e < count {
+        let v = missing_row(t, n, shift, GroupElementId(e));
+        let Verdict::Fine = v else {
+            return v;
+        };
+        e += 1;
+    }
+    Verdict::Fine
+}
+
+// 9 at one place (003): a step that stays, or that only the identity may have.
+pub fn wrong_at(t: &[u8], n: u8, e: GroupElementId, g: GeneratorId) -> Verdict
+    ensures { λ r. ⌜ r ≡ wrongAt (cells (now (t .entry))) n (e .0) (g .0) ⌝ }
+{
+    let r = table::step(t, n, e, g);
+    if r.0 == e.0 {
+        return egg::inner::refused(9, e.0, g.0 as u32, 0);
+    }
+    if e.0 == 0 {
+        return Verdict::Fine;
+    }
+    if r.0 == table::step(t, n, GroupElementId(0), g).0 {
+        return egg::inner::refused(9, e.0, g.0 as u32, 0);
+    }
+    Verdict::Fine
+}
+
+pub fn wrong_row(t: &[u8], n: u8, e: GroupElementId) -> Verdict
+    ensures { λ r. ⌜ r ≡ wrongRow (cells (now (t .entry))) n (e .0) ⌝ }
+{
+    let mut g: u8 = 0;
+    while g < n {
+        let v = wrong_at(t, n, e, GeneratorId(g));
+        let Verdict::Fine = v else {
+            return v;
+        };
+        g += 1;
+    }
+    Verdict::Fine
+}
+
+pub fn wrong(t: &[u8], n: u8, count: u32) -> Verdict
+    ensures { λ r. ⌜ r ≡ wrong (cells (now (t .entry))) n count ⌝ }
+{
+    let mut e: u32 = 0;
+    while e < count {
+        let v = wrong_row(t, n, GroupElementId(e));
+        let Verdict::Fine = v else {
+            return v;
+        };
+        e += 1;
+    }
+    Verdict::Fine
+}
+
+pub fn guessed(x: u32, on: u32, at: u32, down: u32) -> bool
+    ensures { λ r. ⌜ (r ≡ true → (x ≡ on) × (at ≡ down)) ⌝ }
+{
+    if x != on {
+        return false;
+    }
+    at == down
+}
+
+// Two letters a turn, as long as they lead `jump` numbers on and `fall` numbers back: round a long relation they do, and a
+// processor that has the guess need not wait for the cells.
+pub fn undo_leg(
+    t: &[u8],
+    n: u8,
+    from: GroupElementId,
+    word: GroupElementId,
+    letters: u32,
+    jump: u32,
+    fall: u32,
+) -> Undone
+    ensures { λ r. ⌜ (undoneRest (cells (now (t .entry))) n r ≡ invertFrom letters (cells (now (t .entry))) n (word .0) (from .0)) × (stillLeft (r .more) (r .left) ≤ letters) ⌝ }
+{
+    let mut x = from.0;
+    let mut at = word.0;
+    let mut left = letters;
+    while 1 < left {
+        let on = std::num::wrapping_add_u32(x, jump);
+        let down = std::num::wrapping_sub_u32(at, fall);
+        let y = table::back_last(t, n, GroupElementId(x), GroupElementId(at));
+        let p = table::parent(t, n, GroupElementId(at));
+        let z = table::back_last(t, n, y, GroupElementId(p));
+        let q = table::parent(t, n, GroupElementId(p));
+        left -= 2;
+        if !guessed(z.0, on, q, down) {
+            return Undone {
+                reached: z,
+                at: GroupElementId(q),
+                left,
+                jump: std::num::wrapping_sub_u32(z.0, x),
+                fall: std::num::wrapping_sub_u32(at, q),
+                more: true,
+            };
+        }
+        x = on;
+        at = down;
+    }
+    Undone {
+        reached: GroupElementId(x),
+        at: GroupElementId(at),
+        left,
+        jump,
+        fall,
+        more: false,
+    }
+}
+
+// The most of a long word, leg by leg. In a short one guesses fail too often.
+pub fn undo(t: &[u8], n: u8, e: GroupElementId, letters: u32) -> Undone
+    ensures { λ r. ⌜ undoneRest (cells (now (t .entry))) n r ≡ invertFrom letters (cells (now (t .entry))) n (e .0) 0 ⌝ }
+{
+    let mut x = 0;
+    let mut at = e.0;
+    let mut left = letters;
+    let mut jump = 0;
+    let mut fall = 0;
+    let mut more = 64 < letters;
+    while more {
+        let leg = undo_leg(
+            t,
+            n,
+            GroupElementId(x),
+            GroupElementId(at),
+            left,
+            jump,
+            fall,
+        );
+        x = leg.reached.0;
+        at = leg.at.0;
+        left = leg.left;
+        jump = leg.jump;
+        fall = leg.fall;
+        more = leg.more;
+    }
+    Undone {
+        reached: GroupElementId(x),
+        at: GroupElementId(at),
+        left,
+        jump,
+        fall,
+        more,
+    }
+}
+
+// The inverse of e: its reversed word through predecessors, from the identity (002).
+pub fn invert(t: &[u8], n: u8, e: GroupElementId) -> GroupElementId
+    ensures { λ r. ⌜ r .0 ≡ invertOf (cells (now (t .entry))) n (e .0) ⌝ }
+{
+    let rest = undo(t, n, e, table::word_length(t, n, e));
+    let mut x = rest.reached.0;
+    let mut at = rest.at.0;
+    let mut left = rest.left;
+    while 0 < left {
+        x = table::back_last(t, n, GroupElementId(x), GroupElementId(at)).0;
+        at = table::parent(t, n, GroupElementId(at));
+        left -= 1;
+    }
+    GroupElementId(x)
+}
+
+pub fn fill_inverses(t: &mut [u8], n: u8, count: u32)
+    ensures { λ r. ⌜ cells (now (t .exit)) ≡ fillInverses count (cells (now (t .entry))) n 0 ⌝ }
+{
+    let mut e: u32 = 0;
+    while e < count {
+        let x = invert(&t[..], n, GroupElementId(e)).0;
+        cells::inner::put(t, egg::inner::inverse_at(n, GroupElementId(e)), x as usize);
+        e += 1;
+    }
+}
+
+// 10: the inverse of the inverse.
+pub fn inverses_right(t: &[u8], n: u8, count: u32) -> Verdict
+    ensures { λ r. ⌜ r ≡ inversesRight (cells (now (t .entry))) n count ⌝ }
+{
+    let mut e: u32 = 0;
+    while e < count {
+        let i = cells::inner::get(t, egg::inner::inverse_at(n, GroupElementId(e)));
+        let j = cells::inner::get(t, egg::inner::inverse_at(n, GroupElementId(i)));
+        if j != e {
+            return egg::inner::refused(10, e, i, j);
+        }
+        e += 1;
+    }
+    Verdict::Fine
+}
+
+// 11: the identity row is 1..n.
+pub fn identity_row(t: &[u8], n: u8) -> Verdict
+    ensures { λ r. ⌜ r ≡ identityRow (cells (now (t .entry))) n ⌝ }
+{
+    let mut g: u8 = 0;
+    while g < n {
+        if table::step(t, n, GroupElementId(0), GeneratorId(g)).0 != (g as u32) + 1 {
+            return egg::inner::refused(11, g as u32, 0, 0);
+        }
+        g += 1;
+    }
+    Verdict::Fine
+}
+
+// What generator s on the left makes of x, where the work has it for the elements before x.
+pub fn left_of(t: &[u8], w: &[u8], n: u8, s: GeneratorId, x: GroupElementId) -> GroupElementId
+    ensures { λ r. ⌜ r .0 ≡ leftOf (cells (now (t .entry))) n (s .0) (cells (now (w .entry))) (x .0) ⌝ }
+{
+    if 0 < x.0 {
+        let p = table::parent(t, n, x);
+        let from = cells::inner::get(w, p as usize);
+        return table::step_last(t, n, GroupElementId(from), x);
+    }
+    table::step(t, n, GroupElementId(0), s)
+}
+
+// 12, last part: multiplication on the left commutes with every step from x.
+pub fn goes_row(t: &[u8], w: &[u8], n: u8, x: GroupElementId) -> Verdict
+    ensures { λ r. ⌜ r ≡ goesRow (cells (now (t .entry))) (cells (now (w .entry))) n (x .0) ⌝ }
+{
+    let left = GroupElementId(cells::inner::get(w, x.0 as usize));
+    let mut g: u8 = 0;
+    while g < n {
+        let y = table::step(t, n, x, GeneratorId(g)).0;
+        if cells::inner::get(w, y as usize) != table::step(t, n, left, GeneratorId(g)).0 {
+            return egg::inner::refused(12, 0, 0, 0);
+        }
+        g += 1;
+    }
+    Verdict::Fine
+}
+
+pub fn all_go(t: &[u8], w: &[u8], n: u8, count: u32) -> Verdict
+    ensures { λ r. ⌜ r ≡ allGo (cells (now (t .entry))) (cells (now (w .entry))) n count ⌝ }
+{
+    let mut x: u32 = 0;
+    while x < count {
+        let v = goes_row(t, w, n, GroupElementId(x));
+        let Verdict::Fine = v else {
+            return v;
+        };
+        x += 1;
+    }
+    Verdict::Fine
+}
