@@ -3,6 +3,7 @@ ghost use mathlib.Core.Path.{_≡_};
 ghost use lib.ListN.{length};
 ghost use Rattle.image.specs.Image.{imageNumber, imageWork};
 ghost use Rattle.image.specs.Walked.{walkNumber};
+use egg::GroupElementId;
 
 // Checks an image in lent bytes: the refusal's number, or 0.
 #[no_mangle]
@@ -17,5 +18,5 @@ pub extern "C" fn hg_image_check(image: &[u8], work: &mut [u8]) -> u32
 pub extern "C" fn hg_image_walk(image: &[u8], start: u32, word: &[u8]) -> u32
     ensures { λ r. ⌜ r ≡ walkNumber (now (image .entry)) start (now (word .entry)) ⌝ }
 {
-    image::walk(image, start, word)
+    image::walk(image, GroupElementId(start), word)
 }

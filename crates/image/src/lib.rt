@@ -14,6 +14,7 @@ use self::inner::walking;
 use self::inner::writing;
 use egg::Counted;
 use egg::Factor;
+use egg::GroupElementId;
 use egg::Made;
 use egg::Refusal;
 use egg::Verdict;
@@ -204,8 +205,8 @@ pub fn read(image: &[u8], table: &mut [u32], start: usize, work: &mut [u32]) -> 
 }
 
 // Walks a word of generators from an element: the element reached, or 65,536 + the refusal's number.
-pub fn walk(image: &[u8], start: u32, word: &[u8]) -> u32
-    ensures { λ r. ⌜ r ≡ walkNumber (now (image .entry)) start (now (word .entry)) ⌝ }
+pub fn walk(image: &[u8], start: GroupElementId, word: &[u8]) -> u32
+    ensures { λ r. ⌜ r ≡ walkNumber (now (image .entry)) (start .0) (now (word .entry)) ⌝ }
 {
     let found = head(image);
     if found != 0 {
@@ -213,7 +214,8 @@ pub fn walk(image: &[u8], start: u32, word: &[u8]) -> u32
     }
     let n = generators(image);
     let count = elements(image);
-    if count <= start {
+    let from = start.0;
+    if count <= from {
         return 65550;
     }
     if !walking::letters_below(n, word) {

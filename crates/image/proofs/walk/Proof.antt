@@ -23,7 +23,7 @@ add-result : tie.Need-add-result
 add-result c = omega (arith, head-limit (c .before .before .before .before .args .image .now), (c .before .head .ensures))
 
 returns : tie.Need-returns
-returns c = walk-head (c .before .before .before .before .args .image .now) (c .before .before .before .before .args .start) (c .before .before .before .before .args .word .now) (c .before .head .ensures) (c .if1 .taken)
+returns c = walk-head (c .before .before .before .before .args .image .now) (c .before .before .before .before .args .start .0) (c .before .before .before .before .args .word .now) (c .before .head .ensures) (c .if1 .taken)
 
 generators-requires : tie.Need-generators-requires
 generators-requires c κs = search needs
@@ -32,13 +32,13 @@ elements-requires : tie.Need-elements-requires
 elements-requires c κs = search needs
 
 returns-2 : tie.Need-returns-2
-returns-2 c = walk-start (c .before .before .before .before .before .before .before .args .image .now) (c .before .before .before .before .before .before .before .args .start) (c .before .before .before .before .before .before .before .args .word .now) (c .before .before .before .before .head .ensures) (c .before .before .before .if1 .left) (c .before .before .generators .ensures) (c .before .elements .ensures .at) (c .if2 .taken)
+returns-2 c = walk-start (c .before .before .before .before .before .before .before .args .image .now) (c .before .before .before .before .before .before .before .args .start .0) (c .before .before .before .before .before .before .before .args .word .now) (c .before .before .before .before .head .ensures) (c .before .before .before .if1 .left) (c .before .before .generators .ensures) (c .before .elements .ensures .at) (c .if2 .taken)
 
 letters-below-requires : tie.Need-letters-below-requires
 letters-below-requires c κs = search needs
 
 returns-3 : tie.Need-returns-3
-returns-3 c = walk-letter (c .before .before .before .before .before .before .before .before .before .args .image .now) (c .before .before .before .before .before .before .before .before .before .args .start) (c .before .before .before .before .before .before .before .before .before .args .word .now) (c .before .before .before .before .before .before .head .ensures) (c .before .before .before .before .before .if1 .left) (c .before .before .before .before .generators .ensures) (c .before .before .before .elements .ensures .at) (c .before .before .if2 .left) (sym (c .before .letters-below .ensures) ∙ not-true _ (c .if3 .taken))
+returns-3 c = walk-letter (c .before .before .before .before .before .before .before .before .before .args .image .now) (c .before .before .before .before .before .before .before .before .before .args .start .0) (c .before .before .before .before .before .before .before .before .before .args .word .now) (c .before .before .before .before .before .before .head .ensures) (c .before .before .before .before .before .if1 .left) (c .before .before .before .before .generators .ensures) (c .before .before .before .elements .ensures .at) (c .before .before .if2 .left) (sym (c .before .letters-below .ensures) ∙ not-true _ (c .if3 .taken))
 
 sub-follow : tie.Need-sub-follow
 sub-follow c = omega (arith, whole-image (c .before .before .before .before .before .before .before .before .before .args .image .now) (c .before .before .before .before .before .before .head .ensures) (c .before .before .before .before .before .if1 .left))
@@ -53,7 +53,7 @@ follow-requires : tie.Need-follow-requires
 follow-requires c κs = search needs
 
 returns-4 : tie.Need-returns-4
-returns-4 c = walk-follows (c .before .before .before .before .before .before .before .before .before .before .before .args .image .now) (c .before .before .before .before .before .before .before .before .before .before .before .args .start) (c .before .before .before .before .before .before .before .before .before .before .before .args .word .now) (c .before .before .before .before .before .before .before .before .head .ensures) (c .before .before .before .before .before .before .before .if1 .left) (c .before .before .before .before .before .before .generators .ensures) (c .before .before .before .before .before .elements .ensures .at) (c .before .before .before .before .if2 .left) (sym (c .before .before .before .letters-below .ensures) ∙ not-false _ (c .before .before .if3 .left)) (c .follow .ensures)
+returns-4 c = walk-follows (c .before .before .before .before .before .before .before .before .before .before .before .args .image .now) (c .before .before .before .before .before .before .before .before .before .before .before .args .start .0) (c .before .before .before .before .before .before .before .before .before .before .before .args .word .now) (c .before .before .before .before .before .before .before .before .head .ensures) (c .before .before .before .before .before .before .before .if1 .left) (c .before .before .before .before .before .before .generators .ensures) (c .before .before .before .before .before .elements .ensures .at) (c .before .before .before .before .if2 .left) (sym (c .before .before .before .letters-below .ensures) ∙ not-false _ (c .before .before .if3 .left)) (c .follow .ensures)
 
 pub walk-spec : {M : Type 1} → statement M
 walk-spec =

@@ -12,14 +12,15 @@ use egg::GeneratorId;
 use egg::GroupElementId;
 use egg::Refusal;
 
-fn read_row(t: &mut [u32], rows: &[u8], n: u8, room: u32, e: u32, first: u32) -> Counted
-    ensures { λ r. ⌜ Placed.placed r (now (t .exit)) ≡ readRow n (composedAt (halves (now (rows .entry))) n) n room e 0 first (now (t .entry)) ⌝ }
+fn read_row(t: &mut [u32], rows: &[u8], n: u8, room: u32, e: GroupElementId, first: u32) -> Counted
+    ensures { λ r. ⌜ Placed.placed r (now (t .exit)) ≡ readRow n (composedAt (halves (now (rows .entry))) n) n room (e .0) 0 first (now (t .entry)) ⌝ }
 {
+    let row = e.0;
     let mut g: u8 = 0;
     let mut count = first;
     while g < n {
-        let v = cells::inner::half(rows, (e as usize) * (n as usize) + (g as usize));
-        let c = reading::inner::place(t, n, room, count, GroupElementId(e), GeneratorId(g), v);
+        let v = cells::inner::half(rows, (row as usize) * (n as usize) + (g as usize));
+        let c = reading::inner::place(t, n, room, count, e, GeneratorId(g), v);
         let Counted::Count(k) = c else {
             return c;
         };
@@ -39,7 +40,7 @@ fn read_rows(t: &mut [u32], rows: &[u8], n: u8, room: u32) -> Counted
         if count <= e {
             return Counted::Count(count);
         }
-        let c = read_row(t, rows, n, room, e, count);
+        let c = read_row(t, rows, n, room, GroupElementId(e), count);
         let Counted::Count(k) = c else {
             return c;
         };

@@ -13,16 +13,16 @@ use Rattle.image.proofs.inner.walking.follow.Lts as lts
 use Rattle.image.proofs.inner.walking.stored.Reads as stored-reads
 
 abbrev Inv-loop : tie.InvT-loop
-Inv-loop rows n count start word x₀ i₀ x i = follow (halves rows) n count x (drop i word) ≡ follow (halves rows) n count start word
+Inv-loop rows n count word x₀ i₀ x i = follow (halves rows) n count x (drop i word) ≡ follow (halves rows) n count x₀ word
 
 abbrev μ-loop : tie.MeasureT-loop
-μ-loop rows n count start word x₀ i₀ x i = length word - i
+μ-loop rows n count word x₀ i₀ x i = length word - i
 
 loop-holds : tie.Need-loop-holds Inv-loop μ-loop
 loop-holds c = refl
 
-shared-slice-read-stored : tie.Need-shared-slice-read-stored Inv-loop μ-loop
-shared-slice-read-stored c = search needs
+shared-slice-read-g : tie.Need-shared-slice-read-g Inv-loop μ-loop
+shared-slice-read-g c = search needs
 
 stored-requires : tie.Need-stored-requires Inv-loop μ-loop
 stored-requires c κs = search needs
@@ -49,7 +49,7 @@ follow-spec =
     Inv-loop
     μ-loop
     loop-holds
-    shared-slice-read-stored
+    shared-slice-read-g
     stored-requires
     returns
     add-i

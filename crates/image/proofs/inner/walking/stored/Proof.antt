@@ -8,11 +8,17 @@ use Rattle.image.proofs.inner.walking.stored.Reads as reads
 use Rattle.image.proofs.inner.walking.stored.Lts as lts
 use Rattle.cells.proofs.inner.half.Reads as half-reads
 
+cast-half : tie.Need-cast-half
+cast-half c = search needs
+
 mul-half : tie.Need-mul-half
-mul-half c = omega (arith, product-small (c .before .args .x) (c .before .args .n) (c .before .fits .x .fits) (omega arith))
+mul-half c = omega (arith, product-small (c .before .args .e .0) (c .before .args .n) (search needs) (omega arith))
+
+cast-half-2 : tie.Need-cast-half-2
+cast-half-2 c = search needs
 
 add-half : tie.Need-add-half
-add-half c = omega (arith, product-small (c .before .args .x) (c .before .args .n) (c .before .fits .x .fits) (omega arith))
+add-half c = omega (arith, product-small (c .before .args .e .0) (c .before .args .n) (search needs) (omega arith))
 
 half-requires : tie.Need-half-requires
 half-requires c κs = search needs
@@ -21,4 +27,4 @@ returns : tie.Need-returns
 returns c = search needs
 
 pub stored-spec : {M : Type 1} → statement M
-stored-spec = tie.close (tie.spec mul-half add-half half-requires returns)
+stored-spec = tie.close (tie.spec cast-half mul-half cast-half-2 add-half half-requires returns)
