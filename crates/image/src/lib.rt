@@ -1,10 +1,8 @@
 // A stored image: its head; written from a factor, read back, checked in lent bytes, and walked.
 ghost use mathlib.Core.Path.{_≡_};
-ghost use mathlib.Core.Bool.{true};
 ghost use Prim.Native.Nat.{_*_, _≤_};
 ghost use lib.ListN.{length, getD};
 ghost use Rattle.builder.specs.Lending.{tableNeed, Making};
-ghost use Rattle.egg.specs.Factor.{stretch};
 ghost use Rattle.image.specs.Written.{imageSize, writeCount, writtenImage};
 ghost use Rattle.image.specs.Read.{headPlace, readImage};
 ghost use Rattle.image.specs.Walked.{walkNumber};

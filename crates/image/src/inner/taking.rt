@@ -1,6 +1,5 @@
 // A build from an image's successors, two bytes each.
 ghost use mathlib.Core.Path.{_≡_};
-ghost use Prim.Native.Nat.{_+_, _*_};
 ghost use lib.ListN.{length};
 ghost use Rattle.builder.specs.Finish.{Built};
 ghost use Rattle.reading.specs.Reading.{Placed, readRow, readAll};

@@ -1,6 +1,6 @@
 // An image's bytes, stored from a factor's stretch.
 ghost use mathlib.Core.Path.{_≡_};
-ghost use Prim.Native.Nat.{_+_, _*_, _≤_};
+ghost use Prim.Native.Nat.{_+_, _≤_};
 ghost use lib.ListN.{set};
 ghost use Rattle.egg.specs.Table.{stepOf};
 ghost use Rattle.egg.specs.Factor.{readStep};

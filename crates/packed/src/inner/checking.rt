@@ -1,7 +1,7 @@
 // Those checks of `checks` that a reading which ended leaves to be made, over lent bytes.
 ghost use mathlib.Core.Path.{_≡_};
 ghost use mathlib.Core.Bool.{true};
-ghost use Prim.Native.Nat.{_+_, _<_, _-_, _≤_};
+ghost use Prim.Native.Nat.{_≤_};
 ghost use Rattle.egg.specs.Table.{stillLeft};
 ghost use Rattle.checks.specs.Checks.{missingRow, missing, wrongAt, wrongRow, wrong, invertFrom, invertOf, fillInverses, inversesRight, identityRow, leftOf, goesRow, allGo};
 ghost use Rattle.checks.specs.Undoing.{undoneRest};
@@ -13,7 +13,7 @@ use egg::GroupElementId;
 use egg::Verdict;
 
 // 8 in one row: the first generator whose number, from `shift` on, is not known.
-pub fn missing_row(t: &[u8], n: u8, shift: u8, e: GroupElementId) -> Verdict
+fn missing_row(t: &[u8], n: u8, shift: u8, e: GroupElementId) -> Verdict
     ensures { λ r. ⌜ r ≡ missingRow (cells (now (t .entry))) n shift (e .0) ⌝ }
 {
     let mut g: u8 = 0;
@@ -41,7 +41,7 @@ pub fn missing(t: &[u8], n: u8, count: u32, shift: u8) -> Verdict
 }
 
 // 9 at one place (003): a step that stays, or that only the identity may have.
-pub fn wrong_at(t: &[u8], n: u8, e: GroupElementId, g: GeneratorId) -> Verdict
+fn wrong_at(t: &[u8], n: u8, e: GroupElementId, g: GeneratorId) -> Verdict
     ensures { λ r. ⌜ r ≡ wrongAt (cells (now (t .entry))) n (e .0) (g .0) ⌝ }
 {
     let r = table::step(t, n, e, g);
@@ -57,7 +57,7 @@ pub fn wrong_at(t: &[u8], n: u8, e: GroupElementId, g: GeneratorId) -> Verdict
     Verdict::Fine
 }
 
-pub fn wrong_row(t: &[u8], n: u8, e: GroupElementId) -> Verdict
+fn wrong_row(t: &[u8], n: u8, e: GroupElementId) -> Verdict
     ensures { λ r. ⌜ r ≡ wrongRow (cells (now (t .entry))) n (e .0) ⌝ }
 {
     let mut g: u8 = 0;
@@ -85,7 +85,7 @@ pub fn wrong(t: &[u8], n: u8, count: u32) -> Verdict
     Verdict::Fine
 }
 
-pub fn guessed(x: u32, on: u32, at: u32, down: u32) -> bool
+fn guessed(x: u32, on: u32, at: u32, down: u32) -> bool
     ensures { λ r. ⌜ (r ≡ true → (x ≡ on) × (at ≡ down)) ⌝ }
 {
     if x != on {
@@ -96,7 +96,7 @@ pub fn guessed(x: u32, on: u32, at: u32, down: u32) -> bool
 
 // Two letters a turn, as long as they lead `jump` numbers on and `fall` numbers back: round a long relation they do, and a
 // processor that has the guess need not wait for the cells.
-pub fn undo_leg(
+fn undo_leg(
     t: &[u8],
     n: u8,
     from: GroupElementId,
@@ -142,7 +142,7 @@ pub fn undo_leg(
 }
 
 // The most of a long word, leg by leg. In a short one guesses fail too often.
-pub fn undo(t: &[u8], n: u8, e: GroupElementId, letters: u32) -> Undone
+fn undo(t: &[u8], n: u8, e: GroupElementId, letters: u32) -> Undone
     ensures { λ r. ⌜ undoneRest (cells (now (t .entry))) n r ≡ invertFrom letters (cells (now (t .entry))) n (e .0) 0 ⌝ }
 {
     let mut x = 0;
@@ -179,7 +179,7 @@ pub fn undo(t: &[u8], n: u8, e: GroupElementId, letters: u32) -> Undone
 }
 
 // The inverse of e: its reversed word through predecessors, from the identity (002).
-pub fn invert(t: &[u8], n: u8, e: GroupElementId) -> GroupElementId
+fn invert(t: &[u8], n: u8, e: GroupElementId) -> GroupElementId
     ensures { λ r. ⌜ r .0 ≡ invertOf (cells (now (t .entry))) n (e .0) ⌝ }
 {
     let rest = undo(t, n, e, table::word_length(t, n, e));
@@ -248,7 +248,7 @@ pub fn left_of(t: &[u8], w: &[u8], n: u8, s: GeneratorId, x: GroupElementId) -> 
 }
 
 // 12, last part: multiplication on the left commutes with every step from x.
-pub fn goes_row(t: &[u8], w: &[u8], n: u8, x: GroupElementId) -> Verdict
+fn goes_row(t: &[u8], w: &[u8], n: u8, x: GroupElementId) -> Verdict
     ensures { λ r. ⌜ r ≡ goesRow (cells (now (t .entry))) (cells (now (w .entry))) n (x .0) ⌝ }
 {
     let left = GroupElementId(cells::inner::get(w, x.0 as usize));

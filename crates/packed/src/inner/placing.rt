@@ -1,7 +1,5 @@
 // The reading of `factor` over lent bytes; the composed numbers are two bytes each, as an image has them.
 ghost use mathlib.Core.Path.{_≡_};
-ghost use Prim.Native.Nat.{_+_, _*_, _<_, _-_};
-ghost use Rattle.egg.specs.declared.Counted.the-variants.{Count};
 ghost use Rattle.reading.specs.Reading.{Placed, readPlace, readRow, readAll};
 ghost use Rattle.factor.specs.Composed.{composedAt};
 ghost use Rattle.cells.specs.Cells.{cells, halves};
@@ -13,7 +11,7 @@ use egg::Reached;
 use egg::Refusal;
 
 // One place of a reading, whatever the numbers come from: 7, then 5, then 6.
-pub fn place(
+fn place(
     t: &mut [u8],
     n: u8,
     room: u32,
@@ -44,14 +42,7 @@ pub fn place(
     }
 }
 
-pub fn read_row(
-    t: &mut [u8],
-    rows: &[u8],
-    n: u8,
-    room: u32,
-    e: GroupElementId,
-    first: u32,
-) -> Counted
+fn read_row(t: &mut [u8], rows: &[u8], n: u8, room: u32, e: GroupElementId, first: u32) -> Counted
     ensures { λ r. ⌜ Placed.placed r (cells (now (t .exit))) ≡ readRow n (composedAt (halves (now (rows .entry))) n) n room (e .0) 0 first (cells (now (t .entry))) ⌝ }
 {
     let row = e.0;

@@ -1,10 +1,9 @@
 // The cells of `egg` and the stores of `builder` over lent bytes, four to a cell: the same definitions, of `cells` of the bytes.
 ghost use mathlib.Core.Path.{_≡_};
-ghost use Prim.Native.Nat.{_+_, _*_, _-_};
+ghost use Prim.Native.Nat.{_+_, _*_};
 ghost use lib.ListN.{getD};
 ghost use Rattle.egg.specs.Table.{startOf, lastOf, stepOf, backOf};
 ghost use Rattle.reading.specs.Build.{isNew, setStep, setWord, adds};
-ghost use Rattle.checks.specs.Checks.{missing};
 ghost use Rattle.cells.specs.Cells.{cells};
 use egg::GeneratorId;
 use egg::GroupElementId;
@@ -32,7 +31,7 @@ pub fn parent(t: &[u8], n: u8, e: GroupElementId) -> u32
     cells::inner::get(t, egg::inner::start(n, e) + 2 * (n as usize))
 }
 
-pub fn last(t: &[u8], n: u8, e: GroupElementId) -> u32
+fn last(t: &[u8], n: u8, e: GroupElementId) -> u32
     ensures { λ r. ⌜ r ≡ getD (cells (now (t .entry))) (startOf n (e .0) + 2 * n + 1) 0 ⌝ }
 {
     cells::inner::get(t, egg::inner::start(n, e) + 2 * (n as usize) + 1)
@@ -78,7 +77,7 @@ pub fn set_successor(
 }
 
 // Records the word of a new element: its parent's word and one generator.
-pub fn record_word(
+fn record_word(
     t: &mut [u8],
     n: u8,
     new: GroupElementId,
