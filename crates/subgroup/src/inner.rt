@@ -28,7 +28,6 @@ use egg::Reached;
 use egg::Refusal;
 use egg::Verdict;
 use group::Group;
-use group::inner::Asked;
 
 // A length or a position as far as 32 bits can tell.
 pub fn shown(i: usize) -> u32
@@ -90,25 +89,27 @@ fn product_row(
     gens: &[u32],
     n: u8,
     room: u32,
-    e: u32,
+    e: GroupElementId,
     first: u32,
 ) -> Counted
     requires { ⌜ (allFit (length (now from)) (handles over) ≡ true) × (elementsOf (handles over) ≤ 4294967295) ⌝ }
-    ensures { λ r. ⌜ Mapped.mapped (Placed.placed r (now (t .exit))) (now (inn .exit)) (now (outw .exit)) ≡ mapRow n (productOf (now (from .entry)) (handles over) (now (gens .entry))) n room e 0 first (now (t .entry)) (now (inn .entry)) (now (outw .entry)) ⌝ }
+    ensures { λ r. ⌜ Mapped.mapped (Placed.placed r (now (t .exit))) (now (inn .exit)) (now (outw .exit)) ≡ mapRow n (productOf (now (from .entry)) (handles over) (now (gens .entry))) n room (e .0) 0 first (now (t .entry)) (now (inn .entry)) (now (outw .entry)) ⌝ }
 {
+    let row = e.0;
     let mut g: u8 = 0;
     let mut count = first;
     while g < n {
-        let at = egg::inner::get(&outw[..], e as usize);
+        let at = egg::inner::get(&outw[..], row as usize);
         let by = egg::inner::get(gens, g as usize);
-        let reached = group::inner::digitwise(from, over, Asked::Compose, at, by);
+        let reached =
+            group::inner::compose_digits(from, over, GroupElementId(at), GroupElementId(by));
         let x = match reached {
             Reached::Refused(why) => {
                 return Counted::Refused(why);
             }
-            Reached::Element(y) => y.0,
+            Reached::Element(y) => y,
         };
-        let c = appearance::place(t, inn, outw, n, room, count, e, g, x);
+        let c = appearance::inner::place(t, inn, outw, n, room, count, e, GeneratorId(g), x);
         let Counted::Count(k) = c else {
             return c;
         };
@@ -138,7 +139,7 @@ fn product_rows(
         if count <= e {
             return Counted::Count(count);
         }
-        let c = product_row(t, inn, outw, from, over, gens, n, room, e, count);
+        let c = product_row(t, inn, outw, from, over, gens, n, room, GroupElementId(e), count);
         let Counted::Count(k) = c else {
             return c;
         };
@@ -164,10 +165,10 @@ pub fn generated_in(
     ensures { λ r. ⌜ Renumbering.renumbering (Built.built r (now (t .exit)) (now (w .exit))) (now (inn .exit)) (now (outw .exit)) ≡ renumberIn (length (now (t .entry))) (now (w .entry)) (productOf (now (from .entry)) (handles over) (now (gens .entry))) n room (length (now (inn .entry))) (length (now (outw .entry))) 0 ⌝ }
 {
     egg::inner::clear(t);
-    appearance::start(inn, outw, 0);
+    appearance::inner::start(inn, outw, GroupElementId(0));
     let read = product_rows(t, inn, outw, from, over, gens, n, room);
     let made = builder::inner::finish(t, w, n, read);
-    appearance::settle(inn, outw, made)
+    appearance::inner::settle(inn, outw, made)
 }
 
 // The value that goes with what was made, or refused.
@@ -215,6 +216,40 @@ pub fn maps_right(
     (room as usize) <= outw
 }
 
+// The build in the parts of the four buffers that it needs, which are long enough.
+fn generated_at(
+    from: &[u32],
+    over: Group,
+    gens: &[u32],
+    table: &mut [u32],
+    start: usize,
+    work: &mut [u32],
+    inn: &mut [u32],
+    outw: &mut [u32],
+    room: u32,
+) -> Subgrouped
+    requires { ⌜ ((allFit (length (now from)) (handles over) ≡ true) × (elementsOf (handles over) ≤ 65535)) × ((length (now gens) ≤ 8) × (mapsRight (length (now table)) start (length (now work)) (length (now inn)) (length (now outw)) room (length (now gens)) (elementsOf (handles over)) ≡ true)) ⌝ }
+    ensures { λ r. ⌜ Subgrouping.subgrouping r (now (table .exit)) (now (work .exit)) (now (inn .exit)) (now (outw .exit)) ≡ generatedInto (now (from .entry)) over (now (gens .entry)) (now (table .entry)) start (now (work .entry)) (now (inn .entry)) (now (outw .entry)) room ⌝ }
+{
+    let n = gens.len() as u8;
+    let m = group::inner::elements_of(over) as usize;
+    let r = room as usize;
+    let end = builder::inner::stretch_end(table.len(), start, room, n);
+    let need = builder::inner::work_need(n, room);
+    let count = generated_in(
+        &mut table[start..end],
+        &mut work[..need],
+        &mut inn[..m],
+        &mut outw[..r],
+        from,
+        over,
+        gens,
+        n,
+        room,
+    );
+    subgroup_of(over, builder::inner::made(start, room, n, count))
+}
+
 // 1, then 4; then the build.
 pub fn generated_into(
     from: &[u32],
@@ -234,9 +269,7 @@ pub fn generated_into(
     if 8 < k {
         return subgroup_of(over, builder::inner::refused_made(1, shown(k)));
     }
-    let n = k as u8;
-    let m = group::inner::elements_of(over) as usize;
-    let r = room as usize;
+    let m = group::inner::elements_of(over);
     if !maps_right(
         table.len(),
         start,
@@ -244,25 +277,12 @@ pub fn generated_into(
         inn.len(),
         outw.len(),
         room,
-        n,
-        m as u64,
+        k as u8,
+        m,
     ) {
         return subgroup_of(over, builder::inner::refused_made(4, 0));
     }
-    let end = builder::inner::stretch_end(table.len(), start, room, n);
-    let need = builder::inner::work_need(n, room);
-    let count = generated_in(
-        &mut table[start..end],
-        &mut work[..need],
-        &mut inn[..m],
-        &mut outw[..r],
-        from,
-        over,
-        gens,
-        n,
-        room,
-    );
-    subgroup_of(over, builder::inner::made(start, room, n, count))
+    generated_at(from, over, gens, table, start, work, inn, outw, room)
 }
 
 // p·q as far as 32 bits can tell.
@@ -477,18 +497,19 @@ pub fn right_of(s: Subgroup, g: Group) -> Subgrouped
 }
 
 // x with w for its part within, where the factors there have n elements and are to have m.
-fn replaced(x: u32, stride: u64, n: u64, w: u32, m: u64) -> u32
-    requires { ⌜ (1 ≤ stride) × ((1 ≤ n) × (unfactorIndices (withWithin (factorIndices x stride n) w) stride m < 4294967296)) ⌝ }
-    ensures { λ r. ⌜ r ≡ unfactorIndices (withWithin (factorIndices x stride n) w) stride m ⌝ }
+fn replaced(x: GroupElementId, stride: u64, n: u64, w: u32, m: u64) -> GroupElementId
+    requires { ⌜ (1 ≤ stride) × ((1 ≤ n) × (unfactorIndices (withWithin (factorIndices (x .0) stride n) w) stride m < 4294967296)) ⌝ }
+    ensures { λ r. ⌜ r .0 ≡ unfactorIndices (withWithin (factorIndices (x .0) stride n) w) stride m ⌝ }
 {
-    let y = x as u64;
-    (((y / stride / n) * m + (w as u64)) * stride + y % stride) as u32
+    let whole = x.0;
+    let y = whole as u64;
+    GroupElementId((((y / stride / n) * m + (w as u64)) * stride + y % stride) as u32)
 }
 
 // The subgroup's e in the overgroup.
-pub fn carry_over(outw: &[u32], s: Subgroup, e: u32) -> Reached
-    requires { ⌜ (e < elementsOf (subSide s)) × ((elementsOf (subSide s) ≤ 4294967295) × (elementsOf (overSide s) ≤ 4294967295)) ⌝ }
-    ensures { λ r. ⌜ r ≡ carriedOver s (now (outw .entry)) e ⌝ }
+pub fn carry_over(outw: &[u32], s: Subgroup, e: GroupElementId) -> Reached
+    requires { ⌜ (e .0 < elementsOf (subSide s)) × ((elementsOf (subSide s) ≤ 4294967295) × (elementsOf (overSide s) ≤ 4294967295)) ⌝ }
+    ensures { λ r. ⌜ r ≡ carriedOver s (now (outw .entry)) (e .0) ⌝ }
 {
     let below = s.below;
     let over = s.over;
@@ -496,17 +517,18 @@ pub fn carry_over(outw: &[u32], s: Subgroup, e: u32) -> Reached
     let stride = group::inner::elements_of(below);
     let m = group::inner::elements_of(over);
     let n = factor.elements as u64;
-    let w = egg::inner::get(outw, ((e as u64) / stride % n) as usize);
+    let x = e.0;
+    let w = egg::inner::get(outw, ((x as u64) / stride % n) as usize);
     if m <= (w as u64) {
         return egg::inner::refuse(17, 0);
     }
-    Reached::Element(GroupElementId(replaced(e, stride, n, w, m)))
+    Reached::Element(replaced(e, stride, n, w, m))
 }
 
 // The overgroup's x in the subgroup.
-pub fn carry_back(inn: &[u32], s: Subgroup, x: u32) -> Within
-    requires { ⌜ (x < elementsOf (overSide s)) × ((elementsOf (subSide s) ≤ 4294967295) × (elementsOf (overSide s) ≤ 4294967295)) ⌝ }
-    ensures { λ r. ⌜ r ≡ carriedBack s (now (inn .entry)) x ⌝ }
+pub fn carry_back(inn: &[u32], s: Subgroup, x: GroupElementId) -> Within
+    requires { ⌜ (x .0 < elementsOf (overSide s)) × ((elementsOf (subSide s) ≤ 4294967295) × (elementsOf (overSide s) ≤ 4294967295)) ⌝ }
+    ensures { λ r. ⌜ r ≡ carriedBack s (now (inn .entry)) (x .0) ⌝ }
 {
     let below = s.below;
     let over = s.over;
@@ -514,7 +536,8 @@ pub fn carry_back(inn: &[u32], s: Subgroup, x: u32) -> Within
     let stride = group::inner::elements_of(below);
     let m = group::inner::elements_of(over);
     let n = factor.elements;
-    let w = egg::inner::get(inn, ((x as u64) / stride % m) as usize);
+    let y = x.0;
+    let w = egg::inner::get(inn, ((y as u64) / stride % m) as usize);
     if w == 4294967295 {
         return Within::Outside;
     }
@@ -526,7 +549,7 @@ pub fn carry_back(inn: &[u32], s: Subgroup, x: u32) -> Within
             c: 0,
         });
     }
-    Within::Element(GroupElementId(replaced(x, stride, m, w, n as u64)))
+    Within::Element(replaced(x, stride, m, w, n as u64))
 }
 
 pub fn sub_generators(s: Subgroup) -> u32
@@ -552,18 +575,19 @@ fn scaled(r: Reached, k: u64) -> Reached
 }
 
 // The generator g as an element of the subgroup's product.
-fn side_generator(from: &[u32], table: &[u32], s: Subgroup, g: u8) -> Reached
+fn side_generator(from: &[u32], table: &[u32], s: Subgroup, g: GeneratorId) -> Reached
     requires { ⌜ (sidesFit (length (now from)) (length (now table)) s ≡ true) × (sidesLimited s ≡ true) ⌝ }
-    ensures { λ r. ⌜ r ≡ sideGenerator (now (from .entry)) (now (table .entry)) s g ⌝ }
+    ensures { λ r. ⌜ r ≡ sideGenerator (now (from .entry)) (now (table .entry)) s (g .0) ⌝ }
 {
     let below = s.below;
     let above = s.above;
     let factor = s.factor;
     let k = group::inner::generators_of(below);
-    if (g as u32) < k {
-        return group::inner::step_in(from, below, GroupElementId(0), GeneratorId(g));
+    let all = g.0;
+    if (all as u32) < k {
+        return group::inner::step_in(from, below, GroupElementId(0), g);
     }
-    let left = ((g as u32) - k) as u8;
+    let left = ((all as u32) - k) as u8;
     let stride = group::inner::elements_of(below);
     if left < factor.generators {
         let part = egg::inner::part(table, factor);
@@ -586,13 +610,13 @@ fn side_generator(from: &[u32], table: &[u32], s: Subgroup, g: u8) -> Reached
 }
 
 // The same in the overgroup.
-pub fn generator_over(from: &[u32], table: &[u32], s: Subgroup, outw: &[u32], g: u8) -> Reached
+pub fn generator_over(from: &[u32], table: &[u32], s: Subgroup, outw: &[u32], g: GeneratorId) -> Reached
     requires { ⌜ (sidesFit (length (now from)) (length (now table)) s ≡ true) × (sidesLimited s ≡ true) ⌝ }
-    ensures { λ r. ⌜ r ≡ onReached (sideGenerator (now (from .entry)) (now (table .entry)) s g) (λ e. carriedOver s (now (outw .entry)) e) ⌝ }
+    ensures { λ r. ⌜ r ≡ onReached (sideGenerator (now (from .entry)) (now (table .entry)) s (g .0)) (λ e. carriedOver s (now (outw .entry)) e) ⌝ }
 {
     let r = side_generator(from, table, s, g);
     let Reached::Element(e) = r else {
         return r;
     };
-    carry_over(outw, s, e.0)
+    carry_over(outw, s, e)
 }

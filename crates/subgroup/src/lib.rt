@@ -109,7 +109,7 @@ pub fn to_overgroup(
     let n = factor.elements as u64;
     match inner::admit(from, table, s, outw.len(), n, e.0, inner::sub_elements(s)) {
         Verdict::Refused(why) => Reached::Refused(why),
-        Verdict::Fine => inner::carry_over(outw, s, e.0),
+        Verdict::Fine => inner::carry_over(outw, s, e),
     }
 }
 
@@ -127,7 +127,7 @@ pub fn to_subgroup(
     let m = group::inner::elements_of(over);
     match inner::admit(from, table, s, inn.len(), m, x.0, inner::over_elements(s)) {
         Verdict::Refused(why) => Within::Refused(why),
-        Verdict::Fine => inner::carry_back(inn, s, x.0),
+        Verdict::Fine => inner::carry_back(inn, s, x),
     }
 }
 
@@ -140,6 +140,6 @@ pub fn generator(from: &[u32], table: &[u32], s: Subgroup, outw: &[u32], g: Gene
     let k = inner::sub_generators(s) as u64;
     match inner::admit(from, table, s, outw.len(), n, g.0 as u32, k) {
         Verdict::Refused(why) => Reached::Refused(why),
-        Verdict::Fine => inner::generator_over(from, table, s, outw, g.0),
+        Verdict::Fine => inner::generator_over(from, table, s, outw, g),
     }
 }

@@ -14,11 +14,14 @@ elements-of-requires-2 c κs = search needs
 cast-n : tie.Need-cast-n
 cast-n c = search needs
 
+cast-get : tie.Need-cast-get
+cast-get c = search needs
+
 div-get : tie.Need-div-get
-div-get c = sub-stride-some ((c .before .before .before .before .before .before .before .args .s)) ((c .before .before .before .before .before .before .before .pre .1 .0)) ((c .before .before .before .before .before .before .before .pre .1 .1)) ((c .before .before .before .before .before .before .before .args .e)) ((c .before .before .before .before .before .before .before .pre .0)) ((c .before .before .elements-of .ensures))
+div-get c = sub-stride-some (((c .before .before .before .before .before .before .before .args .s))) (((c .before .before .before .before .before .before .before .pre .1 .0))) (((c .before .before .before .before .before .before .before .pre .1 .1))) (((c .before .before .before .before .before .before .before .args .e .0))) (((c .before .before .before .before .before .before .before .pre .0))) (((c .before .before .elements-of .ensures)))
 
 rem-get : tie.Need-rem-get
-rem-get c = sub-factor-some ((c .before .before .before .before .before .before .before .args .s)) ((c .before .before .before .before .before .before .before .pre .1 .0)) ((c .before .before .before .before .before .before .before .pre .1 .1)) ((c .before .before .before .before .before .before .before .args .e)) ((c .before .before .before .before .before .before .before .pre .0))
+rem-get c = sub-factor-some (((c .before .before .before .before .before .before .before .args .s))) (((c .before .before .before .before .before .before .before .pre .1 .0))) (((c .before .before .before .before .before .before .before .pre .1 .1))) (((c .before .before .before .before .before .before .before .args .e .0))) (((c .before .before .before .before .before .before .before .pre .0)))
 
 get-requires : tie.Need-get-requires
 get-requires c κs = search needs
@@ -30,13 +33,13 @@ refuse-requires : tie.Need-refuse-requires
 refuse-requires c κs = search needs
 
 returns : tie.Need-returns
-returns c = (c .refuse .ensures) ∙ carry-refused ((c .before .before .before .before .before .before .before .before .before .before .args .s)) ((c .before .before .before .before .before .before .before .before .before .before .pre .1 .0)) ((c .before .before .before .before .before .before .before .before .before .before .pre .1 .1)) ((c .before .before .before .before .before .before .before .before .before .before .args .e)) ((c .before .before .before .before .before .before .before .before .before .before .pre .0)) ((c .before .before .before .before .before .before .before .before .before .before .args .outw .now)) ((c .before .before .before .before .before .elements-of .ensures)) ((c .before .before .before .before .elements-of2 .ensures)) ((c .before .before .get .ensures)) ((c .before .if1 .taken))
+returns c = ((c .refuse .ensures)) ∙ carry-refused (((c .before .before .before .before .before .before .before .before .before .before .args .s))) (((c .before .before .before .before .before .before .before .before .before .before .pre .1 .0))) (((c .before .before .before .before .before .before .before .before .before .before .pre .1 .1))) (((c .before .before .before .before .before .before .before .before .before .before .args .e .0))) (((c .before .before .before .before .before .before .before .before .before .before .pre .0))) (((c .before .before .before .before .before .before .before .before .before .before .args .outw .now))) (((c .before .before .before .before .before .elements-of .ensures))) (((c .before .before .before .before .elements-of2 .ensures))) (((c .before .before .get .ensures))) (((c .before .if1 .taken)))
 
 replaced-requires : tie.Need-replaced-requires
-replaced-requires c κs = (sub-stride-some ((c .before .before .before .before .before .before .before .before .before .args .s)) ((c .before .before .before .before .before .before .before .before .before .pre .1 .0)) ((c .before .before .before .before .before .before .before .before .before .pre .1 .1)) ((c .before .before .before .before .before .before .before .before .before .args .e)) ((c .before .before .before .before .before .before .before .before .before .pre .0)) ((c .before .before .before .before .elements-of .ensures)), (sub-factor-some ((c .before .before .before .before .before .before .before .before .before .args .s)) ((c .before .before .before .before .before .before .before .before .before .pre .1 .0)) ((c .before .before .before .before .before .before .before .before .before .pre .1 .1)) ((c .before .before .before .before .before .before .before .before .before .args .e)) ((c .before .before .before .before .before .before .before .before .before .pre .0)), carry-fits ((c .before .before .before .before .before .before .before .before .before .args .s)) ((c .before .before .before .before .before .before .before .before .before .pre .1 .0)) ((c .before .before .before .before .before .before .before .before .before .pre .1 .1)) ((c .before .before .before .before .before .before .before .before .before .args .e)) ((c .before .before .before .before .before .before .before .before .before .pre .0)) ((c .before .before .before .before .before .before .before .before .before .args .outw .now)) ((c .before .before .before .before .elements-of .ensures)) ((c .before .before .before .elements-of2 .ensures)) ((c .before .get .ensures)) ((c .if1 .left))))
+replaced-requires c κs = (sub-stride-some (((c .before .before .before .before .before .before .before .before .before .args .s))) (((c .before .before .before .before .before .before .before .before .before .pre .1 .0))) (((c .before .before .before .before .before .before .before .before .before .pre .1 .1))) (((c .before .before .before .before .before .before .before .before .before .args .e .0))) (((c .before .before .before .before .before .before .before .before .before .pre .0))) (((c .before .before .before .before .elements-of .ensures))), (sub-factor-some (((c .before .before .before .before .before .before .before .before .before .args .s))) (((c .before .before .before .before .before .before .before .before .before .pre .1 .0))) (((c .before .before .before .before .before .before .before .before .before .pre .1 .1))) (((c .before .before .before .before .before .before .before .before .before .args .e .0))) (((c .before .before .before .before .before .before .before .before .before .pre .0))), carry-fits (((c .before .before .before .before .before .before .before .before .before .args .s))) (((c .before .before .before .before .before .before .before .before .before .pre .1 .0))) (((c .before .before .before .before .before .before .before .before .before .pre .1 .1))) (((c .before .before .before .before .before .before .before .before .before .args .e .0))) (((c .before .before .before .before .before .before .before .before .before .pre .0))) (((c .before .before .before .before .before .before .before .before .before .args .outw .now))) (((c .before .before .before .before .elements-of .ensures))) (((c .before .before .before .elements-of2 .ensures))) (((c .before .get .ensures))) (((c .if1 .left)))))
 
 returns-2 : tie.Need-returns-2
-returns-2 c = carry-is ((c .before .before .before .before .before .before .before .before .before .before .args .s)) ((c .before .before .before .before .before .before .before .before .before .before .pre .1 .0)) ((c .before .before .before .before .before .before .before .before .before .before .pre .1 .1)) ((c .before .before .before .before .before .before .before .before .before .before .args .e)) ((c .before .before .before .before .before .before .before .before .before .before .pre .0)) ((c .before .before .before .before .before .before .before .before .before .before .args .outw .now)) ((c .before .before .before .before .before .elements-of .ensures)) ((c .before .before .before .before .elements-of2 .ensures)) ((c .before .before .get .ensures)) ((c .before .if1 .left)) ((c .replaced .ensures))
+returns-2 c = carry-is (((c .before .before .before .before .before .before .before .before .before .before .args .s))) (((c .before .before .before .before .before .before .before .before .before .before .pre .1 .0))) (((c .before .before .before .before .before .before .before .before .before .before .pre .1 .1))) (((c .before .before .before .before .before .before .before .before .before .before .args .e .0))) (((c .before .before .before .before .before .before .before .before .before .before .pre .0))) (((c .before .before .before .before .before .before .before .before .before .before .args .outw .now))) (((c .before .before .before .before .before .elements-of .ensures))) (((c .before .before .before .before .elements-of2 .ensures))) (((c .before .before .get .ensures))) (((c .before .if1 .left))) (((c .replaced .ensures)))
 
 pub carry-over-spec : {M : Type 1} → statement M
 carry-over-spec =
@@ -45,6 +48,7 @@ carry-over-spec =
     elements-of-requires
     elements-of-requires-2
     cast-n
+    cast-get
     div-get
     rem-get
     get-requires

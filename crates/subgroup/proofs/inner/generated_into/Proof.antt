@@ -1,12 +1,9 @@
--- One law for each answer; the four parts stand in their buffers by `maps-back`.
+-- One law for each answer.
 use mathlib.Core.Path.{sym, _∙_}
-use lib.ListN.{length}
-use lib.Seq.{length-take-le}
-use borrow.Author.Tests.{not-true, not-false, leb-true}
-use Rattle.builder.proofs.Lending.{lent-table, lent-enough}
+use borrow.Author.Tests.{not-true, not-false}
 use Rattle.group.specs.Handles.{handles, elementsOf}
-use Rattle.subgroup.proofs.Admits.{maps-lent, maps-inn, maps-outw, count-is}
-use Rattle.subgroup.proofs.Lendings.{generated-many, generated-short, generated-built}
+use Rattle.subgroup.proofs.Admits.{count-is}
+use Rattle.subgroup.proofs.Lendings.{generated-many, generated-short}
 use borrow.Author.Needs.{needs}
 use Rattle.subgroup.proofs.inner.generated_into.Statement.{statement}
 use Rattle.subgroup.proofs.inner.generated_into.Tie as tie
@@ -23,11 +20,11 @@ subgroup-of-requires c κs = search needs
 returns : tie.Need-returns
 returns c = generated-many ((c .before .before .before .before .before .before .before .before .before .before .args .from .now)) ((c .before .before .before .before .before .before .before .before .before .before .args .over)) ((c .before .before .before .before .before .before .before .before .before .before .args .gens .now)) ((c .before .before .before .before .before .before .before .before .before .before .args .table .now)) ((c .before .before .before .before .before .before .before .before .before .before .args .start)) ((c .before .before .before .before .before .before .before .before .before .before .args .work .now)) ((c .before .before .before .before .before .before .before .before .before .before .args .inn .now)) ((c .before .before .before .before .before .before .before .before .before .before .args .outw .now)) ((c .before .before .before .before .before .before .before .before .before .before .args .room)) ((c .before .before .before .if1 .taken)) ((c .before .before .shown .ensures)) ((c .before .refused-made .ensures)) ((c .subgroup-of .ensures))
 
-cast-n : tie.Need-cast-n
-cast-n c = search needs
-
 elements-of-requires : tie.Need-elements-of-requires
 elements-of-requires c κs = search needs
+
+cast-maps-right : tie.Need-cast-maps-right
+cast-maps-right c = search needs
 
 maps-right-requires : tie.Need-maps-right-requires
 maps-right-requires c κs = search needs
@@ -41,50 +38,8 @@ subgroup-of-requires-2 c κs = search needs
 returns-2 : tie.Need-returns-2
 returns-2 c = generated-short ((c .before .before .before .before .before .before .before .before .before .before .before .before .args .from .now)) ((c .before .before .before .before .before .before .before .before .before .before .before .before .args .over)) ((c .before .before .before .before .before .before .before .before .before .before .before .before .args .gens .now)) ((c .before .before .before .before .before .before .before .before .before .before .before .before .args .table .now)) ((c .before .before .before .before .before .before .before .before .before .before .before .before .args .start)) ((c .before .before .before .before .before .before .before .before .before .before .before .before .args .work .now)) ((c .before .before .before .before .before .before .before .before .before .before .before .before .args .inn .now)) ((c .before .before .before .before .before .before .before .before .before .before .before .before .args .outw .now)) ((c .before .before .before .before .before .before .before .before .before .before .before .before .args .room)) ((c .before .before .before .before .before .if1 .left)) (count-is (elementsOf (handles ((c .before .before .before .before .before .before .before .before .before .before .before .before .args .over)))) ((c .before .before .before .before .elements-of .ensures)) ((c .before .before .before .before .before .before .before .before .before .before .before .before .pre .1))) (sym ((c .before .before .before .maps-right .ensures)) ∙ not-true _ ((c .before .before .if2 .taken))) ((c .before .refused-made2 .ensures)) ((c .subgroup-of2 .ensures))
 
-stretch-end-requires : tie.Need-stretch-end-requires
-stretch-end-requires c κs = lent-table (length ((c .before .before .before .before .before .before .before .before .before .before .args .table .now))) ((c .before .before .before .before .before .before .before .before .before .before .args .start)) (length ((c .before .before .before .before .before .before .before .before .before .before .args .work .now))) ((c .before .before .before .before .before .before .before .before .before .before .args .room)) (length ((c .before .before .before .before .before .before .before .before .before .before .args .gens .now))) (maps-lent (length ((c .before .before .before .before .before .before .before .before .before .before .args .table .now))) ((c .before .before .before .before .before .before .before .before .before .before .args .start)) (length ((c .before .before .before .before .before .before .before .before .before .before .args .work .now))) (length ((c .before .before .before .before .before .before .before .before .before .before .args .inn .now))) (length ((c .before .before .before .before .before .before .before .before .before .before .args .outw .now))) ((c .before .before .before .before .before .before .before .before .before .before .args .room)) (length ((c .before .before .before .before .before .before .before .before .before .before .args .gens .now))) ((c .before .before .elements-of .result)) (sym ((c .before .maps-right .ensures)) ∙ not-false _ ((c .if2 .left))))
-
-work-need-requires : tie.Need-work-need-requires
-work-need-requires c κs = search needs
-
-mul-generated-in : tie.Need-mul-generated-in
-mul-generated-in c = search needs
-
-sub-generated-in : tie.Need-sub-generated-in
-sub-generated-in c = search needs
-
-part-generated-in-start : tie.Need-part-generated-in-start
-part-generated-in-start c = search needs
-
-part-generated-in-end : tie.Need-part-generated-in-end
-part-generated-in-end c = search needs
-
-slice-relend-prefix-generated-in : tie.Need-slice-relend-prefix-generated-in
-slice-relend-prefix-generated-in c = (rw ((c .before .work-need .ensures)) (leb-true _ _ (lent-enough (length ((c .before .before .before .before .before .before .before .before .before .before .before .before .before .args .table .now))) ((c .before .before .before .before .before .before .before .before .before .before .before .before .before .args .start)) (length ((c .before .before .before .before .before .before .before .before .before .before .before .before .before .args .work .now))) ((c .before .before .before .before .before .before .before .before .before .before .before .before .before .args .room)) (length ((c .before .before .before .before .before .before .before .before .before .before .before .before .before .args .gens .now))) (maps-lent (length ((c .before .before .before .before .before .before .before .before .before .before .before .before .before .args .table .now))) ((c .before .before .before .before .before .before .before .before .before .before .before .before .before .args .start)) (length ((c .before .before .before .before .before .before .before .before .before .before .before .before .before .args .work .now))) (length ((c .before .before .before .before .before .before .before .before .before .before .before .before .before .args .inn .now))) (length ((c .before .before .before .before .before .before .before .before .before .before .before .before .before .args .outw .now))) ((c .before .before .before .before .before .before .before .before .before .before .before .before .before .args .room)) (length ((c .before .before .before .before .before .before .before .before .before .before .before .before .before .args .gens .now))) ((c .before .before .before .before .before .elements-of .result)) (sym ((c .before .before .before .before .maps-right .ensures)) ∙ not-false _ ((c .before .before .before .if2 .left)))))))
-
-slice-aggregate-generated-in : tie.Need-slice-aggregate-generated-in
-slice-aggregate-generated-in c = sym (length-take-le _ ((c .before .before .before .before .before .before .before .before .before .before .before .before .before .before .args .work .now)) (rw ((c .before .before .work-need .ensures)) (leb-true _ _ (lent-enough (length ((c .before .before .before .before .before .before .before .before .before .before .before .before .before .before .args .table .now))) ((c .before .before .before .before .before .before .before .before .before .before .before .before .before .before .args .start)) (length ((c .before .before .before .before .before .before .before .before .before .before .before .before .before .before .args .work .now))) ((c .before .before .before .before .before .before .before .before .before .before .before .before .before .before .args .room)) (length ((c .before .before .before .before .before .before .before .before .before .before .before .before .before .before .args .gens .now))) (maps-lent (length ((c .before .before .before .before .before .before .before .before .before .before .before .before .before .before .args .table .now))) ((c .before .before .before .before .before .before .before .before .before .before .before .before .before .before .args .start)) (length ((c .before .before .before .before .before .before .before .before .before .before .before .before .before .before .args .work .now))) (length ((c .before .before .before .before .before .before .before .before .before .before .before .before .before .before .args .inn .now))) (length ((c .before .before .before .before .before .before .before .before .before .before .before .before .before .before .args .outw .now))) ((c .before .before .before .before .before .before .before .before .before .before .before .before .before .before .args .room)) (length ((c .before .before .before .before .before .before .before .before .before .before .before .before .before .before .args .gens .now))) ((c .before .before .before .before .before .before .elements-of .result)) (sym ((c .before .before .before .before .before .maps-right .ensures)) ∙ not-false _ ((c .before .before .before .before .if2 .left))))))))
-
-slice-relend-prefix-generated-in-2 : tie.Need-slice-relend-prefix-generated-in-2
-slice-relend-prefix-generated-in-2 c = (maps-inn (length ((c .before .before .before .before .before .before .before .before .before .before .before .before .before .before .args .table .now))) ((c .before .before .before .before .before .before .before .before .before .before .before .before .before .before .args .start)) (length ((c .before .before .before .before .before .before .before .before .before .before .before .before .before .before .args .work .now))) (length ((c .before .before .before .before .before .before .before .before .before .before .before .before .before .before .args .inn .now))) (length ((c .before .before .before .before .before .before .before .before .before .before .before .before .before .before .args .outw .now))) ((c .before .before .before .before .before .before .before .before .before .before .before .before .before .before .args .room)) (length ((c .before .before .before .before .before .before .before .before .before .before .before .before .before .before .args .gens .now))) ((c .before .before .before .before .before .before .elements-of .result)) (sym ((c .before .before .before .before .before .maps-right .ensures)) ∙ not-false _ ((c .before .before .before .before .if2 .left))))
-
-slice-aggregate-generated-in-2 : tie.Need-slice-aggregate-generated-in-2
-slice-aggregate-generated-in-2 c = sym (length-take-le _ ((c .before .before .before .before .before .before .before .before .before .before .before .before .before .before .before .args .inn .now)) (maps-inn (length ((c .before .before .before .before .before .before .before .before .before .before .before .before .before .before .before .args .table .now))) ((c .before .before .before .before .before .before .before .before .before .before .before .before .before .before .before .args .start)) (length ((c .before .before .before .before .before .before .before .before .before .before .before .before .before .before .before .args .work .now))) (length ((c .before .before .before .before .before .before .before .before .before .before .before .before .before .before .before .args .inn .now))) (length ((c .before .before .before .before .before .before .before .before .before .before .before .before .before .before .before .args .outw .now))) ((c .before .before .before .before .before .before .before .before .before .before .before .before .before .before .before .args .room)) (length ((c .before .before .before .before .before .before .before .before .before .before .before .before .before .before .before .args .gens .now))) ((c .before .before .before .before .before .before .before .elements-of .result)) (sym ((c .before .before .before .before .before .before .maps-right .ensures)) ∙ not-false _ ((c .before .before .before .before .before .if2 .left)))))
-
-slice-relend-prefix-generated-in-3 : tie.Need-slice-relend-prefix-generated-in-3
-slice-relend-prefix-generated-in-3 c = (maps-outw (length ((c .before .before .before .before .before .before .before .before .before .before .before .before .before .before .before .args .table .now))) ((c .before .before .before .before .before .before .before .before .before .before .before .before .before .before .before .args .start)) (length ((c .before .before .before .before .before .before .before .before .before .before .before .before .before .before .before .args .work .now))) (length ((c .before .before .before .before .before .before .before .before .before .before .before .before .before .before .before .args .inn .now))) (length ((c .before .before .before .before .before .before .before .before .before .before .before .before .before .before .before .args .outw .now))) ((c .before .before .before .before .before .before .before .before .before .before .before .before .before .before .before .args .room)) (length ((c .before .before .before .before .before .before .before .before .before .before .before .before .before .before .before .args .gens .now))) ((c .before .before .before .before .before .before .before .elements-of .result)) (sym ((c .before .before .before .before .before .before .maps-right .ensures)) ∙ not-false _ ((c .before .before .before .before .before .if2 .left))))
-
-slice-aggregate-generated-in-3 : tie.Need-slice-aggregate-generated-in-3
-slice-aggregate-generated-in-3 c = sym (length-take-le _ ((c .before .before .before .before .before .before .before .before .before .before .before .before .before .before .before .before .args .outw .now)) (maps-outw (length ((c .before .before .before .before .before .before .before .before .before .before .before .before .before .before .before .before .args .table .now))) ((c .before .before .before .before .before .before .before .before .before .before .before .before .before .before .before .before .args .start)) (length ((c .before .before .before .before .before .before .before .before .before .before .before .before .before .before .before .before .args .work .now))) (length ((c .before .before .before .before .before .before .before .before .before .before .before .before .before .before .before .before .args .inn .now))) (length ((c .before .before .before .before .before .before .before .before .before .before .before .before .before .before .before .before .args .outw .now))) ((c .before .before .before .before .before .before .before .before .before .before .before .before .before .before .before .before .args .room)) (length ((c .before .before .before .before .before .before .before .before .before .before .before .before .before .before .before .before .args .gens .now))) ((c .before .before .before .before .before .before .before .before .elements-of .result)) (sym ((c .before .before .before .before .before .before .before .maps-right .ensures)) ∙ not-false _ ((c .before .before .before .before .before .before .if2 .left)))))
-
-generated-in-requires : tie.Need-generated-in-requires
-generated-in-requires c κs = search needs
-
-made-requires : tie.Need-made-requires
-made-requires c κs = search needs
-
-subgroup-of-requires-3 : tie.Need-subgroup-of-requires-3
-subgroup-of-requires-3 c κs = search needs
+generated-at-requires : tie.Need-generated-at-requires
+generated-at-requires c κs = ((c .before .before .before .before .before .before .before .before .before .before .before .before .before .before .pre), ((c .before .before .before .before .before .before .before .if1 .left), rw (← count-is (elementsOf (handles ((c .before .before .before .before .before .before .before .before .before .before .before .before .before .before .args .over)))) ((c .before .before .before .before .before .before .elements-of .ensures)) ((c .before .before .before .before .before .before .before .before .before .before .before .before .before .before .pre .1))) (sym ((c .before .before .before .before .before .maps-right .ensures)) ∙ not-false _ ((c .before .before .before .before .if2 .left)))))
 
 same-length : tie.Need-same-length
 same-length c = search needs
@@ -99,7 +54,7 @@ same-length-4 : tie.Need-same-length-4
 same-length-4 c = search needs
 
 returns-3 : tie.Need-returns-3
-returns-3 c = generated-built ((c .before .before .before .before .before .before .before .before .before .before .before .before .before .before .before .before .before .before .before .before .before .before .before .before .before .before .before .args .from .now)) ((c .before .before .before .before .before .before .before .before .before .before .before .before .before .before .before .before .before .before .before .before .before .before .before .before .before .before .before .args .over)) ((c .before .before .before .before .before .before .before .before .before .before .before .before .before .before .before .before .before .before .before .before .before .before .before .before .before .before .before .args .gens .now)) ((c .before .before .before .before .before .before .before .before .before .before .before .before .before .before .before .before .before .before .before .before .before .before .before .before .before .before .before .args .table .now)) ((c .before .before .before .before .before .before .before .before .before .before .before .before .before .before .before .before .before .before .before .before .before .before .before .before .before .before .before .args .start)) ((c .before .before .before .before .before .before .before .before .before .before .before .before .before .before .before .before .before .before .before .before .before .before .before .before .before .before .before .args .work .now)) ((c .before .before .before .before .before .before .before .before .before .before .before .before .before .before .before .before .before .before .before .before .before .before .before .before .before .before .before .args .inn .now)) ((c .before .before .before .before .before .before .before .before .before .before .before .before .before .before .before .before .before .before .before .before .before .before .before .before .before .before .before .args .outw .now)) ((c .before .before .before .before .before .before .before .before .before .before .before .before .before .before .before .before .before .before .before .before .before .before .before .before .before .before .before .args .room)) ((c .before .before .before .before .before .before .before .before .before .before .before .before .before .before .before .before .before .before .before .before .if1 .left)) (count-is (elementsOf (handles ((c .before .before .before .before .before .before .before .before .before .before .before .before .before .before .before .before .before .before .before .before .before .before .before .before .before .before .before .args .over)))) ((c .before .before .before .before .before .before .before .before .before .before .before .before .before .before .before .before .before .before .before .elements-of .ensures)) ((c .before .before .before .before .before .before .before .before .before .before .before .before .before .before .before .before .before .before .before .before .before .before .before .before .before .before .before .pre .1))) (sym ((c .before .before .before .before .before .before .before .before .before .before .before .before .before .before .before .before .before .before .maps-right .ensures)) ∙ not-false _ ((c .before .before .before .before .before .before .before .before .before .before .before .before .before .before .before .before .before .if2 .left))) ((c .before .before .before .before .before .before .before .before .before .before .before .before .before .before .before .before .stretch-end .ensures)) ((c .before .before .before .before .before .before .before .before .before .before .before .before .before .before .before .work-need .ensures)) ((c .before .made .ensures)) ((c .subgroup-of3 .ensures)) ((c .before .before .before .before .before .before .before .before .before .before .generated-in .ensures))
+returns-3 c = (c .before .before .before .before .before .before .before .before .generated-at .ensures)
 
 pub generated-into-spec : {M : Type 1} → statement M
 generated-into-spec =
@@ -109,27 +64,13 @@ generated-into-spec =
     refused-made-requires
     subgroup-of-requires
     returns
-    cast-n
     elements-of-requires
+    cast-maps-right
     maps-right-requires
     refused-made-requires-2
     subgroup-of-requires-2
     returns-2
-    stretch-end-requires
-    work-need-requires
-    mul-generated-in
-    sub-generated-in
-    part-generated-in-start
-    part-generated-in-end
-    slice-relend-prefix-generated-in
-    slice-aggregate-generated-in
-    slice-relend-prefix-generated-in-2
-    slice-aggregate-generated-in-2
-    slice-relend-prefix-generated-in-3
-    slice-aggregate-generated-in-3
-    generated-in-requires
-    made-requires
-    subgroup-of-requires-3
+    generated-at-requires
     same-length
     same-length-2
     same-length-3

@@ -20,7 +20,7 @@ returns : tie.Need-returns
 returns c = carries-refused ((c .before .before .side-generator .ensures)) (λ e. carriedOver ((c .before .before .before .before .before .before .args .s)) ((c .before .before .before .before .before .before .args .outw .now)) e) ((c .enum-told .given .1))
 
 carry-over-requires : tie.Need-carry-over-requires
-carry-over-requires c κs = (generator-element ((c .before .before .before .before .before .before .before .args .from .now)) ((c .before .before .before .before .before .before .before .args .table .now)) ((c .before .before .before .before .before .before .before .args .s)) ((c .before .before .before .before .before .before .before .pre .0)) ((c .before .before .before .before .before .before .before .pre .1)) ((c .before .before .before .before .before .before .before .args .g)) ((c .before .before .before .side-generator .ensures)) ((c .before .r .given .1)), (sub-within ((c .before .before .before .before .before .before .before .args .s)) ((c .before .before .before .before .before .before .before .pre .1)), over-within ((c .before .before .before .before .before .before .before .args .s)) ((c .before .before .before .before .before .before .before .pre .1))))
+carry-over-requires c κs = (generator-element ((c .before .before .before .before .before .before .before .args .from .now)) ((c .before .before .before .before .before .before .before .args .table .now)) ((c .before .before .before .before .before .before .before .args .s)) ((c .before .before .before .before .before .before .before .pre .0)) ((c .before .before .before .before .before .before .before .pre .1)) ((c .before .before .before .before .before .before .before .args .g .0)) ((c .before .before .before .side-generator .ensures)) ((c .before .r .given .1)), (sub-within ((c .before .before .before .before .before .before .before .args .s)) ((c .before .before .before .before .before .before .before .pre .1)), over-within ((c .before .before .before .before .before .before .before .args .s)) ((c .before .before .before .before .before .before .before .pre .1))))
 
 returns-2 : tie.Need-returns-2
 returns-2 c = (c .carry-over .ensures) ∙ carries-on ((c .before .before .before .before .side-generator .ensures)) (λ e. carriedOver ((c .before .before .before .before .before .before .before .before .args .s)) ((c .before .before .before .before .before .before .before .before .args .outw .now)) e) ((c .before .before .r .given .1))

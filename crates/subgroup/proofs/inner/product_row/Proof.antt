@@ -13,25 +13,28 @@ use Rattle.subgroup.proofs.inner.product_row.Statement.{statement}
 use Rattle.subgroup.proofs.inner.product_row.Tie as tie
 
 abbrev Inv-loop : tie.InvT-loop
-Inv-loop t₀ inn₀ outw₀ from over gens n room e first g₀ count₀ t inn outw g count = (length t ≡ length t₀) × (length inn ≡ length inn₀) × (length outw ≡ length outw₀) × (g ≤ n) × (mapRow (n - g) (productOf from (handles over) gens) n room e g count t inn outw ≡ mapRow n (productOf from (handles over) gens) n room e 0 first t₀ inn₀ outw₀)
+Inv-loop t₀ inn₀ outw₀ from over gens n room e first row g₀ count₀ t inn outw g count = (length t ≡ length t₀) × (length inn ≡ length inn₀) × (length outw ≡ length outw₀) × (g ≤ n) × (mapRow (n - g) (productOf from (handles over) gens) n room (e .0) g count t inn outw ≡ mapRow n (productOf from (handles over) gens) n room (e .0) 0 first t₀ inn₀ outw₀)
 
 abbrev μ-loop : tie.MeasureT-loop
-μ-loop t₀ inn₀ outw₀ from over gens n room e first g₀ count₀ t inn outw g count = n - g
+μ-loop t₀ inn₀ outw₀ from over gens n room e first row g₀ count₀ t inn outw g count = n - g
 
 loop-holds : tie.Need-loop-holds Inv-loop μ-loop
-loop-holds c = let a = (c .before .before .before .before .before .args) in (refl, refl, refl, search needs, ap (λ (k : ℕ). mapRow k (productOf (a .from .now) (handles (a .over)) (a .gens .now)) (a .n) (a .room) (a .e) 0 (a .first) (a .t .now) (a .inn .now) (a .outw .now)) (omega arith))
-
-get-requires : tie.Need-get-requires Inv-loop μ-loop
-get-requires c κs = search needs
+loop-holds c = let a = (c .before .before .before .before .before .args) in (refl, refl, refl, search needs, ap (λ (k : ℕ). mapRow k (productOf (a .from .now) (handles (a .over)) (a .gens .now)) (a .n) (a .room) (a .e .0) 0 (a .first) (a .t .now) (a .inn .now) (a .outw .now)) (omega arith))
 
 cast-get : tie.Need-cast-get Inv-loop μ-loop
 cast-get c = search needs
 
+get-requires : tie.Need-get-requires Inv-loop μ-loop
+get-requires c κs = search needs
+
+cast-get-2 : tie.Need-cast-get-2 Inv-loop μ-loop
+cast-get-2 c = search needs
+
 get-requires-2 : tie.Need-get-requires-2 Inv-loop μ-loop
 get-requires-2 c κs = search needs
 
-digitwise-requires : tie.Need-digitwise-requires Inv-loop μ-loop
-digitwise-requires c κs = (c .before .before .before .before .before .before .before .before .before .before .pre)
+compose-digits-requires : tie.Need-compose-digits-requires Inv-loop μ-loop
+compose-digits-requires c κs = (c .before .before .before .before .before .before .before .before .before .before .pre)
 
 enum-known-reached : tie.Need-enum-known-reached Inv-loop μ-loop
 enum-known-reached c = search needs
@@ -46,7 +49,7 @@ same-length-3 : tie.Need-same-length-3 Inv-loop μ-loop
 same-length-3 c = (c .before .before .before .before .before .before .before .before .loop .inv .2)
 
 returns : tie.Need-returns Inv-loop μ-loop
-returns c = let a = (c .before .before .before .before .before .before .before .before .before .before .before .before .before .before .args) in map-source-stop (productOf (a .from .now) (handles (a .over)) (a .gens .now)) (a .n) (a .room) (a .e) ((c .before .before .before .before .before .before .before .before .loop .g)) ((c .before .before .before .before .before .before .before .before .loop .count)) ((c .before .before .before .before .before .before .before .before .loop .t)) ((c .before .before .before .before .before .before .before .before .loop .inn)) ((c .before .before .before .before .before .before .before .before .loop .outw)) ((c .before .before .before .before .before .before .before .loop-test .taken)) (asked (λ x y. composes (a .from .now) (handles (a .over)) x y) ((c .before .before .before .before .before .get .ensures)) ((c .before .before .before .before .get2 .ensures)) ((c .before .before .before .digitwise .ensures))) ((c .before .reached .given .1)) ∙ (c .before .before .before .before .before .before .before .before .loop .inv .4)
+returns c = let a = (c .before .before .before .before .before .before .before .before .before .before .before .before .before .before .args) in map-source-stop (productOf (a .from .now) (handles (a .over)) (a .gens .now)) (a .n) (a .room) (a .e .0) ((c .before .before .before .before .before .before .before .before .loop .g)) ((c .before .before .before .before .before .before .before .before .loop .count)) ((c .before .before .before .before .before .before .before .before .loop .t)) ((c .before .before .before .before .before .before .before .before .loop .inn)) ((c .before .before .before .before .before .before .before .before .loop .outw)) ((c .before .before .before .before .before .before .before .loop-test .taken)) (asked (λ x y. composes (a .from .now) (handles (a .over)) x y) ((c .before .before .before .before .before .get .ensures)) ((c .before .before .before .before .get2 .ensures)) ((c .before .before .before .compose-digits .ensures))) ((c .before .reached .given .1)) ∙ (c .before .before .before .before .before .before .before .before .loop .inv .4)
 
 enum-known-reached-2 : tie.Need-enum-known-reached-2 Inv-loop μ-loop
 enum-known-reached-2 c = search needs
@@ -70,7 +73,7 @@ same-length-6 : tie.Need-same-length-6 Inv-loop μ-loop
 same-length-6 c = (c .before .before .before .before .before .before .before .before .place .kept .1 .1 .0) ∙ (c .before .before .before .before .before .before .before .before .before .before .before .before .before .before .before .before .before .before .before .before .loop .inv .2)
 
 returns-2 : tie.Need-returns-2 Inv-loop μ-loop
-returns-2 c = let a = (c .before .before .before .before .before .before .before .before .before .before .before .before .before .before .before .before .before .before .before .before .before .before .before .before .before .before .args) in map-row-stop (productOf (a .from .now) (handles (a .over)) (a .gens .now)) (a .n) (a .room) (a .e) ((c .before .before .before .before .before .before .before .before .before .before .before .before .before .before .before .before .before .before .before .before .loop .g)) ((c .before .before .before .before .before .before .before .before .before .before .before .before .before .before .before .before .before .before .before .before .loop .count)) ((c .before .before .before .before .before .before .before .before .before .before .before .before .before .before .before .before .before .before .before .before .loop .t)) ((c .before .before .before .before .before .before .before .before .before .before .before .before .before .before .before .before .before .before .before .before .loop .inn)) ((c .before .before .before .before .before .before .before .before .before .before .before .before .before .before .before .before .before .before .before .before .loop .outw)) ((c .before .before .before .before .before .before .before .before .before .before .before .before .before .before .before .before .before .before .before .loop-test .taken)) (asked (λ x y. composes (a .from .now) (handles (a .over)) x y) ((c .before .before .before .before .before .before .before .before .before .before .before .before .before .before .before .before .before .get .ensures)) ((c .before .before .before .before .before .before .before .before .before .before .before .before .before .before .before .before .get2 .ensures)) ((c .before .before .before .before .before .before .before .before .before .before .before .before .before .before .before .digitwise .ensures))) ((c .before .before .before .before .before .before .before .before .before .before .before .before .before .reached2 .given .1)) ((c .before .before .before .before .before .before .before .before .place .ensures)) ((c .enum-told .given .1)) ∙ (c .before .before .before .before .before .before .before .before .before .before .before .before .before .before .before .before .before .before .before .before .loop .inv .4)
+returns-2 c = let a = (c .before .before .before .before .before .before .before .before .before .before .before .before .before .before .before .before .before .before .before .before .before .before .before .before .before .before .args) in map-row-stop (productOf (a .from .now) (handles (a .over)) (a .gens .now)) (a .n) (a .room) (a .e .0) ((c .before .before .before .before .before .before .before .before .before .before .before .before .before .before .before .before .before .before .before .before .loop .g)) ((c .before .before .before .before .before .before .before .before .before .before .before .before .before .before .before .before .before .before .before .before .loop .count)) ((c .before .before .before .before .before .before .before .before .before .before .before .before .before .before .before .before .before .before .before .before .loop .t)) ((c .before .before .before .before .before .before .before .before .before .before .before .before .before .before .before .before .before .before .before .before .loop .inn)) ((c .before .before .before .before .before .before .before .before .before .before .before .before .before .before .before .before .before .before .before .before .loop .outw)) ((c .before .before .before .before .before .before .before .before .before .before .before .before .before .before .before .before .before .before .before .loop-test .taken)) (asked (λ x y. composes (a .from .now) (handles (a .over)) x y) ((c .before .before .before .before .before .before .before .before .before .before .before .before .before .before .before .before .before .get .ensures)) ((c .before .before .before .before .before .before .before .before .before .before .before .before .before .before .before .before .get2 .ensures)) ((c .before .before .before .before .before .before .before .before .before .before .before .before .before .before .before .compose-digits .ensures))) ((c .before .before .before .before .before .before .before .before .before .before .before .before .before .reached2 .given .1)) ((c .before .before .before .before .before .before .before .before .place .ensures)) ((c .enum-told .given .1)) ∙ (c .before .before .before .before .before .before .before .before .before .before .before .before .before .before .before .before .before .before .before .before .loop .inv .4)
 
 add-g : tie.Need-add-g Inv-loop μ-loop
 add-g c = let h = (c .before .before .before .before .before .before .before .before .before .before .before .before .before .before .before .before .before .before .before .before .loop-test .taken) in let k = (c .before .before .before .before .before .before .before .before .before .before .before .before .before .before .before .before .before .before .before .before .before .before .before .before .before .before .before .fits .n .fits) in omega arith
@@ -79,7 +82,7 @@ loop-less : tie.Need-loop-less Inv-loop μ-loop
 loop-less c = search needs
 
 loop-again : tie.Need-loop-again Inv-loop μ-loop
-loop-again c = let a = (c .before .before .before .before .before .before .before .before .before .before .before .before .before .before .before .before .before .before .before .before .before .before .before .before .before .before .before .args) in ((c .before .before .before .before .before .before .before .before .before .place .kept .0) ∙ (c .before .before .before .before .before .before .before .before .before .before .before .before .before .before .before .before .before .before .before .before .before .loop .inv .0), (c .before .before .before .before .before .before .before .before .before .place .kept .1 .0) ∙ (c .before .before .before .before .before .before .before .before .before .before .before .before .before .before .before .before .before .before .before .before .before .loop .inv .1), (c .before .before .before .before .before .before .before .before .before .place .kept .1 .1 .0) ∙ (c .before .before .before .before .before .before .before .before .before .before .before .before .before .before .before .before .before .before .before .before .before .loop .inv .2), search needs, sym (map-row-next (productOf (a .from .now) (handles (a .over)) (a .gens .now)) (a .n) (a .room) (a .e) ((c .before .before .before .before .before .before .before .before .before .before .before .before .before .before .before .before .before .before .before .before .before .loop .g)) ((c .before .before .before .before .before .before .before .before .before .before .before .before .before .before .before .before .before .before .before .before .before .loop .count)) ((c .before .before .before .before .before .before .before .before .before .before .before .before .before .before .before .before .before .before .before .before .before .loop .t)) ((c .before .before .before .before .before .before .before .before .before .before .before .before .before .before .before .before .before .before .before .before .before .loop .inn)) ((c .before .before .before .before .before .before .before .before .before .before .before .before .before .before .before .before .before .before .before .before .before .loop .outw)) ((c .before .before .before .before .before .before .before .before .before .before .before .before .before .before .before .before .before .before .before .before .loop-test .taken)) (asked (λ x y. composes (a .from .now) (handles (a .over)) x y) ((c .before .before .before .before .before .before .before .before .before .before .before .before .before .before .before .before .before .before .get .ensures)) ((c .before .before .before .before .before .before .before .before .before .before .before .before .before .before .before .before .before .get2 .ensures)) ((c .before .before .before .before .before .before .before .before .before .before .before .before .before .before .before .before .digitwise .ensures))) ((c .before .before .before .before .before .before .before .before .before .before .before .before .before .before .reached2 .given .1)) ((c .before .before .before .before .before .before .before .before .before .place .ensures)) ((c .before .c .given .1))) ∙ (c .before .before .before .before .before .before .before .before .before .before .before .before .before .before .before .before .before .before .before .before .before .loop .inv .4))
+loop-again c = let a = (c .before .before .before .before .before .before .before .before .before .before .before .before .before .before .before .before .before .before .before .before .before .before .before .before .before .before .before .args) in ((c .before .before .before .before .before .before .before .before .before .place .kept .0) ∙ (c .before .before .before .before .before .before .before .before .before .before .before .before .before .before .before .before .before .before .before .before .before .loop .inv .0), (c .before .before .before .before .before .before .before .before .before .place .kept .1 .0) ∙ (c .before .before .before .before .before .before .before .before .before .before .before .before .before .before .before .before .before .before .before .before .before .loop .inv .1), (c .before .before .before .before .before .before .before .before .before .place .kept .1 .1 .0) ∙ (c .before .before .before .before .before .before .before .before .before .before .before .before .before .before .before .before .before .before .before .before .before .loop .inv .2), search needs, sym (map-row-next (productOf (a .from .now) (handles (a .over)) (a .gens .now)) (a .n) (a .room) (a .e .0) ((c .before .before .before .before .before .before .before .before .before .before .before .before .before .before .before .before .before .before .before .before .before .loop .g)) ((c .before .before .before .before .before .before .before .before .before .before .before .before .before .before .before .before .before .before .before .before .before .loop .count)) ((c .before .before .before .before .before .before .before .before .before .before .before .before .before .before .before .before .before .before .before .before .before .loop .t)) ((c .before .before .before .before .before .before .before .before .before .before .before .before .before .before .before .before .before .before .before .before .before .loop .inn)) ((c .before .before .before .before .before .before .before .before .before .before .before .before .before .before .before .before .before .before .before .before .before .loop .outw)) ((c .before .before .before .before .before .before .before .before .before .before .before .before .before .before .before .before .before .before .before .before .loop-test .taken)) (asked (λ x y. composes (a .from .now) (handles (a .over)) x y) ((c .before .before .before .before .before .before .before .before .before .before .before .before .before .before .before .before .before .before .get .ensures)) ((c .before .before .before .before .before .before .before .before .before .before .before .before .before .before .before .before .before .get2 .ensures)) ((c .before .before .before .before .before .before .before .before .before .before .before .before .before .before .before .before .compose-digits .ensures))) ((c .before .before .before .before .before .before .before .before .before .before .before .before .before .before .reached2 .given .1)) ((c .before .before .before .before .before .before .before .before .before .place .ensures)) ((c .before .c .given .1))) ∙ (c .before .before .before .before .before .before .before .before .before .before .before .before .before .before .before .before .before .before .before .before .before .loop .inv .4))
 
 same-length-7 : tie.Need-same-length-7 Inv-loop μ-loop
 same-length-7 c = (c .before .loop .inv .0)
@@ -91,7 +94,7 @@ same-length-9 : tie.Need-same-length-9 Inv-loop μ-loop
 same-length-9 c = (c .before .loop .inv .2)
 
 returns-3 : tie.Need-returns-3 Inv-loop μ-loop
-returns-3 c = let a = (c .before .before .before .before .before .before .before .args) in map-row-end (productOf (a .from .now) (handles (a .over)) (a .gens .now)) (a .n) (a .room) (a .e) ((c .before .loop .g)) ((c .before .loop .count)) ((c .before .loop .t)) ((c .before .loop .inn)) ((c .before .loop .outw)) ((c .loop-test .left)) ∙ (c .before .loop .inv .4)
+returns-3 c = let a = (c .before .before .before .before .before .before .before .args) in map-row-end (productOf (a .from .now) (handles (a .over)) (a .gens .now)) (a .n) (a .room) (a .e .0) ((c .before .loop .g)) ((c .before .loop .count)) ((c .before .loop .t)) ((c .before .loop .inn)) ((c .before .loop .outw)) ((c .loop-test .left)) ∙ (c .before .loop .inv .4)
 
 pub product-row-spec : {M : Type 1} → statement M
 product-row-spec =
@@ -100,10 +103,11 @@ product-row-spec =
     Inv-loop
     μ-loop
     loop-holds
-    get-requires
     cast-get
+    get-requires
+    cast-get-2
     get-requires-2
-    digitwise-requires
+    compose-digits-requires
     enum-known-reached
     same-length
     same-length-2

@@ -1,8 +1,8 @@
 -- By the two cases of what was made.
 use mathlib.Core.Path.{refl}
 use borrow.Author.Needs.{needs}
-use Rattle.appearance.proofs.settle.Statement.{statement}
-use Rattle.appearance.proofs.settle.Tie as tie
+use Rattle.appearance.proofs.inner.settle.Statement.{statement}
+use Rattle.appearance.proofs.inner.settle.Tie as tie
 
 enum-known-made : tie.Need-enum-known-made
 enum-known-made c = search needs

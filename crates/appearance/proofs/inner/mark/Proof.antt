@@ -10,8 +10,8 @@ use Prim.Native.Nat.{_≤_, _-_, zero-le}
 use native.Mathlib.Omega.{arith}
 use borrow.Author.Needs.{needs}
 use mathlib.Core.Path.{_≡_, refl, sym, ap, _∙_}
-use Rattle.appearance.proofs.mark.Statement.{statement}
-use Rattle.appearance.proofs.mark.Tie as tie
+use Rattle.appearance.proofs.inner.mark.Statement.{statement}
+use Rattle.appearance.proofs.inner.mark.Tie as tie
 
 abbrev Inv-loop : tie.InvT-loop
 Inv-loop s₀ i₀ s i = (i ≤ length s₀) × (length s ≡ length s₀) × (s ≡ replicate i 4294967295 ++ drop i s₀)
