@@ -1,15 +1,16 @@
 // The work of the call, on overgroups whose handles fit and whose elements are at most 65,535.
 ghost use mathlib.Core.Path.{_≡_};
 ghost use mathlib.Core.Bool.{true};
-ghost use Prim.Native.Nat.{_≤_};
+ghost use Prim.Native.Nat.{_*_, _≤_};
 ghost use lib.ListN.{length, getD, take};
 ghost use Rattle.builder.specs.Finish.{Built};
 ghost use Rattle.group.specs.Handles.{handles, elementsOf, allFit};
 ghost use Rattle.group.specs.Powers.{composes};
 ghost use Rattle.appearance.specs.Build.{Renumbering};
-ghost use Rattle.subgroup.specs.Lent.{Subgrouping};
+ghost use Rattle.subgroup.specs.Lent.{Subgrouping, mapsRight};
 ghost use Rattle.predicate.specs.Predicate.{isNew, Eight, ninthOf, chooses, againIn, predicateIn, pickedOf, admitsOver, toldInto};
 use egg::Counted;
+use egg::GroupElementId;
 use egg::Refusal;
 use egg::Verdict;
 use group::Group;
@@ -42,13 +43,14 @@ fn byte(s: &[u8], i: usize) -> u8
 }
 
 // Whether x is a member that has no number yet.
-fn is_new(inn: &[u32], members: &[u8], x: u32) -> bool
-    ensures { λ r. ⌜ r ≡ isNew (now (inn .entry)) (λ y. getD (now (members .entry)) y 0) x ⌝ }
+fn is_new(inn: &[u32], members: &[u8], x: GroupElementId) -> bool
+    ensures { λ r. ⌜ r ≡ isNew (now (inn .entry)) (λ y. getD (now (members .entry)) y 0) (x .0) ⌝ }
 {
-    if egg::inner::get(inn, x as usize) != 4294967295 {
+    let i = x.0;
+    if egg::inner::get(inn, i as usize) != 4294967295 {
         return false;
     }
-    byte(members, x as usize) != 0
+    byte(members, i as usize) != 0
 }
 
 // There is no ninth generator: all that was built is zero again.
@@ -82,11 +84,11 @@ fn choose(
     over: Group,
     members: &[u8],
     room: u32,
-    x: u32,
+    x: GroupElementId,
     p: Picks,
 ) -> Picks
     requires { ⌜ ((allFit (length (now from)) (handles over) ≡ true) × (elementsOf (handles over) ≤ 4294967295)) × Eight p ⌝ }
-    ensures { λ r. ⌜ (pickedOf r (now (t .exit)) (now (w .exit)) (now (inn .exit)) (now (outw .exit)) ≡ chooses 1 (againIn (length (now (t .entry))) (composes (now (from .entry)) (handles over)) room (length (now (inn .entry))) (length (now (outw .entry)))) (λ y. getD (now (members .entry)) y 0) x (take (p .generators) (p .chosen)) (Renumbering.renumbering (Built.built (p .made) (now (t .entry)) (now (w .entry))) (now (inn .entry)) (now (outw .entry)))) × Eight r ⌝ }
+    ensures { λ r. ⌜ (pickedOf r (now (t .exit)) (now (w .exit)) (now (inn .exit)) (now (outw .exit)) ≡ chooses 1 (againIn (length (now (t .entry))) (composes (now (from .entry)) (handles over)) room (length (now (inn .entry))) (length (now (outw .entry)))) (λ y. getD (now (members .entry)) y 0) (x .0) (take (p .generators) (p .chosen)) (Renumbering.renumbering (Built.built (p .made) (now (t .entry)) (now (w .entry))) (now (inn .entry)) (now (outw .entry)))) × Eight r ⌝ }
 {
     let built = p.made;
     let Counted::Count(_) = built else {
@@ -99,8 +101,9 @@ fn choose(
     if 8 <= k {
         return ninth(t, w, inn, outw, p);
     }
+    let new = x.0;
     let mut chosen = p.chosen;
-    chosen[k] = x;
+    chosen[k] = new;
     let n = k + 1;
     let made = subgroup::inner::generated_in(
         t,
@@ -139,7 +142,18 @@ fn choose_all(
     let mut x: u32 = 0;
     let mut q = p;
     while x < m {
-        q = choose(t, w, inn, outw, from, over, members, room, x, q);
+        q = choose(
+            t,
+            w,
+            inn,
+            outw,
+            from,
+            over,
+            members,
+            room,
+            GroupElementId(x),
+            q,
+        );
         x += 1;
     }
     q
@@ -170,6 +184,59 @@ fn told_in(
     choose_all(t, w, inn, outw, from, over, members, room, p)
 }
 
+// The same with all builds in the front of the work, since each clears what it is lent; the whole is cleared once, at the end.
+fn told_in_front(
+    t: &mut [u32],
+    w: &mut [u32],
+    inn: &mut [u32],
+    outw: &mut [u32],
+    from: &[u32],
+    over: Group,
+    members: &[u8],
+    room: u32,
+) -> Picks
+    requires { ⌜ (((allFit (length (now from)) (handles over) ≡ true) × (elementsOf (handles over) ≤ 4294967295)) × (length (now inn) ≤ 65535)) × ((1 ≤ room) × (8 * room ≤ length (now w))) ⌝ }
+    ensures { λ r. ⌜ (pickedOf r (now (t .exit)) (now (w .exit)) (now (inn .exit)) (now (outw .exit)) ≡ predicateIn (length (now (t .entry))) (now (w .entry)) (composes (now (from .entry)) (handles over)) room (length (now (inn .entry))) (length (now (outw .entry))) (λ y. getD (now (members .entry)) y 0)) × Eight r ⌝ }
+{
+    let front = 8 * (room as usize);
+    let p = told_in(t, &mut w[..front], inn, outw, from, over, members, room);
+    egg::inner::clear(w);
+    p
+}
+
+// The builds in the parts of the four buffers that they need, which are long enough.
+fn told_at(
+    from: &[u32],
+    over: Group,
+    members: &[u8],
+    table: &mut [u32],
+    start: usize,
+    work: &mut [u32],
+    inn: &mut [u32],
+    outw: &mut [u32],
+    room: u32,
+) -> Subgrouped
+    requires { ⌜ ((allFit (length (now from)) (handles over) ≡ true) × (elementsOf (handles over) ≤ 65535)) × ((elementsOf (handles over) ≤ length (now members)) × (mapsRight (length (now table)) start (length (now work)) (length (now inn)) (length (now outw)) room 8 (elementsOf (handles over)) ≡ true)) ⌝ }
+    ensures { λ r. ⌜ Subgrouping.subgrouping r (now (table .exit)) (now (work .exit)) (now (inn .exit)) (now (outw .exit)) ≡ toldInto (now (from .entry)) over (now (members .entry)) (now (table .entry)) start (now (work .entry)) (now (inn .entry)) (now (outw .entry)) room ⌝ }
+{
+    let m = group::inner::elements_of(over) as usize;
+    let r = room as usize;
+    let end = builder::inner::stretch_end(table.len(), start, room, 8);
+    let need = builder::inner::work_need(8, room);
+    let p = told_in_front(
+        &mut table[start..end],
+        &mut work[..need],
+        &mut inn[..m],
+        &mut outw[..r],
+        from,
+        over,
+        members,
+        room,
+    );
+    let made = p.made;
+    subgroup::inner::subgroup_of(over, builder::inner::made(start, room, p.generators, made))
+}
+
 // 4; then the builds.
 pub fn told_into(
     from: &[u32],
@@ -185,8 +252,7 @@ pub fn told_into(
     requires { ⌜ (allFit (length (now from)) (handles over) ≡ true) × (elementsOf (handles over) ≤ 65535) ⌝ }
     ensures { λ r. ⌜ Subgrouping.subgrouping r (now (table .exit)) (now (work .exit)) (now (inn .exit)) (now (outw .exit)) ≡ toldInto (now (from .entry)) over (now (members .entry)) (now (table .entry)) start (now (work .entry)) (now (inn .entry)) (now (outw .entry)) room ⌝ }
 {
-    let m = group::inner::elements_of(over) as usize;
-    let r = room as usize;
+    let m = group::inner::elements_of(over);
     if !subgroup::inner::maps_right(
         table.len(),
         start,
@@ -195,25 +261,12 @@ pub fn told_into(
         outw.len(),
         room,
         8,
-        m as u64,
+        m,
     ) {
         return subgroup::inner::subgroup_of(over, builder::inner::refused_made(4, 0));
     }
-    if members.len() < m {
+    if (members.len() as u64) < m {
         return subgroup::inner::subgroup_of(over, builder::inner::refused_made(4, 0));
     }
-    let end = builder::inner::stretch_end(table.len(), start, room, 8);
-    let need = builder::inner::work_need(8, room);
-    let p = told_in(
-        &mut table[start..end],
-        &mut work[..need],
-        &mut inn[..m],
-        &mut outw[..r],
-        from,
-        over,
-        members,
-        room,
-    );
-    let made = p.made;
-    subgroup::inner::subgroup_of(over, builder::inner::made(start, room, p.generators, made))
+    told_at(from, over, members, table, start, work, inn, outw, room)
 }

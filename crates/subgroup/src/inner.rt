@@ -101,8 +101,12 @@ fn product_row(
     while g < n {
         let at = egg::inner::get(&outw[..], row as usize);
         let by = egg::inner::get(gens, g as usize);
-        let reached =
-            group::inner::compose_digits(from, over, GroupElementId(at), GroupElementId(by));
+        let reached = group::inner::compose_digits(
+            from,
+            over,
+            GroupElementId(at),
+            GroupElementId(by),
+        );
         let x = match reached {
             Reached::Refused(why) => {
                 return Counted::Refused(why);
@@ -139,7 +143,18 @@ fn product_rows(
         if count <= e {
             return Counted::Count(count);
         }
-        let c = product_row(t, inn, outw, from, over, gens, n, room, GroupElementId(e), count);
+        let c = product_row(
+            t,
+            inn,
+            outw,
+            from,
+            over,
+            gens,
+            n,
+            room,
+            GroupElementId(e),
+            count,
+        );
         let Counted::Count(k) = c else {
             return c;
         };
@@ -610,7 +625,13 @@ fn side_generator(from: &[u32], table: &[u32], s: Subgroup, g: GeneratorId) -> R
 }
 
 // The same in the overgroup.
-pub fn generator_over(from: &[u32], table: &[u32], s: Subgroup, outw: &[u32], g: GeneratorId) -> Reached
+pub fn generator_over(
+    from: &[u32],
+    table: &[u32],
+    s: Subgroup,
+    outw: &[u32],
+    g: GeneratorId,
+) -> Reached
     requires { ⌜ (sidesFit (length (now from)) (length (now table)) s ≡ true) × (sidesLimited s ≡ true) ⌝ }
     ensures { λ r. ⌜ r ≡ onReached (sideGenerator (now (from .entry)) (now (table .entry)) s (g .0)) (λ e. carriedOver s (now (outw .entry)) e) ⌝ }
 {
