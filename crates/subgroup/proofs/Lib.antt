@@ -5,3 +5,4 @@ pub mod IndexLaws
 pub mod SideLaws
 pub mod Carries
 pub mod Generators
+pub mod OneFactor

@@ -1,12 +1,15 @@
 // The work of the calls, on overgroups whose handles fit and whose elements are at most 65,535.
 ghost use mathlib.Core.Path.{_≡_};
 ghost use mathlib.Core.Bool.{true};
+ghost use mathlib.Core.List.{[], _∷_};
 ghost use Prim.Native.Nat.{_+_, _*_, _<_, _≤_};
 ghost use lib.ListN.{length, getD};
 ghost use Rattle.egg.specs.declared.Verdict.the-variants as verdict;
+ghost use Rattle.egg.specs.Factor.{fitsIn};
 ghost use Rattle.builder.specs.Finish.{Built};
 ghost use Rattle.builder.specs.Lending.{noFactor};
 ghost use Rattle.reading.specs.Reading.{Placed};
+ghost use Rattle.group.specs.Powers.{composes};
 ghost use Rattle.group.specs.Handles.{handles, elementsOf, generatorsOf, allFit, capped};
 ghost use Rattle.appearance.specs.Renumber.{Mapped, mapRow, mapRows};
 ghost use Rattle.appearance.specs.Build.{Renumbering, renumberIn};
@@ -21,6 +24,7 @@ use super::Subgroup;
 use super::Subgrouped;
 use super::Within;
 use egg::Counted;
+use egg::Factor;
 use egg::GeneratorId;
 use egg::GroupElementId;
 use egg::Made;
@@ -164,6 +168,123 @@ fn product_rows(
     Counted::Count(count)
 }
 
+// The product of two elements where the overgroup is one factor.
+fn factor_product(from: &[u32], f: Factor, a: GroupElementId, b: GroupElementId) -> Reached
+    requires { ⌜ fitsIn (length (now from)) f ≡ true ⌝ }
+    ensures { λ r. ⌜ r ≡ composes (now (from .entry)) (f ∷ []) (a .0) (b .0) ⌝ }
+{
+    let m = f.elements;
+    let x = a.0;
+    let y = b.0;
+    factor::inner::compose_elements(
+        egg::inner::part(from, f),
+        f.generators,
+        m,
+        GroupElementId(x % m),
+        GroupElementId(y % m),
+    )
+}
+
+// The same rows where the overgroup is one factor: its handle is 24 bytes, and a product of 200 would be copied at each place.
+fn factor_row(
+    t: &mut [u32],
+    inn: &mut [u32],
+    outw: &mut [u32],
+    from: &[u32],
+    f: Factor,
+    gens: &[u32],
+    n: u8,
+    room: u32,
+    e: GroupElementId,
+    first: u32,
+) -> Counted
+    requires { ⌜ fitsIn (length (now from)) f ≡ true ⌝ }
+    ensures { λ r. ⌜ Mapped.mapped (Placed.placed r (now (t .exit))) (now (inn .exit)) (now (outw .exit)) ≡ mapRow n (productOf (now (from .entry)) (f ∷ []) (now (gens .entry))) n room (e .0) 0 first (now (t .entry)) (now (inn .entry)) (now (outw .entry)) ⌝ }
+{
+    let row = e.0;
+    let mut g: u8 = 0;
+    let mut count = first;
+    while g < n {
+        let at = egg::inner::get(&outw[..], row as usize);
+        let by = egg::inner::get(gens, g as usize);
+        let reached = factor_product(from, f, GroupElementId(at), GroupElementId(by));
+        let x = match reached {
+            Reached::Refused(why) => {
+                return Counted::Refused(why);
+            }
+            Reached::Element(y) => y,
+        };
+        let c = appearance::inner::place(t, inn, outw, n, room, count, e, GeneratorId(g), x);
+        let Counted::Count(k) = c else {
+            return c;
+        };
+        count = k;
+        g += 1;
+    }
+    Counted::Count(count)
+}
+
+fn factor_rows(
+    t: &mut [u32],
+    inn: &mut [u32],
+    outw: &mut [u32],
+    from: &[u32],
+    f: Factor,
+    gens: &[u32],
+    n: u8,
+    room: u32,
+) -> Counted
+    requires { ⌜ fitsIn (length (now from)) f ≡ true ⌝ }
+    ensures { λ r. ⌜ Mapped.mapped (Placed.placed r (now (t .exit))) (now (inn .exit)) (now (outw .exit)) ≡ mapRows room (productOf (now (from .entry)) (f ∷ []) (now (gens .entry))) n room 0 1 (now (t .entry)) (now (inn .entry)) (now (outw .entry)) ⌝ }
+{
+    let mut e: u32 = 0;
+    let mut count: u32 = 1;
+    while e < room {
+        if count <= e {
+            return Counted::Count(count);
+        }
+        let c = factor_row(
+            t,
+            inn,
+            outw,
+            from,
+            f,
+            gens,
+            n,
+            room,
+            GroupElementId(e),
+            count,
+        );
+        let Counted::Count(k) = c else {
+            return c;
+        };
+        count = k;
+        e += 1;
+    }
+    Counted::Count(count)
+}
+
+// By how many factors the overgroup has.
+fn rows_of(
+    t: &mut [u32],
+    inn: &mut [u32],
+    outw: &mut [u32],
+    from: &[u32],
+    over: Group,
+    gens: &[u32],
+    n: u8,
+    room: u32,
+) -> Counted
+    requires { ⌜ (allFit (length (now from)) (handles over) ≡ true) × (elementsOf (handles over) ≤ 4294967295) ⌝ }
+    ensures { λ r. ⌜ Mapped.mapped (Placed.placed r (now (t .exit))) (now (inn .exit)) (now (outw .exit)) ≡ mapRows room (productOf (now (from .entry)) (handles over) (now (gens .entry))) n room 0 1 (now (t .entry)) (now (inn .entry)) (now (outw .entry)) ⌝ }
+{
+    if group::inner::listed(over) == 1 {
+        let f = group::inner::handle(over, 0);
+        return factor_rows(t, inn, outw, from, f, gens, n, room);
+    }
+    product_rows(t, inn, outw, from, over, gens, n, room)
+}
+
 // The whole build, in its stretches.
 pub fn generated_in(
     t: &mut [u32],
@@ -181,7 +302,7 @@ pub fn generated_in(
 {
     egg::inner::clear(t);
     appearance::inner::start(inn, outw, GroupElementId(0));
-    let read = product_rows(t, inn, outw, from, over, gens, n, room);
+    let read = rows_of(t, inn, outw, from, over, gens, n, room);
     let made = builder::inner::finish(t, w, n, read);
     appearance::inner::settle(inn, outw, made)
 }

@@ -13,8 +13,8 @@ clear-requires c κs = search needs
 start-requires : tie.Need-start-requires
 start-requires c κs = search needs
 
-product-rows-requires : tie.Need-product-rows-requires
-product-rows-requires c κs = (c .before .before .before .before .before .before .before .before .before .before .before .before .before .before .before .before .before .before .before .before .pre)
+rows-of-requires : tie.Need-rows-of-requires
+rows-of-requires c κs = (c .before .before .before .before .before .before .before .before .before .before .before .before .before .before .before .before .before .before .before .before .pre)
 
 finish-requires : tie.Need-finish-requires
 finish-requires c κs = search needs
@@ -35,7 +35,7 @@ same-length-4 : tie.Need-same-length-4
 same-length-4 c = search needs
 
 returns : tie.Need-returns
-returns c = let a = (c .before .before .before .before .before .before .before .before .before .before .before .before .before .before .before .before .before .before .before .before .before .before .before .before .before .before .before .before .before .before .before .before .before .before .before .before .before .before .before .before .before .args) in renumber-in (length (a .t .now)) (a .w .now) (productOf (a .from .now) (handles (a .over)) (a .gens .now)) (a .n) (a .room) (length (a .inn .now)) (length (a .outw .now)) 0 ((c .before .before .before .before .before .before .before .before .before .before .before .before .before .before .before .before .before .before .before .before .before .before .before .before .before .before .before .before .before .before .before .before .before .clear .ensures)) ((c .before .before .before .before .before .before .before .before .before .before .before .before .before .before .before .before .before .before .before .before .before .before .before .before .before .before .before .before .start .ensures .0)) ((c .before .before .before .before .before .before .before .before .before .before .before .before .before .before .before .before .before .before .before .before .before .before .before .before .before .before .before .before .start .ensures .1)) ((c .before .before .before .before .before .before .before .before .before .before .before .before .before .before .before .before .before .before .before .before .product-rows .ensures)) ((c .before .before .before .before .before .before .before .before .before .before .before .finish .ensures)) ((c .before .before .before .before .settle .ensures .0)) ((c .before .before .before .before .settle .ensures .1 .0)) ((c .before .before .before .before .settle .ensures .1 .1))
+returns c = let a = (c .before .before .before .before .before .before .before .before .before .before .before .before .before .before .before .before .before .before .before .before .before .before .before .before .before .before .before .before .before .before .before .before .before .before .before .before .before .before .before .before .before .args) in renumber-in (length (a .t .now)) (a .w .now) (productOf (a .from .now) (handles (a .over)) (a .gens .now)) (a .n) (a .room) (length (a .inn .now)) (length (a .outw .now)) 0 ((c .before .before .before .before .before .before .before .before .before .before .before .before .before .before .before .before .before .before .before .before .before .before .before .before .before .before .before .before .before .before .before .before .before .clear .ensures)) ((c .before .before .before .before .before .before .before .before .before .before .before .before .before .before .before .before .before .before .before .before .before .before .before .before .before .before .before .before .start .ensures .0)) ((c .before .before .before .before .before .before .before .before .before .before .before .before .before .before .before .before .before .before .before .before .before .before .before .before .before .before .before .before .start .ensures .1)) ((c .before .before .before .before .before .before .before .before .before .before .before .before .before .before .before .before .before .before .before .before .rows-of .ensures)) ((c .before .before .before .before .before .before .before .before .before .before .before .finish .ensures)) ((c .before .before .before .before .settle .ensures .0)) ((c .before .before .before .before .settle .ensures .1 .0)) ((c .before .before .before .before .settle .ensures .1 .1))
 
 pub generated-in-spec : {M : Type 1} → statement M
 generated-in-spec =
@@ -43,7 +43,7 @@ generated-in-spec =
     (tie.spec
     clear-requires
     start-requires
-    product-rows-requires
+    rows-of-requires
     finish-requires
     settle-requires
     same-length
