@@ -122,7 +122,7 @@ below-pick : {N : ℕ} {x y : Reached} (t : Bool) → (t ≡ true → Below N x)
 below-pick true p q = p refl
 below-pick false p q = q refl
 
-below-on : {N : ℕ} {f : ℕ → Reached} (r : Reached) → Below N r → ((x : ℕ) → x < N → Below N (f x)) → Below N (onReached r f)
+pub below-on : {N : ℕ} {f : ℕ → Reached} (r : Reached) → Below N r → ((x : ℕ) → x < N → Below N (f x)) → Below N (onReached r f)
 below-on (Element e) b h = h (e .0) (inside-of b)
 below-on (Refused r) b h = refusal
 

@@ -11,6 +11,7 @@ ghost use Rattle.factor.specs.Questions.{composeIn};
 ghost use Rattle.products.specs.Radix.{stride, split, join, project, inject};
 ghost use Rattle.products.specs.Divisors.{gcd, lcm};
 ghost use Rattle.group.specs.Handles.{handles, sizes, elementsOf, generatorsOf, allFit, capped, seen, limitOf, limitSeen, limited, admits, groupOf, noGroup};
+ghost use Rattle.group.specs.Alone.{Alone};
 ghost use Rattle.group.specs.Digits.{digitOf, digitwise, stepIn};
 ghost use Rattle.group.specs.Powers.{composes, inverts, halves, powers, periodFrom, periodOf, periods};
 ghost use Rattle.builder.specs.Finish.{Built};
@@ -55,6 +56,13 @@ pub fn listed(g: Group) -> usize
 {
     let c = g.count;
     if 8 < c { 8 } else { c as usize }
+}
+
+// Whether there is one factor, and no more.
+pub fn alone(g: Group) -> bool
+    ensures { λ r. ⌜ (r ≡ true → Alone g) ⌝ }
+{
+    g.count == 1
 }
 
 // The handle of the factor f; where there is none, the one that fits no buffer.

@@ -1,4 +1,5 @@
 // group.rs: direct products of factors. A product is a value: up to eight handles of factors that stand in one table buffer, the fastest digit first.
+// One factor by itself is asked by the factor's own calls, which have nothing to split.
 // Every call checks, in this order: 17 for each handle, 14 for its arguments, 15, 1 to 4, and then 17 in what it reads.
 ghost use mathlib.Core.Path.{_≡_};
 ghost use mathlib.Core.List.{[], _∷_};
@@ -16,6 +17,7 @@ use egg::Reached;
 use egg::Verdict;
 use inner::Limit;
 
+pub mod alone;
 pub mod inner;
 
 // The factors; only the first `count` are looked at.
@@ -109,6 +111,10 @@ pub fn generator_count(table: &[u32], g: Group) -> Counted
 pub fn generator(table: &[u32], g: Group, x: GeneratorId) -> Reached
     ensures { λ r. ⌜ r ≡ generatorAnswer (now (table .entry)) g x ⌝ }
 {
+    if inner::alone(g) {
+        let h = g.factors[0];
+        return factor::generator(table, h, x);
+    }
     match inner::admit(table, g, x.0 as u32, Limit::Generators, 0, Limit::Number(1)) {
         Verdict::Refused(why) => Reached::Refused(why),
         Verdict::Fine => inner::step_in(table, g, GroupElementId(0), x),
@@ -118,6 +124,10 @@ pub fn generator(table: &[u32], g: Group, x: GeneratorId) -> Reached
 pub fn step(table: &[u32], g: Group, e: GroupElementId, x: GeneratorId) -> Reached
     ensures { λ r. ⌜ r ≡ stepAnswer (now (table .entry)) g e x ⌝ }
 {
+    if inner::alone(g) {
+        let h = g.factors[0];
+        return egg::step(table, h, e, x);
+    }
     match inner::admit(
         table,
         g,
@@ -195,6 +205,10 @@ pub fn join(table: &[u32], g: Group, digits: &[u32]) -> Reached
 pub fn compose(table: &[u32], g: Group, a: GroupElementId, b: GroupElementId) -> Reached
     ensures { λ r. ⌜ r ≡ composeAnswer (now (table .entry)) g a b ⌝ }
 {
+    if inner::alone(g) {
+        let h = g.factors[0];
+        return factor::compose(table, h, a, b);
+    }
     match inner::admit(table, g, a.0, Limit::Elements, b.0, Limit::Elements) {
         Verdict::Refused(why) => Reached::Refused(why),
         Verdict::Fine => inner::compose_digits(table, g, a, b),
@@ -204,6 +218,10 @@ pub fn compose(table: &[u32], g: Group, a: GroupElementId, b: GroupElementId) ->
 pub fn inverse(table: &[u32], g: Group, a: GroupElementId) -> Reached
     ensures { λ r. ⌜ r ≡ inverseAnswer (now (table .entry)) g a ⌝ }
 {
+    if inner::alone(g) {
+        let h = g.factors[0];
+        return factor::inverse(table, h, a);
+    }
     match inner::admit(table, g, a.0, Limit::Elements, 0, Limit::Number(1)) {
         Verdict::Refused(why) => Reached::Refused(why),
         Verdict::Fine => inner::inverse_digits(table, g, a),
@@ -214,6 +232,10 @@ pub fn inverse(table: &[u32], g: Group, a: GroupElementId) -> Reached
 pub fn conjugate(table: &[u32], g: Group, a: GroupElementId, b: GroupElementId) -> Reached
     ensures { λ r. ⌜ r ≡ conjugateAnswer (now (table .entry)) g a b ⌝ }
 {
+    if inner::alone(g) {
+        let h = g.factors[0];
+        return factor::conjugate(table, h, a, b);
+    }
     match inner::admit(table, g, a.0, Limit::Elements, b.0, Limit::Elements) {
         Verdict::Refused(why) => Reached::Refused(why),
         Verdict::Fine => inner::conjugate_digits(table, g, a, b),
@@ -223,6 +245,10 @@ pub fn conjugate(table: &[u32], g: Group, a: GroupElementId, b: GroupElementId) 
 pub fn powi(table: &[u32], g: Group, a: GroupElementId, i: i32) -> Reached
     ensures { λ r. ⌜ r ≡ powiAnswer (now (table .entry)) g a i ⌝ }
 {
+    if inner::alone(g) {
+        let h = g.factors[0];
+        return alone::powi(table, h, a, i);
+    }
     match inner::admit(table, g, a.0, Limit::Elements, 0, Limit::Number(1)) {
         Verdict::Refused(why) => Reached::Refused(why),
         Verdict::Fine => inner::powi_in(table, g, a, i),
@@ -242,6 +268,10 @@ pub fn period(table: &[u32], g: Group, a: GroupElementId) -> Counted
 pub fn word_length(table: &[u32], g: Group, e: GroupElementId) -> Counted
     ensures { λ r. ⌜ r ≡ lengthAnswer (now (table .entry)) g e ⌝ }
 {
+    if inner::alone(g) {
+        let h = g.factors[0];
+        return factor::word_length(table, h, e);
+    }
     match inner::admit(table, g, e.0, Limit::Elements, 0, Limit::Number(1)) {
         Verdict::Refused(why) => Counted::Refused(why),
         Verdict::Fine => inner::lengths(table, g, e.0),
@@ -252,6 +282,10 @@ pub fn word_length(table: &[u32], g: Group, e: GroupElementId) -> Counted
 pub fn write_word(table: &[u32], g: Group, e: GroupElementId, out: &mut [u8]) -> Counted
     ensures { λ r. ⌜ (r ≡ writeAnswer (now (table .entry)) g e (length (now (out .entry)))) × (now (out .exit) ≡ written (now (table .entry)) g e (now (out .entry))) ⌝ }
 {
+    if inner::alone(g) {
+        let h = g.factors[0];
+        return factor::write_word(table, h, e, out);
+    }
     match inner::admit(table, g, e.0, Limit::Elements, 0, Limit::Number(1)) {
         Verdict::Refused(why) => Counted::Refused(why),
         Verdict::Fine => inner::write_in(table, g, e.0, out),

@@ -1,12 +1,25 @@
--- The verdict of `admit` decides; then the work's own contract is the answer.
+-- A product of one factor is asked as the factor is. Else the verdict of `admit` decides, and the work's own contract is the answer.
 use lib.ListN.{length}
 use mathlib.Core.Path.{_∙_}
 use Rattle.group.specs.Questions.{composeAnswer}
-use Rattle.group.proofs.Admitted.{ready}
 use Rattle.factor.proofs.Admits.{reach-refused, reach-fine}
+use Rattle.group.proofs.Admitted.{ready}
+use Rattle.group.proofs.OneFactor.{one-compose}
 use borrow.Author.Needs.{needs}
 use Rattle.group.proofs.compose.Statement.{statement}
 use Rattle.group.proofs.compose.Tie as tie
+
+alone-requires : tie.Need-alone-requires
+alone-requires c κs = search needs
+
+element-copy-out-h : tie.Need-element-copy-out-h
+element-copy-out-h c = search needs
+
+compose-requires : tie.Need-compose-requires
+compose-requires c κs = search needs
+
+returns : tie.Need-returns
+returns c = (c .compose .ensures) ∙ one-compose (c .before .before .before .before .before .args .table .now) (c .before .before .before .before .before .args .t2) _ ((c .before .before .before .alone .ensures) (c .before .before .if1 .taken) .counted) ((c .before .before .before .alone .ensures) (c .before .before .if1 .taken) .listed) (c .before .before .before .before .before .args .a) (c .before .before .before .before .before .args .b)
 
 admit-requires : tie.Need-admit-requires
 admit-requires c κs = search needs
@@ -18,17 +31,15 @@ enum-told : tie.Need-enum-told
 enum-told c = search needs
 
 compose-digits-requires : tie.Need-compose-digits-requires
-compose-digits-requires c κs = (ready (length (c .before .before .before .before .args .table .now)) (c .before .before .before .before .args .g) _ _ _ _ (c .before .before .admit .ensures) (c .enum-told .given .1))
-
-returns : tie.Need-returns
-unfolding composeAnswer
-returns c = reach-refused (c .before .before .before .admit .ensures) _ (c .before .why .given .1)
+compose-digits-requires c κs = (ready (length (c .before .before .before .before .before .before .args .table .now)) (c .before .before .before .before .before .before .args .t2) _ _ _ _ (c .before .before .admit .ensures) (c .enum-told .given .1))
 
 returns-2 : tie.Need-returns-2
 unfolding composeAnswer
-returns-2 c = (c .compose-digits .ensures) ∙ reach-fine (c .before .before .before .admit .ensures) _ (c .before .enum-told .given .1)
+returns-2 c = reach-refused (c .before .before .before .admit .ensures) _ (c .before .why .given .1)
+
+returns-3 : tie.Need-returns-3
+unfolding composeAnswer
+returns-3 c = (c .compose-digits .ensures) ∙ reach-fine (c .before .before .before .admit .ensures) _ (c .before .enum-told .given .1)
 
 pub compose-spec : {M : Type 1} → statement M
-compose-spec =
-    tie.close
-    (tie.spec admit-requires enum-known-why enum-told compose-digits-requires returns returns-2)
+compose-spec = tie.close (tie.spec alone-requires element-copy-out-h compose-requires returns admit-requires enum-known-why enum-told compose-digits-requires returns-2 returns-3)

@@ -1,14 +1,30 @@
--- The verdict of `admit` decides; then the work's own contract is the answer.
+-- A product of one factor is asked as the factor is. Else the verdict of `admit` decides, and the work's own contract is the answer.
 use lib.ListN.{length}
-use mathlib.Core.Path.{refl, sym}
+use mathlib.Core.Path.{_∙_, refl, sym}
 use Rattle.group.specs.Questions.{writeAnswer, written}
 use Rattle.group.specs.Handles.{handles}
 use Rattle.group.proofs.Spelling.{wrote}
-use Rattle.group.proofs.Admitted.{ready}
 use Rattle.factor.proofs.Admits.{count-refused, count-fine}
+use Rattle.group.proofs.Admitted.{ready}
+use Rattle.group.proofs.OneFactor.{one-write, one-written}
 use borrow.Author.Needs.{needs}
 use Rattle.group.proofs.write_word.Statement.{statement}
 use Rattle.group.proofs.write_word.Tie as tie
+
+alone-requires : tie.Need-alone-requires
+alone-requires c κs = search needs
+
+element-copy-out-h : tie.Need-element-copy-out-h
+element-copy-out-h c = search needs
+
+write-word-requires : tie.Need-write-word-requires
+write-word-requires c κs = search needs
+
+same-length : tie.Need-same-length
+same-length c = search needs
+
+returns : tie.Need-returns
+returns c = ((c .before .before .write-word .ensures .0) ∙ one-write (c .before .before .before .before .before .before .before .before .before .args .table .now) (c .before .before .before .before .before .before .before .before .before .args .t2) _ ((c .before .before .before .before .before .before .alone .ensures) (c .before .before .before .before .before .if1 .taken) .counted) ((c .before .before .before .before .before .before .alone .ensures) (c .before .before .before .before .before .if1 .taken) .listed) (c .before .before .before .before .before .before .before .before .before .args .e) (length (c .before .before .before .before .before .before .before .before .before .args .out .now)), (c .before .before .write-word .ensures .1) ∙ one-written (c .before .before .before .before .before .before .before .before .before .args .table .now) (c .before .before .before .before .before .before .before .before .before .args .t2) _ ((c .before .before .before .before .before .before .alone .ensures) (c .before .before .before .before .before .if1 .taken) .counted) ((c .before .before .before .before .before .before .alone .ensures) (c .before .before .before .before .before .if1 .taken) .listed) (c .before .before .before .before .before .before .before .before .before .args .e) (c .before .before .before .before .before .before .before .before .before .args .out .now))
 
 admit-requires : tie.Need-admit-requires
 admit-requires c κs = search needs
@@ -20,27 +36,18 @@ enum-told : tie.Need-enum-told
 enum-told c = search needs
 
 write-in-requires : tie.Need-write-in-requires
-write-in-requires c κs = (ready (length (c .before .before .before .before .before .before .args .table .now)) (c .before .before .before .before .before .before .args .g) _ _ _ _ (c .before .before .before .admit .ensures) (c .before .enum-told .given .1)) .0
-
-returns : tie.Need-returns
-unfolding writeAnswer written
-returns c = wrote (c .before .before .before .before .before .before .args .table .now) (handles (c .before .before .before .before .before .before .args .g)) (c .before .before .before .before .before .before .args .e .0) (c .before .before .before .before .before .before .args .out .now) (sym (count-refused (c .before .before .before .admit .ensures) _ (c .before .why .given .1))) refl refl
-
-same-length : tie.Need-same-length
-same-length c = search needs
+write-in-requires c κs = (ready (length (c .before .before .before .before .before .before .before .before .args .table .now)) (c .before .before .before .before .before .before .before .before .args .t2) _ _ _ _ (c .before .before .before .admit .ensures) (c .before .enum-told .given .1)) .0
 
 returns-2 : tie.Need-returns-2
 unfolding writeAnswer written
-returns-2 c = wrote (c .before .before .before .before .before .before .before .before .before .args .table .now) (handles (c .before .before .before .before .before .before .before .before .before .args .g)) (c .before .before .before .before .before .before .before .before .before .args .e .0) (c .before .before .before .before .before .before .before .before .before .args .out .now) (sym (count-fine (c .before .before .before .before .before .before .admit .ensures) _ (c .before .before .before .before .enum-told .given .1))) (c .before .before .write-in .ensures .0) (c .before .before .write-in .ensures .1)
+returns-2 c = wrote (c .before .before .before .before .before .before .before .before .args .table .now) (handles (c .before .before .before .before .before .before .before .before .args .t2)) (c .before .before .before .before .before .before .before .before .args .e .0) (c .before .before .before .before .before .before .before .before .args .out .now) (sym (count-refused (c .before .before .before .admit .ensures) _ (c .before .why .given .1))) refl refl
+
+same-length-2 : tie.Need-same-length-2
+same-length-2 c = search needs
+
+returns-3 : tie.Need-returns-3
+unfolding writeAnswer written
+returns-3 c = wrote (c .before .before .before .before .before .before .before .before .before .before .before .args .table .now) (handles (c .before .before .before .before .before .before .before .before .before .before .before .args .t2)) (c .before .before .before .before .before .before .before .before .before .before .before .args .e .0) (c .before .before .before .before .before .before .before .before .before .before .before .args .out .now) (sym (count-fine (c .before .before .before .before .before .before .admit .ensures) _ (c .before .before .before .before .enum-told .given .1))) (c .before .before .write-in .ensures .0) (c .before .before .write-in .ensures .1)
 
 pub write-word-spec : {M : Type 1} → statement M
-write-word-spec =
-    tie.close
-    (tie.spec
-    admit-requires
-    enum-known-why
-    enum-told
-    write-in-requires
-    returns
-    same-length
-    returns-2)
+write-word-spec = tie.close (tie.spec alone-requires element-copy-out-h write-word-requires same-length returns admit-requires enum-known-why enum-told write-in-requires returns-2 same-length-2 returns-3)
