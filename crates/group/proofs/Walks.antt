@@ -270,23 +270,6 @@ module _ (t : List ℕ) (h : Factor) (a b : ℕ) {s : List ℕ} (q : s ≡ stret
   pub digit-conjugate : r ≡ conjugateIn s (h .generators) (h .elements) a b → r ≡ digitOf Conjugate t h a b
   digit-conjugate p = p ∙ rw q
 
--- An inverse takes nothing from a second element.
-pub inverse-alone : (t : List ℕ) (hs : List Factor) (a b c : ℕ) → digitwise (digitOf Inverse t) hs a b ≡ digitwise (digitOf Inverse t) hs a c
-unfolding digitwise
-inverse-alone t [] a b c = refl
-inverse-alone t (h ∷ hs) a b c = simp (inverse-alone t hs (a / h .elements) (b / h .elements) (c / h .elements))
-
--- Each question by its name.
-module _ {asked : Asked} (t : List ℕ) (hs : List Factor) (a b : ℕ) {r : Reached} where
-  pub by-compose : asked ≡ Compose → r ≡ digitwise (digitOf Compose t) hs a b → r ≡ digitwise (digitOf asked t) hs a b
-  by-compose e p = p ∙ rw e
-
-  pub by-inverse : asked ≡ Inverse → r ≡ digitwise (digitOf Inverse t) hs a 0 → r ≡ digitwise (digitOf asked t) hs a b
-  by-inverse e p = p ∙ inverse-alone t hs a 0 b ∙ rw e
-
-  pub by-conjugate : asked ≡ Conjugate → r ≡ digitwise (digitOf Conjugate t) hs a b → r ≡ digitwise (digitOf asked t) hs a b
-  by-conjugate e p = p ∙ rw e
-
 pub rest-total : {hs : List Factor} {f s low : ℕ} → Walk hs f s low → elementsOf (drop f hs) ≤ elementsOf hs
 rest-total {hs} {f} {s} w =
     let k : 1 ≤ s = omega (arith, w .inside) in

@@ -356,18 +356,6 @@ pub fn conjugate_digits(table: &[u32], g: Group, a: GroupElementId, b: GroupElem
     Reached::Element(GroupElementId(sum))
 }
 
-// The same by the question's name.
-pub fn digitwise(table: &[u32], g: Group, asked: Asked, a: u32, b: u32) -> Reached
-    requires { ⌜ (allFit (length (now table)) (handles g) ≡ true) × (elementsOf (handles g) ≤ 4294967295) ⌝ }
-    ensures { λ r. ⌜ r ≡ digitwise (digitOf asked (now (table .entry))) (handles g) a b ⌝ }
-{
-    match asked {
-        Asked::Compose => compose_digits(table, g, GroupElementId(a), GroupElementId(b)),
-        Asked::Inverse => inverse_digits(table, g, GroupElementId(a)),
-        Asked::Conjugate => conjugate_digits(table, g, GroupElementId(a), GroupElementId(b)),
-    }
-}
-
 // The step of the factor that has the generator; the other digits stay.
 pub fn step_in(table: &[u32], g: Group, e: GroupElementId, x: GeneratorId) -> Reached
     requires { ⌜ (allFit (length (now table)) (handles g) ≡ true) × ((elementsOf (handles g) ≤ 4294967295) × (e .0 < elementsOf (handles g))) ⌝ }
@@ -419,21 +407,23 @@ fn stride_of(table: &[u32], g: Group, f: usize) -> u32
     s
 }
 
-pub fn project_in(table: &[u32], g: Group, f: usize, e: u32) -> Reached
+pub fn project_in(table: &[u32], g: Group, f: usize, e: GroupElementId) -> Reached
     requires { ⌜ (allFit (length (now table)) (handles g) ≡ true) × ((elementsOf (handles g) ≤ 4294967295) × (f < length (handles g))) ⌝ }
-    ensures { λ r. ⌜ r ≡ Reached.Element (record { 0 = project (sizes (handles g)) f e }) ⌝ }
+    ensures { λ r. ⌜ r ≡ Reached.Element (record { 0 = project (sizes (handles g)) f (e .0) }) ⌝ }
 {
+    let x = e.0;
     let s = stride_of(table, g, f);
     let n = size_of(g, f);
-    Reached::Element(GroupElementId(e / s % n))
+    Reached::Element(GroupElementId(x / s % n))
 }
 
-pub fn inject_in(table: &[u32], g: Group, f: usize, x: u32) -> Reached
-    requires { ⌜ (allFit (length (now table)) (handles g) ≡ true) × ((elementsOf (handles g) ≤ 4294967295) × ((f < length (handles g)) × (x < getD (sizes (handles g)) f 1))) ⌝ }
-    ensures { λ r. ⌜ r ≡ Reached.Element (record { 0 = inject (sizes (handles g)) f x }) ⌝ }
+pub fn inject_in(table: &[u32], g: Group, f: usize, x: GroupElementId) -> Reached
+    requires { ⌜ (allFit (length (now table)) (handles g) ≡ true) × ((elementsOf (handles g) ≤ 4294967295) × ((f < length (handles g)) × (x .0 < getD (sizes (handles g)) f 1))) ⌝ }
+    ensures { λ r. ⌜ r ≡ Reached.Element (record { 0 = inject (sizes (handles g)) f (x .0) }) ⌝ }
 {
+    let d = x.0;
     let s = stride_of(table, g, f);
-    Reached::Element(GroupElementId(s * x))
+    Reached::Element(GroupElementId(s * d))
 }
 
 fn refused_count(number: u32) -> Counted
@@ -448,16 +438,16 @@ fn refused_count(number: u32) -> Counted
 }
 
 // The digits of e to the places from 0 on; 4 where the list is short.
-pub fn split_in(table: &[u32], g: Group, e: u32, out: &mut [u32]) -> Counted
+pub fn split_in(table: &[u32], g: Group, e: GroupElementId, out: &mut [u32]) -> Counted
     requires { ⌜ allFit (length (now table)) (handles g) ≡ true ⌝ }
-    ensures { λ r. ⌜ (r ≡ splitTail (handles g) (length (now (out .entry)))) × (now (out .exit) ≡ digitsLeft (splitTail (handles g) (length (now (out .entry)))) (sizes (handles g)) e (now (out .entry))) ⌝ }
+    ensures { λ r. ⌜ (r ≡ splitTail (handles g) (length (now (out .entry)))) × (now (out .exit) ≡ digitsLeft (splitTail (handles g) (length (now (out .entry)))) (sizes (handles g)) (e .0) (now (out .entry))) ⌝ }
 {
     let c = listed(g);
     if out.len() < c {
         return refused_count(4);
     }
     let mut f: usize = 0;
-    let mut rest = e;
+    let mut rest = e.0;
     while f < c {
         let h = g.factors[f];
         let n = h.elements;
@@ -575,24 +565,18 @@ fn gcd(a: u32, b: u32) -> u32
 }
 
 // The powers of a, up to the `count`-th.
-fn period_in(s: &[u32], n: u8, count: u32, a: u32) -> Counted
+fn period_in(s: &[u32], n: u8, count: u32, a: GroupElementId) -> Counted
     requires { ⌜ count ≤ 65535 ⌝ }
-    ensures { λ r. ⌜ r ≡ periodFrom count (composeIn (now (s .entry)) n count) a a 1 ⌝ }
+    ensures { λ r. ⌜ r ≡ periodFrom count (composeIn (now (s .entry)) n count) (a .0) (a .0) 1 ⌝ }
 {
     let mut left = count;
-    let mut x = a;
+    let mut x = a.0;
     let mut k: u32 = 1;
     while 0 < left {
         if x == 0 {
             return Counted::Count(k);
         }
-        match factor::inner::compose_elements(
-            &s[..],
-            n,
-            count,
-            GroupElementId(x),
-            GroupElementId(a),
-        ) {
+        match factor::inner::compose_elements(&s[..], n, count, GroupElementId(x), a) {
             Reached::Refused(why) => {
                 return Counted::Refused(why);
             }
@@ -607,18 +591,23 @@ fn period_in(s: &[u32], n: u8, count: u32, a: u32) -> Counted
 }
 
 // The least common multiple of the periods of the digits.
-pub fn periods(table: &[u32], g: Group, a: u32) -> Counted
+pub fn periods(table: &[u32], g: Group, a: GroupElementId) -> Counted
     requires { ⌜ (allFit (length (now table)) (handles g) ≡ true) × (elementsOf (handles g) ≤ 4294967295) ⌝ }
-    ensures { λ r. ⌜ r ≡ periods (now (table .entry)) (handles g) a ⌝ }
+    ensures { λ r. ⌜ r ≡ periods (now (table .entry)) (handles g) (a .0) ⌝ }
 {
     let c = listed(g);
     let mut f: usize = 0;
     let mut m: u32 = 1;
-    let mut rest = a;
+    let mut rest = a.0;
     while f < c {
         let h = g.factors[f];
         let n = h.elements;
-        let r = period_in(egg::inner::part(table, h), h.generators, n, rest % n);
+        let r = period_in(
+            egg::inner::part(table, h),
+            h.generators,
+            n,
+            GroupElementId(rest % n),
+        );
         let Counted::Count(p) = r else {
             return r;
         };
@@ -630,14 +619,14 @@ pub fn periods(table: &[u32], g: Group, a: u32) -> Counted
 }
 
 // The recorded lengths of the digits' words, added up.
-pub fn lengths(table: &[u32], g: Group, e: u32) -> Counted
+pub fn lengths(table: &[u32], g: Group, e: GroupElementId) -> Counted
     requires { ⌜ allFit (length (now table)) (handles g) ≡ true ⌝ }
-    ensures { λ r. ⌜ r ≡ lengths (now (table .entry)) (handles g) e ⌝ }
+    ensures { λ r. ⌜ r ≡ lengths (now (table .entry)) (handles g) (e .0) ⌝ }
 {
     let c = listed(g);
     let mut f: usize = 0;
     let mut sum: u32 = 0;
-    let mut rest = e;
+    let mut rest = e.0;
     while f < c {
         let h = g.factors[f];
         let n = h.elements;
@@ -657,13 +646,13 @@ pub fn lengths(table: &[u32], g: Group, e: u32) -> Counted
 }
 
 // Whether every letter can be read, so that nothing is written where one cannot.
-fn readables(table: &[u32], g: Group, e: u32) -> bool
+fn readables(table: &[u32], g: Group, e: GroupElementId) -> bool
     requires { ⌜ allFit (length (now table)) (handles g) ≡ true ⌝ }
-    ensures { λ r. ⌜ r ≡ readables (now (table .entry)) (handles g) e ⌝ }
+    ensures { λ r. ⌜ r ≡ readables (now (table .entry)) (handles g) (e .0) ⌝ }
 {
     let c = listed(g);
     let mut f: usize = 0;
-    let mut rest = e;
+    let mut rest = e.0;
     while f < c {
         let h = g.factors[f];
         let n = h.elements;
@@ -680,11 +669,19 @@ fn readables(table: &[u32], g: Group, e: u32) -> bool
 }
 
 // The word of one digit to the places from `start` on, each letter moved up by `offset`.
-fn spell_from(s: &[u32], n: u8, e: u32, len: u32, start: usize, offset: u32, out: &mut [u8])
+fn spell_from(
+    s: &[u32],
+    n: u8,
+    e: GroupElementId,
+    len: u32,
+    start: usize,
+    offset: u32,
+    out: &mut [u8],
+)
     requires { ⌜ start ≤ 1099511627776 ⌝ }
-    ensures { λ r. ⌜ now (out .exit) ≡ spellFrom len (now (s .entry)) n e start offset (now (out .entry)) ⌝ }
+    ensures { λ r. ⌜ now (out .exit) ≡ spellFrom len (now (s .entry)) n (e .0) start offset (now (out .entry)) ⌝ }
 {
-    let mut at = e;
+    let mut at = e.0;
     let mut left = len;
     while 0 < left {
         left -= 1;
@@ -695,13 +692,13 @@ fn spell_from(s: &[u32], n: u8, e: u32, len: u32, start: usize, offset: u32, out
     }
 }
 
-fn spells(table: &[u32], g: Group, e: u32, out: &mut [u8])
+fn spells(table: &[u32], g: Group, e: GroupElementId, out: &mut [u8])
     requires { ⌜ allFit (length (now table)) (handles g) ≡ true ⌝ }
-    ensures { λ r. ⌜ now (out .exit) ≡ spells (now (table .entry)) (handles g) e 0 0 (now (out .entry)) ⌝ }
+    ensures { λ r. ⌜ now (out .exit) ≡ spells (now (table .entry)) (handles g) (e .0) 0 0 (now (out .entry)) ⌝ }
 {
     let c = listed(g);
     let mut f: usize = 0;
-    let mut rest = e;
+    let mut rest = e.0;
     let mut start: usize = 0;
     let mut offset: u32 = 0;
     while f < c {
@@ -710,7 +707,7 @@ fn spells(table: &[u32], g: Group, e: u32, out: &mut [u8])
         let s = egg::inner::part(table, h);
         let d = rest % n;
         let len = egg::inner::word_length(s, h.generators, GroupElementId(d));
-        spell_from(s, h.generators, d, len, start, offset, out);
+        spell_from(s, h.generators, GroupElementId(d), len, start, offset, out);
         start += len as usize;
         offset += h.generators as u32;
         rest /= n;
@@ -718,9 +715,9 @@ fn spells(table: &[u32], g: Group, e: u32, out: &mut [u8])
     }
 }
 
-pub fn write_in(table: &[u32], g: Group, e: u32, out: &mut [u8]) -> Counted
+pub fn write_in(table: &[u32], g: Group, e: GroupElementId, out: &mut [u8]) -> Counted
     requires { ⌜ allFit (length (now table)) (handles g) ≡ true ⌝ }
-    ensures { λ r. ⌜ (r ≡ writes (now (table .entry)) (handles g) e (length (now (out .entry)))) × (now (out .exit) ≡ leaves (writes (now (table .entry)) (handles g) e (length (now (out .entry)))) (now (table .entry)) (handles g) e (now (out .entry))) ⌝ }
+    ensures { λ r. ⌜ (r ≡ writes (now (table .entry)) (handles g) (e .0) (length (now (out .entry)))) × (now (out .exit) ≡ leaves (writes (now (table .entry)) (handles g) (e .0) (length (now (out .entry)))) (now (table .entry)) (handles g) (e .0) (now (out .entry))) ⌝ }
 {
     let r = lengths(table, g, e);
     let Counted::Count(k) = r else {
@@ -737,21 +734,29 @@ pub fn write_in(table: &[u32], g: Group, e: u32, out: &mut [u8]) -> Counted
 }
 
 // A row of the product's own steps.
-fn flat_row(t: &mut [u32], from: &[u32], g: Group, n: u8, room: u32, e: u32, first: u32) -> Counted
-    requires { ⌜ (allFit (length (now from)) (handles g) ≡ true) × ((elementsOf (handles g) ≤ 4294967295) × (e < elementsOf (handles g))) ⌝ }
-    ensures { λ r. ⌜ Placed.placed r (now (t .exit)) ≡ rowBy n (stepIn (now (from .entry)) (handles g)) n room e 0 first (now (t .entry)) ⌝ }
+fn flat_row(
+    t: &mut [u32],
+    from: &[u32],
+    g: Group,
+    n: u8,
+    room: u32,
+    e: GroupElementId,
+    first: u32,
+) -> Counted
+    requires { ⌜ (allFit (length (now from)) (handles g) ≡ true) × ((elementsOf (handles g) ≤ 4294967295) × (e .0 < elementsOf (handles g))) ⌝ }
+    ensures { λ r. ⌜ Placed.placed r (now (t .exit)) ≡ rowBy n (stepIn (now (from .entry)) (handles g)) n room (e .0) 0 first (now (t .entry)) ⌝ }
 {
     let mut x: u8 = 0;
     let mut count = first;
     while x < n {
-        let r = step_in(from, g, GroupElementId(e), GeneratorId(x));
+        let r = step_in(from, g, e, GeneratorId(x));
         let v = match r {
             Reached::Refused(why) => {
                 return Counted::Refused(why);
             }
             Reached::Element(y) => y.0,
         };
-        let c = reading::inner::place(t, n, room, count, GroupElementId(e), GeneratorId(x), v);
+        let c = reading::inner::place(t, n, room, count, e, GeneratorId(x), v);
         let Counted::Count(k) = c else {
             return c;
         };
@@ -772,7 +777,7 @@ fn flat_rows(t: &mut [u32], from: &[u32], g: Group, n: u8, room: u32) -> Counted
         if count <= e {
             return Counted::Count(count);
         }
-        let c = flat_row(t, from, g, n, room, e, count);
+        let c = flat_row(t, from, g, n, room, GroupElementId(e), count);
         let Counted::Count(k) = c else {
             return c;
         };

@@ -155,7 +155,7 @@ pub fn project(table: &[u32], g: Group, f: u8, e: GroupElementId) -> Reached
         Limit::Elements,
     ) {
         Verdict::Refused(why) => Reached::Refused(why),
-        Verdict::Fine => inner::project_in(table, g, f as usize, e.0),
+        Verdict::Fine => inner::project_in(table, g, f as usize, e),
     }
 }
 
@@ -174,7 +174,7 @@ pub fn inject(table: &[u32], g: Group, f: u8, x: GroupElementId) -> Reached
         Limit::Number(n),
     ) {
         Verdict::Refused(why) => Reached::Refused(why),
-        Verdict::Fine => inner::inject_in(table, g, f as usize, x.0),
+        Verdict::Fine => inner::inject_in(table, g, f as usize, x),
     }
 }
 
@@ -184,7 +184,7 @@ pub fn split(table: &[u32], g: Group, e: GroupElementId, out: &mut [u32]) -> Cou
 {
     match inner::admit(table, g, e.0, Limit::Elements, 0, Limit::Number(1)) {
         Verdict::Refused(why) => Counted::Refused(why),
-        Verdict::Fine => inner::split_in(table, g, e.0, out),
+        Verdict::Fine => inner::split_in(table, g, e, out),
     }
 }
 
@@ -260,7 +260,7 @@ pub fn period(table: &[u32], g: Group, a: GroupElementId) -> Counted
 {
     match inner::admit(table, g, a.0, Limit::Elements, 0, Limit::Number(1)) {
         Verdict::Refused(why) => Counted::Refused(why),
-        Verdict::Fine => inner::periods(table, g, a.0),
+        Verdict::Fine => inner::periods(table, g, a),
     }
 }
 
@@ -274,7 +274,7 @@ pub fn word_length(table: &[u32], g: Group, e: GroupElementId) -> Counted
     }
     match inner::admit(table, g, e.0, Limit::Elements, 0, Limit::Number(1)) {
         Verdict::Refused(why) => Counted::Refused(why),
-        Verdict::Fine => inner::lengths(table, g, e.0),
+        Verdict::Fine => inner::lengths(table, g, e),
     }
 }
 
@@ -288,7 +288,7 @@ pub fn write_word(table: &[u32], g: Group, e: GroupElementId, out: &mut [u8]) ->
     }
     match inner::admit(table, g, e.0, Limit::Elements, 0, Limit::Number(1)) {
         Verdict::Refused(why) => Counted::Refused(why),
-        Verdict::Fine => inner::write_in(table, g, e.0, out),
+        Verdict::Fine => inner::write_in(table, g, e, out),
     }
 }
 

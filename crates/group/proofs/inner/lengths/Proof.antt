@@ -10,16 +10,16 @@ use Rattle.group.proofs.inner.lengths.Statement.{statement}
 use Rattle.group.proofs.inner.lengths.Tie as tie
 
 abbrev Inv-loop : tie.InvT-loop
-Inv-loop table e g c f₀ sum₀ rest₀ f sum rest = (f ≤ c) × Measuring table (handles g) e f sum rest
+Inv-loop table g c f₀ sum₀ rest₀ f sum rest = (f ≤ c) × Measuring table (handles g) rest₀ f sum rest
 
 abbrev μ-loop : tie.MeasureT-loop
-μ-loop table e g c f₀ sum₀ rest₀ f sum rest = c - f
+μ-loop table g c f₀ sum₀ rest₀ f sum rest = c - f
 
 listed-requires : tie.Need-listed-requires Inv-loop μ-loop
 listed-requires c κs = search needs
 
 loop-holds : tie.Need-loop-holds Inv-loop μ-loop
-loop-holds c = (omega arith, measuring (c .before .before .args .table .now) (handles (c .before .before .args .t2)) (c .before .before .args .e))
+loop-holds c = (omega arith, measuring (c .before .before .args .table .now) (handles (c .before .before .args .t2)) (c .before .before .args .e .0))
 
 mul-h : tie.Need-mul-h Inv-loop μ-loop
 mul-h c = search needs

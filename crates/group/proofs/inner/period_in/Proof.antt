@@ -8,13 +8,13 @@ use Rattle.group.proofs.inner.period_in.Statement.{statement}
 use Rattle.group.proofs.inner.period_in.Tie as tie
 
 abbrev Inv-loop : tie.InvT-loop
-Inv-loop s n count a left₀ x₀ k₀ left x k = Turning (composeIn s n count) count a left x k
+Inv-loop s n count a left₀ x₀ k₀ left x k = Turning (composeIn s n count) count (a .0) left x k
 
 abbrev μ-loop : tie.MeasureT-loop
 μ-loop s n count a left₀ x₀ k₀ left x k = left
 
 loop-holds : tie.Need-loop-holds Inv-loop μ-loop
-loop-holds c = turning (composeIn (c .before .args .s .now) (c .before .args .n) (c .before .args .count)) (c .before .args .count) (c .before .args .a)
+loop-holds c = turning (composeIn (c .before .args .s .now) (c .before .args .n) (c .before .args .count)) (c .before .args .count) (c .before .args .a .0)
 
 returns : tie.Need-returns Inv-loop μ-loop
 returns c = turn-here (c .before .before .loop .inv) (c .before .loop-test .taken) (c .if1 .taken)

@@ -15,16 +15,16 @@ use Rattle.group.proofs.inner.periods.Statement.{statement}
 use Rattle.group.proofs.inner.periods.Tie as tie
 
 abbrev Inv-loop : tie.InvT-loop
-Inv-loop table a g c f₀ m₀ rest₀ f m rest = Multiple table (handles g) a f m rest
+Inv-loop table g c f₀ m₀ rest₀ f m rest = Multiple table (handles g) rest₀ f m rest
 
 abbrev μ-loop : tie.MeasureT-loop
-μ-loop table a g c f₀ m₀ rest₀ f m rest = c - f
+μ-loop table g c f₀ m₀ rest₀ f m rest = c - f
 
 listed-requires : tie.Need-listed-requires Inv-loop μ-loop
 listed-requires c κs = search needs
 
 loop-holds : tie.Need-loop-holds Inv-loop μ-loop
-loop-holds c = multiple (c .before .before .args .table .now) (handles (c .before .before .args .t2)) (c .before .before .args .a)
+loop-holds c = multiple (c .before .before .args .table .now) (handles (c .before .before .args .t2)) (c .before .before .args .a .0)
 
 mul-h : tie.Need-mul-h Inv-loop μ-loop
 mul-h c = search needs
@@ -35,8 +35,8 @@ element-copy-out-h c = search needs
 part-requires : tie.Need-part-requires Inv-loop μ-loop
 part-requires c κs = (fits-there (c .before .before .before .before .before .args .t2) (c .before .before .loop .f) (c .before .before .before .listed .ensures .0) (c .before .loop-test .taken) (length (c .before .before .before .before .before .args .table .now)) (c .before .before .before .before .before .pre .0))
 
-rem-period-in : tie.Need-rem-period-in Inv-loop μ-loop
-rem-period-in c = omega (arith, (some-there (c .before .before .before .before .before .before .args .t2) (c .before .before .before .loop .f) (c .before .before .before .before .listed .ensures .0) (c .before .before .loop-test .taken) (length (c .before .before .before .before .before .before .args .table .now)) (c .before .before .before .before .before .before .pre .0)))
+rem-m : tie.Need-rem-m Inv-loop μ-loop
+rem-m c = omega (arith, (some-there (c .before .before .before .before .before .before .args .t2) (c .before .before .before .loop .f) (c .before .before .before .before .listed .ensures .0) (c .before .before .loop-test .taken) (length (c .before .before .before .before .before .before .args .table .now)) (c .before .before .before .before .before .before .pre .0)))
 
 period-in-requires : tie.Need-period-in-requires Inv-loop μ-loop
 period-in-requires c κs = (few-there (c .before .before .before .before .before .before .args .t2) (c .before .before .before .loop .f) (c .before .before .before .before .listed .ensures .0) (c .before .before .loop-test .taken) (length (c .before .before .before .before .before .before .args .table .now)) (c .before .before .before .before .before .before .pre .0))
@@ -85,7 +85,7 @@ periods-spec =
     mul-h
     element-copy-out-h
     part-requires
-    rem-period-in
+    rem-m
     period-in-requires
     enum-known-r
     enum-told

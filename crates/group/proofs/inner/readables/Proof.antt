@@ -12,16 +12,16 @@ use Rattle.group.proofs.inner.readables.Statement.{statement}
 use Rattle.group.proofs.inner.readables.Tie as tie
 
 abbrev Inv-loop : tie.InvT-loop
-Inv-loop table e g c f₀ rest₀ f rest = Looking table (handles g) e f rest
+Inv-loop table g c f₀ rest₀ f rest = Looking table (handles g) rest₀ f rest
 
 abbrev μ-loop : tie.MeasureT-loop
-μ-loop table e g c f₀ rest₀ f rest = c - f
+μ-loop table g c f₀ rest₀ f rest = c - f
 
 listed-requires : tie.Need-listed-requires Inv-loop μ-loop
 listed-requires c κs = search needs
 
 loop-holds : tie.Need-loop-holds Inv-loop μ-loop
-loop-holds c = looking (c .before .before .args .table .now) (handles (c .before .before .args .t2)) (c .before .before .args .e)
+loop-holds c = looking (c .before .before .args .table .now) (handles (c .before .before .args .t2)) (c .before .before .args .e .0)
 
 mul-h : tie.Need-mul-h Inv-loop μ-loop
 mul-h c = search needs

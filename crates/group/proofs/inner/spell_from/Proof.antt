@@ -10,10 +10,10 @@ use Rattle.group.proofs.inner.spell_from.Statement.{statement}
 use Rattle.group.proofs.inner.spell_from.Tie as tie
 
 abbrev Inv-loop : tie.InvT-loop
-Inv-loop s n e len start offset out₀ at₀ left₀ out at left = (length out ≡ length out₀) × (left ≤ len) × (spellFrom left s n at start offset out ≡ spellFrom len s n e start offset out₀)
+Inv-loop s n len start offset out₀ at₀ left₀ out at left = (length out ≡ length out₀) × (left ≤ len) × (spellFrom left s n at start offset out ≡ spellFrom len s n at₀ start offset out₀)
 
 abbrev μ-loop : tie.MeasureT-loop
-μ-loop s n e len start offset out₀ at₀ left₀ out at left = left
+μ-loop s n len start offset out₀ at₀ left₀ out at left = left
 
 loop-holds : tie.Need-loop-holds Inv-loop μ-loop
 loop-holds c = (refl, omega arith, refl)

@@ -12,16 +12,16 @@ use Rattle.group.proofs.inner.spells.Statement.{statement}
 use Rattle.group.proofs.inner.spells.Tie as tie
 
 abbrev Inv-loop : tie.InvT-loop
-Inv-loop table e out₀ g c f₀ rest₀ start₀ offset₀ out f rest start offset = (f ≤ c) × Spelling table (handles g) e out₀ out f rest start offset
+Inv-loop table out₀ g c f₀ rest₀ start₀ offset₀ out f rest start offset = (f ≤ c) × Spelling table (handles g) rest₀ out₀ out f rest start offset
 
 abbrev μ-loop : tie.MeasureT-loop
-μ-loop table e out₀ g c f₀ rest₀ start₀ offset₀ out f rest start offset = c - f
+μ-loop table out₀ g c f₀ rest₀ start₀ offset₀ out f rest start offset = c - f
 
 listed-requires : tie.Need-listed-requires Inv-loop μ-loop
 listed-requires c κs = search needs
 
 loop-holds : tie.Need-loop-holds Inv-loop μ-loop
-loop-holds c = (omega arith, spelling (c .before .before .before .args .table .now) (handles (c .before .before .before .args .t2)) (c .before .before .before .args .e) (c .before .before .before .args .out .now))
+loop-holds c = (omega arith, spelling (c .before .before .before .args .table .now) (handles (c .before .before .before .args .t2)) (c .before .before .before .args .e .0) (c .before .before .before .args .out .now))
 
 mul-h : tie.Need-mul-h Inv-loop μ-loop
 mul-h c = search needs

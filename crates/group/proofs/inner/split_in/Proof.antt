@@ -11,10 +11,10 @@ use Rattle.group.proofs.inner.split_in.Statement.{statement}
 use Rattle.group.proofs.inner.split_in.Tie as tie
 
 abbrev Inv-loop : tie.InvT-loop
-Inv-loop table e out₀ g c f₀ rest₀ out f rest = Splitting (handles g) e out₀ out f rest
+Inv-loop table out₀ g c f₀ rest₀ out f rest = Splitting (handles g) rest₀ out₀ out f rest
 
 abbrev μ-loop : tie.MeasureT-loop
-μ-loop table e out₀ g c f₀ rest₀ out f rest = c - f
+μ-loop table out₀ g c f₀ rest₀ out f rest = c - f
 
 listed-requires : tie.Need-listed-requires Inv-loop μ-loop
 listed-requires c κs = search needs
@@ -23,10 +23,10 @@ refused-count-requires : tie.Need-refused-count-requires Inv-loop μ-loop
 refused-count-requires c κs = search needs
 
 returns : tie.Need-returns Inv-loop μ-loop
-returns c = split-short (handles (c .before .before .before .before .before .args .t2)) (c .before .before .before .before .before .args .e) (c .before .before .listed .ensures .0) (c .before .before .before .before .before .args .out .now) (c .before .if1 .taken) (c .refused-count .ensures)
+returns c = split-short (handles (c .before .before .before .before .before .args .t2)) (c .before .before .before .before .before .args .e .0) (c .before .before .listed .ensures .0) (c .before .before .before .before .before .args .out .now) (c .before .if1 .taken) (c .refused-count .ensures)
 
 loop-holds : tie.Need-loop-holds Inv-loop μ-loop
-loop-holds c = splitting (handles (c .before .before .before .before .args .t2)) (c .before .before .before .before .args .e) (c .before .before .before .before .args .out .now)
+loop-holds c = splitting (handles (c .before .before .before .before .args .t2)) (c .before .before .before .before .args .e .0) (c .before .before .before .before .args .out .now)
 
 mul-h : tie.Need-mul-h Inv-loop μ-loop
 mul-h c = search needs
@@ -62,7 +62,7 @@ same-length : tie.Need-same-length Inv-loop μ-loop
 same-length c = (c .before .loop .inv .kept)
 
 returns-2 : tie.Need-returns-2 Inv-loop μ-loop
-returns-2 c = split-long (handles (c .before .before .before .before .before .before .args .t2)) (c .before .before .before .before .before .before .args .e) (c .before .before .before .listed .ensures .0) (c .before .before .before .before .before .before .fits .e .fits) (c .before .before .if1 .left) (c .before .loop .inv) (turned-all (handles (c .before .before .before .before .before .before .args .t2)) (c .before .loop .f) (c .before .before .before .listed .ensures .0) (c .loop-test .left))
+returns-2 c = split-long (handles (c .before .before .before .before .before .before .args .t2)) (c .before .before .before .before .before .before .args .e .0) (c .before .before .before .listed .ensures .0) (search needs) (c .before .before .if1 .left) (c .before .loop .inv) (turned-all (handles (c .before .before .before .before .before .before .args .t2)) (c .before .loop .f) (c .before .before .before .listed .ensures .0) (c .loop-test .left))
 
 pub split-in-spec : {M : Type 1} → statement M
 split-in-spec =

@@ -18,7 +18,7 @@ enum-told : tie.Need-enum-told
 enum-told c = search needs
 
 returns : tie.Need-returns
-returns c = wrote (c .before .before .before .before .before .args .table .now) (handles (c .before .before .before .before .before .args .g)) (c .before .before .before .before .before .args .e) (c .before .before .before .before .before .args .out .now) (writes-none (c .before .before .before .before .before .args .table .now) (handles (c .before .before .before .before .before .args .g)) (c .before .before .before .before .before .args .e) (length (c .before .before .before .before .before .args .out .now)) (c .before .before .lengths .ensures) (c .enum-told .given .1) ∙ (c .enum-told .given .1)) (c .enum-told .given .1) refl
+returns c = wrote (c .before .before .before .before .before .args .table .now) (handles (c .before .before .before .before .before .args .g)) (c .before .before .before .before .before .args .e .0) (c .before .before .before .before .before .args .out .now) (writes-none (c .before .before .before .before .before .args .table .now) (handles (c .before .before .before .before .before .args .g)) (c .before .before .before .before .before .args .e .0) (length (c .before .before .before .before .before .args .out .now)) (c .before .before .lengths .ensures) (c .enum-told .given .1) ∙ (c .enum-told .given .1)) (c .enum-told .given .1) refl
 
 cast-if1 : tie.Need-cast-if1
 cast-if1 c = search needs
@@ -27,7 +27,7 @@ refused-count-requires : tie.Need-refused-count-requires
 refused-count-requires c κs = search needs
 
 returns-2 : tie.Need-returns-2
-returns-2 c = wrote (c .before .before .before .before .before .before .before .before .args .table .now) (handles (c .before .before .before .before .before .before .before .before .args .g)) (c .before .before .before .before .before .before .before .before .args .e) (c .before .before .before .before .before .before .before .before .args .out .now) (writes-short (c .before .before .before .before .before .before .before .before .args .table .now) (handles (c .before .before .before .before .before .before .before .before .args .g)) (c .before .before .before .before .before .before .before .before .args .e) (length (c .before .before .before .before .before .before .before .before .args .out .now)) (c .before .before .before .before .before .lengths .ensures) (c .before .before .before .r .given .1) (c .before .if1 .taken)) (c .refused-count .ensures) refl
+returns-2 c = wrote (c .before .before .before .before .before .before .before .before .args .table .now) (handles (c .before .before .before .before .before .before .before .before .args .g)) (c .before .before .before .before .before .before .before .before .args .e .0) (c .before .before .before .before .before .before .before .before .args .out .now) (writes-short (c .before .before .before .before .before .before .before .before .args .table .now) (handles (c .before .before .before .before .before .before .before .before .args .g)) (c .before .before .before .before .before .before .before .before .args .e .0) (length (c .before .before .before .before .before .before .before .before .args .out .now)) (c .before .before .before .before .before .lengths .ensures) (c .before .before .before .r .given .1) (c .before .if1 .taken)) (c .refused-count .ensures) refl
 
 readables-requires : tie.Need-readables-requires
 readables-requires c κs = (c .before .before .before .before .before .before .before .pre)
@@ -36,7 +36,7 @@ refused-count-requires-2 : tie.Need-refused-count-requires-2
 refused-count-requires-2 c κs = search needs
 
 returns-3 : tie.Need-returns-3
-returns-3 c = wrote (c .before .before .before .before .before .before .before .before .before .before .args .table .now) (handles (c .before .before .before .before .before .before .before .before .before .before .args .g)) (c .before .before .before .before .before .before .before .before .before .before .args .e) (c .before .before .before .before .before .before .before .before .before .before .args .out .now) (writes-unread (c .before .before .before .before .before .before .before .before .before .before .args .table .now) (handles (c .before .before .before .before .before .before .before .before .before .before .args .g)) (c .before .before .before .before .before .before .before .before .before .before .args .e) (length (c .before .before .before .before .before .before .before .before .before .before .args .out .now)) (c .before .before .before .before .before .before .before .lengths .ensures) (c .before .before .before .before .before .r .given .1) (c .before .before .before .if1 .left) (c .before .before .readables .ensures) (not-true _ (c .before .if2 .taken))) (c .refused-count2 .ensures) refl
+returns-3 c = wrote (c .before .before .before .before .before .before .before .before .before .before .args .table .now) (handles (c .before .before .before .before .before .before .before .before .before .before .args .g)) (c .before .before .before .before .before .before .before .before .before .before .args .e .0) (c .before .before .before .before .before .before .before .before .before .before .args .out .now) (writes-unread (c .before .before .before .before .before .before .before .before .before .before .args .table .now) (handles (c .before .before .before .before .before .before .before .before .before .before .args .g)) (c .before .before .before .before .before .before .before .before .before .before .args .e .0) (length (c .before .before .before .before .before .before .before .before .before .before .args .out .now)) (c .before .before .before .before .before .before .before .lengths .ensures) (c .before .before .before .before .before .r .given .1) (c .before .before .before .if1 .left) (c .before .before .readables .ensures) (not-true _ (c .before .if2 .taken))) (c .refused-count2 .ensures) refl
 
 spells-requires : tie.Need-spells-requires
 spells-requires c κs = (c .before .before .before .before .before .before .before .before .before .before .pre)
@@ -45,7 +45,7 @@ same-length : tie.Need-same-length
 same-length c = search needs
 
 returns-4 : tie.Need-returns-4
-returns-4 c = wrote (c .before .before .before .before .before .before .before .before .before .before .before .before .before .args .table .now) (handles (c .before .before .before .before .before .before .before .before .before .before .before .before .before .args .g)) (c .before .before .before .before .before .before .before .before .before .before .before .before .before .args .e) (c .before .before .before .before .before .before .before .before .before .before .before .before .before .args .out .now) (writes-count (c .before .before .before .before .before .before .before .before .before .before .before .before .before .args .table .now) (handles (c .before .before .before .before .before .before .before .before .before .before .before .before .before .args .g)) (c .before .before .before .before .before .before .before .before .before .before .before .before .before .args .e) (length (c .before .before .before .before .before .before .before .before .before .before .before .before .before .args .out .now)) (c .before .before .before .before .before .before .before .before .before .before .lengths .ensures) (c .before .before .before .before .before .before .before .before .r .given .1) (c .before .before .before .before .before .before .if1 .left) (c .before .before .before .before .before .readables .ensures) (not-false _ (c .before .before .before .before .if2 .left))) refl (c .before .before .spells .ensures)
+returns-4 c = wrote (c .before .before .before .before .before .before .before .before .before .before .before .before .before .args .table .now) (handles (c .before .before .before .before .before .before .before .before .before .before .before .before .before .args .g)) (c .before .before .before .before .before .before .before .before .before .before .before .before .before .args .e .0) (c .before .before .before .before .before .before .before .before .before .before .before .before .before .args .out .now) (writes-count (c .before .before .before .before .before .before .before .before .before .before .before .before .before .args .table .now) (handles (c .before .before .before .before .before .before .before .before .before .before .before .before .before .args .g)) (c .before .before .before .before .before .before .before .before .before .before .before .before .before .args .e .0) (length (c .before .before .before .before .before .before .before .before .before .before .before .before .before .args .out .now)) (c .before .before .before .before .before .before .before .before .before .before .lengths .ensures) (c .before .before .before .before .before .before .before .before .r .given .1) (c .before .before .before .before .before .before .if1 .left) (c .before .before .before .before .before .readables .ensures) (not-false _ (c .before .before .before .before .if2 .left))) refl (c .before .before .spells .ensures)
 
 pub write-in-spec : {M : Type 1} → statement M
 write-in-spec =
