@@ -13,14 +13,14 @@ use Rattle.factor.specs.Composed.{composedIn, composed}
 use Rattle.factor.specs.Questions.{along, readBack, backAlong, composeIn, inverseIn, conjugateIn, readable, lengthIn}
 use Rattle.group.specs.Handles.{limited, admits, joins}
 use Rattle.group.specs.Digits.{digitwise, stepIn}
-use Rattle.group.specs.Powers.{halves, powers, periodFrom, periods}
+use Rattle.group.specs.Powers.{periodFrom, periods}
 use Rattle.group.specs.Words.{lengths, readables, spellFrom, spells, writes}
 use Rattle.group.specs.Flat.{rowBy, rowsBy, flatIn, flatInto, flat}
 use Rattle.group.specs.Questions as questions
 use Rattle.groups.specs.Known.{KnownProducts}
 
 pub known-products : KnownProducts
-unfolding putAt startOf scan hasRoom fitsIn stretch readStep checks.missingRow checks.missing checks.check8 checks.rangeRow checks.linksOf checks.ranges checks.wrongRow checks.wrong checks.check-table checks.wiped checks.arriveRow checks.arrivals checks.countsRight checks.invertFrom checks.fillInverses checks.inversesRight checks.identityRow checks.columnsRow checks.spelledRow checks.spelled checks.check-steps checks.fillLeft checks.goesRow checks.allGo checks.lefts checks.check-rest checks.check-group setStep setWord adds finished lentRight within readPlace readRow readFrom composedIn composed along readBack backAlong composeIn inverseIn conjugateIn readable lengthIn limited admits joins digitwise stepIn halves powers periodFrom periods lengths readables spellFrom spells writes rowBy rowsBy flatIn flatInto flat questions.countAnswer questions.generatorsAnswer questions.generatorAnswer questions.stepAnswer questions.projectAnswer questions.injectAnswer questions.splitTail questions.splitAnswer questions.splitLeaves questions.digitsRight questions.joinTail questions.joinAnswer questions.composeAnswer questions.inverseAnswer questions.conjugateAnswer questions.powiAnswer questions.periodAnswer questions.lengthAnswer questions.writeAnswer questions.written questions.wordPart
+unfolding putAt startOf scan hasRoom fitsIn stretch readStep checks.missingRow checks.missing checks.check8 checks.rangeRow checks.linksOf checks.ranges checks.wrongRow checks.wrong checks.check-table checks.wiped checks.arriveRow checks.arrivals checks.countsRight checks.invertFrom checks.fillInverses checks.inversesRight checks.identityRow checks.columnsRow checks.spelledRow checks.spelled checks.check-steps checks.fillLeft checks.goesRow checks.allGo checks.lefts checks.check-rest checks.check-group setStep setWord adds finished lentRight within readPlace readRow readFrom composedIn composed along readBack backAlong composeIn inverseIn conjugateIn readable lengthIn limited admits joins digitwise stepIn periodFrom periods lengths readables spellFrom spells writes rowBy rowsBy flatIn flatInto flat questions.countAnswer questions.generatorsAnswer questions.generatorAnswer questions.stepAnswer questions.projectAnswer questions.injectAnswer questions.splitTail questions.splitAnswer questions.splitLeaves questions.digitsRight questions.joinTail questions.joinAnswer questions.composeAnswer questions.conjugateAnswer questions.periodAnswer questions.lengthAnswer questions.writeAnswer questions.written
 known-products = record {
   joined = refl;
   counted = refl;
@@ -31,18 +31,11 @@ known-products = record {
   split-counts = refl;
   join-9 = refl;
   word-9 = refl;
-  filled-9 = refl;
   length-9 = refl;
-  compose-9-7 = refl;
-  inverse-9 = refl;
   conjugate-7-8 = refl;
   period-9 = refl;
   project-9 = refl;
   inject-1 = refl;
-  power-2 = refl;
-  power-minus-1 = refl;
-  power-least = refl;
-  period-3 = refl;
   period-0 = refl;
   flat-both = refl;
   flat-one = refl;

@@ -55,6 +55,12 @@ admits-lent len g a la b lb =
     (verdict-pick (leb lb b) _ _ (verdict-refused _ refl) (verdict-pick (limited g) _ _ verdict-fine (verdict-refused _ refl))))
     (verdict-refused _ refl)
 
+-- Without arguments there is no 14.
+admits-unasked : (len : ℕ) (g : Group) → VerdictIn (15 ∷ 17 ∷ []) (admits len g 0 1 0 1)
+unfolding admits
+admits-unasked len g =
+    verdict-pick (allFit len (handles g)) _ _ (verdict-pick (limited g) _ _ verdict-fine (verdict-refused _ refl)) (verdict-refused _ refl)
+
 -- Factor by factor.
 digit-in : (k : Asked) (t : List ℕ) (h : Factor) (a b : ℕ) → ReachedIn (14 ∷ 15 ∷ 17 ∷ []) (digitOf k t h a b)
 digit-in Compose t h a b = reached-widen asked refl (compose-in (stretch t h) (h .generators) (h .elements) a b)
@@ -158,13 +164,13 @@ module _ (t : List ℕ) (g : Group) where
     by true false p q = rw (p, q) (verdict-refused _ refl)
     by true true p q = rw (p, q) verdict-fine
 
-  counts-in : CountedIn (14 ∷ 15 ∷ 17 ∷ []) (countAnswer t g)
+  counts-in : CountedIn (15 ∷ 17 ∷ []) (countAnswer t g)
   unfolding countAnswer
-  counts-in = counted-if _ _ (admits-in (length t) g 0 1 0 1) (counted-count _)
+  counts-in = counted-if _ _ (admits-unasked (length t) g) (counted-count _)
 
-  generator-counts-in : CountedIn (14 ∷ 15 ∷ 17 ∷ []) (generatorsAnswer t g)
+  generator-counts-in : CountedIn (15 ∷ 17 ∷ []) (generatorsAnswer t g)
   unfolding generatorsAnswer
-  generator-counts-in = counted-if _ _ (admits-in (length t) g 0 1 0 1) (counted-count _)
+  generator-counts-in = counted-if _ _ (admits-unasked (length t) g) (counted-count _)
 
   generators-in : (x : GeneratorId) → ReachedIn (14 ∷ 15 ∷ 17 ∷ []) (generatorAnswer t g x)
   unfolding generatorAnswer

@@ -1,10 +1,10 @@
--- Document 01's S3 by Z2, and S3 by itself, in one table buffer of exactly the length that is needed; both are built from composed rows.
+-- Document 01's S3 by Z2, and S3 by itself, in one table buffer of exactly the length that is needed; both are built from composed rows. What document 01 marks P
+-- of them is in `KnownCases` (crate known); here is the rest.
 -- Assumes nothing.
 use Prim.Native.Nat.{ℕ, _/_, _%_}
 use mathlib.Core.Path.{_≡_}
 use mathlib.Core.List.{List, [], _∷_, _++_}
 use lib.ListN.{replicate, set}
-use lib.IntN.{pos, negsuc}
 use Rattle.egg.specs.declared.Factor.{Factor}
 use Rattle.egg.specs.declared.Made.{Made}
 use Rattle.egg.specs.declared.GroupElementId.{GroupElementId}
@@ -22,7 +22,7 @@ use Rattle.groups.specs.Products.{listed}
 use Rattle.group.specs.Handles.{groupOf, noGroup, joins}
 use Rattle.group.specs.Flat.{flat}
 use Rattle.group.specs.Questions.{countAnswer, generatorsAnswer, generatorAnswer, stepAnswer, projectAnswer, injectAnswer, splitAnswer, splitLeaves, joinAnswer}
-use Rattle.group.specs.Questions.{composeAnswer, inverseAnswer, conjugateAnswer, powiAnswer, periodAnswer, lengthAnswer, writeAnswer, written, wordPart}
+use Rattle.group.specs.Questions.{composeAnswer, conjugateAnswer, periodAnswer, lengthAnswer, writeAnswer, written}
 
 abbrev pub madeBy : Making → Made
 madeBy (making m t w) = m
@@ -71,24 +71,16 @@ pub record KnownProducts : Type 0 where
   pub generators : generatorsAnswer table S3-Z2 ≡ Count 3
   pub generator-2 : generatorAnswer table S3-Z2 (letter 2) ≡ reach 6
   pub stepped : stepAnswer table S3-Z2 (element 9) (letter 2) ≡ reach 3
-  -- "9 splits (3,1), word 0,1,2; compose(9,7)=5; inverse(9)=10."
+  -- The digits and the word in longer lists, whose rest stays as it was.
   pub split-9 : splitLeaves table S3-Z2 (element 9) short ≡ 3 ∷ 1 ∷ 8 ∷ []
   pub split-counts : splitAnswer table S3-Z2 (element 9) 3 ≡ Count 2
   pub join-9 : joinAnswer table S3-Z2 (3 ∷ 1 ∷ 5 ∷ []) ≡ reach 9
   pub word-9 : written table S3-Z2 (element 9) (9 ∷ 9 ∷ 9 ∷ 9 ∷ []) ≡ 0 ∷ 1 ∷ 2 ∷ 9 ∷ []
-  pub filled-9 : wordPart table S3-Z2 (element 9) (9 ∷ 9 ∷ 9 ∷ 9 ∷ []) ≡ 0 ∷ 1 ∷ 2 ∷ []
   pub length-9 : lengthAnswer table S3-Z2 (element 9) ≡ Count 3
-  pub compose-9-7 : composeAnswer table S3-Z2 (element 9) (element 7) ≡ reach 5
-  pub inverse-9 : inverseAnswer table S3-Z2 (element 9) ≡ reach 10
   pub conjugate-7-8 : conjugateAnswer table S3-Z2 (element 7) (element 8) ≡ reach 11
   pub period-9 : periodAnswer table S3-Z2 (element 9) ≡ Count 6
   pub project-9 : projectAnswer table S3-Z2 0 (element 9) ≡ reach 3
   pub inject-1 : injectAnswer table S3-Z2 1 (element 1) ≡ reach 6
-  -- "S3: powi(3,2)=4, powi(3,-1)=4, powi(3,i32::MIN)=3, period(3)=3."
-  pub power-2 : powiAnswer table S3 (element 3) (pos 2) ≡ reach 4
-  pub power-minus-1 : powiAnswer table S3 (element 3) (negsuc 0) ≡ reach 4
-  pub power-least : powiAnswer table S3 (element 3) (negsuc 2147483647) ≡ reach 3
-  pub period-3 : periodAnswer table S3 (element 3) ≡ Count 3
   pub period-0 : periodAnswer table S3-Z2 (element 0) ≡ Count 1
   -- "`flatten` keeps product numbers, so S3 by Z2 is 7 at (0,2) with 6 ..; one factor or none is copied by the same reading, the empty product giving the
   -- one-element table."

@@ -3,7 +3,9 @@
 -- Assumes nothing.
 use Prim.Native.Nat.{ℕ, _≤_, _<_}
 use mathlib.Core.Path.{_≡_}
-use mathlib.Core.List.{List}
+use mathlib.Core.Logic.{_↔_}
+use mathlib.Core.Bool.{true, false}
+use mathlib.Core.List.{List, _++_}
 use lib.ListN.{length, getD}
 use lib.IntN.{ℤ}
 use Rattle.egg.specs.Factor.{Paper, verdictPaper, reachedPaper, countedPaper}
@@ -14,13 +16,32 @@ use Rattle.products.specs.Radix.{split, inject}
 use Rattle.products.specs.Product.{Part}
 use Rattle.group.specs.declared.Group.{Group}
 use Rattle.group.specs.declared.Grouped.{Grouped}
-use Rattle.group.specs.Handles.{handles, sizes}
+use Rattle.group.specs.Handles.{handles, sizes, elementsOf, allFit, groupOf, joins}
 use Rattle.group.specs.Questions.{countAnswer, generatorsAnswer, generatorAnswer, stepAnswer, projectAnswer, injectAnswer, splitAnswer, joinAnswer}
 use Rattle.group.specs.Questions.{composeAnswer, inverseAnswer, conjugateAnswer, powiAnswer, periodAnswer, lengthAnswer, writeAnswer}
 
 -- What `product` answers: 0, or the refusal's number and places.
 abbrev pub groupedPaper : Grouped → Paper
 groupedPaper r = verdictPaper (r .answer)
+
+-- A refusal with no places.
+abbrev pub refusedPaper : ℕ → Paper
+refusedPaper k = record { number = k; a = 0; b = 0; c = 0 }
+
+-- Two products together are within document 01's limits: "factors per product 0 to 8; product elements at most 4,294,967,295".
+pub record Together (a b : Group) : Type 0 where
+  pub first : a .count ≤ 8
+  pub second : b .count ≤ 8
+  pub factors : length (handles a ++ handles b) ≤ 8
+  pub elements : elementsOf (handles a ++ handles b) ≤ 4294967295
+
+-- Which number `product` answers, on every input, and that it is given only then: 17 where a handle of either does not fit, then 15 where both together are
+-- beyond the limits, and else none, with the product of all the factors.
+pub record ProductPaper (len : ℕ) (a b : Group) : Type 0 where
+  pub handle : (groupedPaper (joins len a b) ≡ refusedPaper 17) ↔ (allFit len (handles a ++ handles b) ≡ false)
+  pub large : (groupedPaper (joins len a b) ≡ refusedPaper 15) ↔ ((allFit len (handles a ++ handles b) ≡ true) × (Together a b → ⊥))
+  pub fine : (groupedPaper (joins len a b) ≡ valuePaper 0) ↔ ((allFit len (handles a ++ handles b) ≡ true) × Together a b)
+  pub made : groupedPaper (joins len a b) ≡ valuePaper 0 → joins len a b .group ≡ groupOf (handles a ++ handles b)
 
 -- Every answer about the product, on paper, is the direct product's own.
 pub record ProductPapers (t : List ℕ) (g : Group) (P : Part) : Type 0 where

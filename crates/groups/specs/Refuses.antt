@@ -18,8 +18,9 @@ use Rattle.group.specs.Questions.{composeAnswer, inverseAnswer, conjugateAnswer
 
 pub record ProductRefuses (t : List ℕ) (g : Group) : Type 0 where
   pub makes : (b : Group) → VerdictIn (15 ∷ 17 ∷ []) (joins (length t) g b .answer)
-  pub counts : CountedIn (14 ∷ 15 ∷ 17 ∷ []) (countAnswer t g)
-  pub generator-counts : CountedIn (14 ∷ 15 ∷ 17 ∷ []) (generatorsAnswer t g)
+  -- These have no argument that 14 could be given for.
+  pub counts : CountedIn (15 ∷ 17 ∷ []) (countAnswer t g)
+  pub generator-counts : CountedIn (15 ∷ 17 ∷ []) (generatorsAnswer t g)
   pub generators : (x : GeneratorId) → ReachedIn (14 ∷ 15 ∷ 17 ∷ []) (generatorAnswer t g x)
   pub steps : (e : GroupElementId) (x : GeneratorId) → ReachedIn (14 ∷ 15 ∷ 17 ∷ []) (stepAnswer t g e x)
   pub projects : (f : ℕ) (e : GroupElementId) → ReachedIn (14 ∷ 15 ∷ 17 ∷ []) (projectAnswer t g f e)
