@@ -5,7 +5,7 @@ set -eu
 cd "$(dirname "$0")/.."
 log=$(mktemp)
 trap 'rm -f "$log"' EXIT
-for name in bridge bridge_group bridge_subgroup exports; do
+for name in bridge_factor bridge_builder bridge_image bridge_group bridge_subgroup exports; do
   rt staticlib "$name" >"$log" 2>&1 || { cat "$log" >&2; exit 1; }
 done
 (cd host && cargo build --offline --quiet --release --package ours)

@@ -49,36 +49,7 @@ extern "C" {
 
 /* The functions. tools/header.py writes them. */
 
-/* libbridge.a */
-
-void hg_begin(uint32_t *table, size_t table_len, size_t start, uint32_t room, uint8_t n,
-    uint32_t *out, size_t out_len);
-
-void hg_add(uint32_t *table, size_t table_len, size_t start, uint32_t room, uint8_t n,
-    uint32_t count, uint32_t e, uint8_t g, uint32_t *out, size_t out_len);
-
-uint64_t hg_set(uint32_t *table, size_t table_len, size_t start, uint32_t room, uint8_t n,
-    uint32_t count, uint32_t e, uint8_t g, uint32_t x);
-
-void hg_build(uint32_t *table, size_t table_len, size_t start, uint32_t room, uint8_t n,
-    uint32_t count, uint32_t *work, size_t work_len, uint32_t *out, size_t out_len);
-
-/* libbridge.a */
-
-uint64_t hg_image_write(const uint32_t *table, size_t table_len, size_t start, uint32_t room,
-    uint8_t n, uint32_t count, uint8_t *out, size_t out_len);
-
-void hg_image_read(const uint8_t *bytes, size_t bytes_len, uint32_t *table, size_t table_len,
-    size_t start, uint32_t *work, size_t work_len, uint32_t *out, size_t out_len);
-
-/* libbridge.a */
-
-void hg_composed(uint32_t *table, size_t table_len, size_t start, uint32_t *work, size_t work_len,
-    const uint32_t *rows, size_t rows_len, uint8_t n, uint32_t room, uint32_t *out, size_t out_len);
-
-void hg_enumerate(uint32_t *table, size_t table_len, size_t start, uint32_t *work, size_t work_len,
-    const uint32_t *orders, size_t orders_len, uint8_t n, uint32_t room, uint32_t *out,
-    size_t out_len);
+/* libbridge_factor.a */
 
 uint64_t hg_count(const uint32_t *table, size_t table_len, size_t start, uint32_t room, uint8_t n,
     uint32_t count);
@@ -110,6 +81,35 @@ uint64_t hg_part(const uint32_t *table, size_t table_len, size_t start, uint32_t
 
 void hg_check(const uint32_t *table, size_t table_len, size_t start, uint32_t room, uint8_t n,
     uint32_t count, const uint32_t *orders, size_t orders_len, uint32_t *out, size_t out_len);
+
+/* libbridge_builder.a */
+
+void hg_composed(uint32_t *table, size_t table_len, size_t start, uint32_t *work, size_t work_len,
+    const uint32_t *rows, size_t rows_len, uint8_t n, uint32_t room, uint32_t *out, size_t out_len);
+
+void hg_enumerate(uint32_t *table, size_t table_len, size_t start, uint32_t *work, size_t work_len,
+    const uint32_t *orders, size_t orders_len, uint8_t n, uint32_t room, uint32_t *out,
+    size_t out_len);
+
+void hg_begin(uint32_t *table, size_t table_len, size_t start, uint32_t room, uint8_t n,
+    uint32_t *out, size_t out_len);
+
+void hg_add(uint32_t *table, size_t table_len, size_t start, uint32_t room, uint8_t n,
+    uint32_t count, uint32_t e, uint8_t g, uint32_t *out, size_t out_len);
+
+uint64_t hg_set(uint32_t *table, size_t table_len, size_t start, uint32_t room, uint8_t n,
+    uint32_t count, uint32_t e, uint8_t g, uint32_t x);
+
+void hg_build(uint32_t *table, size_t table_len, size_t start, uint32_t room, uint8_t n,
+    uint32_t count, uint32_t *work, size_t work_len, uint32_t *out, size_t out_len);
+
+/* libbridge_image.a */
+
+uint64_t hg_image_write(const uint32_t *table, size_t table_len, size_t start, uint32_t room,
+    uint8_t n, uint32_t count, uint8_t *out, size_t out_len);
+
+void hg_image_read(const uint8_t *bytes, size_t bytes_len, uint32_t *table, size_t table_len,
+    size_t start, uint32_t *work, size_t work_len, uint32_t *out, size_t out_len);
 
 /* libbridge_group.a */
 

@@ -3,7 +3,7 @@
 use std::path::Path;
 use std::process::Command;
 
-const ARCHIVES: [&str; 4] = ["bridge", "bridge_group", "bridge_subgroup", "exports"];
+const ARCHIVES: [&str; 6] = ["bridge_factor", "bridge_builder", "bridge_image", "bridge_group", "bridge_subgroup", "exports"];
 
 fn main() {
     let root = Path::new(env!("CARGO_MANIFEST_DIR")).join("../..");

@@ -1,4 +1,4 @@
-// Handles and answers as numbers, for the exported functions here and in the crates that export the layers above.
+// Handles and answers as numbers, for the crates that export the calls as C functions.
 ghost use mathlib.Core.Path.{_≡_};
 ghost use Prim.Native.Nat.{_+_, _*_};
 ghost use Rattle.bridge.specs.Bridge.{handle, reachedCode, countedCode, storedCode, paperInto, reachedInto, madeInto, begunInto, grownInto};

@@ -4,14 +4,14 @@
 use mathlib.Core.Path.{sym, _∙_}
 use Rattle.builder.specs.Calls.{leaving}
 use Rattle.bridge.specs.Bridge.{Bridged, Answered}
-use Rattle.bridge.proofs.building.hg_begin.Kinds as hg-begin-kinds
-use Rattle.bridge.proofs.building.hg_begin.Reads as hg-begin-reads
-use Rattle.bridge.proofs.building.hg_add.Kinds as hg-add-kinds
-use Rattle.bridge.proofs.building.hg_add.Reads as hg-add-reads
-use Rattle.bridge.proofs.building.hg_set.Kinds as hg-set-kinds
-use Rattle.bridge.proofs.building.hg_set.Reads as hg-set-reads
-use Rattle.bridge.proofs.building.hg_build.Kinds as hg-build-kinds
-use Rattle.bridge.proofs.building.hg_build.Reads as hg-build-reads
+use Rattle.bridge_builder.proofs.hg_begin.Kinds as hg-begin-kinds
+use Rattle.bridge_builder.proofs.hg_begin.Reads as hg-begin-reads
+use Rattle.bridge_builder.proofs.hg_add.Kinds as hg-add-kinds
+use Rattle.bridge_builder.proofs.hg_add.Reads as hg-add-reads
+use Rattle.bridge_builder.proofs.hg_set.Kinds as hg-set-kinds
+use Rattle.bridge_builder.proofs.hg_set.Reads as hg-set-reads
+use Rattle.bridge_builder.proofs.hg_build.Kinds as hg-build-kinds
+use Rattle.bridge_builder.proofs.hg_build.Reads as hg-build-reads
 use Rattle.promises.specs.Unique.{Unique}
 
 -- The table and the list of the answer: these functions hand nothing back.

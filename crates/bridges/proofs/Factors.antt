@@ -5,34 +5,34 @@ use Prim.Native.Nat.{ℕ}
 use mathlib.Core.Path.{sym, _∙_, ap}
 use mathlib.Core.List.{List}
 use Rattle.bridge.specs.Bridge.{Bridged}
-use Rattle.bridge.proofs.hg_composed.Kinds as hg-composed-kinds
-use Rattle.bridge.proofs.hg_composed.Reads as hg-composed-reads
-use Rattle.bridge.proofs.hg_enumerate.Kinds as hg-enumerate-kinds
-use Rattle.bridge.proofs.hg_enumerate.Reads as hg-enumerate-reads
-use Rattle.bridge.proofs.images.hg_image_read.Kinds as hg-image-read-kinds
-use Rattle.bridge.proofs.images.hg_image_read.Reads as hg-image-read-reads
-use Rattle.bridge.proofs.hg_count.Kinds as hg-count-kinds
-use Rattle.bridge.proofs.hg_count.Reads as hg-count-reads
-use Rattle.bridge.proofs.hg_step.Kinds as hg-step-kinds
-use Rattle.bridge.proofs.hg_step.Reads as hg-step-reads
-use Rattle.bridge.proofs.hg_generator.Kinds as hg-generator-kinds
-use Rattle.bridge.proofs.hg_generator.Reads as hg-generator-reads
-use Rattle.bridge.proofs.hg_compose.Kinds as hg-compose-kinds
-use Rattle.bridge.proofs.hg_compose.Reads as hg-compose-reads
-use Rattle.bridge.proofs.hg_conjugate.Kinds as hg-conjugate-kinds
-use Rattle.bridge.proofs.hg_conjugate.Reads as hg-conjugate-reads
-use Rattle.bridge.proofs.hg_inverse.Kinds as hg-inverse-kinds
-use Rattle.bridge.proofs.hg_inverse.Reads as hg-inverse-reads
-use Rattle.bridge.proofs.hg_length.Kinds as hg-length-kinds
-use Rattle.bridge.proofs.hg_length.Reads as hg-length-reads
-use Rattle.bridge.proofs.hg_part.Kinds as hg-part-kinds
-use Rattle.bridge.proofs.hg_part.Reads as hg-part-reads
-use Rattle.bridge.proofs.hg_word.Kinds as hg-word-kinds
-use Rattle.bridge.proofs.hg_word.Reads as hg-word-reads
-use Rattle.bridge.proofs.images.hg_image_write.Kinds as hg-image-write-kinds
-use Rattle.bridge.proofs.images.hg_image_write.Reads as hg-image-write-reads
-use Rattle.bridge.proofs.hg_check.Kinds as hg-check-kinds
-use Rattle.bridge.proofs.hg_check.Reads as hg-check-reads
+use Rattle.bridge_builder.proofs.hg_composed.Kinds as hg-composed-kinds
+use Rattle.bridge_builder.proofs.hg_composed.Reads as hg-composed-reads
+use Rattle.bridge_builder.proofs.hg_enumerate.Kinds as hg-enumerate-kinds
+use Rattle.bridge_builder.proofs.hg_enumerate.Reads as hg-enumerate-reads
+use Rattle.bridge_image.proofs.hg_image_read.Kinds as hg-image-read-kinds
+use Rattle.bridge_image.proofs.hg_image_read.Reads as hg-image-read-reads
+use Rattle.bridge_factor.proofs.hg_count.Kinds as hg-count-kinds
+use Rattle.bridge_factor.proofs.hg_count.Reads as hg-count-reads
+use Rattle.bridge_factor.proofs.hg_step.Kinds as hg-step-kinds
+use Rattle.bridge_factor.proofs.hg_step.Reads as hg-step-reads
+use Rattle.bridge_factor.proofs.hg_generator.Kinds as hg-generator-kinds
+use Rattle.bridge_factor.proofs.hg_generator.Reads as hg-generator-reads
+use Rattle.bridge_factor.proofs.hg_compose.Kinds as hg-compose-kinds
+use Rattle.bridge_factor.proofs.hg_compose.Reads as hg-compose-reads
+use Rattle.bridge_factor.proofs.hg_conjugate.Kinds as hg-conjugate-kinds
+use Rattle.bridge_factor.proofs.hg_conjugate.Reads as hg-conjugate-reads
+use Rattle.bridge_factor.proofs.hg_inverse.Kinds as hg-inverse-kinds
+use Rattle.bridge_factor.proofs.hg_inverse.Reads as hg-inverse-reads
+use Rattle.bridge_factor.proofs.hg_length.Kinds as hg-length-kinds
+use Rattle.bridge_factor.proofs.hg_length.Reads as hg-length-reads
+use Rattle.bridge_factor.proofs.hg_part.Kinds as hg-part-kinds
+use Rattle.bridge_factor.proofs.hg_part.Reads as hg-part-reads
+use Rattle.bridge_factor.proofs.hg_word.Kinds as hg-word-kinds
+use Rattle.bridge_factor.proofs.hg_word.Reads as hg-word-reads
+use Rattle.bridge_image.proofs.hg_image_write.Kinds as hg-image-write-kinds
+use Rattle.bridge_image.proofs.hg_image_write.Reads as hg-image-write-reads
+use Rattle.bridge_factor.proofs.hg_check.Kinds as hg-check-kinds
+use Rattle.bridge_factor.proofs.hg_check.Reads as hg-check-reads
 use Rattle.promises.specs.Unique.{Unique}
 
 -- The functions that make a factor: the table, the work and the list of the answer.
