@@ -17,7 +17,8 @@ use Rattle.egg.specs.Factor.{fitsIn, stretch, stepAnswer}
 use Rattle.egg.proofs.Answers.{step-read}
 use Rattle.egg.proofs.Rooms.{has, few}
 use Rattle.factor.specs.Questions.{admits, composeAnswer, inverseAnswer, conjugateAnswer, countAnswer, generatorAnswer, lengthAnswer, writeAnswer, written, wordPart}
-use Rattle.factor.specs.Relations.{relations, checkAnswer}
+use Rattle.relations.specs.Relations.{relations}
+use Rattle.factor.specs.Relations.{checkAnswer}
 use Rattle.theory.specs.Group.{conjugate}
 use Rattle.theory.specs.Regular.{compose, inverse}
 use Rattle.theory.specs.Presentation.{order-of, Holds}

@@ -29,7 +29,8 @@ use Rattle.egg.proofs.Scans.{refused-fine, says-scan}
 use Rattle.factor.specs.Questions.{admits, ifReach, ifCount, onReached, along, readBack, backAlong, composeIn, inverseIn, conjugateIn, generatorIn}
 use Rattle.factor.specs.Questions.{lengthIn, readable, writeIn}
 use Rattle.factor.specs.Questions.{composeAnswer, inverseAnswer, conjugateAnswer, countAnswer, generatorAnswer, lengthAnswer, writeAnswer, written, wordPart}
-use Rattle.factor.specs.Relations.{turned, returnsTo, relationAt, doubledRow, pairsRow, relations, checkAnswer}
+use Rattle.relations.specs.Relations.{turned, returnsTo, relationAt, doubledRow, pairsRow, relations}
+use Rattle.factor.specs.Relations.{checkAnswer}
 use Rattle.meaning.specs.Numbers.{member, every, In}
 use Rattle.meaning.proofs.Numbers.{each-in, orders-number}
 use Rattle.answers.specs.Refuses.{VerdictIn, ReachedIn, CountedIn, Refuses}

@@ -16,7 +16,7 @@ use Rattle.egg.specs.Table.{pick, stepOf}
 use Rattle.egg.specs.Pairs.{pairCode, pairCount, ordersRight, orderAt}
 use Rattle.egg.specs.Scan.{andThen, scan}
 use Rattle.egg.proofs.Scans.{refused-fine, andThen-fine, andThen-refused, scan-here, scan-fine, scan-refused}
-use Rattle.factor.specs.Relations.{turned, relationAt, doubledRow, pairsRow, relationsRow, relations}
+use Rattle.relations.specs.Relations.{turned, relationAt, doubledRow, pairsRow, relationsRow, relations}
 use Rattle.theory.specs.Words.{walk}
 use Rattle.theory.specs.Presentation.{pairs-below, pair-place, order-of, alternate, Relator, double, pair, Holds}
 use Rattle.theory.proofs.Pairs.{pair-at, pair-inside}

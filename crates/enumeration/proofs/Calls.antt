@@ -20,7 +20,7 @@ use Rattle.egg.proofs.Orders.{orders-limits, few-pairs}
 use Rattle.builder.specs.Finish.{Built, built, zeroed, finished}
 use Rattle.builder.specs.Lending.{tableNeed, workNeed, lentRight, Ends, refusedMade, madeOf, Making, making, lentBack}
 use Rattle.builder.proofs.Lending.{part-length, build-back}
-use Rattle.factor.specs.Relations.{relationsRow}
+use Rattle.relations.specs.Relations.{relationsRow}
 use Rattle.rows.specs.Rows.{Orders}
 use Rattle.enumeration.specs.declared.inner.Ran.{Ran}
 use Rattle.enumeration.specs.declared.inner.Ran.the-variants as ran

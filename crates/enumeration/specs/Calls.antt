@@ -15,7 +15,7 @@ use Rattle.egg.specs.Table.{pick}
 use Rattle.egg.specs.Pairs.{ordersRight}
 use Rattle.builder.specs.Finish.{Built, built, zeroed, finished}
 use Rattle.builder.specs.Lending.{tableNeed, workNeed, lentRight, noFactor, refusedMade, Making, making, lentBack}
-use Rattle.factor.specs.Relations.{relationsRow}
+use Rattle.relations.specs.Relations.{relationsRow}
 use Rattle.enumeration.specs.declared.inner.Ran.{Ran}
 use Rattle.enumeration.specs.declared.inner.Ran.the-variants as ran
 use Rattle.enumeration.specs.Run.{Outcome, enumerated}

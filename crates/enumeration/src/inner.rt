@@ -427,7 +427,7 @@ pub fn relate(t: &mut [u32], orders: &[u32], n: u8, read: Counted) -> Counted
 {
     match read {
         Counted::Refused(why) => Counted::Refused(why),
-        Counted::Count(count) => match factor::inner::relations_row(
+        Counted::Count(count) => match relations::inner::relations_row(
             &t[..],
             n,
             count,

@@ -1,4 +1,3 @@
 pub mod Admits
 pub mod Questions
-pub mod Relations
 pub mod Composing

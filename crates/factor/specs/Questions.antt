@@ -19,6 +19,7 @@ use Rattle.egg.specs.declared.Counted.the-variants as counted
 use Rattle.egg.specs.Table.{pick, startOf, parentOf, lastOf, lengthOf, inverseOf}
 use Rattle.egg.specs.Scan.{refusedOf}
 use Rattle.egg.specs.Factor.{fitsIn, stretch, refusedReach, readStep}
+pub use Rattle.relations.specs.Relations.{onReached}
 
 -- 17 in the handle, then 14 for two element arguments, 0 or 1 by its position. A call with fewer takes the identity for the others, which is always there.
 unfoldable pub admits : ℕ → Factor → ℕ → ℕ → Verdict
@@ -34,11 +35,6 @@ ifReach (verdict.Refused r) x = Refused r
 abbrev pub ifCount : Verdict → Counted → Counted
 ifCount verdict.Fine x = x
 ifCount (verdict.Refused r) x = counted.Refused r
-
--- What goes on from an element; a refusal stands.
-abbrev pub onReached : Reached → (ℕ → Reached) → Reached
-onReached (Element e) f = f (e .0)
-onReached (Refused r) f = Refused r
 
 -- From an element along the last k letters of the recorded word that ends at e: first to the parent's element, then by the last letter.
 unfoldable pub along : ℕ → List ℕ → ℕ → ℕ → ℕ → ℕ → Reached

@@ -154,5 +154,5 @@ pub fn check(table: &[u32], f: Factor, orders: &[u32]) -> Verdict
     let Verdict::Fine = u else {
         return u;
     };
-    inner::relations(egg::inner::part(table, f), f.generators, f.elements, orders)
+    relations::inner::relations(egg::inner::part(table, f), f.generators, f.elements, orders)
 }

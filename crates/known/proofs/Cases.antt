@@ -12,7 +12,8 @@ use Rattle.builder.specs.Finish.{finished}
 use Rattle.builder.specs.Lending.{lentRight, within}
 use Rattle.factor.specs.Composed.{composedIn, composed}
 use Rattle.factor.specs.Questions as factor
-use Rattle.factor.specs.Relations.{turned, doubledRow, pairsRow, relations, checkAnswer}
+use Rattle.relations.specs.Relations.{turned, doubledRow, pairsRow, relations}
+use Rattle.factor.specs.Relations.{checkAnswer}
 use Rattle.rows.specs.Rows as rows
 use Rattle.enumeration.specs.Facts as facts
 use Rattle.enumeration.specs.Run.{enumerated, runs, visits, discovered, advanced}

@@ -14,7 +14,7 @@ use Rattle.egg.specs.Table.{startOf, stepOf}
 use Rattle.egg.specs.Pairs.{ordersRight}
 use Rattle.checks.specs.Checks.{checked, check-group}
 use Rattle.builder.specs.Finish.{Built, built, zeroed, finished}
-use Rattle.factor.specs.Relations.{relationsRow, relations}
+use Rattle.relations.specs.Relations.{relationsRow, relations}
 use Rattle.enumeration.specs.declared.inner.Ran.{Ran}
 use Rattle.enumeration.specs.declared.inner.Ran.the-variants as ran
 use Rattle.enumeration.specs.Run.{enumerated}

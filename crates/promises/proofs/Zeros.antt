@@ -17,7 +17,7 @@ use Rattle.egg.proofs.Scans.{Says}
 use Rattle.checks.specs.Checks.{check-table, Checked, checked, check-group}
 use Rattle.builder.specs.Finish.{built, zeroed, settledBy, finished, finishedPlaced}
 use Rattle.reading.specs.Reading.{Placed, placed, readAll}
-use Rattle.factor.specs.Relations.{relationsRow}
+use Rattle.relations.specs.Relations.{relationsRow}
 use Rattle.enumeration.specs.declared.inner.Ran.{Ran}
 use Rattle.enumeration.specs.declared.inner.Ran.the-variants as ran
 use Rattle.enumeration.specs.Run.{enumerated}

@@ -12,7 +12,7 @@ use Rattle.egg.specs.Pairs.{ordersRight}
 use Rattle.egg.specs.Factor.{stretch}
 use Rattle.builder.specs.Lending.{tableNeed, workNeed, lentRight, within}
 use Rattle.factor.specs.Questions.{composeAnswer}
-use Rattle.factor.specs.Relations.{relations}
+use Rattle.relations.specs.Relations.{relations}
 use Rattle.theory.specs.Words.{Word, walk}
 use Rattle.theory.specs.Presentation.{order-of, Equiv, Holds}
 use Rattle.answers.specs.Accepted.{Accepted, factorStep, reach}

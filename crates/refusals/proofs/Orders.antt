@@ -20,7 +20,8 @@ use Rattle.egg.specs.Factor.{Paper, verdictPaper}
 use Rattle.egg.proofs.Rooms.{few, has}
 use Rattle.egg.proofs.Scans.{refused-fine, scan-fine}
 use Rattle.reading.specs.Build.{numbered}
-use Rattle.factor.specs.Relations.{relationAt, doubledRow, pairsRow, relations, checkAnswer}
+use Rattle.relations.specs.Relations.{relationAt, doubledRow, pairsRow, relations}
+use Rattle.factor.specs.Relations.{checkAnswer}
 use Rattle.theory.specs.Words.{walk}
 use Rattle.theory.specs.Presentation.{pairs-below, pair-place, order-of, alternate}
 use Rattle.theory.proofs.Pairs.{pair-at, pair-inside}

@@ -3,9 +3,9 @@ use Rattle.egg.proofs.Scans.{Scanning, scanning, hands-on, goes-on, ends}
 use Prim.Native.Nat.{_-_}
 use mathlib.Core.Path.{sym, _∙_}
 use borrow.Author.Needs.{needs}
-use Rattle.factor.specs.Relations.{relationAt, doubledRow}
-use Rattle.factor.proofs.inner.doubled_row.Statement.{statement}
-use Rattle.factor.proofs.inner.doubled_row.Tie as tie
+use Rattle.relations.specs.Relations.{relationAt, doubledRow}
+use Rattle.relations.proofs.inner.doubled_row.Statement.{statement}
+use Rattle.relations.proofs.inner.doubled_row.Tie as tie
 
 abbrev Inv-loop : tie.InvT-loop
 Inv-loop s n count e g₀ g = Scanning n (λ i. relationAt s n count (e .0) i i 1) g (doubledRow s n count (e .0))

@@ -5,10 +5,10 @@ use borrow.Author.Needs.{needs}
 use lib.ListN.{length, getD}
 use Rattle.egg.specs.Pairs.{pairCode}
 use Rattle.egg.proofs.Scans.{Scanning, scanning, hands-on, goes-on, ends}
-use Rattle.factor.specs.Relations.{relationAt, pairsRow}
-use Rattle.factor.proofs.Relations.{pair-relation}
-use Rattle.factor.proofs.inner.pairs_row.Statement.{statement}
-use Rattle.factor.proofs.inner.pairs_row.Tie as tie
+use Rattle.relations.specs.Relations.{relationAt, pairsRow}
+use Rattle.relations.proofs.Relations.{pair-relation}
+use Rattle.relations.proofs.inner.pairs_row.Statement.{statement}
+use Rattle.relations.proofs.inner.pairs_row.Tie as tie
 
 abbrev Inv-loop : tie.InvT-loop
 Inv-loop s n count orders e k₀ k = Scanning (length orders) (λ i. relationAt s n count (e .0) (pairCode i / 8) (pairCode i % 8) (getD orders i 0)) k (pairsRow s n count orders (e .0))

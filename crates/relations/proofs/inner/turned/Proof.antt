@@ -1,10 +1,10 @@
 -- What is left to turn from here ends where the whole ends: each turn takes both steps.
 use mathlib.Core.Path.{_≡_, refl, sym, _∙_}
 use borrow.Author.Needs.{needs}
-use Rattle.factor.specs.Relations.{turned}
-use Rattle.factor.proofs.Relations.{turned-end, turned-first, turned-second, turned-more}
-use Rattle.factor.proofs.inner.turned.Statement.{statement}
-use Rattle.factor.proofs.inner.turned.Tie as tie
+use Rattle.relations.specs.Relations.{turned}
+use Rattle.relations.proofs.Relations.{turned-end, turned-first, turned-second, turned-more}
+use Rattle.relations.proofs.inner.turned.Statement.{statement}
+use Rattle.relations.proofs.inner.turned.Tie as tie
 
 abbrev Inv-loop : tie.InvT-loop
 Inv-loop s n count a b times x₀ left₀ x left = turned left s n count (x .0) (a .0) (b .0) ≡ turned left₀ s n count (x₀ .0) (a .0) (b .0)

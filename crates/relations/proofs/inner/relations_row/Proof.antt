@@ -2,8 +2,8 @@
 use mathlib.Core.Path.{_∙_}
 use Rattle.egg.proofs.Scans.{then-refused, then-fine}
 use borrow.Author.Needs.{needs}
-use Rattle.factor.proofs.inner.relations_row.Statement.{statement}
-use Rattle.factor.proofs.inner.relations_row.Tie as tie
+use Rattle.relations.proofs.inner.relations_row.Statement.{statement}
+use Rattle.relations.proofs.inner.relations_row.Tie as tie
 
 doubled-row-requires : tie.Need-doubled-row-requires
 doubled-row-requires c κs = search needs

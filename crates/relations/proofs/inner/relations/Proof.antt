@@ -3,9 +3,9 @@ use Prim.Native.Nat.{_-_}
 use mathlib.Core.Path.{sym, _∙_}
 use borrow.Author.Needs.{needs}
 use Rattle.egg.proofs.Scans.{Scanning, scanning, hands-on, goes-on, ends}
-use Rattle.factor.specs.Relations.{relationsRow, relations}
-use Rattle.factor.proofs.inner.relations.Statement.{statement}
-use Rattle.factor.proofs.inner.relations.Tie as tie
+use Rattle.relations.specs.Relations.{relationsRow, relations}
+use Rattle.relations.proofs.inner.relations.Statement.{statement}
+use Rattle.relations.proofs.inner.relations.Tie as tie
 
 abbrev Inv-loop : tie.InvT-loop
 Inv-loop s n count orders e₀ e = Scanning count (λ i. relationsRow s n count orders i) e (relations s n count orders)

@@ -1,9 +1,9 @@
 -- One law for each answer, from where turning ended.
 use mathlib.Core.Path.{_∙_}
-use Rattle.factor.proofs.Relations.{returns-refused, returns-here, returns-elsewhere}
+use Rattle.relations.proofs.Relations.{returns-refused, returns-here, returns-elsewhere}
 use borrow.Author.Needs.{needs}
-use Rattle.factor.proofs.inner.relation_at.Statement.{statement}
-use Rattle.factor.proofs.inner.relation_at.Tie as tie
+use Rattle.relations.proofs.inner.relation_at.Statement.{statement}
+use Rattle.relations.proofs.inner.relation_at.Tie as tie
 
 turned-requires : tie.Need-turned-requires
 turned-requires c κs = search needs
