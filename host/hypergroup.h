@@ -103,14 +103,6 @@ uint64_t hg_set(uint32_t *table, size_t table_len, size_t start, uint32_t room, 
 void hg_build(uint32_t *table, size_t table_len, size_t start, uint32_t room, uint8_t n,
     uint32_t count, uint32_t *work, size_t work_len, uint32_t *out, size_t out_len);
 
-/* libbridge_image.a */
-
-uint64_t hg_image_write(const uint32_t *table, size_t table_len, size_t start, uint32_t room,
-    uint8_t n, uint32_t count, uint8_t *out, size_t out_len);
-
-void hg_image_read(const uint8_t *bytes, size_t bytes_len, uint32_t *table, size_t table_len,
-    size_t start, uint32_t *work, size_t work_len, uint32_t *out, size_t out_len);
-
 /* libbridge_group.a */
 
 /* The product of two: its verdict and how many factors it has; they are those of the first and then those of the second. */
@@ -205,6 +197,14 @@ void hg_subgroup_left(const uint32_t *from, size_t from_len, const uint32_t *tab
 void hg_subgroup_right(const uint32_t *from, size_t from_len, const uint32_t *table,
     size_t table_len, const uint32_t *sub, size_t sub_len, const uint32_t *handles,
     size_t handles_len, uint8_t count, uint32_t *out, size_t out_len);
+
+/* libbridge_image.a */
+
+uint64_t hg_image_write(const uint32_t *table, size_t table_len, size_t start, uint32_t room,
+    uint8_t n, uint32_t count, uint8_t *out, size_t out_len);
+
+void hg_image_read(const uint8_t *bytes, size_t bytes_len, uint32_t *table, size_t table_len,
+    size_t start, uint32_t *work, size_t work_len, uint32_t *out, size_t out_len);
 
 /* libexports.a */
 
