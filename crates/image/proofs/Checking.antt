@@ -12,7 +12,7 @@ use lib.Seq.{length-take-le}
 use Rattle.builder.specs.Lending.{tableNeed, workNeed}
 use Rattle.cells.specs.Cells.{cells, halves}
 use Rattle.cells.proofs.Laws.{cells-length}
-use Rattle.packed.specs.Short.{judged}
+use Rattle.packed.specs.Short.{SomeWork, judged}
 use Rattle.packed.proofs.Parts.{rest-lent, front-drop, front-count}
 use Rattle.agree.proofs.Short.{judged-is-built}
 use Rattle.image.specs.Image.{generatorsOf, elementsOf, headNumber, bytesNeed, imageNumber, imageWork}
@@ -72,16 +72,16 @@ module _ (l w : List ℕ) {h : ℕ} (qh : h ≡ headNumber l) where
       rows-are = rest-lent l 8 image-whole
 
       pub whole-number : {x : ℕ} → count < 65536
-          → x ≡ judged (at / 4) (cells (drop at (take need w))) (halves (midOf 8 (length l - 8) l)) n count → x ≡ imageNumber l (length w)
+          → SomeWork (length (cells (drop at (take need w)))) (λ z. x ≡ judged (at / 4) z (halves (midOf 8 (length l - 8) l)) n count) → x ≡ imageNumber l (length w)
       unfolding imageNumber
       whole-number small j =
           let e : headNumber l ≡ 0 = sym qh ∙ z in
           let f : bytesNeed (generatorsOf l) (elementsOf l) ≤ length w = rw same-need at lent in
           let few : n ≤ 8 = rw qn (right .few) in
           let some : 1 ≤ count = rw qc (right .some) in
-          let b = judged-is-built (halves (midOf 8 (length l - 8) l)) n count (at / 4) (cells (drop at (take need w))) (replicate (workNeed n count) 0)
-          few some (omega arith) (rw table-cells (le-refl (tableNeed n count))) (λ _. cells-left) (λ pos. work-enough n count pos) in
-          simp (eq-eqb _ _ e, le-ltb _ _ f) (j ∙ b ∙ rw (table-cells, rows-are, qn, qc))
+          let b = judged-is-built (halves (midOf 8 (length l - 8) l)) n count (at / 4) (j .work) (replicate (workNeed n count) 0)
+          few some (omega arith) (rw table-cells (le-refl (tableNeed n count))) (λ _. rw (j .as-long) cells-left) (λ pos. work-enough n count pos) in
+          simp (eq-eqb _ _ e, le-ltb _ _ f) (j .holds ∙ b ∙ rw (table-cells, rows-are, qn, qc))
 
       pub whole-work : (p q : List ℕ) → length p ≡ length (take need w) → q ≡ replicate (length (take need (p ++ drop need w))) 0
           → q ++ drop need (p ++ drop need w) ≡ imageWork l w

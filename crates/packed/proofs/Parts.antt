@@ -9,7 +9,7 @@ use lib.ListN.{length, take, drop, replicate, length-drop, length-append}
 use lib.Seq.{take-all, drop-length, length-take-le, drop-at, take-at}
 use Rattle.egg.specs.Table.{putAt}
 use Rattle.cells.specs.Cells.{cells}
-use Rattle.cells.proofs.Laws.{cells-zero}
+use Rattle.cells.proofs.Laws.{cells-length, cells-zero}
 
 module _ (l : List ℕ) (at : ℕ) (h : at ≤ length l) where
   -- The work, while it is lent.
@@ -27,6 +27,10 @@ module _ (l : List ℕ) (at : ℕ) (h : at ≤ length l) where
   rest-put p i v e =
       (take-put at (length l - at) l p h, ap cells (rest-back p) ∙ e ∙ ap (λ (z : List ℕ). putAt (cells z) i v) rest-lent)
 
+-- The work has as many cells after a call as before it.
+pub rest-long : (at : ℕ) (l m : List ℕ) → length m ≡ length l → length (cells (drop at m)) ≡ length (cells (drop at l))
+rest-long at l m e = rw (cells-length (drop at m), cells-length (drop at l), length-drop at m, length-drop at l, e)
+
 -- The table, lent and back as p.
 module _ (l : List ℕ) (at : ℕ) (h : at ≤ length l) (p : List ℕ) (e : length p ≡ length (take at l)) where
   pub front-length : length p ≡ at
@@ -37,6 +41,10 @@ module _ (l : List ℕ) (at : ℕ) (h : at ≤ length l) (p : List ℕ) (e : len
 
   pub front-drop : drop at (p ++ drop at l) ≡ drop at l
   front-drop = drop-at p (drop at l) at front-length
+
+  pub front-put : (i v : ℕ) → cells p ≡ putAt (cells (take at l)) i v
+      → (cells (take at (p ++ drop at l)) ≡ putAt (cells (take at l)) i v) × (drop at (p ++ drop at l) ≡ drop at l)
+  front-put i v q = (ap cells front-take ∙ q, front-drop)
 
   pub front-count : at ≡ length (take at (p ++ drop at l))
   front-count = sym (ap length front-take ∙ front-length)

@@ -2,8 +2,9 @@
 -- are n each where no predecessor is missing, so these are not tested again.
 -- Assumes nothing.
 use Prim.Native.Nat.{ℕ}
+use mathlib.Core.Path.{_≡_}
 use mathlib.Core.List.{List}
-use lib.ListN.{replicate}
+use lib.ListN.{length, replicate}
 use lib.Dec.{ltb}
 use Rattle.egg.specs.declared.Verdict.{Verdict}
 use Rattle.egg.specs.declared.Verdict.the-variants.{Fine, Refused}
@@ -29,6 +30,13 @@ shortRest (left (Refused r) t) w n count = Refused r
 
 unfoldable pub short : List ℕ → List ℕ → ℕ → ℕ → Verdict
 short t w n count = shortRest (shortTable t n count) w n count
+
+-- P of some work of so many cells. It holds hints of inverses when 12 is tested; on a table that a reading left 12 does not depend on what it holds, so the
+-- contracts leave that open.
+pub record SomeWork (long : ℕ) (P : List ℕ → Type 0) : Type 0 where
+  pub work : List ℕ
+  pub as-long : length work ≡ long
+  pub holds : P work
 
 -- Document 01's number of a verdict: 0 where nothing is refused.
 abbrev pub verdictNumber : Verdict → ℕ

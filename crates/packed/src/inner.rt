@@ -1,11 +1,12 @@
 // The checks after a reading that ended, in one lent stretch of bytes: the table before `at`, the work from there on.
 ghost use mathlib.Core.Path.{_≡_};
 ghost use Prim.Native.Nat.{_≤_, _/_};
-ghost use lib.ListN.{length, take, drop};
+ghost use lib.ListN.{length, getD, take, drop};
 ghost use Rattle.egg.specs.Table.{putAt};
-ghost use Rattle.checks.specs.Checks.{leftOf, fillLeft, allGo, Lefts, lefts};
+ghost use Rattle.checks.specs.Checks.{fillInverses, leftOf, fillLeft, allGo, Lefts, lefts};
+ghost use Rattle.checks.specs.Hints.{Hint, Hints, inverseBy};
 ghost use Rattle.cells.specs.Cells.{cells, halves};
-ghost use Rattle.packed.specs.Short.{shortTable, short, verdictNumber, judged};
+ghost use Rattle.packed.specs.Short.{shortTable, short, SomeWork, verdictNumber, judged};
 use egg::Counted;
 use egg::GeneratorId;
 use egg::GroupElementId;
@@ -67,31 +68,93 @@ fn check12(b: &mut [u8], at: usize, n: u8, count: u32) -> Verdict
     Verdict::Fine
 }
 
-// 8 to 11 on the table, with the inverses written.
-fn check_table(t: &mut [u8], n: u8, count: u32) -> Verdict
-    ensures { λ r. ⌜ Lefts.left r (cells (now (t .exit))) ≡ shortTable (cells (now (t .entry))) n count ⌝ }
+// Stores v in cell i of the table.
+fn put_table(b: &mut [u8], at: usize, i: usize, v: usize)
+    requires { ⌜ at ≤ length (now b) ⌝ }
+    ensures { λ r. ⌜ (cells (take at (now (b .exit))) ≡ putAt (cells (take at (now (b .entry)))) i v) × (drop at (now (b .exit)) ≡ drop at (now (b .entry))) ⌝ }
 {
-    let v = checking::missing(&t[..], n, count, n);
+    cells::inner::put(&mut b[..at], i, v);
+}
+
+fn hint_at(b: &[u8], at: usize, n: u8, e: GroupElementId) -> u32
+    requires { ⌜ at ≤ length (now b) ⌝ }
+    ensures { λ r. ⌜ (Hints (cells (take at (now (b .entry)))) (cells (drop at (now (b .entry)))) n (e .0) → Hint (cells (take at (now (b .entry)))) n (e .0) r) ⌝ }
+{
+    checking::hint_of(&b[..at], &b[at..], n, e)
+}
+
+// The hints of all elements, into the start of the work.
+fn fill_hints(b: &mut [u8], at: usize, n: u8, count: u32)
+    requires { ⌜ at ≤ length (now b) ⌝ }
+    ensures { λ r. ⌜ (take at (now (b .exit)) ≡ take at (now (b .entry))) × Hints (cells (take at (now (b .entry)))) (cells (drop at (now (b .exit)))) n count ⌝ }
+{
+    let mut e: u32 = 0;
+    while e < count {
+        let h = hint_at(&b[..], at, n, GroupElementId(e));
+        put_work(b, at, e as usize, h as usize);
+        e += 1;
+    }
+}
+
+fn inverted_at(b: &[u8], at: usize, n: u8, e: GroupElementId) -> GroupElementId
+    requires { ⌜ at ≤ length (now b) ⌝ }
+    ensures { λ r. ⌜ r .0 ≡ inverseBy (cells (take at (now (b .entry)))) n (e .0) (getD (cells (drop at (now (b .entry)))) (e .0) 0) ⌝ }
+{
+    checking::inverse_by(&b[..at], &b[at..], n, e)
+}
+
+fn fill_inverses(b: &mut [u8], at: usize, n: u8, count: u32)
+    requires { ⌜ (at ≤ length (now b)) × Hints (cells (take at (now b))) (cells (drop at (now b))) n count ⌝ }
+    ensures { λ r. ⌜ cells (take at (now (b .exit))) ≡ fillInverses count (cells (take at (now (b .entry)))) n 0 ⌝ }
+{
+    let mut e: u32 = 0;
+    while e < count {
+        let x = inverted_at(&b[..], at, n, GroupElementId(e)).0;
+        put_table(
+            b,
+            at,
+            egg::inner::inverse_at(n, GroupElementId(e)),
+            x as usize,
+        );
+        e += 1;
+    }
+}
+
+// The inverses, by hints that are left in the work: 12 does not depend on what it holds.
+fn write_inverses(b: &mut [u8], at: usize, n: u8, count: u32)
+    requires { ⌜ at ≤ length (now b) ⌝ }
+    ensures { λ r. ⌜ cells (take at (now (b .exit))) ≡ fillInverses count (cells (take at (now (b .entry)))) n 0 ⌝ }
+{
+    fill_hints(b, at, n, count);
+    fill_inverses(b, at, n, count);
+}
+
+// 8 to 11 on the table, with the inverses written.
+fn check_table(b: &mut [u8], at: usize, n: u8, count: u32) -> Verdict
+    requires { ⌜ at ≤ length (now b) ⌝ }
+    ensures { λ r. ⌜ Lefts.left r (cells (take at (now (b .exit)))) ≡ shortTable (cells (take at (now (b .entry)))) n count ⌝ }
+{
+    let v = checking::missing(&b[..at], n, count, n);
     let Verdict::Fine = v else {
         return v;
     };
-    let u = checking::wrong(&t[..], n, count);
+    let u = checking::wrong(&b[..at], n, count);
     let Verdict::Fine = u else {
         return u;
     };
-    checking::fill_inverses(t, n, count);
-    let i = checking::inverses_right(&t[..], n, count);
+    write_inverses(b, at, n, count);
+    let i = checking::inverses_right(&b[..at], n, count);
     let Verdict::Fine = i else {
         return i;
     };
-    checking::identity_row(&t[..], n)
+    checking::identity_row(&b[..at], n)
 }
 
 fn check_all(b: &mut [u8], at: usize, n: u8, count: u32) -> Verdict
     requires { ⌜ at ≤ length (now b) ⌝ }
-    ensures { λ r. ⌜ r ≡ short (cells (take at (now (b .entry)))) (cells (drop at (now (b .entry)))) n count ⌝ }
+    ensures { λ r. ⌜ SomeWork (length (cells (drop at (now (b .entry))))) (λ w. r ≡ short (cells (take at (now (b .entry)))) w n count) ⌝ }
 {
-    let v = check_table(&mut b[..at], n, count);
+    let v = check_table(b, at, n, count);
     let Verdict::Fine = v else {
         return v;
     };
@@ -110,7 +173,7 @@ fn number(v: Verdict) -> u32
 // Reads the rows into the table and checks it: the refusal's number, or 0.
 pub fn judge(b: &mut [u8], at: usize, rows: &[u8], n: u8, room: u32) -> u32
     requires { ⌜ at ≤ length (now b) ⌝ }
-    ensures { λ r. ⌜ r ≡ judged (at / 4) (cells (drop at (now (b .entry)))) (halves (now (rows .entry))) n room ⌝ }
+    ensures { λ r. ⌜ SomeWork (length (cells (drop at (now (b .entry))))) (λ w. r ≡ judged (at / 4) w (halves (now (rows .entry))) n room) ⌝ }
 {
     cells::inner::clear(&mut b[..at]);
     match placing::read_rows(&mut b[..at], rows, n, room) {

@@ -1,10 +1,12 @@
 // Those checks of `checks` that a reading which ended leaves to be made, over lent bytes.
 ghost use mathlib.Core.Path.{_≡_};
 ghost use mathlib.Core.Bool.{true};
-ghost use Prim.Native.Nat.{_≤_};
+ghost use Prim.Native.Nat.{_≤_, _<_};
+ghost use lib.ListN.{getD};
 ghost use Rattle.egg.specs.Table.{stillLeft};
-ghost use Rattle.checks.specs.Checks.{missingRow, missing, wrongAt, wrongRow, wrong, invertFrom, invertOf, fillInverses, inversesRight, identityRow, leftOf, goesRow, allGo};
+ghost use Rattle.checks.specs.Checks.{missingRow, missing, wrongAt, wrongRow, wrong, invertFrom, invertOf, inversesRight, identityRow, leftOf, goesRow, allGo};
 ghost use Rattle.checks.specs.Undoing.{undoneRest};
+ghost use Rattle.checks.specs.Hints.{Packs, Follows, Hint, Hints, inverseBy};
 ghost use Rattle.cells.specs.Cells.{cells};
 use super::table;
 use checks::inner::Undone;
@@ -194,15 +196,77 @@ fn invert(t: &[u8], n: u8, e: GroupElementId) -> GroupElementId
     GroupElementId(x)
 }
 
-pub fn fill_inverses(t: &mut [u8], n: u8, count: u32)
-    ensures { λ r. ⌜ cells (now (t .exit)) ≡ fillInverses count (cells (now (t .entry))) n 0 ⌝ }
+// A hint: the element that the word leads to without its first letter, and that letter, in one number. 0 is no hint.
+fn pack(tail: GroupElementId, first: u32) -> u32
+    ensures { λ r. ⌜ (first < 256 → Packs (tail .0) first r) ⌝ }
 {
-    let mut e: u32 = 0;
-    while e < count {
-        let x = invert(&t[..], n, GroupElementId(e)).0;
-        cells::inner::put(t, egg::inner::inverse_at(n, GroupElementId(e)), x as usize);
-        e += 1;
+    let h = (tail.0 as usize) * 256 + (first as usize) + 1;
+    if h < 4294967296 { h as u32 } else { 0 }
+}
+
+// Whether the word of y, an earlier element than e, is that of `from` and the last letter of e, and one letter shorter.
+fn follows_on(t: &[u8], n: u8, from: GroupElementId, y: GroupElementId, e: GroupElementId) -> bool
+    ensures { λ r. ⌜ (r ≡ true → Follows (cells (now (t .entry))) n (from .0) (y .0) (e .0)) ⌝ }
+{
+    if e.0 <= y.0 {
+        return false;
     }
+    if table::parent(t, n, y) != from.0 {
+        return false;
+    }
+    if table::last(t, n, y) != table::last(t, n, e) {
+        return false;
+    }
+    let long = table::word_length(t, n, y) as usize;
+    if long != (table::word_length(t, n, from) as usize) + 1 {
+        return false;
+    }
+    (table::word_length(t, n, e) as usize) == long + 1
+}
+
+// The hint of e, where the work has those of the elements before it. The first letter of a word is that of its parent's
+// word, and what comes after it is one letter longer.
+pub fn hint_of(t: &[u8], w: &[u8], n: u8, e: GroupElementId) -> u32
+    ensures { λ r. ⌜ (Hints (cells (now (t .entry))) (cells (now (w .entry))) n (e .0) → Hint (cells (now (t .entry))) n (e .0) r) ⌝ }
+{
+    let g = table::last(t, n, e);
+    if (n as u32) <= g {
+        return 0;
+    }
+    if table::word_length(t, n, e) == 1 {
+        if table::word_length(t, n, GroupElementId(0)) != 0 {
+            return 0;
+        }
+        return pack(GroupElementId(0), g);
+    }
+    let p = table::parent(t, n, e);
+    if e.0 <= p {
+        return 0;
+    }
+    let h = cells::inner::get(w, p as usize);
+    if h == 0 {
+        return 0;
+    }
+    let from = GroupElementId((h - 1) / 256);
+    let y = table::step_last(t, n, from, e);
+    if !follows_on(t, n, from, y, e) {
+        return 0;
+    }
+    pack(y, (h - 1) % 256)
+}
+
+// The inverse of e by its hint in the work: one step back from an inverse that is written already, and not a walk of the
+// word.
+pub fn inverse_by(t: &[u8], w: &[u8], n: u8, e: GroupElementId) -> GroupElementId
+    ensures { λ r. ⌜ r .0 ≡ inverseBy (cells (now (t .entry))) n (e .0) (getD (cells (now (w .entry))) (e .0) 0) ⌝ }
+{
+    let h = cells::inner::get(w, e.0 as usize);
+    if h == 0 {
+        return invert(t, n, e);
+    }
+    let tail = GroupElementId((h - 1) / 256);
+    let x = cells::inner::get(t, egg::inner::inverse_at(n, tail));
+    egg::inner::element(table::cell(t, n, GroupElementId(x), n, (h - 1) % 256))
 }
 
 // 10: the inverse of the inverse.

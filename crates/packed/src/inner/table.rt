@@ -31,7 +31,7 @@ pub fn parent(t: &[u8], n: u8, e: GroupElementId) -> u32
     cells::inner::get(t, egg::inner::start(n, e) + 2 * (n as usize))
 }
 
-fn last(t: &[u8], n: u8, e: GroupElementId) -> u32
+pub fn last(t: &[u8], n: u8, e: GroupElementId) -> u32
     ensures { λ r. ⌜ r ≡ getD (cells (now (t .entry))) (startOf n (e .0) + 2 * n + 1) 0 ⌝ }
 {
     cells::inner::get(t, egg::inner::start(n, e) + 2 * (n as usize) + 1)
