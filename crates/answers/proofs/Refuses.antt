@@ -121,13 +121,13 @@ module _ (s : List ℕ) (n count : ℕ) where
   back-along-in zero from e = reached-element _
   back-along-in (suc k) from e = search (reads, back-along-in k, back-in)
 
-  pub compose-in : (a b : ℕ) → ReachedIn (17 ∷ []) (composeIn s n count a b)
-  unfolding composeIn
-  compose-in a b = search (reads, along-in, back-along-in)
-
   pub inverse-in : (a : ℕ) → ReachedIn (17 ∷ []) (inverseIn s n count a)
   unfolding inverseIn
   inverse-in a = search reads
+
+  pub compose-in : (a b : ℕ) → ReachedIn (17 ∷ []) (composeIn s n count a b)
+  unfolding composeIn
+  compose-in a b = search (reads, along-in, back-along-in, inverse-in)
 
   pub conjugate-in : (a b : ℕ) → ReachedIn (17 ∷ []) (conjugateIn s n count a b)
   unfolding conjugateIn

@@ -16,8 +16,9 @@ use Rattle.factor.proofs.Questions.{back-element}
 use Rattle.factor.specs.Questions.{along, readBack, backAlong, composeIn, inverseIn, conjugateIn, generatorIn}
 use Rattle.theory.specs.Words.{walk, retrace}
 use Rattle.theory.specs.Regular.{compose, inverse}
-use Rattle.theory.specs.Group.{conjugate}
+use Rattle.theory.specs.Group.{GroupOn, conjugate}
 use Rattle.theory.proofs.Walking.{walk-closed, retrace-closed, walk-retrace}
+use Rattle.theory.proofs.GroupLaws.{inverse-unique, inv-inv}
 use Rattle.theory.proofs.Recording.{walk-grow, retrace-grow, length-grow}
 use Rattle.meaning.specs.Stored.{wordOf}
 use Rattle.meaning.specs.Sound.{Sound}
@@ -31,6 +32,12 @@ no-letters (g ∷ w) q = absurd (omega arith)
 either : {x y z : Reached} (v : Bool) → x ≡ z → y ≡ z → pick v x y ≡ z
 either true p q = p
 either false p q = q
+
+-- What has b's inverse as its product with a is the inverse of a·b.
+inverse-of-rest : {N : ℕ} {op : ℕ → ℕ → ℕ} {inv : ℕ → ℕ} (G : GroupOn N op inv) {x a b : ℕ} → x < N → a < N → b < N → op x a ≡ inv b → inv x ≡ op a b
+inverse-of-rest {N} {op} {inv} G {x} {a} {b} hx ha hb e =
+    let one : op x (op a b) ≡ 0 = sym (G .assoc hx ha hb) ∙ ap (λ (y : ℕ). op y b) e ∙ G .left-inverse hb in
+    ap inv (inverse-unique G (G .op-closed ha hb) hx one) ∙ inv-inv G (G .op-closed ha hb)
 
 module _ {s : List ℕ} {n N : ℕ} (S : Sound s n N) where
   pub read-step : {e g : ℕ} → e < N → g < n → readStep s n N e g ≡ reach (stepOf s n e g)
@@ -108,14 +115,29 @@ module _ {s : List ℕ} {n N : ℕ} (S : Sound s n N) where
       = walk-retrace (S .columns) ha over in
       cc (forth, G .assoc y i hb, G .left-inverse hb, G .right-identity y)
 
+  -- Back along the word of a from b's inverse is to the inverse of the product: going forward along it again leads to b's inverse.
+  pub back-is-inverse : {a b : ℕ} → a < N → b < N
+      → inverse (backOf s n) (wordOf s n) (retrace (backOf s n) (inverse (backOf s n) (wordOf s n) b) (wordOf s n a)) ≡ compose (stepOf s n) (wordOf s n) a b
+  back-is-inverse {a} {b} ha hb =
+      let G = sound-group S in
+      let i = G .inv-closed hb in
+      let over = S .spelled .over ha in
+      let y = retrace-closed (S .columns) i over in
+      let forth : compose (stepOf s n) (wordOf s n) (retrace (backOf s n) (inverse (backOf s n) (wordOf s n) b) (wordOf s n a)) a ≡ inverse (backOf s n) (wordOf s n) b
+      = walk-retrace (S .columns) i over in
+      inverse-of-rest G y ha hb forth
+
   pub compose-in : {a b : ℕ} → a < N → b < N → composeIn s n N a b ≡ reach (compose (stepOf s n) (wordOf s n) a b)
   unfolding composeIn
   compose-in {a} {b} ha hb =
       let small : inverse (backOf s n) (wordOf s n) b < N = sound-group S .inv-closed hb in
+      let rest : retrace (backOf s n) (inverse (backOf s n) (wordOf s n) b) (wordOf s n a) < N = retrace-closed (S .columns) small (S .spelled .over ha) in
       simp (le-ltb _ _ (S .short hb), S .inverses hb, lt-leb _ _ small)
+      (either (ltb (lengthOf s n a) (lengthOf s n b))
+      (rw (back-word (lengthOf s n a) (inverse (backOf s n) (wordOf s n) b) small ha (S .stored .lengths ha)) (inverse-in rest ∙ ap reach (back-is-inverse ha hb)))
       (either (ltb (lengthOf s n b) (lengthOf s n (inverse (backOf s n) (wordOf s n) b)))
       (along-word (lengthOf s n b) a ha hb (S .stored .lengths hb))
-      (back-word (lengthOf s n (inverse (backOf s n) (wordOf s n) b)) a ha small (S .stored .lengths small) ∙ ap reach (back-is-product ha hb)))
+      (back-word (lengthOf s n (inverse (backOf s n) (wordOf s n) b)) a ha small (S .stored .lengths small) ∙ ap reach (back-is-product ha hb))))
 
   pub conjugate-in : {a b : ℕ} → a < N → b < N
       → conjugateIn s n N a b ≡ reach (conjugate (compose (stepOf s n) (wordOf s n)) (inverse (backOf s n) (wordOf s n)) a b)

@@ -1,9 +1,10 @@
 -- Laws of the questions about a stretch, one for each answer, by the tests that lead to it.
 -- Assumes nothing.
-use Prim.Native.Nat.{ℕ, suc, _+_, _-_, _%_, _≤_, _<_}
+use Prim.Native.Nat.{ℕ, suc, _+_, _*_, _-_, _%_, _≤_, _<_}
 use mathlib.Core.Path.{_≡_, refl, sym, ap, _∙_}
 use mathlib.Core.Bool.{Bool, true, false, _&&_}
 use mathlib.Core.List.{List}
+use native.Mathlib.Nat.{mul-le-mul, mul-le-mul-right}
 use native.Mathlib.Omega.{arith}
 use borrow.Author.Tests.{eq-eqb, ne-eqb, lt-ltb, le-ltb, le-leb, lt-leb, ltb-true, ltb-false}
 use lib.ListN.{length, getD, take, set}
@@ -17,10 +18,11 @@ use Rattle.egg.specs.declared.Reached.{Reached}
 use Rattle.egg.specs.declared.Reached.the-variants.{Element, Refused}
 use Rattle.egg.specs.declared.Counted.{Counted}
 use Rattle.egg.specs.declared.Counted.the-variants as counted
-use Rattle.egg.specs.Table.{startOf, parentOf, lastOf, lengthOf, inverseOf}
+use Rattle.egg.specs.Table.{pick, startOf, parentOf, lastOf, lengthOf, inverseOf}
 use Rattle.egg.specs.Factor.{stretch, refusedReach, readStep}
+use Rattle.egg.proofs.Cells.{inside}
 use Rattle.factor.specs.Legs.{OneBack}
-use Rattle.factor.specs.Questions.{admits, ifCount, onReached, along, readBack, backAlong, composeIn, inverseIn, generatorIn, lengthIn, readable, spell, writeIn, writeAnswer, writtenBy, filledBy}
+use Rattle.factor.specs.Questions.{admits, ifCount, onReached, along, readBack, backAlong, composeIn, inverseIn, conjugateIn, generatorIn, lengthIn, readable, spell, writeIn, writeAnswer, writtenBy, filledBy}
 
 -- Going on from an element, and not from a refusal.
 module _ {v w : Reached} (q : v ≡ w) (f : ℕ → Reached) where
@@ -124,14 +126,19 @@ module _ (s : List ℕ) (n count a b : ℕ) {len : ℕ} (q : len ≡ lengthOf s 
     unfolding composeIn
     compose-beyond k = rw (← q, ← p) (simp (le-ltb _ _ h, le-leb _ _ k))
 
-    module _ (k : i < count) {back : ℕ} (w : back ≡ lengthOf s n i) where
-      pub compose-along : len < back → along len s n count a b ≡ composeIn s n count a b
+    module _ (k : i < count) {own : ℕ} (v : own ≡ lengthOf s n a) where
+      pub compose-first : own < len → onReached (backAlong own s n count i a) (inverseIn s n count) ≡ composeIn s n count a b
       unfolding composeIn
-      compose-along z = rw (← q, ← p, ← w) (simp (le-ltb _ _ h, lt-leb _ _ k, lt-ltb _ _ z))
+      compose-first z = rw (← q, ← p, ← v) (simp (le-ltb _ _ h, lt-leb _ _ k, lt-ltb _ _ z))
 
-      pub compose-back : back ≤ len → backAlong back s n count a i ≡ composeIn s n count a b
-      unfolding composeIn
-      compose-back z = rw (← q, ← p, ← w) (simp (le-ltb _ _ h, lt-leb _ _ k, le-ltb _ _ z))
+      module _ (o : len ≤ own) {back : ℕ} (w : back ≡ lengthOf s n i) where
+        pub compose-along : len < back → along len s n count a b ≡ composeIn s n count a b
+        unfolding composeIn
+        compose-along z = rw (← q, ← p, ← v, ← w) (simp (le-ltb _ _ h, lt-leb _ _ k, le-ltb _ _ o, lt-ltb _ _ z))
+
+        pub compose-back : back ≤ len → backAlong back s n count a i ≡ composeIn s n count a b
+        unfolding composeIn
+        compose-back z = rw (← q, ← p, ← v, ← w) (simp (le-ltb _ _ h, lt-leb _ _ k, le-ltb _ _ o, le-ltb _ _ z))
 
 module _ (s : List ℕ) (n count a : ℕ) {i : ℕ} (q : i ≡ inverseOf s n a) where
   pub inverse-beyond : count ≤ i → refusedReach 17 0 ≡ inverseIn s n count a
@@ -141,6 +148,73 @@ module _ (s : List ℕ) (n count a : ℕ) {i : ℕ} (q : i ≡ inverseOf s n a) 
   pub inverse-element : i < count → Element (record { 0 = i }) ≡ inverseIn s n count a
   unfolding inverseIn
   inverse-element h = rw (← q) (simp (lt-leb _ _ h))
+
+pub rows-small : (n : ℕ) {count w : ℕ} → w ≡ 2 * n + 4 → count < 4294967296 → n < 256 → count * w < 18446744073709551616
+rows-small n {count} {w} q h k = let p : count ≤ 4294967295 = omega arith in let m : w ≤ 514 = omega arith in omega (arith, mul-le-mul p m)
+
+-- The cells of the rows of all elements stand in a stretch that is long enough.
+module _ (n : ℕ) {count len : ℕ} (h : count * (2 * n + 4) ≤ len) where
+  pub recorded-inside : {e k r : ℕ} → r ≡ startOf n e → e < count → k < 4 → r + 2 * n + k < len
+  unfolding startOf
+  recorded-inside {e} {k} q he hk = let j : 2 * n + k < 2 * n + 4 = omega arith in rw q (omega (arith, inside {w = 2 * n + 4} he j))
+
+  pub stored-inside : {y r letter : ℕ} → r ≡ startOf n y → y ≤ count → letter < n → 0 < y → r - (n + 4 - letter) < len
+  unfolding startOf
+  stored-inside {y} {r} {letter} q hy hl pos =
+      let m : r ≤ len = rw q (omega (arith, mul-le-mul-right (2 * n + 4) hy)) in
+      let some : 0 < r = rw q (omega (arith, mul-le-mul-right (2 * n + 4) pos)) in
+      omega arith
+
+-- The step back from an element that is stored as y.
+pub stored-before : (n : ℕ) {y r letter : ℕ} → r ≡ startOf n y → 0 < y → letter < n → n + 4 - letter ≤ r
+unfolding startOf
+stored-before n {y} {r} q pos hl = rw q (omega (arith, mul-le-mul-right (2 * n + 4) pos))
+
+pub stored-place : (n : ℕ) {y letter r : ℕ} → r ≡ startOf n y → 0 < y → letter < n → r - (n + 4 - letter) ≡ startOf n (y - 1) + n + letter
+unfolding startOf
+stored-place n {y} {letter} {r} q pos hl = by r (y - 1) (q ∙ ap (λ (z : ℕ). z * (2 * n + 4)) (omega arith)) where
+  by : (r z : ℕ) → r ≡ (z + 1) * (2 * n + 4) → r - (n + 4 - letter) ≡ z * (2 * n + 4) + n + letter
+  by r z e = omega arith
+
+-- A walk by stored numbers: one letter, and what it came to.
+pub retrace-more : (s : List ℕ) (n count at y : ℕ) {left p g x : ℕ} → 0 < left → p ≡ parentOf s n at → p < count → g ≡ lastOf s n at → g < n
+    → x ≡ getD s (startOf n (y - 1) + n + g) 0 → (x ≡ 0 → ⊥) → x ≤ count → backAlong (left - 1) s n count (x - 1) p ≡ backAlong left s n count (y - 1) at
+retrace-more s n count at y {left} {p} {g} {x} k q h w z u some small =
+    let one : OneBack s n count (y - 1) at (x - 1) = one-back s n count (y - 1) at q h w z u some (omega arith) in
+    sym (one .leads left k ∙ rw (← q))
+
+pub retrace-end : (s : List ℕ) (n count at e letters from y : ℕ) {left : ℕ} → left ≤ 0
+    → backAlong left s n count (y - 1) at ≡ backAlong letters s n count (from + 1 - 1) e → backAlong letters s n count from e ≡ Element (record { 0 = y - 1 })
+retrace-end s n count at e letters from y {left} h inv =
+    let d : from + 1 - 1 ≡ from = omega arith in
+    sym (back-end s n count (y - 1) at h ∙ inv ∙ rw d)
+
+-- The product along the shorter of two words, by the numbers that were read.
+module _ (s : List ℕ) (n count a b : ℕ) {len i own back : ℕ} (q : len ≡ lengthOf s n b) (h : len ≤ 4096) (p : i ≡ inverseOf s n b) (k : i < count)
+    (v : own ≡ lengthOf s n a) (w : back ≡ lengthOf s n i) (o : back ≤ len) where
+  shorter-way : (t : Bool) → ltb own len ≡ t → {x z : ℕ} → backAlong (pick t own back) s n count (pick t i a) (pick t a i) ≡ Element (record { 0 = x })
+      → z ≡ inverseOf s n x → pick t z x < count → composeIn s n count a b ≡ Element (record { 0 = pick t z x })
+  shorter-way true l {x} u m j = sym (compose-first s n count a b q h p k v (ltb-true _ _ l)) ∙ rw u (sym (inverse-element s n count x m j))
+  shorter-way false l u m j = sym (compose-back s n count a b q h p k v (ltb-false _ _ l) w o) ∙ u
+
+  pub product-reached : {t : Bool} {letters from word x z r : ℕ} → t ≡ ltb own len → letters ≡ pick t own back → from ≡ pick t i a → word ≡ pick t a i
+      → backAlong letters s n count from word ≡ Element (record { 0 = x }) → z ≡ inverseOf s n x → r ≡ pick t z x → r < count
+      → composeIn s n count a b ≡ Element (record { 0 = r })
+  product-reached {t} {letters} {from} {word} {x} {z} {r} l d e f u m g j =
+      let u′ : backAlong (pick t own back) s n count (pick t i a) (pick t a i) ≡ Element (record { 0 = x }) = rw (← d, ← e, ← f) u in
+      let j′ : pick t z x < count = rw (← g) j in
+      shorter-way t (sym l) u′ m j′ ∙ rw (← g)
+
+-- Either way the walk starts at an element, along an element's word.
+pub chosen-inside : {count x y r : ℕ} (t : Bool) → r ≡ pick t x y → x < count → y < count → r < count
+chosen-inside true q h k = rw q h
+chosen-inside false q h k = rw q k
+
+-- a·b·a⁻¹, by the three numbers.
+pub conjugate-reached : (s : List ℕ) (n count a b : ℕ) {c i r : ℕ} → composeIn s n count a b ≡ Element (record { 0 = c }) → i ≡ inverseOf s n a → i < count
+    → composeIn s n count c i ≡ Element (record { 0 = r }) → conjugateIn s n count a b ≡ Element (record { 0 = r })
+unfolding conjugateIn
+conjugate-reached s n count a b {c} {i} {r} u q h w = rw (u, ← inverse-element s n count a q h, w)
 
 module _ (s : List ℕ) (n count g : ℕ) where
   pub generator-none : n ≤ g → refusedReach 14 0 ≡ generatorIn s n count g

@@ -58,19 +58,22 @@ backAlong (suc k) s n count from e =
     (pick (leb n (lastOf s n e)) (refusedReach 17 0)
     (onReached (readBack s n count from (lastOf s n e)) (λ x. backAlong k s n count x (parentOf s n e))))
 
+-- The inverse was found when the table was built, and stands in the row.
+unfoldable pub inverseIn : List ℕ → ℕ → ℕ → ℕ → Reached
+inverseIn s n count a = pick (leb count (inverseOf s n a)) (refusedReach 17 0) (Element (record { 0 = inverseOf s n a }))
+
 -- "`compose` walks the word of the second from the first": forward along the word of the second, or back along the word of its inverse where that is no
--- longer; on an accepted factor both lead to the same element. An inverse beyond the elements is 17, and so is a length over 4,096.
+-- longer; or, where the first's word is shorter than the second's, back along that from the inverse of the second, to the inverse of the product. On an
+-- accepted factor all three lead to the same element. An inverse beyond the elements is 17, and so is a length over 4,096.
 unfoldable pub composeIn : List ℕ → ℕ → ℕ → ℕ → ℕ → Reached
 composeIn s n count a b =
     pick (ltb 4096 (lengthOf s n b)) (refusedReach 17 0)
     (pick (leb count (inverseOf s n b)) (refusedReach 17 0)
+    (pick (ltb (lengthOf s n a) (lengthOf s n b))
+    (onReached (backAlong (lengthOf s n a) s n count (inverseOf s n b) a) (inverseIn s n count))
     (pick (ltb (lengthOf s n b) (lengthOf s n (inverseOf s n b)))
     (along (lengthOf s n b) s n count a b)
-    (backAlong (lengthOf s n (inverseOf s n b)) s n count a (inverseOf s n b))))
-
--- The inverse was found when the table was built, and stands in the row.
-unfoldable pub inverseIn : List ℕ → ℕ → ℕ → ℕ → Reached
-inverseIn s n count a = pick (leb count (inverseOf s n a)) (refusedReach 17 0) (Element (record { 0 = inverseOf s n a }))
+    (backAlong (lengthOf s n (inverseOf s n b)) s n count a (inverseOf s n b)))))
 
 -- "`conjugate(a,b)` is a·b·a⁻¹."
 unfoldable pub conjugateIn : List ℕ → ℕ → ℕ → ℕ → ℕ → Reached

@@ -1,14 +1,15 @@
 // The work of the calls, on a factor's own stretch; the layers above use it too.
 ghost use mathlib.Core.Path.{_≡_};
 ghost use mathlib.Core.Bool.{Bool, true};
-ghost use Prim.Native.Nat.{_+_, _*_, _<_, _≤_};
-ghost use lib.ListN.{length, set};
+ghost use Prim.Native.Nat.{_+_, _*_, _-_, _<_, _≤_};
+ghost use lib.ListN.{length, getD, set};
+ghost use lib.Dec.{ltb};
 ghost use Rattle.egg.specs.Factor.{fitsIn, refusedReach};
 ghost use Rattle.builder.specs.Finish.{Built};
 ghost use Rattle.reading.specs.Reading.{Placed, readPlace, readRow, readAll};
 ghost use Rattle.factor.specs.Composed.{composedAt, composedIn};
 ghost use Rattle.factor.specs.Questions.{admits, along, readBack, backAlong, composeIn, inverseIn, conjugateIn, generatorIn, lengthIn, readable, spell, writeIn, writtenBy};
-ghost use Rattle.egg.specs.Table.{stillLeft};
+ghost use Rattle.egg.specs.Table.{pick, startOf, stillLeft};
 ghost use Rattle.factor.specs.Legs.{retracedRest, OneBack};
 use egg::Counted;
 use egg::Factor;
@@ -312,14 +313,9 @@ pub fn back_along(
 }
 
 // Back along the word of the inverse the letters come in the order in which they are walked, so that nothing waits for
-// a return; where that word is longer, along the element's own.
-pub fn compose_elements(
-    s: &[u32],
-    n: u8,
-    count: u32,
-    a: GroupElementId,
-    b: GroupElementId,
-) -> Reached
+// a return; where that word is longer, along the element's own. Where the first's word is shorter than the second's, back
+// along that from the second's inverse, to the inverse of the product.
+fn compose_with_care(s: &[u32], n: u8, count: u32, a: GroupElementId, b: GroupElementId) -> Reached
     ensures { λ r. ⌜ r ≡ composeIn (now (s .entry)) n count (a .0) (b .0) ⌝ }
 {
     let len = egg::inner::word_length(s, n, b);
@@ -330,11 +326,168 @@ pub fn compose_elements(
     if count <= i {
         return egg::inner::refuse(17, 0);
     }
+    let own = egg::inner::word_length(s, n, a);
+    if own < len {
+        return match back_along(&s[..], n, count, GroupElementId(i), a, own) {
+            Reached::Refused(why) => Reached::Refused(why),
+            Reached::Element(x) => inverse_in(s, n, count, x),
+        };
+    }
     let back = egg::inner::word_length(s, n, GroupElementId(i));
     if len < back {
         return along(&s[..], n, count, a, b, len);
     }
     back_along(s, n, count, a, GroupElementId(i), back)
+}
+
+// Whether the rows of all elements stand in the stretch.
+fn rows_within(s: &[u32], n: u8, count: u32) -> bool
+    ensures { λ r. ⌜ (r ≡ true → count * (2 * n + 4) ≤ length (now (s .entry))) ⌝ }
+{
+    (count as usize) * egg::inner::width(n) <= s.len()
+}
+
+// What stands at a place that is known to be there, with no test.
+fn read(s: &[u32], i: usize) -> u32
+    requires { ⌜ i < length (now s) ⌝ }
+    ensures { λ r. ⌜ r ≡ getD (now (s .entry)) i 0 ⌝ }
+{
+    s[i]
+}
+
+// One of the four numbers behind the steps of a row: parent, last letter, length, inverse.
+fn recorded(s: &[u32], n: u8, count: u32, e: GroupElementId, k: usize) -> u32
+    requires { ⌜ (count * (2 * n + 4) ≤ length (now s)) × ((e .0 < count) × (k < 4)) ⌝ }
+    ensures { λ r. ⌜ r ≡ getD (now (s .entry)) (startOf n (e .0) + 2 * n + k) 0 ⌝ }
+{
+    read(s, egg::inner::start(n, e) + 2 * (n as usize) + k)
+}
+
+// The step back from the element that is stored as y, one more than its number: the next row need not wait for the 1 to be
+// taken off.
+fn stored_back(s: &[u32], n: u8, count: u32, y: u32, letter: u32) -> u32
+    requires { ⌜ (count * (2 * n + 4) ≤ length (now s)) × ((0 < y) × ((y ≤ count) × (letter < n))) ⌝ }
+    ensures { λ r. ⌜ r ≡ getD (now (s .entry)) (startOf n (y - 1) + n + letter) 0 ⌝ }
+{
+    let behind = (n as usize) + 4 - (letter as usize);
+    read(s, egg::inner::start(n, GroupElementId(y)) - behind)
+}
+
+// From an element back along a word, with one test for each number that is read; the count where one is out of range.
+fn retrace(
+    s: &[u32],
+    n: u8,
+    count: u32,
+    from: GroupElementId,
+    e: GroupElementId,
+    letters: u32,
+) -> u32
+    requires { ⌜ (count * (2 * n + 4) ≤ length (now s)) × ((from .0 < count) × (e .0 < count)) ⌝ }
+    ensures { λ r. ⌜ (r < count → backAlong letters (now (s .entry)) n count (from .0) (e .0) ≡ Reached.Element (record { 0 = r })) ⌝ }
+{
+    let start = from.0;
+    let mut y = start + 1;
+    let mut at = e.0;
+    let mut left = letters;
+    while 0 < left {
+        let p = recorded(s, n, count, GroupElementId(at), 0);
+        if count <= p {
+            return count;
+        }
+        let letter = recorded(s, n, count, GroupElementId(at), 1);
+        if (n as u32) <= letter {
+            return count;
+        }
+        let x = stored_back(s, n, count, y, letter);
+        if x == 0 {
+            return count;
+        }
+        if count < x {
+            return count;
+        }
+        y = x;
+        at = p;
+        left -= 1;
+    }
+    y - 1
+}
+
+fn shorter(own: u32, len: u32) -> bool
+    ensures { λ r. ⌜ r ≡ ltb own len ⌝ }
+{
+    own < len
+}
+
+fn chosen(first: bool, x: u32, y: u32) -> u32
+    ensures { λ r. ⌜ r ≡ pick first x y ⌝ }
+{
+    if first { x } else { y }
+}
+
+// The product of two elements by the numbers in their rows, where each is in range and the walk has few letters; else the
+// count or more, and `compose_with_care` has the answer.
+fn product_number(s: &[u32], n: u8, count: u32, a: GroupElementId, b: GroupElementId) -> u32
+    ensures { λ r. ⌜ (r < count → composeIn (now (s .entry)) n count (a .0) (b .0) ≡ Reached.Element (record { 0 = r })) ⌝ }
+{
+    let first = a.0;
+    let second = b.0;
+    if !rows_within(s, n, count) {
+        return count;
+    }
+    if count <= first {
+        return count;
+    }
+    if count <= second {
+        return count;
+    }
+    let len = recorded(s, n, count, GroupElementId(second), 2);
+    if 4096 < len {
+        return count;
+    }
+    let i = recorded(s, n, count, GroupElementId(second), 3);
+    if count <= i {
+        return count;
+    }
+    let own = recorded(s, n, count, GroupElementId(first), 2);
+    let other = recorded(s, n, count, GroupElementId(i), 2);
+    if len < other {
+        return count;
+    }
+    let inverted = shorter(own, len);
+    let letters = chosen(inverted, own, other);
+    if 64 < letters {
+        return count;
+    }
+    let from = chosen(inverted, i, first);
+    let word = chosen(inverted, first, i);
+    let x = retrace(
+        s,
+        n,
+        count,
+        GroupElementId(from),
+        GroupElementId(word),
+        letters,
+    );
+    if count <= x {
+        return count;
+    }
+    chosen(inverted, recorded(s, n, count, GroupElementId(x), 3), x)
+}
+
+pub fn compose_elements(
+    s: &[u32],
+    n: u8,
+    count: u32,
+    a: GroupElementId,
+    b: GroupElementId,
+) -> Reached
+    ensures { λ r. ⌜ r ≡ composeIn (now (s .entry)) n count (a .0) (b .0) ⌝ }
+{
+    let x = product_number(&s[..], n, count, a, b);
+    if x < count {
+        return Reached::Element(GroupElementId(x));
+    }
+    compose_with_care(&s[..], n, count, a, b)
 }
 
 pub fn inverse_in(s: &[u32], n: u8, count: u32, a: GroupElementId) -> Reached
@@ -347,6 +500,39 @@ pub fn inverse_in(s: &[u32], n: u8, count: u32, a: GroupElementId) -> Reached
     Reached::Element(GroupElementId(i))
 }
 
+fn conjugate_with_care(
+    s: &[u32],
+    n: u8,
+    count: u32,
+    a: GroupElementId,
+    b: GroupElementId,
+) -> Reached
+    ensures { λ r. ⌜ r ≡ conjugateIn (now (s .entry)) n count (a .0) (b .0) ⌝ }
+{
+    match compose_with_care(&s[..], n, count, a, b) {
+        Reached::Refused(why) => Reached::Refused(why),
+        Reached::Element(c) => match inverse_in(s, n, count, a) {
+            Reached::Refused(why) => Reached::Refused(why),
+            Reached::Element(i) => compose_with_care(&s[..], n, count, c, i),
+        },
+    }
+}
+
+// a·b·a⁻¹ as `product_number` gives a product.
+fn conjugate_number(s: &[u32], n: u8, count: u32, a: GroupElementId, b: GroupElementId) -> u32
+    ensures { λ r. ⌜ (r < count → conjugateIn (now (s .entry)) n count (a .0) (b .0) ≡ Reached.Element (record { 0 = r })) ⌝ }
+{
+    let c = product_number(&s[..], n, count, a, b);
+    if count <= c {
+        return count;
+    }
+    let i = egg::inner::get(s, egg::inner::inverse_at(n, a));
+    if count <= i {
+        return count;
+    }
+    product_number(&s[..], n, count, GroupElementId(c), GroupElementId(i))
+}
+
 pub fn conjugate_elements(
     s: &[u32],
     n: u8,
@@ -356,13 +542,11 @@ pub fn conjugate_elements(
 ) -> Reached
     ensures { λ r. ⌜ r ≡ conjugateIn (now (s .entry)) n count (a .0) (b .0) ⌝ }
 {
-    match compose_elements(&s[..], n, count, a, b) {
-        Reached::Refused(why) => Reached::Refused(why),
-        Reached::Element(c) => match inverse_in(s, n, count, a) {
-            Reached::Refused(why) => Reached::Refused(why),
-            Reached::Element(i) => compose_elements(&s[..], n, count, c, i),
-        },
+    let x = conjugate_number(&s[..], n, count, a, b);
+    if x < count {
+        return Reached::Element(GroupElementId(x));
     }
+    conjugate_with_care(&s[..], n, count, a, b)
 }
 
 pub fn generator_in(s: &[u32], n: u8, count: u32, g: GeneratorId) -> Reached

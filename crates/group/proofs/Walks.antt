@@ -167,17 +167,18 @@ module _ (s : List ℕ) (n N : ℕ) where
       (λ p. below-pick (leb n (lastOf s n e)) (λ q. refusal)
       (λ q. below-on (readBack s n N from (lastOf s n e)) (back-step-below from (lastOf s n e)) (λ x hx. back-below k x (parentOf s n e) hx)))
 
+  inverse-below : (a : ℕ) → Below N (inverseIn s n N a)
+  unfolding inverseIn
+  inverse-below a = below-pick (leb N (inverseOf s n a)) (λ p. refusal) (λ p. element (leb-false _ _ p))
+
   pub compose-below : (a b : ℕ) → a < N → Below N (composeIn s n N a b)
   unfolding composeIn
   compose-below a b h =
       below-pick (ltb 4096 (lengthOf s n b)) (λ p. refusal)
       (λ p. below-pick (leb N (inverseOf s n b)) (λ q. refusal)
-      (λ q. below-pick (ltb (lengthOf s n b) (lengthOf s n (inverseOf s n b))) (λ r. along-below (lengthOf s n b) a b h)
-      (λ r. back-below (lengthOf s n (inverseOf s n b)) a (inverseOf s n b) h)))
-
-  inverse-below : (a : ℕ) → Below N (inverseIn s n N a)
-  unfolding inverseIn
-  inverse-below a = below-pick (leb N (inverseOf s n a)) (λ p. refusal) (λ p. element (leb-false _ _ p))
+      (λ q. below-pick (ltb (lengthOf s n a) (lengthOf s n b)) (λ r. below-any (backAlong (lengthOf s n a) s n N (inverseOf s n b) a) inverse-below)
+      (λ r. below-pick (ltb (lengthOf s n b) (lengthOf s n (inverseOf s n b))) (λ o. along-below (lengthOf s n b) a b h)
+      (λ o. back-below (lengthOf s n (inverseOf s n b)) a (inverseOf s n b) h))))
 
   conjugate-below : (a b : ℕ) → a < N → Below N (conjugateIn s n N a b)
   unfolding conjugateIn

@@ -1,68 +1,25 @@
--- One law for each answer, from the lengths and the inverse that were read.
-use mathlib.Core.Path.{_∙_}
-use Rattle.egg.proofs.Laws.{got}
-use Rattle.factor.proofs.Questions.{compose-long, compose-beyond, compose-along, compose-back}
+-- The number that was found, or the careful answer.
+use mathlib.Core.Path.{sym}
 use borrow.Author.Needs.{needs}
 use Rattle.factor.proofs.inner.compose_elements.Statement.{statement}
 use Rattle.factor.proofs.inner.compose_elements.Tie as tie
 use Rattle.factor.proofs.inner.compose_elements.Reads as reads
 use Rattle.factor.proofs.inner.compose_elements.Lts as lts
-use Rattle.egg.proofs.inner.get.Reads as get-reads
-use Rattle.egg.proofs.inner.inverse_at.Reads as inverse-at-reads
-use Rattle.egg.proofs.inner.refuse.Reads as refuse-reads
-use Rattle.egg.proofs.inner.word_length.Reads as word-length-reads
-use Rattle.factor.proofs.inner.along.Reads as along-reads
-use Rattle.factor.proofs.inner.back_along.Reads as back-along-reads
+use Rattle.factor.proofs.inner.compose_with_care.Reads as compose-with-care-reads
+use Rattle.factor.proofs.inner.product_number.Reads as product-number-reads
 
-word-length-requires : tie.Need-word-length-requires
-word-length-requires c κs = search needs
-
-refuse-requires : tie.Need-refuse-requires
-refuse-requires c κs = search needs
+product-number-requires : tie.Need-product-number-requires
+product-number-requires c κs = search needs
 
 returns : tie.Need-returns
-returns c = (c .refuse .ensures) ∙ compose-long ((c .before .before .before .before .args .s .now)) ((c .before .before .before .before .args .n)) ((c .before .before .before .before .args .count)) ((c .before .before .before .before .args .a .0)) ((c .before .before .before .before .args .b .0)) ((c .before .before .word-length .ensures)) ((c .before .if1 .taken))
+returns c = sym ((c .before .product-number .ensures) ((c .if1 .taken)))
 
-inverse-at-requires : tie.Need-inverse-at-requires
-inverse-at-requires c κs = search needs
-
-get-requires : tie.Need-get-requires
-get-requires c κs = search needs
-
-refuse-requires-2 : tie.Need-refuse-requires-2
-refuse-requires-2 c κs = search needs
+compose-with-care-requires : tie.Need-compose-with-care-requires
+compose-with-care-requires c κs = search needs
 
 returns-2 : tie.Need-returns-2
-returns-2 c = (c .refuse2 .ensures) ∙ compose-beyond ((c .before .before .before .before .before .before .before .args .s .now)) ((c .before .before .before .before .before .before .before .args .n)) ((c .before .before .before .before .before .before .before .args .count)) ((c .before .before .before .before .before .before .before .args .a .0)) ((c .before .before .before .before .before .before .before .args .b .0)) ((c .before .before .before .before .before .word-length .ensures)) ((c .before .before .before .before .if1 .left)) (got ((c .before .before .before .before .before .before .before .args .s .now)) ((c .before .before .get .ensures)) ((c .before .before .before .inverse-at .ensures .at))) ((c .before .if2 .taken))
-
-word-length-requires-2 : tie.Need-word-length-requires-2
-word-length-requires-2 c κs = search needs
-
-along-requires : tie.Need-along-requires
-along-requires c κs = search needs
-
-returns-3 : tie.Need-returns-3
-returns-3 c = (c .along .ensures) ∙ compose-along ((c .before .before .before .before .before .before .before .before .before .args .s .now)) ((c .before .before .before .before .before .before .before .before .before .args .n)) ((c .before .before .before .before .before .before .before .before .before .args .count)) ((c .before .before .before .before .before .before .before .before .before .args .a .0)) ((c .before .before .before .before .before .before .before .before .before .args .b .0)) ((c .before .before .before .before .before .before .before .word-length .ensures)) ((c .before .before .before .before .before .before .if1 .left)) (got ((c .before .before .before .before .before .before .before .before .before .args .s .now)) ((c .before .before .before .before .get .ensures)) ((c .before .before .before .before .before .inverse-at .ensures .at))) ((c .before .before .before .if2 .left)) ((c .before .before .word-length2 .ensures)) ((c .before .if3 .taken))
-
-back-along-requires : tie.Need-back-along-requires
-back-along-requires c κs = search needs
-
-returns-4 : tie.Need-returns-4
-returns-4 c = (c .back-along .ensures) ∙ compose-back ((c .before .before .before .before .before .before .before .before .before .args .s .now)) ((c .before .before .before .before .before .before .before .before .before .args .n)) ((c .before .before .before .before .before .before .before .before .before .args .count)) ((c .before .before .before .before .before .before .before .before .before .args .a .0)) ((c .before .before .before .before .before .before .before .before .before .args .b .0)) ((c .before .before .before .before .before .before .before .word-length .ensures)) ((c .before .before .before .before .before .before .if1 .left)) (got ((c .before .before .before .before .before .before .before .before .before .args .s .now)) ((c .before .before .before .before .get .ensures)) ((c .before .before .before .before .before .inverse-at .ensures .at))) ((c .before .before .before .if2 .left)) ((c .before .before .word-length2 .ensures)) ((c .before .if3 .left))
+returns-2 c = search needs
 
 pub compose-elements-spec : {M : Type 1} → statement M
 compose-elements-spec =
-    tie.close
-    (tie.spec
-    word-length-requires
-    refuse-requires
-    returns
-    inverse-at-requires
-    get-requires
-    refuse-requires-2
-    returns-2
-    word-length-requires-2
-    along-requires
-    returns-3
-    back-along-requires
-    returns-4)
+    tie.close (tie.spec product-number-requires returns compose-with-care-requires returns-2)

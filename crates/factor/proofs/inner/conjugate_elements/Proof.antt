@@ -1,55 +1,25 @@
--- Going on from what each call reached, by the laws of `onReached`.
-use mathlib.Core.Path.{_∙_}
-use Rattle.factor.specs.Questions.{conjugateIn}
-use Rattle.factor.proofs.Questions.{on-refused, on-element}
+-- The number that was found, or the careful answer.
+use mathlib.Core.Path.{sym}
 use borrow.Author.Needs.{needs}
 use Rattle.factor.proofs.inner.conjugate_elements.Statement.{statement}
 use Rattle.factor.proofs.inner.conjugate_elements.Tie as tie
+use Rattle.factor.proofs.inner.conjugate_elements.Reads as reads
+use Rattle.factor.proofs.inner.conjugate_elements.Lts as lts
+use Rattle.factor.proofs.inner.conjugate_number.Reads as conjugate-number-reads
+use Rattle.factor.proofs.inner.conjugate_with_care.Reads as conjugate-with-care-reads
 
-compose-elements-requires : tie.Need-compose-elements-requires
-compose-elements-requires c κs = search needs
-
-enum-known-why : tie.Need-enum-known-why
-enum-known-why c = search needs
-
-enum-known-c : tie.Need-enum-known-c
-enum-known-c c = search needs
-
-inverse-in-requires : tie.Need-inverse-in-requires
-inverse-in-requires c κs = search needs
-
-enum-known-why-2 : tie.Need-enum-known-why-2
-enum-known-why-2 c = search needs
-
-enum-known-i : tie.Need-enum-known-i
-enum-known-i c = search needs
-
-compose-elements-requires-2 : tie.Need-compose-elements-requires-2
-compose-elements-requires-2 c κs = search needs
+conjugate-number-requires : tie.Need-conjugate-number-requires
+conjugate-number-requires c κs = search needs
 
 returns : tie.Need-returns
-unfolding conjugateIn
-returns c = on-refused (c .before .before .before .compose-elements .ensures) _ (c .before .why .given .1)
+returns c = sym ((c .before .conjugate-number .ensures) ((c .if1 .taken)))
+
+conjugate-with-care-requires : tie.Need-conjugate-with-care-requires
+conjugate-with-care-requires c κs = search needs
 
 returns-2 : tie.Need-returns-2
-unfolding conjugateIn
-returns-2 c = on-refused (c .before .before .before .inverse-in .ensures) _ (c .before .why2 .given .1) ∙ on-element (c .before .before .before .before .before .before .before .compose-elements .ensures) _ (c .before .before .before .before .before .c .given .1)
-
-returns-3 : tie.Need-returns-3
-unfolding conjugateIn
-returns-3 c = c .compose-elements2 .ensures ∙ on-element (c .before .before .before .before .inverse-in .ensures) _ (c .before .before .i .given .1) ∙ on-element (c .before .before .before .before .before .before .before .before .compose-elements .ensures) _ (c .before .before .before .before .before .before .c .given .1)
+returns-2 c = search needs
 
 pub conjugate-elements-spec : {M : Type 1} → statement M
 conjugate-elements-spec =
-    tie.close
-    (tie.spec
-    compose-elements-requires
-    enum-known-why
-    enum-known-c
-    inverse-in-requires
-    enum-known-why-2
-    enum-known-i
-    compose-elements-requires-2
-    returns
-    returns-2
-    returns-3)
+    tie.close (tie.spec conjugate-number-requires returns conjugate-with-care-requires returns-2)
