@@ -10,3 +10,4 @@ pub mod Refused
 pub mod Lengths
 pub mod Numbers
 pub mod Ruling
+pub mod AnyWork

@@ -31,7 +31,7 @@ use Rattle.appearance.specs.Renumber.{none, Mapped, mapped, thenMapped, onNew, 
 use Rattle.appearance.specs.Build.{Renumbering, renumbering, settledMaps, finishedMapped, renumberIn}
 use Rattle.predicate.specs.declared.inner.Picks.{Picks}
 use Rattle.predicate.specs.Predicate.{Picked, picked, ninth, isNew, chooses, againIn, predicateIn, pickedOf}
-use Rattle.predicate.proofs.AnyWork.{Like, any-work}
+use Rattle.meaning.proofs.AnyWork.{Like, any-work}
 
 -- At most as many elements as there is room.
 module _ (room : ℕ) where
