@@ -2,11 +2,9 @@
 // so that a build over an altered buffer is refused as well: 17 where a number is out of range.
 ghost use mathlib.Core.Path.{_≡_};
 ghost use mathlib.Core.Bool.{true};
-ghost use Prim.Native.Nat.{_≤_, _<_};
-ghost use Rattle.checks.specs.Checks.{missingRow, missing, check8, rangeRow, linksOf, ranges, wrongAt, wrongRow, wrong, check-table, wiped, arriveRow, arrivals, countsRight, invertFrom, invertOf, fillInverses, inversesRight, identityRow, columnsRow, spelledRow, spelled, leftOf, fillLeft, goesRow, allGo, Lefts, lefts, check-steps, Checked, check-rest, check-group};
-ghost use Rattle.checks.specs.Undoing.{undoneRest};
+ghost use Prim.Native.Nat.{_<_};
+ghost use Rattle.checks.specs.Checks.{missingRow, missing, check8, rangeRow, linksOf, ranges, wrongAt, wrongRow, wrong, check-table, wiped, arriveRow, arrivals, countsRight, invertOf, fillInverses, inversesRight, identityRow, columnsRow, spelledRow, spelled, leftOf, fillLeft, goesRow, allGo, Lefts, lefts, check-steps, Checked, check-rest, check-group};
 ghost use Rattle.checks.specs.Hints.{Packs, Follows, Hint, Hints, inverseBy, Hinted, CountedAgain};
-ghost use Rattle.egg.specs.Table.{stillLeft};
 use egg::GeneratorId;
 use egg::GroupElementId;
 use egg::Verdict;
@@ -209,118 +207,13 @@ fn counts_right(w: &[u32], n: u8, count: u32) -> Verdict
     Verdict::Fine
 }
 
-// An inverse on its way: the element reached, the element whose word is left, the letters left of it, how many numbers
-// the last two letters led on and back, and whether there is more to guess.
-pub struct Undone {
-    pub reached: GroupElementId,
-    pub at: GroupElementId,
-    pub left: u32,
-    pub jump: u32,
-    pub fall: u32,
-    pub more: bool,
-}
-
-fn guessed(x: u32, on: u32, at: u32, down: u32) -> bool
-    ensures { λ r. ⌜ (r ≡ true → (x ≡ on) × (at ≡ down)) ⌝ }
-{
-    if x != on {
-        return false;
-    }
-    at == down
-}
-
-// Two letters a turn, as long as they lead `jump` numbers on and `fall` numbers back: round a long relation they do, and a
-// processor that has the guess need not wait for the cells.
-fn undo_leg(
-    t: &[u32],
-    n: u8,
-    from: GroupElementId,
-    word: GroupElementId,
-    letters: u32,
-    jump: u32,
-    fall: u32,
-) -> Undone
-    ensures { λ r. ⌜ (undoneRest (now (t .entry)) n r ≡ invertFrom letters (now (t .entry)) n (word .0) (from .0)) × (stillLeft (r .more) (r .left) ≤ letters) ⌝ }
-{
-    let mut x = from.0;
-    let mut at = word.0;
-    let mut left = letters;
-    while 1 < left {
-        let on = std::num::wrapping_add_u32(x, jump);
-        let down = std::num::wrapping_sub_u32(at, fall);
-        let y = egg::inner::back_last(t, n, GroupElementId(x), GroupElementId(at));
-        let p = egg::inner::parent(t, n, GroupElementId(at));
-        let z = egg::inner::back_last(t, n, y, GroupElementId(p));
-        let q = egg::inner::parent(t, n, GroupElementId(p));
-        left -= 2;
-        if !guessed(z.0, on, q, down) {
-            return Undone {
-                reached: z,
-                at: GroupElementId(q),
-                left,
-                jump: std::num::wrapping_sub_u32(z.0, x),
-                fall: std::num::wrapping_sub_u32(at, q),
-                more: true,
-            };
-        }
-        x = on;
-        at = down;
-    }
-    Undone {
-        reached: GroupElementId(x),
-        at: GroupElementId(at),
-        left,
-        jump,
-        fall,
-        more: false,
-    }
-}
-
-// The most of a long word, leg by leg. In a short one guesses fail too often.
-fn undo(t: &[u32], n: u8, e: GroupElementId, letters: u32) -> Undone
-    ensures { λ r. ⌜ undoneRest (now (t .entry)) n r ≡ invertFrom letters (now (t .entry)) n (e .0) 0 ⌝ }
-{
-    let mut x = 0;
-    let mut at = e.0;
-    let mut left = letters;
-    let mut jump = 0;
-    let mut fall = 0;
-    let mut more = 64 < letters;
-    while more {
-        let leg = undo_leg(
-            t,
-            n,
-            GroupElementId(x),
-            GroupElementId(at),
-            left,
-            jump,
-            fall,
-        );
-        x = leg.reached.0;
-        at = leg.at.0;
-        left = leg.left;
-        jump = leg.jump;
-        fall = leg.fall;
-        more = leg.more;
-    }
-    Undone {
-        reached: GroupElementId(x),
-        at: GroupElementId(at),
-        left,
-        jump,
-        fall,
-        more,
-    }
-}
-
 // The inverse of e: its reversed word through predecessors, from the identity (002).
 fn invert(t: &[u32], n: u8, e: GroupElementId) -> GroupElementId
     ensures { λ r. ⌜ r .0 ≡ invertOf (now (t .entry)) n (e .0) ⌝ }
 {
-    let rest = undo(t, n, e, egg::inner::word_length(t, n, e));
-    let mut x = rest.reached.0;
-    let mut at = rest.at.0;
-    let mut left = rest.left;
+    let mut x = 0;
+    let mut at = e.0;
+    let mut left = egg::inner::word_length(t, n, e);
     while 0 < left {
         x = egg::inner::back_last(t, n, GroupElementId(x), GroupElementId(at)).0;
         at = egg::inner::parent(t, n, GroupElementId(at));
@@ -330,7 +223,7 @@ fn invert(t: &[u32], n: u8, e: GroupElementId) -> GroupElementId
 }
 
 // A hint: the element that the word leads to without its first letter, and that letter, in one number. 0 is no hint.
-fn pack(tail: GroupElementId, first: u32) -> u32
+pub fn pack(tail: GroupElementId, first: u32) -> u32
     ensures { λ r. ⌜ (first < 256 → Packs (tail .0) first r) ⌝ }
 {
     let h = (tail.0 as usize) * 256 + (first as usize) + 1;

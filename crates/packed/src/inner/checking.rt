@@ -1,15 +1,11 @@
 // Those checks of `checks` that a reading which ended leaves to be made, over lent bytes.
 ghost use mathlib.Core.Path.{_≡_};
 ghost use mathlib.Core.Bool.{true};
-ghost use Prim.Native.Nat.{_≤_, _<_};
 ghost use lib.ListN.{getD};
-ghost use Rattle.egg.specs.Table.{stillLeft};
-ghost use Rattle.checks.specs.Checks.{missingRow, missing, wrongAt, wrongRow, wrong, invertFrom, invertOf, inversesRight, identityRow, leftOf, goesRow, allGo};
-ghost use Rattle.checks.specs.Undoing.{undoneRest};
-ghost use Rattle.checks.specs.Hints.{Packs, Follows, Hint, Hints, inverseBy};
+ghost use Rattle.checks.specs.Checks.{missingRow, missing, wrongAt, wrongRow, wrong, invertOf, inversesRight, identityRow, leftOf, goesRow, allGo};
+ghost use Rattle.checks.specs.Hints.{Follows, Hint, Hints, inverseBy};
 ghost use Rattle.cells.specs.Cells.{cells};
 use super::table;
-use checks::inner::Undone;
 use egg::GeneratorId;
 use egg::GroupElementId;
 use egg::Verdict;
@@ -87,121 +83,19 @@ pub fn wrong(t: &[u8], n: u8, count: u32) -> Verdict
     Verdict::Fine
 }
 
-fn guessed(x: u32, on: u32, at: u32, down: u32) -> bool
-    ensures { λ r. ⌜ (r ≡ true → (x ≡ on) × (at ≡ down)) ⌝ }
-{
-    if x != on {
-        return false;
-    }
-    at == down
-}
-
-// Two letters a turn, as long as they lead `jump` numbers on and `fall` numbers back: round a long relation they do, and a
-// processor that has the guess need not wait for the cells.
-fn undo_leg(
-    t: &[u8],
-    n: u8,
-    from: GroupElementId,
-    word: GroupElementId,
-    letters: u32,
-    jump: u32,
-    fall: u32,
-) -> Undone
-    ensures { λ r. ⌜ (undoneRest (cells (now (t .entry))) n r ≡ invertFrom letters (cells (now (t .entry))) n (word .0) (from .0)) × (stillLeft (r .more) (r .left) ≤ letters) ⌝ }
-{
-    let mut x = from.0;
-    let mut at = word.0;
-    let mut left = letters;
-    while 1 < left {
-        let on = std::num::wrapping_add_u32(x, jump);
-        let down = std::num::wrapping_sub_u32(at, fall);
-        let y = table::back_last(t, n, GroupElementId(x), GroupElementId(at));
-        let p = table::parent(t, n, GroupElementId(at));
-        let z = table::back_last(t, n, y, GroupElementId(p));
-        let q = table::parent(t, n, GroupElementId(p));
-        left -= 2;
-        if !guessed(z.0, on, q, down) {
-            return Undone {
-                reached: z,
-                at: GroupElementId(q),
-                left,
-                jump: std::num::wrapping_sub_u32(z.0, x),
-                fall: std::num::wrapping_sub_u32(at, q),
-                more: true,
-            };
-        }
-        x = on;
-        at = down;
-    }
-    Undone {
-        reached: GroupElementId(x),
-        at: GroupElementId(at),
-        left,
-        jump,
-        fall,
-        more: false,
-    }
-}
-
-// The most of a long word, leg by leg. In a short one guesses fail too often.
-fn undo(t: &[u8], n: u8, e: GroupElementId, letters: u32) -> Undone
-    ensures { λ r. ⌜ undoneRest (cells (now (t .entry))) n r ≡ invertFrom letters (cells (now (t .entry))) n (e .0) 0 ⌝ }
-{
-    let mut x = 0;
-    let mut at = e.0;
-    let mut left = letters;
-    let mut jump = 0;
-    let mut fall = 0;
-    let mut more = 64 < letters;
-    while more {
-        let leg = undo_leg(
-            t,
-            n,
-            GroupElementId(x),
-            GroupElementId(at),
-            left,
-            jump,
-            fall,
-        );
-        x = leg.reached.0;
-        at = leg.at.0;
-        left = leg.left;
-        jump = leg.jump;
-        fall = leg.fall;
-        more = leg.more;
-    }
-    Undone {
-        reached: GroupElementId(x),
-        at: GroupElementId(at),
-        left,
-        jump,
-        fall,
-        more,
-    }
-}
-
 // The inverse of e: its reversed word through predecessors, from the identity (002).
 fn invert(t: &[u8], n: u8, e: GroupElementId) -> GroupElementId
     ensures { λ r. ⌜ r .0 ≡ invertOf (cells (now (t .entry))) n (e .0) ⌝ }
 {
-    let rest = undo(t, n, e, table::word_length(t, n, e));
-    let mut x = rest.reached.0;
-    let mut at = rest.at.0;
-    let mut left = rest.left;
+    let mut x = 0;
+    let mut at = e.0;
+    let mut left = table::word_length(t, n, e);
     while 0 < left {
         x = table::back_last(t, n, GroupElementId(x), GroupElementId(at)).0;
         at = table::parent(t, n, GroupElementId(at));
         left -= 1;
     }
     GroupElementId(x)
-}
-
-// A hint: the element that the word leads to without its first letter, and that letter, in one number. 0 is no hint.
-fn pack(tail: GroupElementId, first: u32) -> u32
-    ensures { λ r. ⌜ (first < 256 → Packs (tail .0) first r) ⌝ }
-{
-    let h = (tail.0 as usize) * 256 + (first as usize) + 1;
-    if h < 4294967296 { h as u32 } else { 0 }
 }
 
 // Whether the word of y, an earlier element than e, is that of `from` and the last letter of e, and one letter shorter.
@@ -237,7 +131,7 @@ pub fn hint_of(t: &[u8], w: &[u8], n: u8, e: GroupElementId) -> u32
         if table::word_length(t, n, GroupElementId(0)) != 0 {
             return 0;
         }
-        return pack(GroupElementId(0), g);
+        return checks::inner::pack(GroupElementId(0), g);
     }
     let p = table::parent(t, n, e);
     if e.0 <= p {
@@ -252,7 +146,7 @@ pub fn hint_of(t: &[u8], w: &[u8], n: u8, e: GroupElementId) -> u32
     if !follows_on(t, n, from, y, e) {
         return 0;
     }
-    pack(y, (h - 1) % 256)
+    checks::inner::pack(y, (h - 1) % 256)
 }
 
 // The inverse of e by its hint in the work: one step back from an inverse that is written already, and not a walk of the

@@ -1,12 +1,10 @@
 -- The invariant: the letters that are left, from here, lead where the whole word leads. A turn is one step of `invertFrom`.
-use Rattle.cells.specs.Cells.{cells, halves}
--- The invariant: the letters that are left, from here, lead where the whole word leads. A turn is one step of `invertFrom`.
-use Rattle.checks.proofs.Undoing.{undo-letter}
-use Rattle.checks.specs.Checks.{invertFrom, invertOf}
+use mathlib.Core.Path.{_≡_, refl, _∙_}
 use native.Mathlib.Omega.{arith}
-use mathlib.Core.Path.{_≡_, refl, sym, _∙_}
-use Prim.Native.Nat.{suc, _-_}
 use borrow.Author.Needs.{needs}
+use Rattle.cells.specs.Cells.{cells}
+use Rattle.checks.specs.Checks.{invertFrom}
+use Rattle.checks.proofs.Undoing.{undo-letter}
 use Rattle.packed.proofs.inner.checking.invert.Statement.{statement}
 use Rattle.packed.proofs.inner.checking.invert.Tie as tie
 
@@ -19,12 +17,8 @@ abbrev μ-loop : tie.MeasureT-loop
 word-length-requires : tie.Need-word-length-requires Inv-loop μ-loop
 word-length-requires c κs = search needs
 
-undo-requires : tie.Need-undo-requires Inv-loop μ-loop
-undo-requires c κs = search needs
-
 loop-holds : tie.Need-loop-holds Inv-loop μ-loop
-loop-holds c =
-    refl
+loop-holds c = refl
 
 back-last-requires : tie.Need-back-last-requires Inv-loop μ-loop
 back-last-requires c κs = search needs
@@ -40,14 +34,19 @@ loop-less c = search needs
 
 loop-again : tie.Need-loop-again Inv-loop μ-loop
 loop-again c =
-    undo-letter (cells (c .before .before .before .before .before .before .before .args .t .now)) (c .before .before .before .before .before .before .before .args .n) (c .before .before .before .loop .at) (c .before .before .before .loop .x) (c .before .before .before .loop .left) (c .before .before .loop-test .taken) (c .before .back-last .ensures) (c .parent .ensures) ∙ c .before .before .before .loop .inv
+    let at-loop = c .before .before .before in
+    let at-args = at-loop .before .before .before in
+    undo-letter (cells (at-args .args .t .now)) (at-args .args .n) (at-loop .loop .at) (at-loop .loop .x) (at-loop .loop .left)
+    (c .before .before .loop-test .taken) (c .before .back-last .ensures) (c .parent .ensures)
+    ∙ at-loop .loop .inv
 
 returns : tie.Need-returns Inv-loop μ-loop
 unfolding invertFrom
 returns c =
-    let q : c .before .loop .left ≡ 0 = omega arith in rw q at (c .before .loop .inv) ∙ c .before .before .undo .ensures ∙ rw (c .before .before .before .word-length .ensures)
+    let q : c .before .loop .left ≡ 0 = omega arith in
+    rw q at (c .before .loop .inv) ∙ rw (c .before .before .word-length .ensures)
 
 pub invert-spec : {M : Type 1} → statement M
 invert-spec =
     tie.close
-    (tie.spec Inv-loop μ-loop word-length-requires undo-requires loop-holds back-last-requires parent-requires sub-left loop-less loop-again returns)
+    (tie.spec Inv-loop μ-loop word-length-requires loop-holds back-last-requires parent-requires sub-left loop-less loop-again returns)
