@@ -8,18 +8,13 @@ use native.Mathlib.Nat.{mod-eq-of-lt}
 use native.Mathlib.Omega.{arith}
 use borrow.Author.Tests.{le-ltb, lt-ltb}
 use lib.ListN.{length, drop, set, length-set}
-use lib.Seq.{drop-cons, getD-set-same, drop-set-lt}
 use Rattle.egg.specs.declared.Counted.the-variants.{Count}
 use Rattle.egg.specs.Table.{parentOf, lastOf, lengthOf}
 use Rattle.factor.specs.Questions.{lengthIn, readable, spell, writeIn}
+pub use Rattle.factor.proofs.Questions.{drop-set-here}
 use Rattle.meaning.specs.Stored.{wordOf}
 use Rattle.meaning.specs.Sound.{Sound}
 use Rattle.answers.proofs.Steps.{no-letters, not-first, parent-length, parent-below}
-
--- What stands from a place on, once a number is stored there.
-pub drop-set-here : (l : List ℕ) (i v : ℕ) → i < length l → drop i (set l i v) ≡ v ∷ drop (suc i) l
-drop-set-here l i v h =
-    drop-cons (set l i v) i 0 (rw (length-set l i v) h) ∙ rw (getD-set-same l i v 0 h, drop-set-lt (suc i) l i v (omega arith))
 
 module _ {s : List ℕ} {n N : ℕ} (S : Sound s n N) where
   pub word-readable : (k : ℕ) {e : ℕ} → e < N → k ≡ length (wordOf s n e) → readable k s n N e ≡ true
