@@ -425,7 +425,8 @@ fn chosen(first: bool, x: u32, y: u32) -> u32
 }
 
 // The product of two elements by the numbers in their rows, where each is in range and the walk has few letters; else the
-// count or more, and `compose_with_care` has the answer.
+// count or more, and `compose_with_care` has the answer. The inverse is read and looked at on both ways: so the two join with
+// no branch, which a processor would guess wrong every other time.
 fn product_number(s: &[u32], n: u8, count: u32, a: GroupElementId, b: GroupElementId) -> u32
     ensures { λ r. ⌜ (r < count → composeIn (now (s .entry)) n count (a .0) (b .0) ≡ Reached.Element (record { 0 = r })) ⌝ }
 {
@@ -471,7 +472,11 @@ fn product_number(s: &[u32], n: u8, count: u32, a: GroupElementId, b: GroupEleme
     if count <= x {
         return count;
     }
-    chosen(inverted, recorded(s, n, count, GroupElementId(x), 3), x)
+    let z = recorded(s, n, count, GroupElementId(x), 3);
+    if count <= z {
+        return count;
+    }
+    chosen(inverted, z, x)
 }
 
 pub fn compose_elements(

@@ -70,11 +70,14 @@ returns-8 c = λ h. absurd (omega arith)
 recorded-requires-5 : tie.Need-recorded-requires-5
 recorded-requires-5 c κs = ((c .before .before .before .before .before .before .before .before .before .before .before .before .before .before .before .before .before .rows-within .ensures) (not-false _ ((c .before .before .before .before .before .before .before .before .before .before .before .before .before .before .before .before .if1 .left))), ((c .if8 .left), omega arith))
 
+returns-9 : tie.Need-returns-9
+returns-9 c = λ h. absurd (omega arith)
+
 chosen-requires-4 : tie.Need-chosen-requires-4
 chosen-requires-4 c κs = search needs
 
-returns-9 : tie.Need-returns-9
-returns-9 c = λ h. product-reached ((c .before .before .before .before .before .before .before .before .before .before .before .before .before .before .before .before .before .before .before .before .before .args .s .now)) ((c .before .before .before .before .before .before .before .before .before .before .before .before .before .before .before .before .before .before .before .before .before .args .n)) ((c .before .before .before .before .before .before .before .before .before .before .before .before .before .before .before .before .before .before .before .before .before .args .count)) ((c .before .before .before .before .before .before .before .before .before .before .before .before .before .before .before .before .before .before .before .before .before .args .a .0)) ((c .before .before .before .before .before .before .before .before .before .before .before .before .before .before .before .before .before .before .before .before .before .args .b .0)) ((c .before .before .before .before .before .before .before .before .before .before .before .before .before .before .before .recorded .ensures)) ((c .before .before .before .before .before .before .before .before .before .before .before .before .before .before .if4 .left)) ((c .before .before .before .before .before .before .before .before .before .before .before .before .before .recorded2 .ensures)) ((c .before .before .before .before .before .before .before .before .before .before .before .before .if5 .left)) ((c .before .before .before .before .before .before .before .before .before .before .before .recorded3 .ensures)) ((c .before .before .before .before .before .before .before .before .before .before .recorded4 .ensures)) ((c .before .before .before .before .before .before .before .before .before .if6 .left)) ((c .before .before .before .before .before .before .before .before .shorter .ensures)) ((c .before .before .before .before .before .before .before .chosen .ensures)) ((c .before .before .before .before .before .chosen2 .ensures)) ((c .before .before .before .before .chosen3 .ensures)) ((c .before .before .before .retrace .ensures) ((c .before .before .if8 .left))) ((c .before .recorded5 .ensures)) ((c .chosen4 .ensures)) h
+returns-10 : tie.Need-returns-10
+returns-10 c = λ h. product-reached ((c .before .before .before .before .before .before .before .before .before .before .before .before .before .before .before .before .before .before .before .before .before .before .args .s .now)) ((c .before .before .before .before .before .before .before .before .before .before .before .before .before .before .before .before .before .before .before .before .before .before .args .n)) ((c .before .before .before .before .before .before .before .before .before .before .before .before .before .before .before .before .before .before .before .before .before .before .args .count)) ((c .before .before .before .before .before .before .before .before .before .before .before .before .before .before .before .before .before .before .before .before .before .before .args .a .0)) ((c .before .before .before .before .before .before .before .before .before .before .before .before .before .before .before .before .before .before .before .before .before .before .args .b .0)) ((c .before .before .before .before .before .before .before .before .before .before .before .before .before .before .before .before .recorded .ensures)) ((c .before .before .before .before .before .before .before .before .before .before .before .before .before .before .before .if4 .left)) ((c .before .before .before .before .before .before .before .before .before .before .before .before .before .before .recorded2 .ensures)) ((c .before .before .before .before .before .before .before .before .before .before .before .before .before .if5 .left)) ((c .before .before .before .before .before .before .before .before .before .before .before .before .recorded3 .ensures)) ((c .before .before .before .before .before .before .before .before .before .before .before .recorded4 .ensures)) ((c .before .before .before .before .before .before .before .before .before .before .if6 .left)) ((c .before .before .before .before .before .before .before .before .before .shorter .ensures)) ((c .before .before .before .before .before .before .before .before .chosen .ensures)) ((c .before .before .before .before .before .before .chosen2 .ensures)) ((c .before .before .before .before .before .chosen3 .ensures)) ((c .before .before .before .before .retrace .ensures) ((c .before .before .before .if8 .left))) ((c .before .before .recorded5 .ensures)) ((c .chosen4 .ensures)) h
 
 pub product-number-spec : {M : Type 1} → statement M
 product-number-spec =
@@ -99,5 +102,6 @@ product-number-spec =
     retrace-requires
     returns-8
     recorded-requires-5
+    returns-9
     chosen-requires-4
-    returns-9)
+    returns-10)
