@@ -4,14 +4,17 @@
 use Prim.Native.Nat.{ℕ, suc, _+_, _*_, _-_, _≤_, _<_}
 use mathlib.Core.Path.{_≡_, refl, sym, ap, _∙_}
 use mathlib.Core.Logic.{_⊎_, inl, inr, ⊎-elim}
+use mathlib.Core.Bool.{Bool, true, false}
 use mathlib.Core.List.{List}
 use native.Mathlib.Nat.{mul-le-mul-right, eq-zero-or-pos}
 use native.Mathlib.Decide.{ℕ-discrete, decLt}
 use native.Mathlib.Omega.{arith}
 use borrow.Author.Tests.{lt-ltb, le-ltb}
-use lib.ListN.{length, getD, replicate, length-replicate}
+use lib.Dec.{ltb}
+use lib.ListN.{length, getD, set, replicate, length-replicate}
+use lib.Seq.{getD-set-same, getD-set-other, set-out}
 use Rattle.egg.specs.declared.Refusal.{Refusal}
-use Rattle.egg.specs.Table.{startOf, putAt, lengthOf}
+use Rattle.egg.specs.Table.{pick, startOf, putAt, lengthOf}
 use Rattle.egg.proofs.Cells.{put-length}
 use Rattle.reading.specs.Build.{setStep, setWord}
 use Rattle.reading.specs.Reading.{readPlace, readAll}
@@ -21,7 +24,6 @@ use Rattle.numbering.proofs.Stores.{cell, stepped, worded, step-length, step-ke
 use Rattle.numbering.proofs.State.{place-skip, place-old}
 use Rattle.numbering.proofs.Runs.{zeros}
 use Rattle.builders.specs.Own.{ownNumber, ownRefusal}
-use Rattle.builders.proofs.AnyWork.{put-alike}
 use Rattle.builders.proofs.Alike.{Alike, all-alike, read-alike}
 
 -- The builder's table t beside the table t′ of the numbers, when c elements are known: what t stores of the steps, and the same lengths of words.
@@ -39,6 +41,20 @@ abbrev pub OwnRefusal : ℕ → ℕ → Refusal → Refusal → List ℕ → Lis
 OwnRefusal N size s r t t′ = (s ≡ ownRefusal N r) × (length t ≡ size)
 
 -- The same store in both.
+set-alike : (w w′ : List ℕ) (p v i : ℕ) → length w ≡ length w′ → getD w i 0 ≡ getD w′ i 0 → getD (set w p v) i 0 ≡ getD (set w′ p v) i 0
+set-alike w w′ p v i long here = go (ℕ-discrete i p) (decLt p (length w)) where
+  go : Dec (i ≡ p) → Dec (p < length w) → getD (set w p v) i 0 ≡ getD (set w′ p v) i 0
+  go (yes e) (yes l) = rw e (getD-set-same w p v 0 l ∙ sym (getD-set-same w′ p v 0 (omega arith)))
+  go (yes e) (no l) = rw (set-out w p v (omega arith), set-out w′ p v (omega arith)) here
+  go (no d) l = getD-set-other w p i v 0 d ∙ here ∙ sym (getD-set-other w′ p i v 0 d)
+
+put-alike : (w w′ : List ℕ) (p v i : ℕ) → length w ≡ length w′ → getD w i 0 ≡ getD w′ i 0 → getD (putAt w p v) i 0 ≡ getD (putAt w′ p v) i 0
+unfolding putAt
+put-alike w w′ p v i long here = by (ltb v 4294967296) where
+  by : (b : Bool) → getD (pick b (set w p v) w) i 0 ≡ getD (pick b (set w′ p v) w′) i 0
+  by true = set-alike w w′ p v i long here
+  by false = here
+
 module _ (t t′ : List ℕ) (long : length t ≡ length t′) (i : ℕ) (here : getD t i 0 ≡ getD t′ i 0) where
   step-alike : (n x g v : ℕ) → getD (stepped t n x g v) i 0 ≡ getD (stepped t′ n x g v) i 0
   unfolding setStep
