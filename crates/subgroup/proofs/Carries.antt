@@ -17,7 +17,7 @@ use Rattle.subgroup.specs.declared.Subgroup.{Subgroup}
 use Rattle.subgroup.specs.declared.Within.the-variants as within
 use Rattle.subgroup.specs.Indices.{factorIndices, unfactorIndices, withWithin}
 use Rattle.subgroup.specs.Sides.{overSide, subSide}
-use Rattle.subgroup.specs.Questions.{strideOf, overCount, carriedOver, carriedBack, refusedWithin}
+use Rattle.subgroup.specs.Questions.{carriedBy, carriedOver, carriedBackBy, carriedBack, refusedWithin}
 use Rattle.subgroup.proofs.Counts.{over-count, sub-count}
 use Rattle.subgroup.proofs.IndexLaws.{unfactor-small, below-small, within-small, above-small}
 
@@ -49,6 +49,33 @@ second-small B C A hb ha h =
     le-same : (n : ℕ) → n ≤ n
     le-same n = omega arith
 
+-- From the subgroup to the overgroup, by the cell w of the map.
+module _ (B M N A e : ℕ) (cut : e < B * (N * A)) (over-small : B * (M * A) ≤ 4294967295) where
+  pub carry-fits : (w : ℕ) → w < M → unfactorIndices (withWithin (factorIndices e B N) w) B M < 4294967296
+  carry-fits w k =
+      omega (arith, over-small, unfactor-small B M A (withWithin (factorIndices e B N) w) (below-small B N A e cut) k (above-small B N A e cut))
+
+module _ (B M N e : ℕ) (outw : List ℕ) {w : ℕ} (r : w ≡ getD outw (e / B % N) 0) where
+  pub carry-refused : M ≤ w → refusedReach 17 0 ≡ carriedBy B M N outw e
+  carry-refused k = rw (← r, le-ltb w M k)
+
+  pub carry-is : w < M → {t : ℕ} → t ≡ unfactorIndices (withWithin (factorIndices e B N) w) B M → reached.Element (record { 0 = t }) ≡ carriedBy B M N outw e
+  carry-is k u = rw (← r, lt-ltb w M k, u)
+
+-- And back.
+module _ (B M N x : ℕ) (inn : List ℕ) {w : ℕ} (r : w ≡ getD inn (x / B % M) 0) where
+  pub back-outside : w ≡ none → within.Outside ≡ carriedBackBy B M N inn x
+  back-outside k = rw (← r, eq-eqb w none k)
+
+  module _ (f : ¬ (w ≡ none)) where
+    pub back-refused : N ≤ w → refusedWithin 17 ≡ carriedBackBy B M N inn x
+    back-refused k = rw (← r, ne-eqb w none f, le-ltb w N k)
+
+    pub back-is : w < N → {t : ℕ} → t ≡ unfactorIndices (withWithin (factorIndices x B M) w) B N
+        → within.Element (record { 0 = t }) ≡ carriedBackBy B M N inn x
+    back-is k u = rw (← r, ne-eqb w none f, lt-ltb w N k, u)
+
+-- Where both sides are within 32 bits, so are their parts.
 module _ (s : Subgroup) (small : elementsOf (subSide s) ≤ 4294967295) (large : elementsOf (overSide s) ≤ 4294967295) where
   abbrev B : ℕ
   B = elementsOf (handles (s .below))
@@ -72,82 +99,32 @@ module _ (s : Subgroup) (small : elementsOf (subSide s) ≤ 4294967295) (large :
     cut : e < B * (N * A)
     cut = subst (λ (k : ℕ). e < k) (sub-count s) h
 
-    pub sub-stride : {b : ℕ} → b ≡ capped B → b ≡ B
+    sub-stride : {b : ℕ} → b ≡ capped B → b ≡ B
     sub-stride q = q ∙ cap-small (first-small B N A (second-some B N A e cut) (third-some B N A e cut) sub-small)
 
-    pub sub-over : {m : ℕ} → m ≡ capped M → m ≡ M
+    sub-over : {m : ℕ} → m ≡ capped M → m ≡ M
     sub-over q = q ∙ cap-small (second-small B M A (first-some B N A e cut) (third-some B N A e cut) over-small)
 
-    pub sub-stride-some : {b : ℕ} → b ≡ capped B → 0 < b
-    sub-stride-some q = rw (sub-stride q) (first-some B N A e cut)
-
-    pub sub-factor-some : 0 < N
-    sub-factor-some = second-some B N A e cut
-
-    module _ (outw : List ℕ) {b m w : ℕ} (p : b ≡ capped B) (q : m ≡ capped M) (r : w ≡ getD outw (e / b % N) 0) where
-      cell : w ≡ getD outw (e / B % N) 0
-      cell = r ∙ ap (λ (k : ℕ). getD outw (e / k % N) 0) (sub-stride p)
-
-      pub carry-refused : m ≤ w → refusedReach 17 0 ≡ carriedOver s outw e
-      unfolding carriedOver
-      carry-refused k = let l : M ≤ w = rw (← sub-over q) k in rw (← cell, le-ltb w M l)
-
-      module _ (k : w < m) where
-        inside : w < M
-        inside = rw (← sub-over q) k
-
-        carry-bound : unfactorIndices (withWithin (factorIndices e B N) w) B M < 4294967296
-        carry-bound =
-            omega (arith, over-small, unfactor-small B M A (withWithin (factorIndices e B N) w) (below-small B N A e cut) inside (above-small B N A e cut))
-
-        pub carry-fits : unfactorIndices (withWithin (factorIndices e b N) w) b m < 4294967296
-        carry-fits = rw (sub-stride p, sub-over q) carry-bound
-
-        pub carry-is : {t : ℕ} → t ≡ unfactorIndices (withWithin (factorIndices e b N) w) b m → reached.Element (record { 0 = t }) ≡ carriedOver s outw e
-        unfolding carriedOver
-        carry-is {t} u =
-            let z : t ≡ unfactorIndices (withWithin (factorIndices e B N) w) B M = u ∙ rw (sub-stride p, sub-over q) in
-            rw (← cell, lt-ltb w M inside, z)
+    pub carried-is : (outw : List ℕ) → carriedBy (capped B) (capped M) N outw e ≡ carriedOver s outw e
+    unfolding carriedOver
+    carried-is outw =
+        let p : capped B ≡ B = sub-stride refl in
+        let q : capped M ≡ M = sub-over refl in
+        rw (p, q)
 
   module _ (x : ℕ) (h : x < elementsOf (overSide s)) where
     cut-over : x < B * (M * A)
     cut-over = subst (λ (k : ℕ). x < k) (over-count s) h
 
-    pub over-stride : {b : ℕ} → b ≡ capped B → b ≡ B
+    over-stride : {b : ℕ} → b ≡ capped B → b ≡ B
     over-stride q = q ∙ cap-small (first-small B M A (second-some B M A x cut-over) (third-some B M A x cut-over) over-small)
 
-    pub over-over : {m : ℕ} → m ≡ capped M → m ≡ M
+    over-over : {m : ℕ} → m ≡ capped M → m ≡ M
     over-over q = q ∙ cap-small (second-small B M A (first-some B M A x cut-over) (third-some B M A x cut-over) over-small)
 
-    pub over-stride-some : {b : ℕ} → b ≡ capped B → 0 < b
-    over-stride-some q = rw (over-stride q) (first-some B M A x cut-over)
-
-    pub over-over-some : {m : ℕ} → m ≡ capped M → 0 < m
-    over-over-some q = rw (over-over q) (second-some B M A x cut-over)
-
-    module _ (inn : List ℕ) {b m w : ℕ} (p : b ≡ capped B) (q : m ≡ capped M) (r : w ≡ getD inn (x / b % m) 0) where
-      cell-over : w ≡ getD inn (x / B % M) 0
-      cell-over = r ∙ ap (λ (k : ℕ). getD inn (x / k % m) 0) (over-stride p) ∙ ap (λ (k : ℕ). getD inn (x / B % k) 0) (over-over q)
-
-      pub back-outside : w ≡ none → within.Outside ≡ carriedBack s inn x
-      unfolding carriedBack
-      back-outside k = rw (← cell-over, eq-eqb w none k)
-
-      module _ (f : ¬ (w ≡ none)) where
-        pub back-refused : N ≤ w → refusedWithin 17 ≡ carriedBack s inn x
-        unfolding carriedBack
-        back-refused k = rw (← cell-over, ne-eqb w none f, le-ltb w N k)
-
-        module _ (k : w < N) where
-          back-bound : unfactorIndices (withWithin (factorIndices x B M) w) B N < 4294967296
-          back-bound =
-              omega (arith, sub-small, unfactor-small B N A (withWithin (factorIndices x B M) w) (below-small B M A x cut-over) k (above-small B M A x cut-over))
-
-          pub back-fits : unfactorIndices (withWithin (factorIndices x b m) w) b N < 4294967296
-          back-fits = rw (over-stride p, over-over q) back-bound
-
-          pub back-is : {t : ℕ} → t ≡ unfactorIndices (withWithin (factorIndices x b m) w) b N → within.Element (record { 0 = t }) ≡ carriedBack s inn x
-          unfolding carriedBack
-          back-is {t} u =
-              let z : t ≡ unfactorIndices (withWithin (factorIndices x B M) w) B N = u ∙ rw (over-stride p, over-over q) in
-              rw (← cell-over, ne-eqb w none f, lt-ltb w N k, z)
+    pub carried-back-is : (inn : List ℕ) → carriedBackBy (capped B) (capped M) N inn x ≡ carriedBack s inn x
+    unfolding carriedBack
+    carried-back-is inn =
+        let p : capped B ≡ B = over-stride refl in
+        let q : capped M ≡ M = over-over refl in
+        rw (p, q)

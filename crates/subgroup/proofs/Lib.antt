@@ -4,5 +4,6 @@ pub mod Counts
 pub mod IndexLaws
 pub mod SideLaws
 pub mod Carries
+pub mod Outlines
 pub mod Generators
 pub mod OneFactor

@@ -3,3 +3,4 @@ pub mod Generated
 pub mod Indices
 pub mod Sides
 pub mod Questions
+pub mod Outline

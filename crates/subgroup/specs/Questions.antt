@@ -42,24 +42,26 @@ strideOf s = elementsOf (handles (s .below))
 abbrev pub overCount : Subgroup → ℕ
 overCount s = elementsOf (handles (s .over))
 
--- From the subgroup's e to the overgroup, by the map's cell; 17 where that is no element.
+-- From the subgroup's e to the overgroup, by the map's cell; 17 where that is no element. By how many elements are below, in the overgroup's part and in the subgroup's.
+abbrev pub carriedBy : ℕ → ℕ → ℕ → List ℕ → ℕ → Reached
+carriedBy stride M N outw e =
+    pick (ltb (getD outw (e / stride % N) 0) M) (reached.Element (record { 0 = overOf stride M N (λ i. getD outw i 0) e })) (refusedReach 17 0)
+
 unfoldable pub carriedOver : Subgroup → List ℕ → ℕ → Reached
-carriedOver s outw e =
-    pick (ltb (getD outw (e / strideOf s % s .factor .elements) 0) (overCount s))
-    (reached.Element (record { 0 = overOf (strideOf s) (overCount s) (s .factor .elements) (λ i. getD outw i 0) e }))
-    (refusedReach 17 0)
+carriedOver s outw e = carriedBy (strideOf s) (overCount s) (s .factor .elements) outw e
 
 unfoldable pub toOverAnswer : ℕ → ℕ → Subgroup → List ℕ → GroupElementId → Reached
 toOverAnswer from table s outw e =
     ifReach (admitsSides from table s (length outw) (s .factor .elements) (e .0) (elementsOf (subSide s))) (carriedOver s outw (e .0))
 
 -- And back: what is not in the subgroup has an answer of its own.
+abbrev pub carriedBackBy : ℕ → ℕ → ℕ → List ℕ → ℕ → Within
+carriedBackBy stride M N inn x =
+    pick (eqb (getD inn (x / stride % M) 0) none) within.Outside
+    (pick (ltb (getD inn (x / stride % M) 0) N) (within.Element (record { 0 = subOf stride M N (λ i. getD inn i 0) x })) (refusedWithin 17))
+
 unfoldable pub carriedBack : Subgroup → List ℕ → ℕ → Within
-carriedBack s inn x =
-    pick (eqb (getD inn (x / strideOf s % overCount s) 0) none) within.Outside
-    (pick (ltb (getD inn (x / strideOf s % overCount s) 0) (s .factor .elements))
-    (within.Element (record { 0 = subOf (strideOf s) (overCount s) (s .factor .elements) (λ i. getD inn i 0) x }))
-    (refusedWithin 17))
+carriedBack s inn x = carriedBackBy (strideOf s) (overCount s) (s .factor .elements) inn x
 
 -- (The map's length is compared as far as 32 bits can tell: an overgroup of more elements is 15.)
 unfoldable pub toSubAnswer : ℕ → ℕ → Subgroup → List ℕ → GroupElementId → Within

@@ -1,6 +1,6 @@
 // The work of the calls, on overgroups whose handles fit and whose elements are at most 65,535.
 ghost use mathlib.Core.Path.{_≡_};
-ghost use mathlib.Core.Bool.{true};
+ghost use mathlib.Core.Bool.{true, _&&_};
 ghost use mathlib.Core.List.{[], _∷_};
 ghost use Prim.Native.Nat.{_+_, _*_, _<_, _≤_};
 ghost use lib.ListN.{length, getD};
@@ -18,8 +18,9 @@ ghost use Rattle.subgroup.specs.Generated.{productOf, entriesRight, smal
 ghost use Rattle.factor.specs.Questions.{onReached};
 ghost use Rattle.egg.specs.declared.GroupElementId.{GroupElementId};
 ghost use Rattle.subgroup.specs.Indices.{factorIndices, unfactorIndices, withWithin};
-ghost use Rattle.subgroup.specs.Sides.{overSide, subSide, sidesFit, fewFactors, sidesLimited, admitsSides, leftOf, rightOf, joinable, ifLimited, multiplied, refusedSubgroup};
-ghost use Rattle.subgroup.specs.Questions.{carriedOver, carriedBack, scaled, sideGenerator};
+ghost use Rattle.subgroup.specs.Sides.{overSide, subSide, sidesFit, fewFactors, sidesLimited, leftOf, rightOf, joinable, ifLimited, multiplied, refusedSubgroup};
+ghost use Rattle.subgroup.specs.Outline.{outlineBy, outlineOf, Measured, fewOf, overMeasure, subMeasure, outlineLimited, admitsOutline, overByOutline, backByOutline};
+ghost use Rattle.subgroup.specs.Questions.{carriedOver, carriedBy, carriedBackBy, scaled, sideGenerator};
 use super::Subgroup;
 use super::Subgrouped;
 use super::Within;
@@ -32,6 +33,7 @@ use egg::Reached;
 use egg::Refusal;
 use egg::Verdict;
 use group::Group;
+use group::inner::Seen;
 
 // A length or a position as far as 32 bits can tell.
 pub fn shown(i: usize) -> u32
@@ -422,7 +424,7 @@ pub fn generated_into(
 }
 
 // p·q as far as 32 bits can tell.
-fn times(p: u64, q: u64) -> u64
+pub fn times(p: u64, q: u64) -> u64
     requires { ⌜ (p ≤ 4294967296) × (q ≤ 4294967296) ⌝ }
     ensures { λ r. ⌜ r ≡ capped (p * q) ⌝ }
 {
@@ -523,19 +525,109 @@ pub fn sides_limited(s: Subgroup) -> bool
     sub_elements(s) <= 4294967295
 }
 
-// 17 in the handles and for a short map, 14 for an argument and its limit, 15.
-pub fn admit(
-    from: &[u32],
-    table: &[u32],
-    s: Subgroup,
-    map: usize,
-    need: u64,
-    a: u32,
-    la: u64,
-) -> Verdict
-    ensures { λ r. ⌜ r ≡ admitsSides (length (now (from .entry))) (length (now (table .entry))) s map need a la ⌝ }
+// What one look at a subgroup's handles shows: whether each fits its buffer, whether either side has at most 8 factors, and how many elements the factors below
+// have, the subgroup's own, those that it stands for and those above, as far as 32 bits can tell. The questions need no more than these numbers; a `Subgroup` is
+// 620 bytes, which every function that is not put in line copies.
+pub struct Outline {
+    pub fit: bool,
+    pub few: bool,
+    pub below: u64,
+    pub within: u64,
+    pub over: u64,
+    pub above: u64,
+}
+
+pub fn both(a: bool, b: bool) -> bool
+    ensures { λ r. ⌜ r ≡ a && b ⌝ }
 {
-    if !sides_fit(from, table, s) {
+    if a { b } else { false }
+}
+
+// Whether both sides have at most 8 factors, by how many are below, over and above.
+pub fn few_of(below: u8, over: u8, above: u8) -> bool
+    ensures { λ r. ⌜ r ≡ fewOf below over above ⌝ }
+{
+    if 8 < below {
+        return false;
+    }
+    if 8 < over {
+        return false;
+    }
+    if 8 < above {
+        return false;
+    }
+    let k = (below as u32) + (above as u32);
+    if 8 < k + (over as u32) {
+        return false;
+    }
+    k < 8
+}
+
+// Of what was seen of the factors below, over and above.
+pub fn outline_by(
+    fits: bool,
+    few: bool,
+    within: u32,
+    below: Seen,
+    over: Seen,
+    above: Seen,
+) -> Outline
+    ensures { λ r. ⌜ r ≡ outlineBy fits few within below over above ⌝ }
+{
+    let high = both(over.fit, above.fit);
+    let fit = both(fits, both(below.fit, high));
+    Outline {
+        fit,
+        few,
+        below: below.elements,
+        within: within as u64,
+        over: over.elements,
+        above: above.elements,
+    }
+}
+
+pub fn outlined(from: &[u32], table: &[u32], s: Subgroup) -> Outline
+    ensures { λ r. ⌜ r ≡ outlineOf (length (now (from .entry))) (length (now (table .entry))) s ⌝ }
+{
+    let below = s.below;
+    let factor = s.factor;
+    let over = s.over;
+    let above = s.above;
+    let fits = egg::fits(table, factor);
+    let few = few_factors(s);
+    let low = group::inner::look(from, below);
+    let middle = group::inner::look(from, over);
+    let high = group::inner::look(from, above);
+    outline_by(fits, few, factor.elements, low, middle, high)
+}
+
+// How many elements a side has that has m between what is below and above.
+fn measure(below: u64, m: u64, above: u64) -> u64
+    requires { ⌜ (below ≤ 4294967296) × ((m ≤ 4294967296) × (above ≤ 4294967296)) ⌝ }
+    ensures { λ r. ⌜ r ≡ capped (below * capped (m * above)) ⌝ }
+{
+    times(below, times(m, above))
+}
+
+fn limited(o: Outline) -> bool
+    requires { ⌜ Measured o ⌝ }
+    ensures { λ r. ⌜ r ≡ outlineLimited o ⌝ }
+{
+    if !o.few {
+        return false;
+    }
+    if 4294967295 < measure(o.below, o.over, o.above) {
+        return false;
+    }
+    measure(o.below, o.within, o.above) <= 4294967295
+}
+
+// 17 in the handles and for a short map, 14 for an argument and its limit, 15.
+pub fn admit(o: Outline, map: usize, need: u64, a: u32, la: u64) -> Verdict
+    requires { ⌜ Measured o ⌝ }
+    ensures { λ r. ⌜ r ≡ admitsOutline o map need a la ⌝ }
+{
+    if !o.fit {
         return egg::inner::refused(17, 0, 0, 0);
     }
     if (map as u64) < need {
@@ -544,7 +636,7 @@ pub fn admit(
     if la <= (a as u64) {
         return egg::inner::refused(14, 0, 0, 0);
     }
-    if !sides_limited(s) {
+    if !limited(o) {
         return egg::inner::refused(15, 0, 0, 0);
     }
     Verdict::Fine
@@ -643,16 +735,13 @@ fn replaced(x: GroupElementId, stride: u64, n: u64, w: u32, m: u64) -> GroupElem
 }
 
 // The subgroup's e in the overgroup.
-pub fn carry_over(outw: &[u32], s: Subgroup, e: GroupElementId) -> Reached
-    requires { ⌜ (e .0 < elementsOf (subSide s)) × ((elementsOf (subSide s) ≤ 4294967295) × (elementsOf (overSide s) ≤ 4294967295)) ⌝ }
-    ensures { λ r. ⌜ r ≡ carriedOver s (now (outw .entry)) (e .0) ⌝ }
+pub fn carry_over(outw: &[u32], o: Outline, e: GroupElementId) -> Reached
+    requires { ⌜ (e .0 < o .below * (o .within * o .above)) × ((o .below * (o .within * o .above) ≤ 4294967295) × (o .below * (o .over * o .above) ≤ 4294967295)) ⌝ }
+    ensures { λ r. ⌜ r ≡ carriedBy (o .below) (o .over) (o .within) (now (outw .entry)) (e .0) ⌝ }
 {
-    let below = s.below;
-    let over = s.over;
-    let factor = s.factor;
-    let stride = group::inner::elements_of(below);
-    let m = group::inner::elements_of(over);
-    let n = factor.elements as u64;
+    let stride = o.below;
+    let m = o.over;
+    let n = o.within;
     let x = e.0;
     let w = egg::inner::get(outw, ((x as u64) / stride % n) as usize);
     if m <= (w as u64) {
@@ -662,22 +751,19 @@ pub fn carry_over(outw: &[u32], s: Subgroup, e: GroupElementId) -> Reached
 }
 
 // The overgroup's x in the subgroup.
-pub fn carry_back(inn: &[u32], s: Subgroup, x: GroupElementId) -> Within
-    requires { ⌜ (x .0 < elementsOf (overSide s)) × ((elementsOf (subSide s) ≤ 4294967295) × (elementsOf (overSide s) ≤ 4294967295)) ⌝ }
-    ensures { λ r. ⌜ r ≡ carriedBack s (now (inn .entry)) (x .0) ⌝ }
+pub fn carry_back(inn: &[u32], o: Outline, x: GroupElementId) -> Within
+    requires { ⌜ (x .0 < o .below * (o .over * o .above)) × ((o .below * (o .within * o .above) ≤ 4294967295) × (o .below * (o .over * o .above) ≤ 4294967295)) ⌝ }
+    ensures { λ r. ⌜ r ≡ carriedBackBy (o .below) (o .over) (o .within) (now (inn .entry)) (x .0) ⌝ }
 {
-    let below = s.below;
-    let over = s.over;
-    let factor = s.factor;
-    let stride = group::inner::elements_of(below);
-    let m = group::inner::elements_of(over);
-    let n = factor.elements;
+    let stride = o.below;
+    let m = o.over;
+    let n = o.within;
     let y = x.0;
     let w = egg::inner::get(inn, ((y as u64) / stride % m) as usize);
     if w == 4294967295 {
         return Within::Outside;
     }
-    if n <= w {
+    if n <= (w as u64) {
         return Within::Refused(Refusal {
             number: 17,
             a: 0,
@@ -685,7 +771,30 @@ pub fn carry_back(inn: &[u32], s: Subgroup, x: GroupElementId) -> Within
             c: 0,
         });
     }
-    Within::Element(replaced(x, stride, m, w, n as u64))
+    Within::Element(replaced(x, stride, m, w, n))
+}
+
+// `to_overgroup` and `to_subgroup` by the outline.
+pub fn over_by(o: Outline, outw: &[u32], e: GroupElementId) -> Reached
+    requires { ⌜ Measured o ⌝ }
+    ensures { λ r. ⌜ r ≡ overByOutline o (now (outw .entry)) (e .0) ⌝ }
+{
+    let n = measure(o.below, o.within, o.above);
+    match admit(o, outw.len(), o.within, e.0, n) {
+        Verdict::Refused(why) => Reached::Refused(why),
+        Verdict::Fine => carry_over(outw, o, e),
+    }
+}
+
+pub fn back_by(o: Outline, inn: &[u32], x: GroupElementId) -> Within
+    requires { ⌜ Measured o ⌝ }
+    ensures { λ r. ⌜ r ≡ backByOutline o (now (inn .entry)) (x .0) ⌝ }
+{
+    let m = measure(o.below, o.over, o.above);
+    match admit(o, inn.len(), o.over, x.0, m) {
+        Verdict::Refused(why) => Within::Refused(why),
+        Verdict::Fine => carry_back(inn, o, x),
+    }
 }
 
 pub fn sub_generators(s: Subgroup) -> u32
@@ -750,15 +859,16 @@ pub fn generator_over(
     from: &[u32],
     table: &[u32],
     s: Subgroup,
+    o: Outline,
     outw: &[u32],
     g: GeneratorId,
 ) -> Reached
-    requires { ⌜ (sidesFit (length (now from)) (length (now table)) s ≡ true) × (sidesLimited s ≡ true) ⌝ }
+    requires { ⌜ ((sidesFit (length (now from)) (length (now table)) s ≡ true) × (sidesLimited s ≡ true)) × (o ≡ outlineOf (length (now from)) (length (now table)) s) ⌝ }
     ensures { λ r. ⌜ r ≡ onReached (sideGenerator (now (from .entry)) (now (table .entry)) s (g .0)) (λ e. carriedOver s (now (outw .entry)) e) ⌝ }
 {
     let r = side_generator(from, table, s, g);
     let Reached::Element(e) = r else {
         return r;
     };
-    carry_over(outw, s, e)
+    carry_over(outw, o, e)
 }

@@ -105,12 +105,7 @@ pub fn to_overgroup(
 ) -> Reached
     ensures { λ r. ⌜ r ≡ toOverAnswer (length (now (from .entry))) (length (now (table .entry))) s (now (outw .entry)) e ⌝ }
 {
-    let factor = s.factor;
-    let n = factor.elements as u64;
-    match inner::admit(from, table, s, outw.len(), n, e.0, inner::sub_elements(s)) {
-        Verdict::Refused(why) => Reached::Refused(why),
-        Verdict::Fine => inner::carry_over(outw, s, e),
-    }
+    inner::over_by(inner::outlined(from, table, s), outw, e)
 }
 
 // The element of the subgroup that the overgroup's x is.
@@ -123,12 +118,7 @@ pub fn to_subgroup(
 ) -> Within
     ensures { λ r. ⌜ r ≡ toSubAnswer (length (now (from .entry))) (length (now (table .entry))) s (now (inn .entry)) x ⌝ }
 {
-    let over = s.over;
-    let m = group::inner::elements_of(over);
-    match inner::admit(from, table, s, inn.len(), m, x.0, inner::over_elements(s)) {
-        Verdict::Refused(why) => Within::Refused(why),
-        Verdict::Fine => inner::carry_back(inn, s, x),
-    }
+    inner::back_by(inner::outlined(from, table, s), inn, x)
 }
 
 // The generator g of the subgroup, as an element of the overgroup.
@@ -138,8 +128,9 @@ pub fn generator(from: &[u32], table: &[u32], s: Subgroup, outw: &[u32], g: Gene
     let factor = s.factor;
     let n = factor.elements as u64;
     let k = inner::sub_generators(s) as u64;
-    match inner::admit(from, table, s, outw.len(), n, g.0 as u32, k) {
+    let o = inner::outlined(from, table, s);
+    match inner::admit(o, outw.len(), n, g.0 as u32, k) {
         Verdict::Refused(why) => Reached::Refused(why),
-        Verdict::Fine => inner::generator_over(from, table, s, outw, g),
+        Verdict::Fine => inner::generator_over(from, table, s, o, outw, g),
     }
 }

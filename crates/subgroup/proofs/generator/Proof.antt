@@ -1,11 +1,12 @@
 -- The verdict of `admit` decides.
-use Prim.Native.Nat.{ℕ}
-use mathlib.Core.Path.{ap, _∙_}
+use Prim.Native.Nat.{_<_}
+use mathlib.Core.Path.{_∙_}
+use native.Mathlib.Omega.{arith}
 use lib.ListN.{length}
 use Rattle.factor.proofs.Admits.{reach-refused, reach-fine}
-use Rattle.subgroup.specs.Sides.{admitsSides}
 use Rattle.subgroup.specs.Questions.{generatorAnswer}
 use Rattle.subgroup.proofs.SideLaws.{asks-by}
+use Rattle.subgroup.proofs.Outlines.{measured, admits-told}
 use borrow.Author.Needs.{needs}
 use Rattle.subgroup.proofs.generator.Statement.{statement}
 use Rattle.subgroup.proofs.generator.Tie as tie
@@ -19,11 +20,14 @@ sub-generators-requires c κs = search needs
 cast-k : tie.Need-cast-k
 cast-k c = search needs
 
+outlined-requires : tie.Need-outlined-requires
+outlined-requires c κs = search needs
+
 cast-admit : tie.Need-cast-admit
 cast-admit c = search needs
 
 admit-requires : tie.Need-admit-requires
-admit-requires c κs = search needs
+admit-requires c κs = let k : ((c .before .before .before .before .before .before .before .before .args .s .factor .elements)) < 4294967296 = search needs in measured (length ((c .before .before .before .before .before .before .before .before .args .from .now))) (length ((c .before .before .before .before .before .before .before .before .args .table .now))) ((c .before .before .before .before .before .before .before .before .args .s)) ((c .before .outlined .ensures)) (omega (arith, k))
 
 enum-known-why : tie.Need-enum-known-why
 enum-known-why c = search needs
@@ -32,15 +36,15 @@ enum-told : tie.Need-enum-told
 enum-told c = search needs
 
 generator-over-requires : tie.Need-generator-over-requires
-generator-over-requires c κs = let A = asks-by (length ((c .before .before .before .before .before .before .before .before .before .before .args .from .now))) (length ((c .before .before .before .before .before .before .before .before .before .before .args .table .now))) ((c .before .before .before .before .before .before .before .before .before .before .args .s)) (length ((c .before .before .before .before .before .before .before .before .before .before .args .outw .now))) ((c .before .before .before .before .before .before .before .before .before .before .args .s .factor .elements)) ((c .before .before .before .before .before .before .before .before .before .before .args .g .0)) _ ((c .before .before .admit .ensures) ∙ ap (λ (l : ℕ). admitsSides (length ((c .before .before .before .before .before .before .before .before .before .before .args .from .now))) (length ((c .before .before .before .before .before .before .before .before .before .before .args .table .now))) ((c .before .before .before .before .before .before .before .before .before .before .args .s)) (length ((c .before .before .before .before .before .before .before .before .before .before .args .outw .now))) ((c .before .before .before .before .before .before .before .before .before .before .args .s .factor .elements)) ((c .before .before .before .before .before .before .before .before .before .before .args .g .0)) l) ((c .before .before .before .before .sub-generators .ensures))) ((c .enum-told .given .1)) in (A .fits, A .limited)
+generator-over-requires c κs = let A = asks-by (length ((c .before .before .before .before .before .before .before .before .before .before .before .args .from .now))) (length ((c .before .before .before .before .before .before .before .before .before .before .before .args .table .now))) ((c .before .before .before .before .before .before .before .before .before .before .before .args .s)) (length ((c .before .before .before .before .before .before .before .before .before .before .before .args .outw .now))) ((c .before .before .before .before .before .before .before .before .before .before .before .args .s .factor .elements)) ((c .before .before .before .before .before .before .before .before .before .before .before .args .g .0)) _ (admits-told (length ((c .before .before .before .before .before .before .before .before .before .before .before .args .from .now))) (length ((c .before .before .before .before .before .before .before .before .before .before .before .args .table .now))) ((c .before .before .before .before .before .before .before .before .before .before .before .args .s)) ((c .before .before .before .before .outlined .ensures)) (length ((c .before .before .before .before .before .before .before .before .before .before .before .args .outw .now))) ((c .before .before .before .before .before .before .before .before .before .before .before .args .s .factor .elements)) ((c .before .before .before .before .before .before .before .before .before .before .before .args .g .0)) ((c .before .before .before .before .before .sub-generators .ensures)) ((c .before .before .admit .ensures))) ((c .enum-told .given .1)) in ((A .fits, A .limited), ((c .before .before .before .before .outlined .ensures)))
 
 returns : tie.Need-returns
 unfolding generatorAnswer
-returns c = reach-refused ((c .before .before .before .admit .ensures) ∙ ap (λ (l : ℕ). admitsSides (length ((c .before .before .before .before .before .before .before .before .before .before .before .args .from .now))) (length ((c .before .before .before .before .before .before .before .before .before .before .before .args .table .now))) ((c .before .before .before .before .before .before .before .before .before .before .before .args .s)) (length ((c .before .before .before .before .before .before .before .before .before .before .before .args .outw .now))) ((c .before .before .before .before .before .before .before .before .before .before .before .args .s .factor .elements)) ((c .before .before .before .before .before .before .before .before .before .before .before .args .g .0)) l) ((c .before .before .before .before .before .sub-generators .ensures))) _ ((c .before .why .given .1))
+returns c = reach-refused (admits-told (length ((c .before .before .before .before .before .before .before .before .before .before .before .before .args .from .now))) (length ((c .before .before .before .before .before .before .before .before .before .before .before .before .args .table .now))) ((c .before .before .before .before .before .before .before .before .before .before .before .before .args .s)) ((c .before .before .before .before .before .outlined .ensures)) (length ((c .before .before .before .before .before .before .before .before .before .before .before .before .args .outw .now))) ((c .before .before .before .before .before .before .before .before .before .before .before .before .args .s .factor .elements)) ((c .before .before .before .before .before .before .before .before .before .before .before .before .args .g .0)) ((c .before .before .before .before .before .before .sub-generators .ensures)) ((c .before .before .before .admit .ensures))) _ ((c .before .why .given .1))
 
 returns-2 : tie.Need-returns-2
 unfolding generatorAnswer
-returns-2 c = (c .generator-over .ensures) ∙ reach-fine ((c .before .before .before .admit .ensures) ∙ ap (λ (l : ℕ). admitsSides (length ((c .before .before .before .before .before .before .before .before .before .before .before .args .from .now))) (length ((c .before .before .before .before .before .before .before .before .before .before .before .args .table .now))) ((c .before .before .before .before .before .before .before .before .before .before .before .args .s)) (length ((c .before .before .before .before .before .before .before .before .before .before .before .args .outw .now))) ((c .before .before .before .before .before .before .before .before .before .before .before .args .s .factor .elements)) ((c .before .before .before .before .before .before .before .before .before .before .before .args .g .0)) l) ((c .before .before .before .before .before .sub-generators .ensures))) _ ((c .before .enum-told .given .1))
+returns-2 c = ((c .generator-over .ensures)) ∙ reach-fine (admits-told (length ((c .before .before .before .before .before .before .before .before .before .before .before .before .args .from .now))) (length ((c .before .before .before .before .before .before .before .before .before .before .before .before .args .table .now))) ((c .before .before .before .before .before .before .before .before .before .before .before .before .args .s)) ((c .before .before .before .before .before .outlined .ensures)) (length ((c .before .before .before .before .before .before .before .before .before .before .before .before .args .outw .now))) ((c .before .before .before .before .before .before .before .before .before .before .before .before .args .s .factor .elements)) ((c .before .before .before .before .before .before .before .before .before .before .before .before .args .g .0)) ((c .before .before .before .before .before .before .sub-generators .ensures)) ((c .before .before .before .admit .ensures))) _ ((c .before .enum-told .given .1))
 
 pub generator-spec : {M : Type 1} → statement M
 generator-spec =
@@ -49,6 +53,7 @@ generator-spec =
     cast-n
     sub-generators-requires
     cast-k
+    outlined-requires
     cast-admit
     admit-requires
     enum-known-why

@@ -1,0 +1,78 @@
+-- The questions by the outline of a subgroup: what its handles show together, and no handle.
+-- Assumes nothing.
+use Prim.Native.Nat.{ℕ, _+_, _*_, _≤_}
+use mathlib.Core.List.{List}
+use mathlib.Core.Bool.{Bool, _&&_}
+use lib.ListN.{length}
+use lib.Dec.{leb, ltb}
+use Rattle.egg.specs.declared.Verdict.{Verdict}
+use Rattle.egg.specs.declared.Verdict.the-variants as verdict
+use Rattle.egg.specs.declared.Reached.{Reached}
+use Rattle.egg.specs.Table.{pick}
+use Rattle.egg.specs.Scan.{refusedOf}
+use Rattle.factor.specs.Questions.{ifReach}
+use Rattle.group.specs.declared.inner.Seen.{Seen}
+use Rattle.group.specs.Handles.{handles, elementsOf, capped}
+use Rattle.subgroup.specs.declared.Subgroup.{Subgroup}
+use Rattle.subgroup.specs.declared.Within.{Within}
+use Rattle.subgroup.specs.declared.inner.Outline.{Outline}
+use Rattle.subgroup.specs.Sides.{sidesFit, fewFactors}
+use Rattle.subgroup.specs.Questions.{strideOf, overCount, carriedBy, carriedBackBy, ifWithin}
+
+-- The outline of a subgroup, and of what was seen of its parts.
+abbrev pub outlineOf : ℕ → ℕ → Subgroup → Outline
+outlineOf from table s = record {
+  fit = sidesFit from table s;
+  few = fewFactors s;
+  below = capped (strideOf s);
+  within = s .factor .elements;
+  over = capped (overCount s);
+  above = capped (elementsOf (handles (s .above)));
+}
+
+abbrev pub outlineBy : Bool → Bool → ℕ → Seen → Seen → Seen → Outline
+outlineBy fits few within below over above = record {
+  fit = fits && (below .fit && (over .fit && above .fit));
+  few = few;
+  below = below .elements;
+  within = within;
+  over = over .elements;
+  above = above .elements;
+}
+
+-- At most 8 factors on either side, by how many are below, over and above.
+unfoldable pub fewOf : ℕ → ℕ → ℕ → Bool
+fewOf below over above =
+    leb below 8 && (leb over 8 && (leb above 8 && (leb (below + above + over) 8 && ltb (below + above) 8)))
+
+-- Its numbers are as far as 32 bits can tell.
+pub record Measured (o : Outline) : Type 0 where
+  pub low : o .below ≤ 4294967296
+  pub own : o .within ≤ 4294967296
+  pub middle : o .over ≤ 4294967296
+  pub high : o .above ≤ 4294967296
+
+-- How many elements the overgroup and the subgroup have.
+abbrev pub overMeasure : Outline → ℕ
+overMeasure o = capped (o .below * capped (o .over * o .above))
+
+abbrev pub subMeasure : Outline → ℕ
+subMeasure o = capped (o .below * capped (o .within * o .above))
+
+-- `sidesLimited`, `admitsSides`, `toOverAnswer` and `toSubAnswer` of an outline.
+unfoldable pub outlineLimited : Outline → Bool
+outlineLimited o = o .few && (leb (overMeasure o) 4294967295 && leb (subMeasure o) 4294967295)
+
+unfoldable pub admitsOutline : Outline → ℕ → ℕ → ℕ → ℕ → Verdict
+admitsOutline o map need a la =
+    pick (o .fit && leb need map)
+    (pick (leb la a) (refusedOf 14 0 0 0) (pick (outlineLimited o) verdict.Fine (refusedOf 15 0 0 0)))
+    (refusedOf 17 0 0 0)
+
+unfoldable pub overByOutline : Outline → List ℕ → ℕ → Reached
+overByOutline o outw e =
+    ifReach (admitsOutline o (length outw) (o .within) e (subMeasure o)) (carriedBy (o .below) (o .over) (o .within) outw e)
+
+unfoldable pub backByOutline : Outline → List ℕ → ℕ → Within
+backByOutline o inn x =
+    ifWithin (admitsOutline o (length inn) (o .over) x (overMeasure o)) (carriedBackBy (o .below) (o .over) (o .within) inn x)
