@@ -1,13 +1,26 @@
--- What the lent lists hold after a subgroup was made.
+-- What the lent lists hold after a subgroup was made; what the numbers of a subgroup show.
 -- Assumes nothing.
-use Prim.Native.Nat.{ℕ}
-use mathlib.Core.Path.{_≡_, ap, _∙_}
-use mathlib.Core.List.{List}
+use Prim.Native.Nat.{ℕ, _+_, _*_, _≤_, _<_}
+use mathlib.Core.Path.{_≡_, refl, ap, _∙_, subst}
+use mathlib.Core.Bool.{Bool}
+use mathlib.Core.List.{List, _∷_}
+use native.Mathlib.Omega.{arith}
+use lib.ListN.{length, getD, drop}
+use Rattle.egg.specs.declared.Factor.{Factor}
+use Rattle.egg.specs.Factor.{fitsIn}
 use Rattle.egg.specs.Table.{putAt}
 use Rattle.bridge.specs.Bridge.{madeInto}
 use Rattle.subgroup.specs.declared.Subgrouped.{Subgrouped}
 use Rattle.subgroup.specs.Lent.{Subgrouping, subgrouping}
-use Rattle.bridge_subgroup.specs.Subgroup.{subgroupedInto, Bridged, holds, bridged}
+use Rattle.subgroup.specs.declared.inner.Outline.{Outline}
+use Rattle.subgroup.specs.Sides.{fewFactors}
+use Rattle.subgroup.specs.Outline.{outlineOf, outlineBy, fewOf}
+use Rattle.subgroup.proofs.Outlines.{few-counts, outline-is}
+use Rattle.group.specs.declared.inner.Seen.{Seen}
+use Rattle.group.specs.Handles.{handles, seen}
+use Rattle.bridge_group.specs.Product.{byteOf, handleAt, productAt}
+use Rattle.bridge_group.proofs.Looks.{told-turn}
+use Rattle.bridge_subgroup.specs.Subgroup.{subgroupFrom, subgroupedInto, Bridged, holds, bridged}
 
 pub subgroup-holds : {m : Subgrouped} {t w i o : List ℕ} {x : Subgrouping} (out : List ℕ) {l : List ℕ} → subgrouping m t w i o ≡ x → l ≡ subgroupedInto m out
     → holds t w i o l ≡ bridged x out
@@ -17,3 +30,27 @@ pub subgrouped-written : (m : Subgrouped) (l : List ℕ) {l₁ l₂ : List ℕ} 
     → l₂ ≡ putAt l₁ 5 (m .subgroup .factor .generators) → l₂ ≡ subgroupedInto m l
 unfolding subgroupedInto
 subgrouped-written m l p q = q ∙ rw p
+
+-- The outline from the numbers of a subgroup.
+few-told : (l : List ℕ) → fewOf (byteOf (getD l 5 0)) (byteOf (getD l 6 0)) (byteOf (getD l 7 0)) ≡ fewFactors (subgroupFrom l)
+unfolding subgroupFrom productAt
+few-told l = few-counts (subgroupFrom l) refl refl refl
+
+pub outline-told : (from table : ℕ) (l : List ℕ) {f : Factor} {fits few : Bool} {k m n : ℕ} {low middle high : Seen} → f ≡ handleAt l 0 → fits ≡ fitsIn table f
+    → k ≡ byteOf (getD l 5 0) → m ≡ byteOf (getD l 6 0) → n ≡ byteOf (getD l 7 0) → low ≡ seen from (handles (productAt l 8 k))
+    → middle ≡ seen from (handles (productAt l 48 m)) → high ≡ seen from (handles (productAt l 88 n)) → few ≡ fewOf k m n
+    → {r : Outline} → r ≡ outlineBy fits few (f .elements) low middle high → r ≡ outlineOf from table (subgroupFrom l)
+unfolding subgroupFrom
+outline-told from table l p q a b c u v w x e =
+    outline-is from table (subgroupFrom l) (q ∙ ap (fitsIn table) p) (x ∙ rw (a, b, c) (few-told l)) (u ∙ rw a) (v ∙ rw b) (w ∙ rw c) (e ∙ rw p)
+
+pub element-fits : (l : List ℕ) {f : Factor} → f ≡ handleAt l 0 → f .elements < 4294967296 → subgroupFrom l .factor .elements ≤ 4294967296
+unfolding subgroupFrom
+element-fits l {f} p h =
+    let z : f .elements ≤ 4294967296 = omega arith in
+    subst (λ (x : Factor). x .elements ≤ 4294967296) p z
+
+-- A turn of the pass over the handles of a product that stand in a list.
+pub turn-told : (l : List ℕ) (at count f : ℕ) {k : ℕ} {h : Factor} → k ≡ length (handles (productAt l at count)) → f < k → k ≤ 8 → h ≡ handleAt l (at + f * 5)
+    → drop f (handles (productAt l at count)) ≡ h ∷ drop (f + 1) (handles (productAt l at count))
+turn-told l at count f p q b e = told-turn l at count f p q b ∙ rw e

@@ -1,9 +1,13 @@
 // The calls on subgroups as C functions. The overgroup is a product, as in `bridge_group`; a subgroup is 128 numbers in a lent list: the handle of its factor,
 // how many factors are below, over and above, and their handles. A handle that is not wholly in the list is none, which fits no buffer (17); a count that is missing is 0.
+ghost use Prim.Native.Nat.{ℕ, _≤_};
 ghost use mathlib.Core.Path.{_≡_};
+ghost use mathlib.Core.List.{List};
 ghost use lib.ListN.{length, getD};
 ghost use Rattle.bridge.specs.Bridge.{reachedCode, paperInto};
-ghost use Rattle.bridge_group.specs.Product.{byteOf, productOf};
+ghost use Rattle.bridge_group.specs.Product.{byteOf, productOf, productAt};
+ghost use Rattle.group.specs.Handles.{handles, seen};
+ghost use Rattle.subgroup.specs.Outline.{outlineOf, Measured};
 ghost use Rattle.subgroup.specs.Generated.{fromGenerators};
 ghost use Rattle.predicate.specs.Predicate.{fromPredicate};
 ghost use Rattle.subgroup.specs.Sides.{leftProduct, rightProduct};
@@ -12,9 +16,11 @@ ghost use Rattle.bridge_subgroup.specs.Subgroup.{subgroupFrom, withinCod
 use egg::GeneratorId;
 use egg::GroupElementId;
 use egg::Made;
+use group::inner::Seen;
 use subgroup::Subgroup;
 use subgroup::Subgrouped;
 use subgroup::Within;
+use subgroup::inner::Outline;
 
 fn count_at(l: &[u32], at: u32) -> u8
     ensures { λ r. ⌜ r ≡ byteOf (getD (now (l .entry)) at 0) ⌝ }
@@ -35,6 +41,53 @@ fn subgroup_from(l: &[u32]) -> Subgroup
         over,
         above,
     }
+}
+
+// How many handles a product lists.
+fn listed(count: u8) -> u32
+    ensures { λ r. ⌜ ((l : List ℕ) → (at : ℕ) → r ≡ length (handles (productAt l at count))) × (r ≤ 8) ⌝ }
+{
+    if 8 < count { 8 } else { count as u32 }
+}
+
+// What one pass over the handles from place `at` on shows, as `group::inner::look` of their product, which is not made for it.
+fn look_at(from: &[u32], l: &[u32], at: u32, count: u8) -> Seen
+    requires { ⌜ at ≤ 1000 ⌝ }
+    ensures { λ r. ⌜ r ≡ seen (length (now (from .entry))) (handles (productAt (now (l .entry)) at count)) ⌝ }
+{
+    let c = listed(count);
+    let mut f: u32 = 0;
+    let mut fit = true;
+    let mut elements: u64 = 1;
+    let mut generators: u32 = 0;
+    while f < c {
+        let h = bridge_group::inner::handle_at(l, at + f * 5);
+        fit = subgroup::inner::both(fit, egg::fits(from, h));
+        elements = subgroup::inner::times(elements, h.elements as u64);
+        generators += h.generators as u32;
+        f += 1;
+    }
+    Seen {
+        fit,
+        elements,
+        generators,
+    }
+}
+
+// The outline of `subgroup_from(l)`: the questions need no more of it.
+fn outline_from(from: &[u32], table: &[u32], l: &[u32]) -> Outline
+    ensures { λ r. ⌜ (r ≡ outlineOf (length (now (from .entry))) (length (now (table .entry))) (subgroupFrom (now (l .entry)))) × Measured r ⌝ }
+{
+    let factor = bridge_group::inner::handle_at(l, 0);
+    let fits = egg::fits(table, factor);
+    let k = count_at(l, 5);
+    let m = count_at(l, 6);
+    let n = count_at(l, 7);
+    let below = look_at(from, l, 8, k);
+    let over = look_at(from, l, 48, m);
+    let above = look_at(from, l, 88, n);
+    let few = subgroup::inner::few_of(k, m, n);
+    subgroup::inner::outline_by(fits, few, factor.elements, below, over, above)
 }
 
 fn within_code(r: Within) -> u64
@@ -112,8 +165,8 @@ pub extern "C" fn hg_subgroup_over(
 ) -> u64
     ensures { λ r. ⌜ r ≡ reachedCode (toOverAnswer (length (now (from .entry))) (length (now (table .entry))) (subgroupFrom (now (sub .entry))) (now (outw .entry)) (record { 0 = e })) ⌝ }
 {
-    let s = subgroup_from(sub);
-    bridge::inner::reached_code(subgroup::to_overgroup(from, table, s, outw, GroupElementId(e)))
+    let o = outline_from(from, table, sub);
+    bridge::inner::reached_code(subgroup::inner::over_by(o, outw, GroupElementId(e)))
 }
 
 // From an element of the overgroup to the subgroup's: 4,294,967,295 where it is not in it.
@@ -127,8 +180,8 @@ pub extern "C" fn hg_subgroup_back(
 ) -> u64
     ensures { λ r. ⌜ r ≡ withinCode (toSubAnswer (length (now (from .entry))) (length (now (table .entry))) (subgroupFrom (now (sub .entry))) (now (inn .entry)) (record { 0 = x })) ⌝ }
 {
-    let s = subgroup_from(sub);
-    within_code(subgroup::to_subgroup(from, table, s, inn, GroupElementId(x)))
+    let o = outline_from(from, table, sub);
+    within_code(subgroup::inner::back_by(o, inn, GroupElementId(x)))
 }
 
 // A generator as an element of the overgroup.

@@ -1,26 +1,26 @@
--- The call's own answer, as one number.
+-- The answer by the outline, as one number.
+use mathlib.Core.Path.{ap, _∙_}
+use lib.ListN.{length}
+use Rattle.subgroup.specs.declared.Within.{Within}
+use Rattle.bridge_subgroup.specs.Subgroup.{withinCode}
+use Rattle.subgroup.proofs.Outlines.{back-told}
+use Rattle.bridge_subgroup.specs.Subgroup.{subgroupFrom}
 use borrow.Author.Needs.{needs}
 use Rattle.bridge_subgroup.proofs.hg_subgroup_back.Statement.{statement}
 use Rattle.bridge_subgroup.proofs.hg_subgroup_back.Tie as tie
-use Rattle.bridge_subgroup.proofs.hg_subgroup_back.Reads as reads
-use Rattle.bridge_subgroup.proofs.hg_subgroup_back.Lts as lts
-use Rattle.bridge_subgroup.proofs.subgroup_from.Reads as subgroup-from-reads
-use Rattle.subgroup.proofs.to_subgroup.Reads as to-subgroup-reads
-use Rattle.bridge_subgroup.proofs.within_code.Reads as within-code-reads
 
-subgroup-from-requires : tie.Need-subgroup-from-requires
-subgroup-from-requires c κs = search needs
+outline-from-requires : tie.Need-outline-from-requires
+outline-from-requires c κs = search needs
 
-to-subgroup-requires : tie.Need-to-subgroup-requires
-to-subgroup-requires c κs = search needs
+back-by-requires : tie.Need-back-by-requires
+back-by-requires c κs = ((c .outline-from .ensures .1))
 
 within-code-requires : tie.Need-within-code-requires
 within-code-requires c κs = search needs
 
 returns : tie.Need-returns
-returns c = rw ((c .within-code .ensures), (c .before .to-subgroup .ensures), (c .before .before .subgroup-from .ensures))
+returns c = ((c .within-code .ensures)) ∙ ap (λ (r : Within). withinCode r) (((c .before .back-by .ensures)) ∙ back-told (length ((c .before .before .before .before .before .before .before .args .from .now))) (length ((c .before .before .before .before .before .before .before .args .table .now))) (subgroupFrom ((c .before .before .before .before .before .before .before .args .sub .now))) ((c .before .before .outline-from .ensures .0)) ((c .before .before .before .before .before .before .before .args .inn .now)) (record { 0 = ((c .before .before .before .before .before .before .before .args .x)) }) (search needs))
 
 pub hg-subgroup-back-spec : {M : Type 1} → statement M
 hg-subgroup-back-spec =
-    tie.close
-    (tie.spec subgroup-from-requires to-subgroup-requires within-code-requires returns)
+    tie.close (tie.spec outline-from-requires back-by-requires within-code-requires returns)

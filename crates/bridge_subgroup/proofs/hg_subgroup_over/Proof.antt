@@ -1,26 +1,26 @@
--- The call's own answer, as one number.
+-- The answer by the outline, as one number.
+use mathlib.Core.Path.{ap, _∙_}
+use lib.ListN.{length}
+use Rattle.egg.specs.declared.Reached.{Reached}
+use Rattle.bridge.specs.Bridge.{reachedCode}
+use Rattle.subgroup.proofs.Outlines.{over-told}
+use Rattle.bridge_subgroup.specs.Subgroup.{subgroupFrom}
 use borrow.Author.Needs.{needs}
 use Rattle.bridge_subgroup.proofs.hg_subgroup_over.Statement.{statement}
 use Rattle.bridge_subgroup.proofs.hg_subgroup_over.Tie as tie
-use Rattle.bridge_subgroup.proofs.hg_subgroup_over.Reads as reads
-use Rattle.bridge_subgroup.proofs.hg_subgroup_over.Lts as lts
-use Rattle.bridge_subgroup.proofs.subgroup_from.Reads as subgroup-from-reads
-use Rattle.subgroup.proofs.to_overgroup.Reads as to-overgroup-reads
-use Rattle.bridge.proofs.inner.reached_code.Reads as reached-code-reads
 
-subgroup-from-requires : tie.Need-subgroup-from-requires
-subgroup-from-requires c κs = search needs
+outline-from-requires : tie.Need-outline-from-requires
+outline-from-requires c κs = search needs
 
-to-overgroup-requires : tie.Need-to-overgroup-requires
-to-overgroup-requires c κs = search needs
+over-by-requires : tie.Need-over-by-requires
+over-by-requires c κs = ((c .outline-from .ensures .1))
 
 reached-code-requires : tie.Need-reached-code-requires
 reached-code-requires c κs = search needs
 
 returns : tie.Need-returns
-returns c = rw ((c .reached-code .ensures), (c .before .to-overgroup .ensures), (c .before .before .subgroup-from .ensures))
+returns c = ((c .reached-code .ensures)) ∙ ap (λ (r : Reached). reachedCode r) (((c .before .over-by .ensures)) ∙ over-told (length ((c .before .before .before .before .before .before .before .args .from .now))) (length ((c .before .before .before .before .before .before .before .args .table .now))) (subgroupFrom ((c .before .before .before .before .before .before .before .args .sub .now))) ((c .before .before .outline-from .ensures .0)) ((c .before .before .before .before .before .before .before .args .outw .now)) (record { 0 = ((c .before .before .before .before .before .before .before .args .e)) }) (search needs))
 
 pub hg-subgroup-over-spec : {M : Type 1} → statement M
 hg-subgroup-over-spec =
-    tie.close
-    (tie.spec subgroup-from-requires to-overgroup-requires reached-code-requires returns)
+    tie.close (tie.spec outline-from-requires over-by-requires reached-code-requires returns)
