@@ -31,6 +31,8 @@ use egg::Reached;
 use egg::Refusal;
 use egg::Verdict;
 
+pub mod one;
+
 // The questions that are answered factor by factor; the definitions name them.
 pub enum Asked {
     Compose,

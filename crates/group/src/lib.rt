@@ -1,5 +1,5 @@
 // group.rs: direct products of factors. A product is a value: up to eight handles of factors that stand in one table buffer, the fastest digit first.
-// One factor by itself is asked by the factor's own calls, which have nothing to split.
+// What a factor can be asked is asked of the factor itself where there is one alone, since there is nothing to split.
 // Every call checks, in this order: 17 for each handle, 14 for its arguments, 15, 1 to 4, and then 17 in what it reads.
 ghost use mathlib.Core.Path.{_≡_};
 ghost use mathlib.Core.List.{[], _∷_};
@@ -17,7 +17,6 @@ use egg::Reached;
 use egg::Verdict;
 use inner::Limit;
 
-pub mod alone;
 pub mod inner;
 
 // The factors; only the first `count` are looked at.
@@ -247,7 +246,7 @@ pub fn powi(table: &[u32], g: Group, a: GroupElementId, i: i32) -> Reached
 {
     if inner::alone(g) {
         let h = g.factors[0];
-        return alone::powi(table, h, a, i);
+        return inner::one::powi(table, h, a, i);
     }
     match inner::admit(table, g, a.0, Limit::Elements, 0, Limit::Number(1)) {
         Verdict::Refused(why) => Reached::Refused(why),

@@ -176,9 +176,9 @@ cleared-whole w k f q z =
     z ∙ ap (λ (l : ℕ). replicate l 0)
     (length-append f (drop k w) ∙ ap (λ (l : ℕ). l + length (drop k w)) q ∙ sym (length-append (take k w) (drop k w)) ∙ ap length (take-append-drop k w))
 
--- What was lent has room for an element at least, and its front is as long as eight times the room.
+-- What was lent has room for an element at least, and is as long as the room at least.
 pub front-lent : (table start : ℕ) (work : List ℕ) (room : ℕ) {d : ℕ} → lentRight table start (length work) room 8 ≡ true → d ≡ workNeed 8 room
-    → (1 ≤ room) × (8 * room ≤ length (take d work))
+    → (1 ≤ room) × (room ≤ length (take d work))
 unfolding hasRoom
 front-lent table start work room {d} h q =
     let a : 1 ≤ room = leb-true 1 room (and-first (leb 1 room) _ (and-second (leb 8 8) _ (lent-table table start (length work) room 8 h))) in
@@ -187,9 +187,9 @@ front-lent table start work room {d} h q =
     (a, omega arith)
 
 pub told-front : (size : ℕ) (source : ℕ → ℕ → Reached) (room M K : ℕ) (byte : ℕ → ℕ) (w : List ℕ) (p : Picks) {t f x inn outw : List ℕ}
-    → 1 ≤ room → 8 * room ≤ length w → x ≡ zeroed w → pickedOf p t f inn outw ≡ predicateIn size (take (8 * room) w) source room M K byte
+    → 1 ≤ room → room ≤ length w → x ≡ zeroed w → pickedOf p t f inn outw ≡ predicateIn size (take room w) source room M K byte
     → pickedOf p t x inn outw ≡ predicateIn size w source room M K byte
 told-front size source room M K byte w p {t} {f} {x} {inn} {outw} some long z q =
-    let front : length (take (8 * room) w) ≡ 8 * room = length-take-le (8 * room) w long in
+    let front : length (take room w) ≡ room = length-take-le room w long in
     ap (λ (l : List ℕ). pickedOf p t l inn outw) z ∙ ap (λ (y : Picked). pickedWith (zeroed w) y) q
-    ∙ sym (predicate-with size source room M K byte some w (take (8 * room) w) (omega arith) (omega arith))
+    ∙ sym (predicate-with size source room M K byte some w (take room w) (omega arith) (omega arith))

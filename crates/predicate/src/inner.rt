@@ -195,10 +195,10 @@ fn told_in_front(
     members: &[u8],
     room: u32,
 ) -> Picks
-    requires { ⌜ (((allFit (length (now from)) (handles over) ≡ true) × (elementsOf (handles over) ≤ 4294967295)) × (length (now inn) ≤ 65535)) × ((1 ≤ room) × (8 * room ≤ length (now w))) ⌝ }
+    requires { ⌜ (((allFit (length (now from)) (handles over) ≡ true) × (elementsOf (handles over) ≤ 4294967295)) × (length (now inn) ≤ 65535)) × ((1 ≤ room) × (room ≤ length (now w))) ⌝ }
     ensures { λ r. ⌜ (pickedOf r (now (t .exit)) (now (w .exit)) (now (inn .exit)) (now (outw .exit)) ≡ predicateIn (length (now (t .entry))) (now (w .entry)) (composes (now (from .entry)) (handles over)) room (length (now (inn .entry))) (length (now (outw .entry))) (λ y. getD (now (members .entry)) y 0)) × Eight r ⌝ }
 {
-    let front = 8 * (room as usize);
+    let front = room as usize;
     let p = told_in(t, &mut w[..front], inn, outw, from, over, members, room);
     egg::inner::clear(w);
     p

@@ -725,13 +725,14 @@ pub fn right_of(s: Subgroup, g: Group) -> Subgrouped
 }
 
 // x with w for its part within, where the factors there have n elements and are to have m.
-fn replaced(x: GroupElementId, stride: u64, n: u64, w: u32, m: u64) -> GroupElementId
-    requires { ⌜ (1 ≤ stride) × ((1 ≤ n) × (unfactorIndices (withWithin (factorIndices (x .0) stride n) w) stride m < 4294967296)) ⌝ }
-    ensures { λ r. ⌜ r .0 ≡ unfactorIndices (withWithin (factorIndices (x .0) stride n) w) stride m ⌝ }
+fn replaced(x: GroupElementId, stride: u64, n: u64, w: GroupElementId, m: u64) -> GroupElementId
+    requires { ⌜ (1 ≤ stride) × ((1 ≤ n) × (unfactorIndices (withWithin (factorIndices (x .0) stride n) (w .0)) stride m < 4294967296)) ⌝ }
+    ensures { λ r. ⌜ r .0 ≡ unfactorIndices (withWithin (factorIndices (x .0) stride n) (w .0)) stride m ⌝ }
 {
     let whole = x.0;
+    let part = w.0;
     let y = whole as u64;
-    GroupElementId((((y / stride / n) * m + (w as u64)) * stride + y % stride) as u32)
+    GroupElementId((((y / stride / n) * m + (part as u64)) * stride + y % stride) as u32)
 }
 
 // The subgroup's e in the overgroup.
@@ -747,7 +748,7 @@ pub fn carry_over(outw: &[u32], o: Outline, e: GroupElementId) -> Reached
     if m <= (w as u64) {
         return egg::inner::refuse(17, 0);
     }
-    Reached::Element(replaced(e, stride, n, w, m))
+    Reached::Element(replaced(e, stride, n, GroupElementId(w), m))
 }
 
 // The overgroup's x in the subgroup.
@@ -771,7 +772,7 @@ pub fn carry_back(inn: &[u32], o: Outline, x: GroupElementId) -> Within
             c: 0,
         });
     }
-    Within::Element(replaced(x, stride, m, w, n))
+    Within::Element(replaced(x, stride, m, GroupElementId(w), n))
 }
 
 // `to_overgroup` and `to_subgroup` by the outline.

@@ -42,7 +42,7 @@ impl Product {
         let e = |x: u32| x % count;
         let g = |x: u32| (x % n) as u8;
         let f = |x: u32| (x % factors) as u8;
-        let mut word = [0; 8 * 4096];
+        let mut word = vec![0; if name == "word" { 8 * 4096 } else { 0 }];
         let letters = |word: &[u8]| word.iter().map(|&g| u32::from(g) + 1).sum();
         match (name, single) {
             ("step", Some(h)) => summed(asked, &mut |a, b| raw::step(t, h, e(a), g(b))),

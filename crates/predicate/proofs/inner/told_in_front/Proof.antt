@@ -1,6 +1,5 @@
 -- The front is lent to the builds, and then the whole is cleared.
 use mathlib.Core.Path.{sym}
-use Prim.Native.Nat.{_*_}
 use lib.ListN.{length, getD}
 use lib.Seq.{length-take-le}
 use Rattle.group.specs.Handles.{handles}
@@ -9,9 +8,6 @@ use Rattle.predicate.proofs.Front.{cleared-whole, told-front}
 use borrow.Author.Needs.{needs}
 use Rattle.predicate.proofs.inner.told_in_front.Statement.{statement}
 use Rattle.predicate.proofs.inner.told_in_front.Tie as tie
-
-mul-front : tie.Need-mul-front
-mul-front c = search needs
 
 slice-relend-prefix-told-in : tie.Need-slice-relend-prefix-told-in
 slice-relend-prefix-told-in c = search needs
@@ -38,13 +34,12 @@ same-length-4 : tie.Need-same-length-4
 same-length-4 c = search needs
 
 returns : tie.Need-returns
-returns c = let a = (c .before .before .before .before .before .before .before .before .before .before .before .before .before .before .before .before .before .before .before .before .before .before .before .args) in (told-front (length (a .t .now)) (composes (a .from .now) (handles (a .over))) (a .room) (length (a .inn .now)) (length (a .outw .now)) (λ y. getD (a .members .now) y 0) (a .w .now) ((c .before .before .before .before .before .before .before .before .before .before .before .before .told-in .result)) ((c .before .before .before .before .before .before .before .before .before .before .before .before .before .before .before .before .before .before .before .before .before .before .before .pre .1 .0)) ((c .before .before .before .before .before .before .before .before .before .before .before .before .before .before .before .before .before .before .before .before .before .before .before .pre .1 .1)) (cleared-whole (a .w .now) (8 * a .room) ((c .before .before .before .before .before .before .before .before .before .before .before .before .told-in .last .1 .0)) ((c .before .before .before .before .before .before .before .before .before .before .before .before .told-in .kept .1 .0)) ((c .before .before .clear .ensures))) ((c .before .before .before .before .before .before .before .before .before .before .before .before .told-in .ensures .0)), (c .before .before .before .before .before .before .before .before .before .before .before .before .told-in .ensures .1))
+returns c = let a = (c .before .before .before .before .before .before .before .before .before .before .before .before .before .before .before .before .before .before .before .before .before .before .before .args) in (told-front (length (a .t .now)) (composes (a .from .now) (handles (a .over))) (a .room) (length (a .inn .now)) (length (a .outw .now)) (λ y. getD (a .members .now) y 0) (a .w .now) ((c .before .before .before .before .before .before .before .before .before .before .before .before .told-in .result)) ((c .before .before .before .before .before .before .before .before .before .before .before .before .before .before .before .before .before .before .before .before .before .before .before .pre .1 .0)) ((c .before .before .before .before .before .before .before .before .before .before .before .before .before .before .before .before .before .before .before .before .before .before .before .pre .1 .1)) (cleared-whole (a .w .now) (a .room) ((c .before .before .before .before .before .before .before .before .before .before .before .before .told-in .last .1 .0)) ((c .before .before .before .before .before .before .before .before .before .before .before .before .told-in .kept .1 .0)) ((c .before .before .clear .ensures))) ((c .before .before .before .before .before .before .before .before .before .before .before .before .told-in .ensures .0)), (c .before .before .before .before .before .before .before .before .before .before .before .before .told-in .ensures .1))
 
 pub told-in-front-spec : {M : Type 1} → statement M
 told-in-front-spec =
     tie.close
     (tie.spec
-    mul-front
     slice-relend-prefix-told-in
     slice-aggregate-told-in
     told-in-requires

@@ -9,8 +9,8 @@ use Rattle.group.specs.Alone.{powiAlone}
 use Rattle.group.proofs.Signs.{read-is}
 use Rattle.factor.proofs.Admits.{admitted, reach-refused, reach-fine}
 use borrow.Author.Needs.{needs}
-use Rattle.group.proofs.alone.powi.Statement.{statement}
-use Rattle.group.proofs.alone.powi.Tie as tie
+use Rattle.group.proofs.inner.one.powi.Statement.{statement}
+use Rattle.group.proofs.inner.one.powi.Tie as tie
 
 admit-requires : tie.Need-admit-requires
 admit-requires c κs = search needs

@@ -3,8 +3,8 @@ use mathlib.Core.Path.{refl}
 use Rattle.factor.specs.Questions.{composeIn, inverseIn}
 use Rattle.group.proofs.Signs.{positive-cast, powers-positive, powers-refused, least-refused, least-squared, negative-fits, negative-cast, powers-negative}
 use borrow.Author.Needs.{needs}
-use Rattle.group.proofs.alone.powi_in.Statement.{statement}
-use Rattle.group.proofs.alone.powi_in.Tie as tie
+use Rattle.group.proofs.inner.one.powi_in.Statement.{statement}
+use Rattle.group.proofs.inner.one.powi_in.Tie as tie
 
 cast-power : tie.Need-cast-power
 cast-power c = positive-cast (c .before .before .args .i) (c .before .before .fits .i) (c .if1 .taken)

@@ -6,12 +6,12 @@ use Rattle.group.proofs.Powers.{power-none, power-stop, square-stop, po
 use Prim.Native.Nat.{ℕ, _<_}
 use borrow.Fn.Kinds.{In}
 use borrow.Fn.PlainCycle.{Measures, is, falls, and}
-use Rattle.group.proofs.alone.power.Reads as power
-use Rattle.group.proofs.alone.power.Kinds as power-kinds
-use Rattle.group.proofs.alone.+power.Lts-power as power-lts
+use Rattle.group.proofs.inner.one.power.Reads as power
+use Rattle.group.proofs.inner.one.power.Kinds as power-kinds
+use Rattle.group.proofs.inner.one.+power.Lts-power as power-lts
 use Rattle.factor.proofs.inner.compose_elements.Reads as compose-elements-reads
-use Rattle.group.proofs.alone.+power.{statement}
-use Rattle.group.proofs.alone.+power.Tie.{close}
+use Rattle.group.proofs.inner.one.+power.{statement}
+use Rattle.group.proofs.inner.one.+power.Tie.{close}
 
 abbrev μ-power : Measures 1 power-kinds.ps ℕ
 μ-power κs a = a .1 .1 .1 .1 .0
