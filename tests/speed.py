@@ -70,7 +70,7 @@ for turn in [1..3] do
   cosets := CosetTableFromGensAndRels(free, relations, []);
   least := Minimum(least, NanosecondsSinceEpoch() - start);
 od;
-Print(Length(cosets[1]), " ", least, "\n");
+Print(Length(cosets[1]), " ", least, "\\n");
 """
 
 
