@@ -1,4 +1,3 @@
 pub mod Composed
 pub mod Questions
 pub mod Relations
-pub mod Legs

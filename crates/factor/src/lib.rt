@@ -58,7 +58,7 @@ pub fn generator(table: &[u32], f: Factor, g: GeneratorId) -> Reached
 {
     match inner::admit(table, f, GroupElementId(0), GroupElementId(0)) {
         Verdict::Refused(why) => Reached::Refused(why),
-        Verdict::Fine => inner::generator_in(
+        Verdict::Fine => walks::inner::generator_in(
             egg::inner::part(table, f),
             f.generators,
             f.elements,
@@ -72,7 +72,7 @@ pub fn word_length(table: &[u32], f: Factor, e: GroupElementId) -> Counted
 {
     match inner::admit(table, f, e, GroupElementId(0)) {
         Verdict::Refused(why) => Counted::Refused(why),
-        Verdict::Fine => inner::length_in(egg::inner::part(table, f), f.generators, e),
+        Verdict::Fine => words::inner::length_in(egg::inner::part(table, f), f.generators, e),
     }
 }
 
@@ -81,7 +81,12 @@ pub fn inverse(table: &[u32], f: Factor, a: GroupElementId) -> Reached
 {
     match inner::admit(table, f, a, GroupElementId(0)) {
         Verdict::Refused(why) => Reached::Refused(why),
-        Verdict::Fine => inner::inverse_in(egg::inner::part(table, f), f.generators, f.elements, a),
+        Verdict::Fine => walks::inner::inverse_in(
+            egg::inner::part(table, f),
+            f.generators,
+            f.elements,
+            a,
+        ),
     }
 }
 
@@ -90,7 +95,7 @@ pub fn compose(table: &[u32], f: Factor, a: GroupElementId, b: GroupElementId) -
 {
     match inner::admit(table, f, a, b) {
         Verdict::Refused(why) => Reached::Refused(why),
-        Verdict::Fine => inner::compose_elements(
+        Verdict::Fine => compose::inner::compose_elements(
             egg::inner::part(table, f),
             f.generators,
             f.elements,
@@ -106,7 +111,7 @@ pub fn conjugate(table: &[u32], f: Factor, a: GroupElementId, b: GroupElementId)
 {
     match inner::admit(table, f, a, b) {
         Verdict::Refused(why) => Reached::Refused(why),
-        Verdict::Fine => inner::conjugate_elements(
+        Verdict::Fine => compose::inner::conjugate_elements(
             egg::inner::part(table, f),
             f.generators,
             f.elements,
@@ -122,7 +127,7 @@ pub fn write_word(table: &[u32], f: Factor, e: GroupElementId, out: &mut [u8]) -
 {
     match inner::admit(table, f, e, GroupElementId(0)) {
         Verdict::Refused(why) => Counted::Refused(why),
-        Verdict::Fine => inner::write_in(
+        Verdict::Fine => words::inner::write_in(
             egg::inner::part(table, f),
             f.generators,
             f.elements,

@@ -14,11 +14,7 @@ use Rattle.egg.specs.Table.{pick}
 use Rattle.egg.specs.Scan.{refusedOf, andThen, scan}
 use Rattle.egg.specs.Pairs.{pairCode}
 use Rattle.egg.specs.Factor.{readStep}
-
--- What goes on from an element; a refusal stands.
-abbrev pub onReached : Reached → (ℕ → Reached) → Reached
-onReached (Element e) f = f (e .0)
-onReached (Refused r) f = Refused r
+use Rattle.walks.specs.Walks.{onReached}
 
 -- From e by a and then b, k times both.
 unfoldable pub turned : ℕ → List ℕ → ℕ → ℕ → ℕ → ℕ → ℕ → Reached

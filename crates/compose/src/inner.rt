@@ -1,0 +1,197 @@
+// Products by the numbers in the rows: quick where every number is in range and the walk has few letters, else as `walks`
+// answers by the definition.
+ghost use mathlib.Core.Path.{_≡_};
+ghost use mathlib.Core.Bool.{true};
+ghost use Prim.Native.Nat.{_+_, _*_, _-_, _<_, _≤_};
+ghost use lib.ListN.{length, getD};
+ghost use lib.Dec.{ltb};
+ghost use Rattle.egg.specs.Table.{pick, startOf};
+ghost use Rattle.walks.specs.Walks.{backAlong, composeIn, conjugateIn};
+use egg::GroupElementId;
+use egg::Reached;
+
+// Whether the rows of all elements stand in the stretch.
+fn rows_within(s: &[u32], n: u8, count: u32) -> bool
+    ensures { λ r. ⌜ (r ≡ true → count * (2 * n + 4) ≤ length (now (s .entry))) ⌝ }
+{
+    (count as usize) * egg::inner::width(n) <= s.len()
+}
+
+// What stands at a place that is known to be there, with no test.
+fn read(s: &[u32], i: usize) -> u32
+    requires { ⌜ i < length (now s) ⌝ }
+    ensures { λ r. ⌜ r ≡ getD (now (s .entry)) i 0 ⌝ }
+{
+    s[i]
+}
+
+// One of the four numbers behind the steps of a row: parent, last letter, length, inverse.
+fn recorded(s: &[u32], n: u8, count: u32, e: GroupElementId, k: usize) -> u32
+    requires { ⌜ (count * (2 * n + 4) ≤ length (now s)) × ((e .0 < count) × (k < 4)) ⌝ }
+    ensures { λ r. ⌜ r ≡ getD (now (s .entry)) (startOf n (e .0) + 2 * n + k) 0 ⌝ }
+{
+    read(s, egg::inner::start(n, e) + 2 * (n as usize) + k)
+}
+
+// The step back from the element that is stored as y, one more than its number: the next row need not wait for the 1 to be
+// taken off.
+fn stored_back(s: &[u32], n: u8, count: u32, y: u32, letter: u32) -> u32
+    requires { ⌜ (count * (2 * n + 4) ≤ length (now s)) × ((0 < y) × ((y ≤ count) × (letter < n))) ⌝ }
+    ensures { λ r. ⌜ r ≡ getD (now (s .entry)) (startOf n (y - 1) + n + letter) 0 ⌝ }
+{
+    let behind = (n as usize) + 4 - (letter as usize);
+    read(s, egg::inner::start(n, GroupElementId(y)) - behind)
+}
+
+// From an element back along a word, with one test for each number that is read; the count where one is out of range.
+fn retrace(
+    s: &[u32],
+    n: u8,
+    count: u32,
+    from: GroupElementId,
+    e: GroupElementId,
+    letters: u32,
+) -> u32
+    requires { ⌜ (count * (2 * n + 4) ≤ length (now s)) × ((from .0 < count) × (e .0 < count)) ⌝ }
+    ensures { λ r. ⌜ (r < count → backAlong letters (now (s .entry)) n count (from .0) (e .0) ≡ Reached.Element (record { 0 = r })) ⌝ }
+{
+    let start = from.0;
+    let mut y = start + 1;
+    let mut at = e.0;
+    let mut left = letters;
+    while 0 < left {
+        let p = recorded(s, n, count, GroupElementId(at), 0);
+        if count <= p {
+            return count;
+        }
+        let letter = recorded(s, n, count, GroupElementId(at), 1);
+        if (n as u32) <= letter {
+            return count;
+        }
+        let x = stored_back(s, n, count, y, letter);
+        if x == 0 {
+            return count;
+        }
+        if count < x {
+            return count;
+        }
+        y = x;
+        at = p;
+        left -= 1;
+    }
+    y - 1
+}
+
+fn shorter(own: u32, len: u32) -> bool
+    ensures { λ r. ⌜ r ≡ ltb own len ⌝ }
+{
+    own < len
+}
+
+fn chosen(first: bool, x: u32, y: u32) -> u32
+    ensures { λ r. ⌜ r ≡ pick first x y ⌝ }
+{
+    if first { x } else { y }
+}
+
+// The product of two elements by the numbers in their rows, where each is in range and the walk has few letters; else the
+// count or more, and `compose_with_care` has the answer. The inverse is read and looked at on both ways: so the two join with
+// no branch, which a processor would guess wrong every other time.
+fn product_number(s: &[u32], n: u8, count: u32, a: GroupElementId, b: GroupElementId) -> u32
+    ensures { λ r. ⌜ (r < count → composeIn (now (s .entry)) n count (a .0) (b .0) ≡ Reached.Element (record { 0 = r })) ⌝ }
+{
+    let first = a.0;
+    let second = b.0;
+    if !rows_within(s, n, count) {
+        return count;
+    }
+    if count <= first {
+        return count;
+    }
+    if count <= second {
+        return count;
+    }
+    let len = recorded(s, n, count, GroupElementId(second), 2);
+    if 4096 < len {
+        return count;
+    }
+    let i = recorded(s, n, count, GroupElementId(second), 3);
+    if count <= i {
+        return count;
+    }
+    let own = recorded(s, n, count, GroupElementId(first), 2);
+    let other = recorded(s, n, count, GroupElementId(i), 2);
+    if len < other {
+        return count;
+    }
+    let inverted = shorter(own, len);
+    let letters = chosen(inverted, own, other);
+    if 64 < letters {
+        return count;
+    }
+    let from = chosen(inverted, i, first);
+    let word = chosen(inverted, first, i);
+    let x = retrace(
+        s,
+        n,
+        count,
+        GroupElementId(from),
+        GroupElementId(word),
+        letters,
+    );
+    if count <= x {
+        return count;
+    }
+    let z = recorded(s, n, count, GroupElementId(x), 3);
+    if count <= z {
+        return count;
+    }
+    chosen(inverted, z, x)
+}
+
+pub fn compose_elements(
+    s: &[u32],
+    n: u8,
+    count: u32,
+    a: GroupElementId,
+    b: GroupElementId,
+) -> Reached
+    ensures { λ r. ⌜ r ≡ composeIn (now (s .entry)) n count (a .0) (b .0) ⌝ }
+{
+    let x = product_number(&s[..], n, count, a, b);
+    if x < count {
+        return Reached::Element(GroupElementId(x));
+    }
+    walks::inner::compose_with_care(&s[..], n, count, a, b)
+}
+
+// a·b·a⁻¹ as `product_number` gives a product.
+fn conjugate_number(s: &[u32], n: u8, count: u32, a: GroupElementId, b: GroupElementId) -> u32
+    ensures { λ r. ⌜ (r < count → conjugateIn (now (s .entry)) n count (a .0) (b .0) ≡ Reached.Element (record { 0 = r })) ⌝ }
+{
+    let c = product_number(&s[..], n, count, a, b);
+    if count <= c {
+        return count;
+    }
+    let i = egg::inner::get(s, egg::inner::inverse_at(n, a));
+    if count <= i {
+        return count;
+    }
+    product_number(&s[..], n, count, GroupElementId(c), GroupElementId(i))
+}
+
+pub fn conjugate_elements(
+    s: &[u32],
+    n: u8,
+    count: u32,
+    a: GroupElementId,
+    b: GroupElementId,
+) -> Reached
+    ensures { λ r. ⌜ r ≡ conjugateIn (now (s .entry)) n count (a .0) (b .0) ⌝ }
+{
+    let x = conjugate_number(&s[..], n, count, a, b);
+    if x < count {
+        return Reached::Element(GroupElementId(x));
+    }
+    walks::inner::conjugate_with_care(&s[..], n, count, a, b)
+}

@@ -1,0 +1,2 @@
+// abstract_group.rs: products and conjugates again, by as few reads as they can be had.
+pub mod inner;

@@ -1,0 +1,65 @@
+-- Walks through a factor's stretch s, with n generators and `count` elements, and what is answered by them: products, inverses, conjugates and the
+-- elements of generators. Document 01: "Calls on handles check 17 in the handle, then 14, .. then 17 in what they read." The handle is looked
+-- at before.
+-- Assumes nothing.
+use Prim.Native.Nat.{ℕ, zero, suc, _+_, _-_}
+use mathlib.Core.List.{List}
+use lib.ListN.{getD}
+use lib.Dec.{eqb, ltb, leb}
+use Rattle.egg.specs.declared.Reached.{Reached}
+use Rattle.egg.specs.declared.Reached.the-variants.{Element, Refused}
+use Rattle.egg.specs.Table.{pick, startOf, parentOf, lastOf, lengthOf, inverseOf}
+use Rattle.egg.specs.Factor.{refusedReach, readStep}
+
+-- What goes on from an element; a refusal stands.
+abbrev pub onReached : Reached → (ℕ → Reached) → Reached
+onReached (Element e) f = f (e .0)
+onReached (Refused r) f = Refused r
+
+-- From an element along the last k letters of the recorded word that ends at e: first to the parent's element, then by the last letter.
+unfoldable pub along : ℕ → List ℕ → ℕ → ℕ → ℕ → ℕ → Reached
+along zero s n count from e = Element (record { 0 = from })
+along (suc k) s n count from e =
+    pick (leb count (parentOf s n e)) (refusedReach 17 0)
+    (pick (leb n (lastOf s n e)) (refusedReach 17 0)
+    (onReached (along k s n count from (parentOf s n e)) (λ x. readStep s n count x (lastOf s n e))))
+
+-- A stored step back read for an answer, as `readStep` reads a step.
+unfoldable pub readBack : List ℕ → ℕ → ℕ → ℕ → ℕ → Reached
+readBack s n count e g =
+    pick (eqb (getD s (startOf n e + n + g) 0) 0) (refusedReach 17 0)
+    (pick (ltb count (getD s (startOf n e + n + g) 0)) (refusedReach 17 0) (Element (record { 0 = getD s (startOf n e + n + g) 0 - 1 })))
+
+-- From an element back along the last k letters of the recorded word that ends at e, the last letter first.
+unfoldable pub backAlong : ℕ → List ℕ → ℕ → ℕ → ℕ → ℕ → Reached
+backAlong zero s n count from e = Element (record { 0 = from })
+backAlong (suc k) s n count from e =
+    pick (leb count (parentOf s n e)) (refusedReach 17 0)
+    (pick (leb n (lastOf s n e)) (refusedReach 17 0)
+    (onReached (readBack s n count from (lastOf s n e)) (λ x. backAlong k s n count x (parentOf s n e))))
+
+-- The inverse was found when the table was built, and stands in the row.
+unfoldable pub inverseIn : List ℕ → ℕ → ℕ → ℕ → Reached
+inverseIn s n count a = pick (leb count (inverseOf s n a)) (refusedReach 17 0) (Element (record { 0 = inverseOf s n a }))
+
+-- "`compose` walks the word of the second from the first": forward along the word of the second, or back along the word of its inverse where that is no
+-- longer; or, where the first's word is shorter than the second's, back along that from the inverse of the second, to the inverse of the product. On an
+-- accepted factor all three lead to the same element. An inverse beyond the elements is 17, and so is a length over 4,096.
+unfoldable pub composeIn : List ℕ → ℕ → ℕ → ℕ → ℕ → Reached
+composeIn s n count a b =
+    pick (ltb 4096 (lengthOf s n b)) (refusedReach 17 0)
+    (pick (leb count (inverseOf s n b)) (refusedReach 17 0)
+    (pick (ltb (lengthOf s n a) (lengthOf s n b))
+    (onReached (backAlong (lengthOf s n a) s n count (inverseOf s n b) a) (inverseIn s n count))
+    (pick (ltb (lengthOf s n b) (lengthOf s n (inverseOf s n b)))
+    (along (lengthOf s n b) s n count a b)
+    (backAlong (lengthOf s n (inverseOf s n b)) s n count a (inverseOf s n b)))))
+
+-- "`conjugate(a,b)` is a·b·a⁻¹."
+unfoldable pub conjugateIn : List ℕ → ℕ → ℕ → ℕ → ℕ → Reached
+conjugateIn s n count a b =
+    onReached (composeIn s n count a b) (λ c. onReached (inverseIn s n count a) (λ i. composeIn s n count c i))
+
+-- The element of a generator is read from the identity row; a generator that is none is 14.
+unfoldable pub generatorIn : List ℕ → ℕ → ℕ → ℕ → Reached
+generatorIn s n count g = pick (leb n g) (refusedReach 14 0) (readStep s n count 0 g)

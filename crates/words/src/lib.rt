@@ -1,0 +1,2 @@
+// abstract_group.rs: the recorded words of elements.
+pub mod inner;
