@@ -10,8 +10,8 @@ use borrow.Author.Tests.{le-ltb, lt-ltb}
 use lib.ListN.{length, drop, set, length-set}
 use Rattle.egg.specs.declared.Counted.the-variants.{Count}
 use Rattle.egg.specs.Table.{parentOf, lastOf, lengthOf}
-use Rattle.factor.specs.Questions.{lengthIn, readable, spell, writeIn}
-pub use Rattle.factor.proofs.Questions.{drop-set-here}
+use Rattle.words.specs.Words.{lengthIn, readable, spell, writeIn}
+use Rattle.words.proofs.Words.{drop-set-here}
 use Rattle.meaning.specs.Stored.{wordOf}
 use Rattle.meaning.specs.Sound.{Sound}
 use Rattle.answers.proofs.Steps.{no-letters, not-first, parent-length, parent-below}

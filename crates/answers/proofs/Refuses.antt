@@ -26,8 +26,9 @@ use Rattle.egg.specs.Pairs.{ordersRight}
 use Rattle.egg.specs.Factor.{fitsIn, stretch, refusedReach, readStep, stepAnswer}
 use Rattle.egg.proofs.Rooms.{some}
 use Rattle.egg.proofs.Scans.{refused-fine, says-scan}
-use Rattle.factor.specs.Questions.{admits, ifReach, ifCount, onReached, along, readBack, backAlong, composeIn, inverseIn, conjugateIn, generatorIn}
-use Rattle.factor.specs.Questions.{lengthIn, readable, writeIn}
+use Rattle.factor.specs.Questions.{admits, ifReach, ifCount}
+use Rattle.walks.specs.Walks.{onReached, along, readBack, backAlong, composeIn, inverseIn, conjugateIn, generatorIn}
+use Rattle.words.specs.Words.{lengthIn, readable, writeIn}
 use Rattle.factor.specs.Questions.{composeAnswer, inverseAnswer, conjugateAnswer, countAnswer, generatorAnswer, lengthAnswer, writeAnswer, written, wordPart}
 use Rattle.relations.specs.Relations.{turned, returnsTo, relationAt, doubledRow, pairsRow, relations}
 use Rattle.factor.specs.Relations.{checkAnswer}

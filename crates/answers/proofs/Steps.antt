@@ -12,8 +12,8 @@ use Rattle.egg.specs.Table.{pick, parentOf, lastOf, lengthOf, inverseOf, stepOf
 use Rattle.egg.specs.declared.Reached.{Reached}
 use Rattle.egg.specs.Factor.{readStep}
 use Rattle.egg.proofs.Answers.{read-element}
-use Rattle.factor.proofs.Questions.{back-element}
-use Rattle.factor.specs.Questions.{along, readBack, backAlong, composeIn, inverseIn, conjugateIn, generatorIn}
+use Rattle.walks.proofs.Walks.{back-element}
+use Rattle.walks.specs.Walks.{along, readBack, backAlong, composeIn, inverseIn, conjugateIn, generatorIn}
 use Rattle.theory.specs.Words.{walk, retrace}
 use Rattle.theory.specs.Regular.{compose, inverse}
 use Rattle.theory.specs.Group.{GroupOn, conjugate}

@@ -27,7 +27,9 @@ use Rattle.egg.specs.Factor.{fitsIn, stretch, readStep}
 use Rattle.egg.proofs.Rooms.{some, room-enough, has, limited as room-limited}
 use Rattle.builder.specs.Lending.{noFactor}
 use Rattle.factor.specs.Questions as factor
-use Rattle.factor.specs.Questions.{ifReach, ifCount, onReached, composeIn, inverseIn, readable, spell, lengthIn, writeIn, writtenBy, generatorIn}
+use Rattle.factor.specs.Questions.{ifReach, ifCount}
+use Rattle.walks.specs.Walks.{onReached, composeIn, inverseIn, generatorIn}
+use Rattle.words.specs.Words.{readable, spell, lengthIn, writeIn, writtenBy}
 use Rattle.group.specs.declared.Group.{Group}
 use Rattle.group.specs.declared.inner.Asked.{Asked}
 use Rattle.group.specs.declared.inner.Asked.the-variants.{Compose, Inverse, Conjugate}

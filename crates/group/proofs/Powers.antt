@@ -17,7 +17,7 @@ use Rattle.egg.specs.declared.Reached.the-variants.{Element, Refused}
 use Rattle.egg.specs.declared.Counted.{Counted}
 use Rattle.egg.specs.declared.Counted.the-variants as counted
 use Rattle.egg.specs.Factor.{stretch}
-use Rattle.factor.specs.Questions.{onReached, composeIn}
+use Rattle.walks.specs.Walks.{onReached, composeIn}
 use Rattle.products.specs.Radix.{stride}
 use Rattle.products.specs.Divisors.{euclid, gcd, lcm}
 use Rattle.products.proofs.DivisorLaws.{gcd-left, lcm-left, lcm-right, lcm-least, lcm-positive}

@@ -16,7 +16,7 @@ use Rattle.egg.specs.declared.Reached.{Reached}
 use Rattle.egg.specs.declared.Reached.the-variants.{Element, Refused}
 use Rattle.egg.specs.Table.{pick, startOf, parentOf, lastOf, lengthOf, inverseOf}
 use Rattle.egg.specs.Factor.{stretch, refusedReach, readStep}
-use Rattle.factor.specs.Questions.{onReached, along, readBack, backAlong, composeIn, inverseIn, conjugateIn}
+use Rattle.walks.specs.Walks.{onReached, along, readBack, backAlong, composeIn, inverseIn, conjugateIn}
 use Rattle.products.proofs.RadixLaws.{joined-small, high-small, range-pos}
 use Rattle.group.specs.declared.inner.Asked.{Asked}
 use Rattle.group.specs.declared.inner.Asked.the-variants.{Compose, Inverse, Conjugate}

@@ -9,7 +9,8 @@ use Rattle.egg.specs.declared.GroupElementId.{GroupElementId}
 use Rattle.egg.specs.declared.Factor.{Factor}
 use Rattle.egg.specs.declared.Reached.{Reached}
 use Rattle.egg.specs.Factor.{stretch}
-use Rattle.factor.specs.Questions.{admits, ifReach, composeIn, inverseIn}
+use Rattle.factor.specs.Questions.{admits, ifReach}
+use Rattle.walks.specs.Walks.{composeIn, inverseIn}
 use Rattle.builder.specs.Lending.{noFactor}
 use Rattle.group.specs.declared.Group.{Group}
 use Rattle.group.specs.Handles.{handles}

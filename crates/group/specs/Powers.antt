@@ -12,7 +12,7 @@ use Rattle.egg.specs.declared.Counted.{Counted}
 use Rattle.egg.specs.declared.Counted.the-variants as counted
 use Rattle.egg.specs.Table.{pick}
 use Rattle.egg.specs.Factor.{stretch}
-use Rattle.factor.specs.Questions.{onReached, composeIn}
+use Rattle.walks.specs.Walks.{onReached, composeIn}
 use Rattle.products.specs.Divisors.{lcm}
 use Rattle.group.specs.declared.inner.Asked.the-variants.{Compose, Inverse}
 use Rattle.group.specs.Digits.{digitOf, digitwise}

@@ -7,7 +7,7 @@ ghost use lib.ListN.{length, getD, drop};
 ghost use Rattle.egg.specs.Factor.{fitsIn};
 ghost use Rattle.egg.specs.Scan.{refusedOf};
 ghost use Rattle.builder.specs.Lending.{noFactor};
-ghost use Rattle.factor.specs.Questions.{composeIn};
+ghost use Rattle.walks.specs.Walks.{composeIn};
 ghost use Rattle.products.specs.Radix.{stride, split, join, project, inject};
 ghost use Rattle.products.specs.Divisors.{gcd, lcm};
 ghost use Rattle.group.specs.Handles.{handles, sizes, elementsOf, generatorsOf, allFit, capped, seen, limitOf, limitSeen, limited, admits, groupOf, noGroup};
@@ -281,7 +281,7 @@ pub fn compose_digits(table: &[u32], g: Group, a: GroupElementId, b: GroupElemen
         let h = g.factors[f];
         let n = h.elements;
         let s = egg::inner::part(table, h);
-        let r = factor::inner::compose_elements(
+        let r = compose::inner::compose_elements(
             s,
             h.generators,
             n,
@@ -313,7 +313,7 @@ pub fn inverse_digits(table: &[u32], g: Group, a: GroupElementId) -> Reached
         let h = g.factors[f];
         let n = h.elements;
         let s = egg::inner::part(table, h);
-        let r = factor::inner::inverse_in(s, h.generators, n, GroupElementId(x % n));
+        let r = walks::inner::inverse_in(s, h.generators, n, GroupElementId(x % n));
         let Reached::Element(d) = r else {
             return r;
         };
@@ -339,7 +339,7 @@ pub fn conjugate_digits(table: &[u32], g: Group, a: GroupElementId, b: GroupElem
         let h = g.factors[f];
         let n = h.elements;
         let s = egg::inner::part(table, h);
-        let r = factor::inner::conjugate_elements(
+        let r = compose::inner::conjugate_elements(
             s,
             h.generators,
             n,
@@ -428,17 +428,6 @@ pub fn inject_in(table: &[u32], g: Group, f: usize, x: GroupElementId) -> Reache
     Reached::Element(GroupElementId(s * d))
 }
 
-fn refused_count(number: u32) -> Counted
-    ensures { λ r. ⌜ r ≡ Counted.Refused (record { number = number; a = 0; b = 0; c = 0 }) ⌝ }
-{
-    Counted::Refused(Refusal {
-        number,
-        a: 0,
-        b: 0,
-        c: 0,
-    })
-}
-
 // The digits of e to the places from 0 on; 4 where the list is short.
 pub fn split_in(table: &[u32], g: Group, e: GroupElementId, out: &mut [u32]) -> Counted
     requires { ⌜ allFit (length (now table)) (handles g) ≡ true ⌝ }
@@ -446,7 +435,7 @@ pub fn split_in(table: &[u32], g: Group, e: GroupElementId, out: &mut [u32]) -> 
 {
     let c = listed(g);
     if out.len() < c {
-        return refused_count(4);
+        return words::inner::refused_count(4);
     }
     let mut f: usize = 0;
     let mut rest = e.0;
@@ -578,7 +567,7 @@ fn period_in(s: &[u32], n: u8, count: u32, a: GroupElementId) -> Counted
         if x == 0 {
             return Counted::Count(k);
         }
-        match factor::inner::compose_elements(&s[..], n, count, GroupElementId(x), a) {
+        match compose::inner::compose_elements(&s[..], n, count, GroupElementId(x), a) {
             Reached::Refused(why) => {
                 return Counted::Refused(why);
             }
@@ -589,7 +578,7 @@ fn period_in(s: &[u32], n: u8, count: u32, a: GroupElementId) -> Counted
         k += 1;
         left -= 1;
     }
-    refused_count(17)
+    words::inner::refused_count(17)
 }
 
 // The least common multiple of the periods of the digits.
@@ -632,7 +621,7 @@ pub fn lengths(table: &[u32], g: Group, e: GroupElementId) -> Counted
     while f < c {
         let h = g.factors[f];
         let n = h.elements;
-        let r = factor::inner::length_in(
+        let r = words::inner::length_in(
             egg::inner::part(table, h),
             h.generators,
             GroupElementId(rest % n),
@@ -661,7 +650,7 @@ fn readables(table: &[u32], g: Group, e: GroupElementId) -> bool
         let s = egg::inner::part(table, h);
         let d = rest % n;
         let len = egg::inner::word_length(s, h.generators, GroupElementId(d));
-        if !factor::inner::readable(s, h.generators, n, GroupElementId(d), len) {
+        if !words::inner::readable(s, h.generators, n, GroupElementId(d), len) {
             return false;
         }
         rest /= n;
@@ -689,7 +678,7 @@ fn spell_from(
         left -= 1;
         let x = egg::inner::last(s, n, GroupElementId(at));
         let letter = (((offset as u64) + (x as u64)) % 256) as u8;
-        factor::inner::put_byte(out, start + (left as usize), letter);
+        words::inner::put_byte(out, start + (left as usize), letter);
         at = egg::inner::parent(s, n, GroupElementId(at));
     }
 }
@@ -726,10 +715,10 @@ pub fn write_in(table: &[u32], g: Group, e: GroupElementId, out: &mut [u8]) -> C
         return r;
     };
     if out.len() < (k as usize) {
-        return refused_count(4);
+        return words::inner::refused_count(4);
     }
     if !readables(table, g, e) {
-        return refused_count(17);
+        return words::inner::refused_count(17);
     }
     spells(table, g, e, out);
     Counted::Count(k)

@@ -27,7 +27,7 @@ use Rattle.reading.specs.Reading.{Placed, placed, thenPlaced, readPlace, readRo
 use Rattle.builder.specs.Finish.{Built, built, zeroed, finished, finishedPlaced}
 use Rattle.builder.specs.Lending.{tableNeed, workNeed, lentRight, noFactor, refusedMade, Making, making, lentBack}
 use Rattle.builder.proofs.Lending.{lent-table, lent-enough}
-use Rattle.factor.specs.Questions.{onReached}
+use Rattle.walks.specs.Walks.{onReached}
 use Rattle.meaning.specs.Numbers.{member, In}
 use Rattle.promises.specs.Leaves.{Leaves, lentFor}
 use Rattle.promises.proofs.ReadLengths.{placedTable, place-length, row-length}

@@ -10,7 +10,8 @@ use Rattle.builder.specs.Finish.{finished}
 use Rattle.builder.specs.Lending.{lentRight, within}
 use Rattle.reading.specs.Reading.{readPlace, readRow, readFrom}
 use Rattle.factor.specs.Composed.{composedIn, composed}
-use Rattle.factor.specs.Questions.{along, readBack, backAlong, composeIn, inverseIn, conjugateIn, readable, lengthIn}
+use Rattle.walks.specs.Walks.{along, readBack, backAlong, composeIn, inverseIn, conjugateIn}
+use Rattle.words.specs.Words.{readable, lengthIn}
 use Rattle.group.specs.Handles.{limited, admits, joins}
 use Rattle.group.specs.Digits.{digitwise, stepIn}
 use Rattle.group.specs.Powers.{periodFrom, periods}

@@ -17,7 +17,8 @@ use Rattle.meaning.specs.Stored.{wordOf}
 use Rattle.meaning.specs.Sound.{Sound}
 use Rattle.answers.specs.Accepted.{factorWord}
 use Rattle.answers.proofs.Steps.{no-letters, not-first, parent-length, parent-below}
-use Rattle.answers.proofs.Letters.{drop-set-here, word-readable, length-in}
+use Rattle.words.proofs.Words.{drop-set-here}
+use Rattle.answers.proofs.Letters.{word-readable, length-in}
 use Rattle.products.specs.Product.{product, shift}
 use Rattle.products.proofs.RadixLaws.{low-small, high-small}
 use Rattle.group.specs.Handles.{generatorsOf}

@@ -18,7 +18,8 @@ use Rattle.egg.specs.declared.Counted.{Counted}
 use Rattle.egg.specs.declared.Counted.the-variants as counted
 use Rattle.egg.specs.Table.{lengthOf}
 use Rattle.egg.specs.Factor.{stretch}
-use Rattle.factor.specs.Questions.{composeIn, lengthIn}
+use Rattle.walks.specs.Walks.{composeIn}
+use Rattle.words.specs.Words.{lengthIn}
 use Rattle.answers.specs.Refuses.{VerdictIn, ReachedIn, CountedIn}
 use Rattle.answers.proofs.Refuses.{reached-element, reached-refused, reached-pick, reached-on, reached-if, counted-count, counted-refused, counted-pick, counted-if}
 use Rattle.answers.proofs.Refuses.{verdict-fine, verdict-refused, verdict-pick, verdict-scan, reached-widen, step-in, compose-in, inverse-in, conjugate-in}

@@ -14,7 +14,6 @@ use egg::Counted;
 use egg::Factor;
 use egg::GroupElementId;
 use egg::Made;
-use egg::Refusal;
 use egg::Verdict;
 
 pub mod inner;
@@ -130,29 +129,18 @@ fn size(n: u8, count: u32) -> u32
     8 + 2 * (n as u32) * count
 }
 
-fn refused_count(number: u32) -> Counted
-    ensures { λ r. ⌜ r ≡ Counted.Refused (record { number = number; a = 0; b = 0; c = 0 }) ⌝ }
-{
-    Counted::Refused(Refusal {
-        number,
-        a: 0,
-        b: 0,
-        c: 0,
-    })
-}
-
 // Writes the image of a factor to the start of a lent byte buffer and answers its length.
 pub fn write(table: &[u32], f: Factor, out: &mut [u8]) -> Counted
     ensures { λ r. ⌜ (r ≡ writeCount (now (table .entry)) f (length (now (out .entry)))) × (now (out .exit) ≡ writtenImage (now (table .entry)) f (now (out .entry))) ⌝ }
 {
     if !egg::fits(table, f) {
-        return refused_count(17);
+        return words::inner::refused_count(17);
     }
     let n = f.generators;
     let count = f.elements;
     let need = size(n, count);
     if out.len() < (need as usize) {
-        return refused_count(4);
+        return words::inner::refused_count(4);
     }
     let s = egg::inner::part(table, f);
     match writing::all_known(s, n, count) {

@@ -24,7 +24,7 @@ use Rattle.checks.specs.Checks.{checked, check-group, invertFrom, invertOf, fil
 use Rattle.builder.specs.Finish.{built, zeroed, finishedPlaced}
 use Rattle.builder.specs.Lending.{tableNeed, workNeed, lentRight, within, making, lentBack, Making}
 use Rattle.builder.proofs.Lending.{lent-table}
-use Rattle.factor.specs.Questions.{onReached}
+use Rattle.walks.specs.Walks.{onReached}
 use Rattle.relations.specs.Relations.{turned, doubledRow, pairsRow, relationsRow}
 use Rattle.reading.specs.Reading.{placed, readAll}
 use Rattle.factor.specs.Composed.{composedAt, composedIn, composed}

@@ -17,7 +17,7 @@ use Rattle.egg.specs.declared.Reached.the-variants.{Element, Refused}
 use Rattle.egg.specs.Table.{pick}
 use Rattle.egg.specs.Factor.{fitsIn, stretch, readStep}
 use Rattle.egg.proofs.Rooms.{and-first, and-second, some}
-use Rattle.factor.specs.Questions.{onReached}
+use Rattle.walks.specs.Walks.{onReached}
 use Rattle.group.specs.Handles.{handles, elementsOf, generatorsOf, allFit, capped}
 use Rattle.group.specs.Digits.{stepIn}
 use Rattle.group.proofs.Caps.{cap-small}

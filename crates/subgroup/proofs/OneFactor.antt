@@ -14,7 +14,7 @@ use Rattle.egg.specs.declared.Reached.the-variants.{Element, Refused}
 use Rattle.egg.specs.Factor.{fitsIn, stretch}
 use Rattle.egg.proofs.Rooms.{and-first}
 use Rattle.builder.specs.Lending.{noFactor}
-use Rattle.factor.specs.Questions.{onReached, composeIn}
+use Rattle.walks.specs.Walks.{onReached, composeIn}
 use Rattle.group.specs.Handles.{allFit}
 use Rattle.group.specs.Digits.{above, digitwise}
 use Rattle.group.specs.Powers.{composes}

@@ -12,7 +12,8 @@ use Rattle.egg.specs.declared.Reached.{Reached}
 use Rattle.egg.specs.declared.Reached.the-variants as reached
 use Rattle.egg.specs.Table.{pick}
 use Rattle.egg.specs.Factor.{Paper, refusalPaper, refusedReach, readStep, stretch}
-use Rattle.factor.specs.Questions.{ifReach, onReached}
+use Rattle.factor.specs.Questions.{ifReach}
+use Rattle.walks.specs.Walks.{onReached}
 use Rattle.group.specs.Handles.{handles, elementsOf, generatorsOf, capped}
 use Rattle.group.specs.Digits.{stepIn}
 use Rattle.appearance.specs.Renumber.{none}

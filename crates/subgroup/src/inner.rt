@@ -15,7 +15,7 @@ ghost use Rattle.appearance.specs.Renumber.{Mapped, mapRow, mapRows};
 ghost use Rattle.appearance.specs.Build.{Renumbering, renumberIn};
 ghost use Rattle.subgroup.specs.Lent.{shown, subgroupOf, Subgrouping, mapsRight};
 ghost use Rattle.subgroup.specs.Generated.{productOf, entriesRight, smallEnough, admitsGenerators, generatedInto};
-ghost use Rattle.factor.specs.Questions.{onReached};
+ghost use Rattle.walks.specs.Walks.{onReached};
 ghost use Rattle.egg.specs.declared.GroupElementId.{GroupElementId};
 ghost use Rattle.subgroup.specs.Indices.{factorIndices, unfactorIndices, withWithin};
 ghost use Rattle.subgroup.specs.Sides.{overSide, subSide, sidesFit, fewFactors, sidesLimited, leftOf, rightOf, joinable, ifLimited, multiplied, refusedSubgroup};
@@ -178,7 +178,7 @@ fn factor_product(from: &[u32], f: Factor, a: GroupElementId, b: GroupElementId)
     let m = f.elements;
     let x = a.0;
     let y = b.0;
-    factor::inner::compose_elements(
+    compose::inner::compose_elements(
         egg::inner::part(from, f),
         f.generators,
         m,

@@ -9,7 +9,7 @@ use Rattle.checks.specs.Checks.{invertFrom, fillInverses, inversesRight, identi
 use Rattle.reading.specs.Build.{setStep, setWord, adds}
 use Rattle.builder.specs.Finish.{finished}
 use Rattle.builder.specs.Lending.{lentRight, within}
-use Rattle.factor.specs.Questions.{along, readBack, backAlong, composeIn}
+use Rattle.walks.specs.Walks.{along, readBack, backAlong, composeIn}
 use Rattle.group.specs.Handles.{limited}
 use Rattle.group.specs.Digits.{digitwise}
 use Rattle.appearance.specs.Renumber.{mapPlace, mapRow, mapRows}

@@ -32,7 +32,7 @@ use Rattle.group.specs.declared.inner.Asked.the-variants.{Compose}
 use Rattle.group.specs.Handles.{handles, elementsOf, allFit, groupOf}
 use Rattle.group.specs.Digits.{digitOf, digitwise}
 use Rattle.group.specs.Powers.{composes}
-use Rattle.factor.specs.Questions.{onReached}
+use Rattle.walks.specs.Walks.{onReached}
 use Rattle.group.proofs.Lists.{positive}
 use Rattle.group.proofs.Walks.{Below, element, refusal, below-element, digit-below}
 use Rattle.appearance.specs.Build.{renumbering, renumberIn}

@@ -1,6 +1,6 @@
 // Powers in one factor. The powers of a product split its elements at each halving; a product of one factor has nothing to split.
 ghost use mathlib.Core.Path.{_≡_};
-ghost use Rattle.factor.specs.Questions.{composeIn, inverseIn};
+ghost use Rattle.walks.specs.Walks.{composeIn, inverseIn};
 ghost use Rattle.group.specs.Powers.{halves, powers};
 ghost use Rattle.group.specs.Alone.{powiAlone};
 use egg::Factor;
@@ -19,14 +19,14 @@ fn power(s: &[u32], n: u8, count: u32, a: GroupElementId, k: u32) -> Reached
     let Reached::Element(x) = root else {
         return root;
     };
-    let squared = factor::inner::compose_elements(&s[..], n, count, x, x);
+    let squared = compose::inner::compose_elements(&s[..], n, count, x, x);
     let Reached::Element(y) = squared else {
         return squared;
     };
     if k % 2 == 0 {
         return Reached::Element(y);
     }
-    factor::inner::compose_elements(&s[..], n, count, y, a)
+    compose::inner::compose_elements(&s[..], n, count, y, a)
 }
 
 // A negative exponent hands on to the inverse's power; the least has no negation, and squares the power by half of it.
@@ -36,7 +36,7 @@ fn powi_in(s: &[u32], n: u8, count: u32, a: GroupElementId, i: i32) -> Reached
     if 0 <= i {
         return power(&s[..], n, count, a, i as u32);
     }
-    let back = factor::inner::inverse_in(&s[..], n, count, a);
+    let back = walks::inner::inverse_in(&s[..], n, count, a);
     let Reached::Element(b) = back else {
         return back;
     };
@@ -45,7 +45,7 @@ fn powi_in(s: &[u32], n: u8, count: u32, a: GroupElementId, i: i32) -> Reached
         let Reached::Element(x) = root else {
             return root;
         };
-        return factor::inner::compose_elements(&s[..], n, count, x, x);
+        return compose::inner::compose_elements(&s[..], n, count, x, x);
     }
     power(&s[..], n, count, b, (-i) as u32)
 }

@@ -11,7 +11,7 @@ use Rattle.image.proofs.write.Reads as reads
 use Rattle.image.proofs.write.Lts as lts
 use Rattle.egg.proofs.fits.Reads as fits-reads
 use Rattle.egg.proofs.inner.part.Reads as part-reads
-use Rattle.image.proofs.refused_count.Reads as refused-count-reads
+use Rattle.words.proofs.inner.refused_count.Reads as refused-count-reads
 use Rattle.image.proofs.size.Reads as size-reads
 use Rattle.image.proofs.inner.writing.all_known.Reads as all-known-reads
 use Rattle.image.proofs.inner.writing.put_head.Reads as put-head-reads

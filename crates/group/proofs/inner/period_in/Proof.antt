@@ -1,7 +1,7 @@
 -- The powers left to look at give the period that all of them give.
 use mathlib.Core.Path.{_∙_}
 use native.Mathlib.Omega.{arith}
-use Rattle.factor.specs.Questions.{composeIn}
+use Rattle.walks.specs.Walks.{composeIn}
 use Rattle.group.proofs.Powers.{Turning, turning, turn-none, turn-here, turn-stop, turn-on}
 use borrow.Author.Needs.{needs}
 use Rattle.group.proofs.inner.period_in.Statement.{statement}

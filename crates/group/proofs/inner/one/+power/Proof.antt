@@ -1,7 +1,7 @@
 -- `power` calls itself with half of the exponent, which is the measure. One law for each answer.
 use native.Mathlib.Omega.{arith}
 use borrow.Author.Needs.{needs}
-use Rattle.factor.specs.Questions.{composeIn}
+use Rattle.walks.specs.Walks.{composeIn}
 use Rattle.group.proofs.Powers.{power-none, power-stop, square-stop, power-even, power-odd}
 use Prim.Native.Nat.{ℕ, _<_}
 use borrow.Fn.Kinds.{In}
@@ -9,7 +9,7 @@ use borrow.Fn.PlainCycle.{Measures, is, falls, and}
 use Rattle.group.proofs.inner.one.power.Reads as power
 use Rattle.group.proofs.inner.one.power.Kinds as power-kinds
 use Rattle.group.proofs.inner.one.+power.Lts-power as power-lts
-use Rattle.factor.proofs.inner.compose_elements.Reads as compose-elements-reads
+use Rattle.compose.proofs.inner.compose_elements.Reads as compose-elements-reads
 use Rattle.group.proofs.inner.one.+power.{statement}
 use Rattle.group.proofs.inner.one.+power.Tie.{close}
 

@@ -3,7 +3,7 @@ use lib.ListN.{length}
 use mathlib.Core.Path.{_∙_, ap}
 use lib.IntN.{ℤ}
 use Rattle.egg.specs.Factor.{stretch}
-use Rattle.factor.specs.Questions.{composeIn, inverseIn}
+use Rattle.walks.specs.Walks.{composeIn, inverseIn}
 use Rattle.group.specs.Powers.{powers}
 use Rattle.group.specs.Alone.{powiAlone}
 use Rattle.group.proofs.Signs.{read-is}

@@ -1,6 +1,6 @@
 -- One law for each answer: a positive exponent, a negative one, and the least.
 use mathlib.Core.Path.{refl}
-use Rattle.factor.specs.Questions.{composeIn, inverseIn}
+use Rattle.walks.specs.Walks.{composeIn, inverseIn}
 use Rattle.group.proofs.Signs.{positive-cast, powers-positive, powers-refused, least-refused, least-squared, negative-fits, negative-cast, powers-negative}
 use borrow.Author.Needs.{needs}
 use Rattle.group.proofs.inner.one.powi_in.Statement.{statement}
