@@ -106,6 +106,15 @@ def asked(name, factors, questions):
         row("%s, %s" % (name, question), [*setup, "bench %s %d" % (question, turns)], 1e9 / turns, "%.0f")
 
 
+def beside_alone(name, factors, questions):
+    """Beside the Rust, and beside the same questions to the factors one after another, their arguments split before the clock."""
+    setup = ["clear", *("factor enum " + orders for orders in factors), "prod"]
+    for question, turns in questions:
+        whole, each = ([*setup, "bench %s%s %d" % (kind, question, turns)] for kind in ("", "alone "))
+        product, rust, alone = (s * 1e9 / turns for s in least((whole, (OURS,)), (whole, ()), (each, (OURS,))))
+        print("| %s, %s | %.0f | %.0f | %.2f | %.0f | %.2f |" % (name, question, product, rust, rust / product, alone, alone / product), flush=True)
+
+
 # How often each is asked, so that a turn takes a millisecond or more; at order 4096 words are long.
 ALL = (("step", 400000), ("compose", 50000), ("conjugate", 50000), ("inverse", 400000), ("word", 20000), ("powi", 2000), ("period", 2000))
 LONG_WORDS = (("step", 400000), ("compose", 2000), ("conjugate", 2000), ("inverse", 400000), ("word", 2000), ("powi", 500))
@@ -118,10 +127,14 @@ def questions():
 
 
 def products():
+    table("product, question", "ours, ns", "Rust, ns", "times as fast", "its factors alone, ns", "as those")
+    beside_alone("H3 by H3", [H3] * 2, ALL[:-1])
+    beside_alone("eight S3", [S3] * 8, ALL[:-1])
+    beside_alone("H4 by E6", [H4, E6], ALL[:-1])
+    print()
     table("product, question", "ours, ns", "Rust, ns", "times as fast")
-    asked("H3 by H3", [H3] * 2, ALL)
-    asked("eight S3", [S3] * 8, ALL)
-    asked("H4 by E6", [H4, E6], ALL[:-1])
+    asked("H3 by H3", [H3] * 2, ALL[-1:])
+    asked("eight S3", [S3] * 8, ALL[-1:])
 
 
 def ones():

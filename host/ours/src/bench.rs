@@ -33,7 +33,66 @@ pub(crate) fn summed(asked: &[(u32, u32)], ask: &mut dyn FnMut(u32, u32) -> Answ
     Ok(sum)
 }
 
+/// One question to one factor; what its answer is times in the product's, and what is added.
+struct Part {
+    factor: usize,
+    a: u32,
+    b: u32,
+    stride: u32,
+    rest: u32,
+}
+
 impl Product {
+    /// A question to the product as questions to its factors: a step is one factor's, the others are every factor's.
+    fn parts(&self, name: &str, asked: &[(u32, u32)]) -> Result<Vec<Part>, No> {
+        let (t, p) = (&self.table, &self.handles);
+        let (n, count) = (raw::product_generators(t, p)?, raw::product_count(t, p)?);
+        let mut parts = Vec::new();
+        for &(a, b) in asked {
+            let (mut stride, mut before, x) = (1, 0, a % count);
+            for (factor, h) in self.factors.iter().enumerate() {
+                let digit = |x: u32| x / stride % h.elements;
+                let (a, generators) = (digit(x), u32::from(h.generators));
+                match name {
+                    "step" if before <= b % n && b % n < before + generators => {
+                        parts.push(Part { factor, a, b: b % n - before, stride, rest: x - stride * a })
+                    }
+                    "step" => {}
+                    "powi" => parts.push(Part { factor, a, b, stride, rest: 0 }),
+                    "word" => parts.push(Part { factor, a, b: before, stride: 1, rest: 0 }),
+                    _ => parts.push(Part { factor, a, b: digit(b % count), stride, rest: 0 }),
+                }
+                stride = stride.wrapping_mul(h.elements);
+                before += generators;
+            }
+        }
+        Ok(parts)
+    }
+
+    /// The factors one after another, each by its own calls: what the same answers cost with no product.
+    fn ask_alone(&self, name: &str, parts: &[Part]) -> Result<u32, No> {
+        let (t, hs) = (&self.table, &self.factors);
+        let ones: Vec<Product> = hs.iter().map(|&h| Product::of(Vec::new(), vec![h])).collect();
+        let mut word = vec![0; if name == "word" { 4096 } else { 0 }];
+        let mut spelled = |h: Handle, e: u32, before: u32| {
+            raw::word(t, h, e, &mut word).map(|k| word[..k as usize].iter().map(|&g| u32::from(g) + before + 1).sum())
+        };
+        let mut ask: Box<dyn FnMut(&Part) -> Answer<u32>> = match name {
+            "step" => Box::new(|p| raw::step(t, hs[p.factor], p.a, p.b as u8)),
+            "compose" => Box::new(|p| raw::compose(t, hs[p.factor], p.a, p.b)),
+            "conjugate" => Box::new(|p| raw::conjugate(t, hs[p.factor], p.a, p.b)),
+            "inverse" => Box::new(|p| raw::inverse(t, hs[p.factor], p.a)),
+            "word" => Box::new(|p| spelled(hs[p.factor], p.a, p.b)),
+            "powi" => Box::new(|p| raw::product_powi(t, &ones[p.factor].handles, p.a, p.b as i32)),
+            _ => return unsupported(),
+        };
+        let mut sum = 0u32;
+        for p in parts {
+            sum = sum.wrapping_add(p.rest.wrapping_add(p.stride.wrapping_mul(ask(p)?)));
+        }
+        Ok(sum)
+    }
+
     /// By the calls on one factor if it is given, else by those on products.
     fn ask_often(&self, name: &str, single: Option<Handle>, asked: &[(u32, u32)]) -> Result<u32, No> {
         let (t, p) = (&self.table, &self.handles);
@@ -117,6 +176,10 @@ impl Ours {
                 let asked = pairs(number(w, 1)?);
                 let sub = self.sub.clone().ok_or_else(|| "no subgroup".to_string())?;
                 self.least(|_| sub.ask_often(w[0], &asked))
+            }
+            "alone" => {
+                let parts = self.product.parts(w[1], &pairs(number(w, 2)?))?;
+                self.least(|p| p.ask_alone(w[1], &parts))
             }
             "product" => {
                 let asked = pairs(number(w, 2)?);
