@@ -14,10 +14,10 @@ use Rattle.egg.specs.declared.GroupElementId.{GroupElementId}
 use Rattle.egg.specs.declared.Reached.{Reached}
 use Rattle.builder.specs.Lending.{noFactor}
 use Rattle.bridge.specs.Bridge.{handle, paperInto}
-use Rattle.group.specs.declared.Group.{Group}
+use Rattle.handles.specs.declared.Group.{Group}
 use Rattle.group.specs.Questions.{powiAnswer}
-use Rattle.group.proofs.Signs.{read, read-is}
-use Rattle.group.specs.declared.Grouped.{Grouped}
+use Rattle.powers.proofs.Signs.{read, read-is}
+use Rattle.handles.specs.declared.Grouped.{Grouped}
 use Rattle.bridge_group.specs.Product.{byteOf, handleAt, groupedInto}
 
 pub grouped-written : (g : Grouped) (l : List ℕ) {l₁ l₂ : List ℕ} → l₁ ≡ paperInto (g .answer) l → l₂ ≡ putAt l₁ 4 (g .group .count) → l₂ ≡ groupedInto g l

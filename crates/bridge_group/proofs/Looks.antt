@@ -6,8 +6,8 @@ use mathlib.Core.List.{List, _∷_}
 use native.Mathlib.Omega.{arith}
 use lib.ListN.{length, getD, drop}
 use Rattle.builder.specs.Lending.{noFactor}
-use Rattle.group.specs.Handles.{handles}
-use Rattle.group.proofs.Lists.{listed-many, listed-few, turn-at}
+use Rattle.handles.specs.Handles.{handles}
+use Rattle.handles.proofs.Lists.{listed-many, listed-few, turn-at}
 use Rattle.bridge_group.specs.Product.{handleAt, productAt}
 
 module _ (l : List ℕ) (at count : ℕ) where

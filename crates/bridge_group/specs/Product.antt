@@ -8,8 +8,8 @@ use Rattle.egg.specs.declared.Factor.{Factor}
 use Rattle.egg.specs.Table.{pick, putAt}
 use Rattle.builder.specs.Lending.{noFactor}
 use Rattle.bridge.specs.Bridge.{handle, paperInto}
-use Rattle.group.specs.declared.Group.{Group}
-use Rattle.group.specs.declared.Grouped.{Grouped}
+use Rattle.handles.specs.declared.Group.{Group}
+use Rattle.handles.specs.declared.Grouped.{Grouped}
 
 -- A number of generators as far as a byte can tell: what is above it is 255, which fits no buffer, as it does not by itself.
 abbrev pub byteOf : ℕ → ℕ

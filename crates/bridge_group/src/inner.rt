@@ -3,7 +3,7 @@ ghost use mathlib.Core.Path.{_≡_};
 ghost use Prim.Native.Nat.{_+_, _*_, _≤_};
 ghost use Rattle.bridge_group.specs.Product.{byteOf, handleAt, productAt, productOf};
 use egg::Factor;
-use group::Group;
+use handles::Group;
 
 // A number as far as a byte can tell.
 pub fn byte_of(x: u32) -> u8

@@ -3,13 +3,13 @@
 ghost use mathlib.Core.Path.{_≡_};
 ghost use lib.ListN.{length};
 ghost use Rattle.bridge.specs.Bridge.{reachedCode, countedCode, Bridged, bridged};
-ghost use Rattle.group.specs.Handles.{joins};
+ghost use Rattle.handles.specs.Handles.{joins};
 ghost use Rattle.group.specs.Questions.{countAnswer, generatorsAnswer, generatorAnswer, stepAnswer, projectAnswer, injectAnswer, splitAnswer, splitLeaves, joinAnswer, composeAnswer, inverseAnswer, conjugateAnswer, powiAnswer, periodAnswer, lengthAnswer, writeAnswer, written};
-ghost use Rattle.group.specs.Flat.{flat};
+ghost use Rattle.flat.specs.Flat.{flat};
 ghost use Rattle.bridge_group.specs.Product.{productOf, groupedInto};
 use egg::GeneratorId;
 use egg::GroupElementId;
-use group::Grouped;
+use handles::Grouped;
 
 pub mod inner;
 

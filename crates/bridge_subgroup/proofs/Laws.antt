@@ -16,8 +16,8 @@ use Rattle.subgroup.specs.declared.inner.Outline.{Outline}
 use Rattle.subgroup.specs.Sides.{fewFactors}
 use Rattle.subgroup.specs.Outline.{outlineOf, outlineBy, fewOf}
 use Rattle.subgroup.proofs.Outlines.{few-counts, outline-is}
-use Rattle.group.specs.declared.inner.Seen.{Seen}
-use Rattle.group.specs.Handles.{handles, seen}
+use Rattle.handles.specs.declared.inner.Seen.{Seen}
+use Rattle.handles.specs.Handles.{handles, seen}
 use Rattle.bridge_group.specs.Product.{byteOf, handleAt, productAt}
 use Rattle.bridge_group.proofs.Looks.{told-turn}
 use Rattle.bridge_subgroup.specs.Subgroup.{subgroupFrom, subgroupedInto, Bridged, holds, bridged}

@@ -6,7 +6,7 @@ ghost use mathlib.Core.List.{List};
 ghost use lib.ListN.{length, getD};
 ghost use Rattle.bridge.specs.Bridge.{reachedCode, paperInto};
 ghost use Rattle.bridge_group.specs.Product.{byteOf, productOf, productAt};
-ghost use Rattle.group.specs.Handles.{handles, seen};
+ghost use Rattle.handles.specs.Handles.{handles, seen};
 ghost use Rattle.subgroup.specs.Outline.{outlineOf, Measured};
 ghost use Rattle.subgroup.specs.Generated.{fromGenerators};
 ghost use Rattle.predicate.specs.Predicate.{fromPredicate};
@@ -16,7 +16,7 @@ ghost use Rattle.bridge_subgroup.specs.Subgroup.{subgroupFrom, withinCod
 use egg::GeneratorId;
 use egg::GroupElementId;
 use egg::Made;
-use group::inner::Seen;
+use handles::inner::Seen;
 use subgroup::Subgroup;
 use subgroup::Subgrouped;
 use subgroup::Within;
@@ -50,7 +50,7 @@ fn listed(count: u8) -> u32
     if 8 < count { 8 } else { count as u32 }
 }
 
-// What one pass over the handles from place `at` on shows, as `group::inner::look` of their product, which is not made for it.
+// What one pass over the handles from place `at` on shows, as `handles::inner::look` of their product, which is not made for it.
 fn look_at(from: &[u32], l: &[u32], at: u32, count: u8) -> Seen
     requires { ⌜ at ≤ 1000 ⌝ }
     ensures { λ r. ⌜ r ≡ seen (length (now (from .entry))) (handles (productAt (now (l .entry)) at count)) ⌝ }

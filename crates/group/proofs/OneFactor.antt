@@ -1,6 +1,6 @@
 -- A product of one factor answers as the factor does, altered tables and refusals too: one law for each call.
 -- Assumes nothing.
-use Prim.Native.Nat.{ℕ, zero, suc, _+_, _*_, _/_, _%_, _≤_, _<_}
+use Prim.Native.Nat.{ℕ, zero, suc, _+_, _/_, _%_, _≤_, _<_}
 use mathlib.Core.Path.{_≡_, refl, sym, ap, _∙_}
 use mathlib.Core.Bool.{Bool, true, false, _&&_}
 use mathlib.Core.List.{List, [], _∷_}
@@ -8,7 +8,7 @@ use native.Mathlib.Nat.{mul-one, mul-zero, zero-add, mod-eq-of-lt, div-eq-of-lt}
 use native.Mathlib.Omega.{arith}
 use borrow.Author.Tests.{le-leb, lt-leb, lt-ltb, leb-false}
 use lib.IntN.{ℤ, pos, negsuc}
-use lib.ListN.{length, getD, take, set}
+use lib.ListN.{length, set}
 use lib.Dec.{eqb, leb, ltb}
 use Rattle.egg.specs.declared.Factor.{Factor}
 use Rattle.egg.specs.declared.Refusal.{Refusal}
@@ -25,30 +25,24 @@ use Rattle.egg.specs.Scan.{refusedOf}
 use Rattle.egg.specs.Factor as egg
 use Rattle.egg.specs.Factor.{fitsIn, stretch, readStep}
 use Rattle.egg.proofs.Rooms.{some, room-enough, has, limited as room-limited}
-use Rattle.builder.specs.Lending.{noFactor}
 use Rattle.factor.specs.Questions as factor
 use Rattle.factor.specs.Questions.{ifReach, ifCount}
 use Rattle.walks.specs.Walks.{onReached, composeIn, inverseIn, generatorIn}
 use Rattle.words.specs.Words.{readable, spell, lengthIn, writeIn, writtenBy}
+use Rattle.handles.specs.declared.Group.{Group}
+use Rattle.digits.specs.declared.inner.Asked.{Asked}
+use Rattle.digits.specs.declared.inner.Asked.the-variants.{Compose, Inverse, Conjugate}
+use Rattle.handles.specs.Handles.{handles, elementsOf, generatorsOf, limited, admits}
+use Rattle.digits.specs.Digits.{above, digitOf, digitwise, stepIn, composes, inverts}
+use Rattle.powers.specs.Powers.{oddToo, halves, negated, powers, powiAlone}
+use Rattle.handles.specs.Counts.{onCounted}
+use Rattle.spelling.specs.Words.{lengths, readables, spellFrom, spells, writesBy, writes, leaves}
 use Rattle.group.specs.declared.Group.{Group}
 use Rattle.group.specs.declared.inner.Asked.{Asked}
 use Rattle.group.specs.declared.inner.Asked.the-variants.{Compose, Inverse, Conjugate}
-use Rattle.group.specs.Handles.{handles, elementsOf, generatorsOf, limited, admits}
-use Rattle.group.specs.Digits.{above, digitOf, digitwise, stepIn}
-use Rattle.group.specs.Powers.{composes, inverts, oddToo, halves, negated, powers, onCounted}
-use Rattle.group.specs.Words.{lengths, readables, spellFrom, spells, writesBy, writes, leaves}
 use Rattle.group.specs.Questions.{stepAnswer, generatorAnswer, composeAnswer, inverseAnswer, conjugateAnswer, powiAnswer, lengthAnswer, writeAnswer, written}
-use Rattle.group.specs.Alone.{Alone, powiAlone}
-use Rattle.group.proofs.Admitted.{Goes, goes-on}
-use Rattle.group.proofs.Walks.{Below, element, refusal, below-on, digit-below}
-
--- The first of the eight is the one that is listed.
-first-listed : (l : List Factor) (k : ℕ) → length l ≡ 8 → k ≡ 1 → take k l ≡ getD l 0 noFactor ∷ []
-first-listed [] k q c = absurd (omega (arith, q))
-first-listed (x ∷ l) k q c = rw c
-
-pub is-alone : (g : Group) → length (g .factors) ≡ 8 → g .count ≡ 1 → Alone g
-is-alone g q c = record { counted = c; listed = first-listed (g .factors) (g .count) q c }
+use Rattle.handles.proofs.Admitted.{Goes, goes-on}
+use Rattle.digits.proofs.Walks.{Below, element, below-on, digit-below}
 
 -- A verdict decides the same of two answers that are equal where it is fine.
 reach-alike : (v : Verdict) {x y : Reached} → (v ≡ verdict.Fine → x ≡ y) → ifReach v x ≡ ifReach v y

@@ -1,31 +1,28 @@
 -- The calls: the refusals in document 01's order, then the answer. "Calls on handles check 17 in the handle, then 14, then 15, then 1 to 4, then 17 in what
 -- they read". Places of 14 are the arguments' positions.
 -- Assumes nothing.
-use Prim.Native.Nat.{ℕ, _+_}
-use mathlib.Core.List.{List, _++_}
-use lib.ListN.{length, getD, drop}
-use lib.Dec.{ltb, leb}
+use Prim.Native.Nat.{ℕ}
+use mathlib.Core.List.{List}
+use lib.ListN.{length, getD}
 use lib.IntN.{ℤ}
 use Rattle.egg.specs.declared.Verdict.{Verdict}
-use Rattle.egg.specs.declared.Verdict.the-variants as verdict
 use Rattle.egg.specs.declared.GroupElementId.{GroupElementId}
 use Rattle.egg.specs.declared.GeneratorId.{GeneratorId}
-use Rattle.egg.specs.declared.Factor.{Factor}
 use Rattle.egg.specs.declared.Reached.{Reached}
-use Rattle.egg.specs.declared.Reached.the-variants.{Element, Refused}
+use Rattle.egg.specs.declared.Reached.the-variants.{Element}
 use Rattle.egg.specs.declared.Counted.{Counted}
 use Rattle.egg.specs.declared.Counted.the-variants as counted
 use Rattle.egg.specs.Table.{pick}
-use Rattle.egg.specs.Scan.{refusedOf, scan}
 use Rattle.egg.specs.Factor.{refusedReach}
 use Rattle.factor.specs.Questions.{ifReach, ifCount, filledBy}
-use Rattle.products.specs.Radix.{split, join, project, inject}
-use Rattle.group.specs.declared.Group.{Group}
-use Rattle.group.specs.declared.inner.Asked.the-variants.{Conjugate}
-use Rattle.group.specs.Handles.{handles, sizes, elementsOf, generatorsOf, allFit, limited, admits}
-use Rattle.group.specs.Digits.{digitOf, digitwise, stepIn}
-use Rattle.group.specs.Powers.{composes, inverts, powers, periods}
-use Rattle.group.specs.Words.{lengths, writes, leaves}
+use Rattle.products.specs.Radix.{project, inject}
+use Rattle.handles.specs.declared.Group.{Group}
+use Rattle.digits.specs.declared.inner.Asked.the-variants.{Conjugate}
+use Rattle.handles.specs.Handles.{handles, sizes, elementsOf, generatorsOf, allFit, admits}
+use Rattle.digits.specs.Digits.{digitOf, digitwise, stepIn, composes, inverts}
+use Rattle.digits.specs.Splits.{splitTail, digitsLeft, digitsRight, joinTail}
+use Rattle.powers.specs.Powers.{powers, periods}
+use Rattle.spelling.specs.Words.{lengths, writes, leaves}
 
 -- Two elements.
 abbrev pub twoElements : ℕ → Group → ℕ → ℕ → Verdict
@@ -54,37 +51,14 @@ unfoldable pub injectAnswer : List ℕ → Group → ℕ → GroupElementId → 
 injectAnswer t g f x =
     ifReach (admits (length t) g f (length (handles g)) (x .0) (getD (sizes (handles g)) f 1)) (Element (record { 0 = inject (sizes (handles g)) f (x .0) }))
 
--- The digits go to the start of the lent list; 4 where it is short. The answer is how many they are.
-unfoldable pub splitTail : List Factor → ℕ → Counted
-splitTail hs size = pick (ltb size (length hs)) (counted.Refused (record { number = 4; a = 0; b = 0; c = 0 })) (counted.Count (length hs))
-
+-- The digits of e in a lent list, and what that holds.
 unfoldable pub splitAnswer : List ℕ → Group → GroupElementId → ℕ → Counted
 splitAnswer t g e size = ifCount (admits (length t) g (e .0) (elementsOf (handles g)) 0 1) (splitTail (handles g) size)
-
-abbrev pub digitsLeft : Counted → List ℕ → ℕ → List ℕ → List ℕ
-digitsLeft (counted.Count k) Ns e out = split Ns e ++ drop k out
-digitsLeft (counted.Refused r) Ns e out = out
 
 unfoldable pub splitLeaves : List ℕ → Group → GroupElementId → List ℕ → List ℕ
 splitLeaves t g e out = digitsLeft (splitAnswer t g e (length out)) (sizes (handles g)) (e .0) out
 
--- 14 for the first digit that is out of range, of those that are there.
-abbrev pub digitRight : List ℕ → List ℕ → ℕ → Verdict
-digitRight Ns ds f = pick (ltb (getD ds f 0) (getD Ns f 1)) verdict.Fine (refusedOf 14 f 0 0)
-
-abbrev pub fewer : ℕ → ℕ → ℕ
-fewer a b = pick (leb a b) a b
-
-unfoldable pub digitsRight : List ℕ → List ℕ → Verdict
-digitsRight Ns ds = scan (fewer (length Ns) (length ds)) (digitRight Ns ds) 0
-
--- The element with the digits that the lent list starts with: 17, 14, 15, 4.
-unfoldable pub joinTail : Group → List ℕ → Reached
-joinTail g ds =
-    pick (limited g)
-    (pick (ltb (length ds) (length (handles g))) (refusedReach 4 0) (Element (record { 0 = join (sizes (handles g)) ds })))
-    (refusedReach 15 0)
-
+-- The element with the digits that the lent list starts with: 17 and 14, before the work gives 15 and 4.
 unfoldable pub joinAnswer : List ℕ → Group → List ℕ → Reached
 joinAnswer t g ds =
     pick (allFit (length t) (handles g)) (ifReach (digitsRight (sizes (handles g)) ds) (joinTail g ds)) (refusedReach 17 0)

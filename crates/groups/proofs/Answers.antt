@@ -20,15 +20,16 @@ use Rattle.products.specs.Radix.{count, split, inject}
 use Rattle.products.proofs.RadixLaws.{join-split, split-digits, split-length, digit-small, project-is}
 use Rattle.products.proofs.ProductLaws.{product-group}
 use Rattle.products.proofs.WordLaws.{product-worded, product-only}
-use Rattle.group.specs.declared.Group.{Group}
-use Rattle.group.specs.Handles.{handles, sizes, elementsOf, generatorsOf, allFit, admits}
-use Rattle.group.specs.Powers.{composes, inverts}
-use Rattle.group.specs.Words.{spells}
-use Rattle.group.specs.Questions.{countAnswer, generatorsAnswer, generatorAnswer, stepAnswer, projectAnswer, injectAnswer, splitTail, splitAnswer, splitLeaves, digitRight, digitsRight, fewer, joinTail, joinAnswer}
+use Rattle.handles.specs.declared.Group.{Group}
+use Rattle.handles.specs.Handles.{handles, sizes, elementsOf, generatorsOf, allFit, admits}
+use Rattle.digits.specs.Digits.{composes, inverts}
+use Rattle.spelling.specs.Words.{spells}
+use Rattle.group.specs.Questions.{countAnswer, generatorsAnswer, generatorAnswer, stepAnswer, projectAnswer, injectAnswer, splitAnswer, splitLeaves, joinAnswer}
+use Rattle.digits.specs.Splits.{splitTail, digitRight, digitsRight, fewer, joinTail}
 use Rattle.group.specs.Questions.{composeAnswer, inverseAnswer, conjugateAnswer, powiAnswer, periodAnswer, lengthAnswer, writeAnswer, written, wordPart}
-use Rattle.group.proofs.Lists.{sizes-length}
-use Rattle.group.proofs.Admitted.{admits-fine, few-factors}
-use Rattle.group.proofs.Splits.{digit-good}
+use Rattle.handles.proofs.Lists.{sizes-length}
+use Rattle.handles.proofs.Admitted.{admits-fine, few-factors}
+use Rattle.digits.proofs.Splits.{digit-good}
 use Rattle.groups.specs.Products.{AcceptedProduct, direct, ProductAnswers}
 use Rattle.groups.proofs.Parts.{all-worded, all-groups, all-fit, parts-elements, parts-generators, composes-are, conjugates-are, inverts-are, steps-are}
 use Rattle.groups.proofs.Repeats.{powers-are, periods-are}

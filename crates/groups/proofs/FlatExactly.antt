@@ -39,9 +39,9 @@ use Rattle.products.specs.Product as theory
 use Rattle.products.specs.Product.{Part, Each, Worded, Generated}
 use Rattle.products.proofs.WordLaws.{product-worded}
 use Rattle.products.proofs.Generating.{product-generated}
-use Rattle.group.specs.declared.Group.{Group}
-use Rattle.group.specs.Handles.{handles, generatorsOf}
-use Rattle.group.specs.Flat.{flat}
+use Rattle.handles.specs.declared.Group.{Group}
+use Rattle.handles.specs.Handles.{handles, generatorsOf}
+use Rattle.flat.specs.Flat.{flat}
 use Rattle.groups.specs.Products.{part, parts, AllAccepted, none, more, AcceptedProduct, direct}
 use Rattle.groups.specs.Flattening.{Flattens, FlatRight}
 use Rattle.groups.proofs.Parts.{part-worded, all-worded, parts-generators}

@@ -18,9 +18,9 @@ use Rattle.answers.proofs.Answers.{accepted-answers}
 use Rattle.promises.proofs.Composed.{composed-given}
 use Rattle.products.specs.Product.{Part, Worded}
 use Rattle.products.proofs.WordLaws.{product-worded}
-use Rattle.group.specs.declared.Group.{Group}
-use Rattle.group.specs.Handles.{handles, generatorsOf}
-use Rattle.group.specs.Flat.{flat}
+use Rattle.handles.specs.declared.Group.{Group}
+use Rattle.handles.specs.Handles.{handles, generatorsOf}
+use Rattle.flat.specs.Flat.{flat}
 use Rattle.groups.specs.Products.{AcceptedProduct, direct, stepRows, FlatGiven}
 use Rattle.groups.specs.Flattening.{FlatMade}
 use Rattle.groups.proofs.Parts.{all-worded, parts-generators}

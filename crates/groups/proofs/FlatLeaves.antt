@@ -33,11 +33,11 @@ use Rattle.promises.specs.Leaves.{Leaves, lentFor}
 use Rattle.promises.proofs.ReadLengths.{placedTable, place-length, row-length}
 use Rattle.promises.proofs.Zeros.{Zeros, zeros-widen, read-zeros}
 use Rattle.promises.proofs.Leaves.{early, late, leaves-early, leaves-late}
-use Rattle.group.specs.declared.Group.{Group}
-use Rattle.group.specs.Handles as handling
-use Rattle.group.specs.Handles.{handles, generatorsOf, allFit, admits}
-use Rattle.group.specs.Digits.{stepIn}
-use Rattle.group.specs.Flat.{placeBy, rowBy, rowsBy, flatIn, ifMaking, flatInto, flat}
+use Rattle.handles.specs.declared.Group.{Group}
+use Rattle.handles.specs.Handles as handling
+use Rattle.handles.specs.Handles.{handles, generatorsOf, allFit, admits}
+use Rattle.digits.specs.Digits.{stepIn}
+use Rattle.flat.specs.Flat.{placeBy, rowBy, rowsBy, flatIn, ifMaking, flatInto, flat}
 use Rattle.groups.specs.Flattening.{FlatRight, flatBefore, flatAfter}
 
 -- An answer that is no refusal but 17.

@@ -31,9 +31,9 @@ use Rattle.promises.proofs.Never.{leaves-number}
 use Rattle.promises.proofs.Unaltered.{leaves-wrote}
 use Rattle.promises.proofs.Papers.{made-fine}
 use Rattle.promises.proofs.Roomier.{built-roomier, lent-roomier, roomier-at}
-use Rattle.group.specs.declared.Group.{Group}
-use Rattle.group.specs.Handles.{handles, generatorsOf, admits}
-use Rattle.group.specs.Flat.{flatIn, ifMaking, flatInto, flat}
+use Rattle.handles.specs.declared.Group.{Group}
+use Rattle.handles.specs.Handles.{handles, generatorsOf, admits}
+use Rattle.flat.specs.Flat.{flatIn, ifMaking, flatInto, flat}
 use Rattle.groups.specs.Products.{AcceptedProduct, direct}
 use Rattle.groups.specs.Flattening.{FlatRight, Flattens}
 use Rattle.groups.proofs.Parts.{parts-generators}

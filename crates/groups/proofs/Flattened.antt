@@ -18,13 +18,13 @@ use Rattle.reading.specs.Reading.{Placed, placed, thenPlaced, readPlace, readRo
 use Rattle.factor.specs.Composed.{composedAt, composedIn, composed}
 use Rattle.products.specs.Product.{product}
 use Rattle.products.proofs.RadixLaws.{low, high}
-use Rattle.group.specs.declared.Group.{Group}
-use Rattle.group.specs.Handles.{handles, elementsOf, generatorsOf}
-use Rattle.group.specs.Digits.{stepIn}
-use Rattle.group.specs.Flat.{rowBy, rowsBy, flatIn, flatInto, flat}
-use Rattle.group.proofs.Walks.{steps-below}
-use Rattle.group.proofs.Flats.{Counts, counts, refuses, row-counts}
-use Rattle.group.proofs.Admitted.{admits-fine}
+use Rattle.handles.specs.declared.Group.{Group}
+use Rattle.handles.specs.Handles.{handles, elementsOf, generatorsOf}
+use Rattle.digits.specs.Digits.{stepIn}
+use Rattle.flat.specs.Flat.{rowBy, rowsBy, flatIn, flatInto, flat}
+use Rattle.digits.proofs.Walks.{steps-below}
+use Rattle.flat.proofs.Flats.{Counts, counts, refuses, row-counts}
+use Rattle.handles.proofs.Admitted.{admits-fine}
 use Rattle.groups.specs.Products.{parts, AllAccepted, AcceptedProduct, direct, listed, stepRows}
 use Rattle.groups.proofs.Parts.{all-fit, parts-elements, parts-generators, steps-are}
 

@@ -12,16 +12,17 @@ use Rattle.reading.specs.Reading.{readPlace, readRow, readFrom}
 use Rattle.factor.specs.Composed.{composedIn, composed}
 use Rattle.walks.specs.Walks.{along, readBack, backAlong, composeIn, inverseIn, conjugateIn}
 use Rattle.words.specs.Words.{readable, lengthIn}
-use Rattle.group.specs.Handles.{limited, admits, joins}
-use Rattle.group.specs.Digits.{digitwise, stepIn}
-use Rattle.group.specs.Powers.{periodFrom, periods}
-use Rattle.group.specs.Words.{lengths, readables, spellFrom, spells, writes}
-use Rattle.group.specs.Flat.{rowBy, rowsBy, flatIn, flatInto, flat}
+use Rattle.handles.specs.Handles.{limited, admits, joins}
+use Rattle.digits.specs.Digits.{digitwise, stepIn}
+use Rattle.digits.specs.Splits.{splitTail, digitsRight, joinTail}
+use Rattle.powers.specs.Powers.{periodFrom, periods}
+use Rattle.spelling.specs.Words.{lengths, readables, spellFrom, spells, writes}
+use Rattle.flat.specs.Flat.{rowBy, rowsBy, flatIn, flatInto, flat}
 use Rattle.group.specs.Questions as questions
 use Rattle.groups.specs.Known.{KnownProducts}
 
 pub known-products : KnownProducts
-unfolding putAt startOf scan hasRoom fitsIn stretch readStep checks.missingRow checks.missing checks.check8 checks.rangeRow checks.linksOf checks.ranges checks.wrongRow checks.wrong checks.check-table checks.wiped checks.arriveRow checks.arrivals checks.countsRight checks.invertFrom checks.fillInverses checks.inversesRight checks.identityRow checks.columnsRow checks.spelledRow checks.spelled checks.check-steps checks.fillLeft checks.goesRow checks.allGo checks.lefts checks.check-rest checks.check-group setStep setWord adds finished lentRight within readPlace readRow readFrom composedIn composed along readBack backAlong composeIn inverseIn conjugateIn readable lengthIn limited admits joins digitwise stepIn periodFrom periods lengths readables spellFrom spells writes rowBy rowsBy flatIn flatInto flat questions.countAnswer questions.generatorsAnswer questions.generatorAnswer questions.stepAnswer questions.projectAnswer questions.injectAnswer questions.splitTail questions.splitAnswer questions.splitLeaves questions.digitsRight questions.joinTail questions.joinAnswer questions.composeAnswer questions.conjugateAnswer questions.periodAnswer questions.lengthAnswer questions.writeAnswer questions.written
+unfolding putAt startOf scan hasRoom fitsIn stretch readStep checks.missingRow checks.missing checks.check8 checks.rangeRow checks.linksOf checks.ranges checks.wrongRow checks.wrong checks.check-table checks.wiped checks.arriveRow checks.arrivals checks.countsRight checks.invertFrom checks.fillInverses checks.inversesRight checks.identityRow checks.columnsRow checks.spelledRow checks.spelled checks.check-steps checks.fillLeft checks.goesRow checks.allGo checks.lefts checks.check-rest checks.check-group setStep setWord adds finished lentRight within readPlace readRow readFrom composedIn composed along readBack backAlong composeIn inverseIn conjugateIn readable lengthIn limited admits joins digitwise stepIn periodFrom periods lengths readables spellFrom spells writes rowBy rowsBy flatIn flatInto flat questions.countAnswer questions.generatorsAnswer questions.generatorAnswer questions.stepAnswer questions.projectAnswer questions.injectAnswer splitTail questions.splitAnswer questions.splitLeaves digitsRight joinTail questions.joinAnswer questions.composeAnswer questions.conjugateAnswer questions.periodAnswer questions.lengthAnswer questions.writeAnswer questions.written
 known-products = record {
   joined = refl;
   counted = refl;

@@ -21,8 +21,8 @@ use Rattle.words.proofs.Words.{drop-set-here}
 use Rattle.answers.proofs.Letters.{word-readable, length-in}
 use Rattle.products.specs.Product.{product, shift}
 use Rattle.products.proofs.RadixLaws.{low-small, high-small}
-use Rattle.group.specs.Handles.{generatorsOf}
-use Rattle.group.specs.Words.{lengths, readables, spellFrom, spells, writes}
+use Rattle.handles.specs.Handles.{generatorsOf}
+use Rattle.spelling.specs.Words.{lengths, readables, spellFrom, spells, writes}
 use Rattle.groups.specs.Products.{parts, AllAccepted, none, more}
 
 append-length : (u v : List ℕ) → length (u ++ v) ≡ length u + length v

@@ -14,10 +14,10 @@ use Rattle.egg.specs.declared.Verdict.the-variants.{Fine}
 use Rattle.egg.specs.Scan.{refusedOf}
 use Rattle.egg.proofs.Rooms.{and-first, and-second, has, room-enough, limited}
 use Rattle.answers.specs.Accepted.{Accepted}
-use Rattle.group.specs.declared.Group.{Group}
-use Rattle.group.specs.Handles as hs
-use Rattle.group.specs.Handles.{handles, elementsOf, allFit, groupOf, joins}
-use Rattle.group.proofs.Joins.{handles-of}
+use Rattle.handles.specs.declared.Group.{Group}
+use Rattle.handles.specs.Handles as hs
+use Rattle.handles.specs.Handles.{handles, elementsOf, allFit, groupOf, joins}
+use Rattle.handles.proofs.Joins.{handles-of}
 use Rattle.groups.specs.Products.{AllAccepted, none, more, AcceptedProduct}
 
 grouped : (t : List ℕ) (l : List Factor) → AllAccepted t l → length l ≤ 8 → elementsOf l ≤ 4294967295 → AcceptedProduct t (groupOf l)

@@ -11,8 +11,8 @@ use lib.ListN.{length}
 use Rattle.egg.specs.Factor.{Paper, reachedPaper, countedPaper}
 use Rattle.egg.proofs.Rooms.{and-first, and-second, false-true}
 use Rattle.answers.specs.Papers.{valuePaper}
-use Rattle.group.specs.declared.Group.{Group}
-use Rattle.group.specs.Handles.{handles, elementsOf, allFit, joins}
+use Rattle.handles.specs.declared.Group.{Group}
+use Rattle.handles.specs.Handles.{handles, elementsOf, allFit, joins}
 use Rattle.groups.specs.Products.{AcceptedProduct, direct}
 use Rattle.groups.specs.Papers.{groupedPaper, refusedPaper, Together, ProductPaper, ProductPapers}
 use Rattle.groups.proofs.Answers.{product-answers}

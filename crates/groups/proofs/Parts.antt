@@ -19,10 +19,10 @@ use Rattle.products.proofs.ProductLaws.{trivial-group, product-group, each-weak
 use Rattle.products.proofs.StepLaws.{side, Side, left, right, step-left, step-right}
 use Rattle.products.proofs.Componentwise.{op-parted, inv-parted, conjugate-parted}
 use Rattle.products.proofs.TableParts.{table-worded}
-use Rattle.group.specs.declared.inner.Asked.{Asked}
-use Rattle.group.specs.declared.inner.Asked.the-variants.{Compose, Inverse, Conjugate}
-use Rattle.group.specs.Handles.{sizes, elementsOf, generatorsOf, allFit}
-use Rattle.group.specs.Digits.{digitOf, digitwise, stepIn}
+use Rattle.digits.specs.declared.inner.Asked.{Asked}
+use Rattle.digits.specs.declared.inner.Asked.the-variants.{Compose, Inverse, Conjugate}
+use Rattle.handles.specs.Handles.{sizes, elementsOf, generatorsOf, allFit}
+use Rattle.digits.specs.Digits.{digitOf, digitwise, stepIn}
 use Rattle.groups.specs.Products.{part, parts, AllAccepted, none, more}
 
 module _ (t : List ℕ) where

@@ -23,14 +23,16 @@ use Rattle.words.specs.Words.{lengthIn}
 use Rattle.answers.specs.Refuses.{VerdictIn, ReachedIn, CountedIn}
 use Rattle.answers.proofs.Refuses.{reached-element, reached-refused, reached-pick, reached-on, reached-if, counted-count, counted-refused, counted-pick, counted-if}
 use Rattle.answers.proofs.Refuses.{verdict-fine, verdict-refused, verdict-pick, verdict-scan, reached-widen, step-in, compose-in, inverse-in, conjugate-in}
-use Rattle.group.specs.declared.Group.{Group}
-use Rattle.group.specs.declared.inner.Asked.{Asked}
-use Rattle.group.specs.declared.inner.Asked.the-variants.{Compose, Inverse, Conjugate}
-use Rattle.group.specs.Handles.{handles, sizes, elementsOf, allFit, limited, admits, joins}
-use Rattle.group.specs.Digits.{digitOf, digitwise, stepIn}
-use Rattle.group.specs.Powers.{composes, inverts, oddToo, halves, negated, powers, onCounted, onElement, periodFrom, periods}
-use Rattle.group.specs.Words.{lengths, readables, writesBy, writes, leaves}
-use Rattle.group.specs.Questions.{countAnswer, generatorsAnswer, generatorAnswer, stepAnswer, projectAnswer, injectAnswer, splitTail, splitAnswer, digitsLeft, splitLeaves, digitRight, digitsRight, fewer, joinTail, joinAnswer}
+use Rattle.handles.specs.declared.Group.{Group}
+use Rattle.digits.specs.declared.inner.Asked.{Asked}
+use Rattle.digits.specs.declared.inner.Asked.the-variants.{Compose, Inverse, Conjugate}
+use Rattle.handles.specs.Handles.{handles, sizes, elementsOf, allFit, limited, admits, joins}
+use Rattle.digits.specs.Digits.{digitOf, digitwise, stepIn, composes, inverts}
+use Rattle.powers.specs.Powers.{oddToo, halves, negated, powers, periodFrom, periods}
+use Rattle.handles.specs.Counts.{onCounted, onElement}
+use Rattle.spelling.specs.Words.{lengths, readables, writesBy, writes, leaves}
+use Rattle.group.specs.Questions.{countAnswer, generatorsAnswer, generatorAnswer, stepAnswer, projectAnswer, injectAnswer, splitAnswer, splitLeaves, joinAnswer}
+use Rattle.digits.specs.Splits.{splitTail, digitsLeft, digitRight, digitsRight, fewer, joinTail}
 use Rattle.group.specs.Questions.{composeAnswer, inverseAnswer, conjugateAnswer, powiAnswer, periodAnswer, lengthAnswer, writeAnswer, written}
 use Rattle.groups.specs.Refuses.{ProductRefuses}
 

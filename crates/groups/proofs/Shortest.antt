@@ -12,7 +12,7 @@ use Rattle.products.specs.Product as theory
 use Rattle.products.specs.Product.{Each, Shortest}
 use Rattle.products.proofs.TableParts.{table-shortest}
 use Rattle.products.proofs.WordLaws as words
-use Rattle.group.specs.declared.Group.{Group}
+use Rattle.handles.specs.declared.Group.{Group}
 use Rattle.groups.specs.Products.{part, parts, AllAccepted, none, more, AcceptedProduct, direct}
 
 part-shortest : {t : List ℕ} {h : Factor} → Accepted t h → Shortest (part t h)

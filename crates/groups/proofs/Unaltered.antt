@@ -16,14 +16,14 @@ use Rattle.answers.specs.Unaltered.{Unaltered}
 use Rattle.promises.specs.Leaves.{Lent}
 use Rattle.promises.specs.Unaltered.{Wrote}
 use Rattle.promises.proofs.Unaltered.{kept}
-use Rattle.group.specs.declared.Group.{Group}
-use Rattle.group.specs.declared.inner.Asked.{Asked}
-use Rattle.group.specs.declared.inner.Asked.the-variants.{Compose, Inverse, Conjugate}
-use Rattle.group.specs.Handles.{handles, allFit, admits}
-use Rattle.group.specs.Digits.{digitOf, digitwise, stepIn}
-use Rattle.group.specs.Powers.{periodOf, periods, powers, composes, inverts}
-use Rattle.group.specs.Words.{lengths, readables, spells, writes, leaves}
-use Rattle.group.specs.Flat.{flatIn, flatInto, flat}
+use Rattle.handles.specs.declared.Group.{Group}
+use Rattle.digits.specs.declared.inner.Asked.{Asked}
+use Rattle.digits.specs.declared.inner.Asked.the-variants.{Compose, Inverse, Conjugate}
+use Rattle.handles.specs.Handles.{handles, allFit, admits}
+use Rattle.digits.specs.Digits.{digitOf, digitwise, stepIn, composes, inverts}
+use Rattle.powers.specs.Powers.{periodOf, periods, powers}
+use Rattle.spelling.specs.Words.{lengths, readables, spells, writes, leaves}
+use Rattle.flat.specs.Flat.{flatIn, flatInto, flat}
 use Rattle.group.specs.Questions.{countAnswer, generatorsAnswer, generatorAnswer, stepAnswer, projectAnswer, injectAnswer, splitAnswer, splitLeaves, joinAnswer}
 use Rattle.group.specs.Questions.{composeAnswer, inverseAnswer, conjugateAnswer, powiAnswer, periodAnswer, lengthAnswer, writeAnswer, written, wordPart}
 use Rattle.groups.specs.Products as products

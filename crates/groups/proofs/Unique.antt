@@ -6,12 +6,12 @@ use mathlib.Core.Path.{sym, _∙_, ap}
 use mathlib.Core.List.{List}
 use Rattle.egg.specs.declared.Counted.{Counted}
 use Rattle.builder.specs.Lending.{making}
-use Rattle.group.proofs.trivial.Kinds as trivial-kinds
-use Rattle.group.proofs.trivial.Reads as trivial-reads
-use Rattle.group.proofs.of.Kinds as of-kinds
-use Rattle.group.proofs.of.Reads as of-reads
-use Rattle.group.proofs.product.Kinds as product-kinds
-use Rattle.group.proofs.product.Reads as product-reads
+use Rattle.handles.proofs.trivial.Kinds as trivial-kinds
+use Rattle.handles.proofs.trivial.Reads as trivial-reads
+use Rattle.handles.proofs.of.Kinds as of-kinds
+use Rattle.handles.proofs.of.Reads as of-reads
+use Rattle.handles.proofs.product.Kinds as product-kinds
+use Rattle.handles.proofs.product.Reads as product-reads
 use Rattle.group.proofs.element_count.Kinds as element-count-kinds
 use Rattle.group.proofs.element_count.Reads as element-count-reads
 use Rattle.group.proofs.generator_count.Kinds as generator-count-kinds

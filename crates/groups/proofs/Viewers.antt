@@ -13,7 +13,7 @@ use Rattle.theory.proofs.Complete.{right-table, walk-is-op}
 use Rattle.answers.specs.Accepted.{reach}
 use Rattle.answers.specs.Papers.{valuePaper}
 use Rattle.promises.specs.Viewers.{identity, Batch, one-by-one, at-once, turnsOf}
-use Rattle.group.specs.declared.Group.{Group}
+use Rattle.handles.specs.declared.Group.{Group}
 use Rattle.group.specs.Questions.{stepAnswer, composeAnswer}
 use Rattle.groups.specs.Products.{AcceptedProduct, direct, ProductAnswers}
 use Rattle.groups.specs.Viewers.{live, gathered, watched, OneState}

@@ -14,8 +14,8 @@ use Rattle.theory.specs.Numbering.{NumberingRule}
 use Rattle.theory.specs.Appearance.{recorded}
 use Rattle.promises.specs.Leaves.{composedNumbers}
 use Rattle.products.specs.Product.{Part}
-use Rattle.group.specs.declared.Group.{Group}
-use Rattle.group.specs.Handles.{handles, generatorsOf, admits}
+use Rattle.handles.specs.declared.Group.{Group}
+use Rattle.handles.specs.Handles.{handles, generatorsOf, admits}
 
 -- The arguments are right: the handles fit (17) and the product is within the limits (15), it has at most 8 generators (1), and room and lent buffers do (4).
 pub record FlatRight (from : List ℕ) (g : Group) (table : List ℕ) (start : ℕ) (work : List ℕ) (room : ℕ) : Type 0 where

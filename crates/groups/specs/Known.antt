@@ -17,10 +17,10 @@ use Rattle.egg.specs.Factor.{refusedReach}
 use Rattle.builder.specs.Lending.{Making, making, noFactor}
 use Rattle.factor.specs.Composed.{composed}
 use Rattle.answers.specs.Accepted.{reach}
-use Rattle.group.specs.declared.Group.{Group}
+use Rattle.handles.specs.declared.Group.{Group}
 use Rattle.groups.specs.Products.{listed}
-use Rattle.group.specs.Handles.{groupOf, noGroup, joins}
-use Rattle.group.specs.Flat.{flat}
+use Rattle.handles.specs.Handles.{groupOf, noGroup, joins}
+use Rattle.flat.specs.Flat.{flat}
 use Rattle.group.specs.Questions.{countAnswer, generatorsAnswer, generatorAnswer, stepAnswer, projectAnswer, injectAnswer, splitAnswer, splitLeaves, joinAnswer}
 use Rattle.group.specs.Questions.{composeAnswer, conjugateAnswer, periodAnswer, lengthAnswer, writeAnswer, written}
 

@@ -14,9 +14,9 @@ use Rattle.theory.specs.Group.{GroupOn, RightSteps, conjugate, integer-power, P
 use Rattle.answers.specs.Papers.{valuePaper}
 use Rattle.products.specs.Radix.{split, inject}
 use Rattle.products.specs.Product.{Part}
-use Rattle.group.specs.declared.Group.{Group}
-use Rattle.group.specs.declared.Grouped.{Grouped}
-use Rattle.group.specs.Handles.{handles, sizes, elementsOf, allFit, groupOf, joins}
+use Rattle.handles.specs.declared.Group.{Group}
+use Rattle.handles.specs.declared.Grouped.{Grouped}
+use Rattle.handles.specs.Handles.{handles, sizes, elementsOf, allFit, groupOf, joins}
 use Rattle.group.specs.Questions.{countAnswer, generatorsAnswer, generatorAnswer, stepAnswer, projectAnswer, injectAnswer, splitAnswer, joinAnswer}
 use Rattle.group.specs.Questions.{composeAnswer, inverseAnswer, conjugateAnswer, powiAnswer, periodAnswer, lengthAnswer, writeAnswer}
 

@@ -15,8 +15,8 @@ use Rattle.factor.specs.Questions as factor
 use Rattle.answers.specs.Accepted.{Accepted, factorStep, factorBack, factorWord, reach}
 use Rattle.products.specs.Radix.{split, inject}
 use Rattle.products.specs.Product.{Part, table-part, product}
-use Rattle.group.specs.declared.Group.{Group}
-use Rattle.group.specs.Handles.{handles, sizes, limited}
+use Rattle.handles.specs.declared.Group.{Group}
+use Rattle.handles.specs.Handles.{handles, sizes, limited}
 use Rattle.group.specs.Questions.{countAnswer, generatorsAnswer, generatorAnswer, stepAnswer, projectAnswer, injectAnswer, splitAnswer, splitLeaves, joinAnswer}
 use Rattle.group.specs.Questions.{composeAnswer, inverseAnswer, conjugateAnswer, powiAnswer, periodAnswer, lengthAnswer, writeAnswer, written, wordPart}
 

@@ -11,8 +11,8 @@ use Rattle.egg.specs.declared.GroupElementId.{GroupElementId}
 use Rattle.egg.specs.declared.GeneratorId.{GeneratorId}
 use Rattle.egg.specs.declared.Counted.the-variants as counted
 use Rattle.answers.specs.Refuses.{ReachedIn, CountedIn, VerdictIn}
-use Rattle.group.specs.declared.Group.{Group}
-use Rattle.group.specs.Handles.{joins}
+use Rattle.handles.specs.declared.Group.{Group}
+use Rattle.handles.specs.Handles.{joins}
 use Rattle.group.specs.Questions.{countAnswer, generatorsAnswer, generatorAnswer, stepAnswer, projectAnswer, injectAnswer, splitAnswer, splitLeaves, joinAnswer}
 use Rattle.group.specs.Questions.{composeAnswer, inverseAnswer, conjugateAnswer, powiAnswer, periodAnswer, lengthAnswer, writeAnswer, written}
 

@@ -12,9 +12,9 @@ use Rattle.egg.specs.declared.GeneratorId.{GeneratorId}
 use Rattle.answers.specs.Unaltered.{Unaltered}
 use Rattle.promises.specs.Leaves.{Lent}
 use Rattle.promises.specs.Unaltered.{Apart}
-use Rattle.group.specs.declared.Group.{Group}
-use Rattle.group.specs.Handles.{joins}
-use Rattle.group.specs.Flat.{flat}
+use Rattle.handles.specs.declared.Group.{Group}
+use Rattle.handles.specs.Handles.{joins}
+use Rattle.flat.specs.Flat.{flat}
 use Rattle.group.specs.Questions.{countAnswer, generatorsAnswer, generatorAnswer, stepAnswer, projectAnswer, injectAnswer, splitAnswer, splitLeaves, joinAnswer}
 use Rattle.group.specs.Questions.{composeAnswer, inverseAnswer, conjugateAnswer, powiAnswer, periodAnswer, lengthAnswer, writeAnswer, written, wordPart}
 use Rattle.groups.specs.Products.{AcceptedProduct}

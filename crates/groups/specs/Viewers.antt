@@ -8,7 +8,7 @@ use Rattle.egg.specs.declared.GroupElementId.{GroupElementId}
 use Rattle.egg.specs.declared.Reached.{Reached}
 use Rattle.egg.specs.declared.Reached.the-variants.{Element}
 use Rattle.promises.specs.Viewers.{onElement, identity, Batch, one-by-one, at-once}
-use Rattle.group.specs.declared.Group.{Group}
+use Rattle.handles.specs.declared.Group.{Group}
 use Rattle.group.specs.Questions.{stepAnswer, composeAnswer, generatorAnswer}
 
 -- The live viewer at the element e: the answers of `step` for the turns, one after another; a refusal ends it.

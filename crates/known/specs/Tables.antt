@@ -13,8 +13,8 @@ use Rattle.builder.specs.Lending.{tableNeed, workNeed, Making, making}
 use Rattle.factor.specs.Composed.{composed}
 use Rattle.enumeration.specs.Calls.{enumerates}
 use Rattle.refusals.specs.Papers.{paper}
-use Rattle.group.specs.declared.Group.{Group}
-use Rattle.group.specs.Handles.{groupOf}
+use Rattle.handles.specs.declared.Group.{Group}
+use Rattle.handles.specs.Handles.{groupOf}
 
 -- Rows of n numbers, one after the other. "orders [2]: rows 1 2 / 0 3 / 3 0 / 2 1"; "orders [3] (S3): rows 1 2 / 0 3 / 4 0 / 5 1 / 2 5 / 3 4"; Z2; "Z3, rows
 -- 1 / 2 / 0".

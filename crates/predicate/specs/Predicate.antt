@@ -17,9 +17,9 @@ use Rattle.egg.specs.Scan.{refusedOf}
 use Rattle.reading.specs.Build.{numbered}
 use Rattle.builder.specs.Finish.{built, zeroed}
 use Rattle.builder.specs.Lending.{tableNeed, workNeed, refusedMade}
-use Rattle.group.specs.declared.Group.{Group}
-use Rattle.group.specs.Handles.{handles, elementsOf, allFit}
-use Rattle.group.specs.Powers.{composes}
+use Rattle.handles.specs.declared.Group.{Group}
+use Rattle.handles.specs.Handles.{handles, elementsOf, allFit}
+use Rattle.digits.specs.Digits.{composes}
 use Rattle.appearance.specs.Renumber as appear
 use Rattle.appearance.specs.Build.{Renumbering, renumbering, renumberIn}
 use Rattle.predicate.specs.declared.inner.Picks.{Picks}

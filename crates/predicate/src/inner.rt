@@ -4,8 +4,8 @@ ghost use mathlib.Core.Bool.{true};
 ghost use Prim.Native.Nat.{_*_, _≤_};
 ghost use lib.ListN.{length, getD, take};
 ghost use Rattle.builder.specs.Finish.{Built};
-ghost use Rattle.group.specs.Handles.{handles, elementsOf, allFit};
-ghost use Rattle.group.specs.Powers.{composes};
+ghost use Rattle.handles.specs.Handles.{handles, elementsOf, allFit};
+ghost use Rattle.digits.specs.Digits.{composes};
 ghost use Rattle.appearance.specs.Build.{Renumbering};
 ghost use Rattle.subgroup.specs.Lent.{Subgrouping, mapsRight};
 ghost use Rattle.predicate.specs.Predicate.{isNew, Eight, ninthOf, chooses, againIn, predicateIn, pickedOf, admitsOver, toldInto};
@@ -13,7 +13,7 @@ use egg::Counted;
 use egg::GroupElementId;
 use egg::Refusal;
 use egg::Verdict;
-use group::Group;
+use handles::Group;
 use subgroup::Subgrouped;
 
 // The elements that a predicate has chosen so far, the first `generators` of eight, and how their build ended.
@@ -27,7 +27,7 @@ pub struct Picks {
 pub fn admit_over(from: &[u32], over: Group) -> Verdict
     ensures { λ r. ⌜ r ≡ admitsOver (length (now (from .entry))) over ⌝ }
 {
-    if !group::inner::all_fit(from, over) {
+    if !handles::inner::all_fit(from, over) {
         return egg::inner::refused(17, 0, 0, 0);
     }
     if !subgroup::inner::small_enough(over) {
@@ -219,7 +219,7 @@ fn told_at(
     requires { ⌜ ((allFit (length (now from)) (handles over) ≡ true) × (elementsOf (handles over) ≤ 65535)) × ((elementsOf (handles over) ≤ length (now members)) × (mapsRight (length (now table)) start (length (now work)) (length (now inn)) (length (now outw)) room 8 (elementsOf (handles over)) ≡ true)) ⌝ }
     ensures { λ r. ⌜ Subgrouping.subgrouping r (now (table .exit)) (now (work .exit)) (now (inn .exit)) (now (outw .exit)) ≡ toldInto (now (from .entry)) over (now (members .entry)) (now (table .entry)) start (now (work .entry)) (now (inn .entry)) (now (outw .entry)) room ⌝ }
 {
-    let m = group::inner::elements_of(over) as usize;
+    let m = handles::inner::elements_of(over) as usize;
     let r = room as usize;
     let end = builder::inner::stretch_end(table.len(), start, room, 8);
     let need = builder::inner::work_need(8, room);
@@ -252,7 +252,7 @@ pub fn told_into(
     requires { ⌜ (allFit (length (now from)) (handles over) ≡ true) × (elementsOf (handles over) ≤ 65535) ⌝ }
     ensures { λ r. ⌜ Subgrouping.subgrouping r (now (table .exit)) (now (work .exit)) (now (inn .exit)) (now (outw .exit)) ≡ toldInto (now (from .entry)) over (now (members .entry)) (now (table .entry)) start (now (work .entry)) (now (inn .entry)) (now (outw .entry)) room ⌝ }
 {
-    let m = group::inner::elements_of(over);
+    let m = handles::inner::elements_of(over);
     if !subgroup::inner::maps_right(
         table.len(),
         start,

@@ -3,7 +3,7 @@ ghost use mathlib.Core.Path.{_≡_};
 ghost use Rattle.subgroup.specs.Lent.{Subgrouping};
 ghost use Rattle.predicate.specs.Predicate.{fromPredicate};
 use egg::Verdict;
-use group::Group;
+use handles::Group;
 use subgroup::Subgrouped;
 
 pub mod inner;

@@ -15,10 +15,10 @@ use Rattle.egg.specs.Scan.{refusedOf, scan}
 use Rattle.egg.proofs.Rooms.{and-first, and-second}
 use Rattle.egg.proofs.Scans.{Scanning, scanning, refused-fine}
 use Rattle.builder.specs.Lending.{lentRight}
-use Rattle.group.specs.declared.Group.{Group}
-use Rattle.group.specs.Handles.{handles, elementsOf, allFit, capped, limited}
-use Rattle.group.proofs.Caps.{cap-beyond, cap-small}
-use Rattle.group.proofs.Admitted.{few-elements}
+use Rattle.handles.specs.declared.Group.{Group}
+use Rattle.handles.specs.Handles.{handles, elementsOf, allFit, capped, limited}
+use Rattle.handles.proofs.Caps.{cap-beyond, cap-small}
+use Rattle.handles.proofs.Admitted.{few-elements}
 use Rattle.subgroup.specs.Lent.{shown, mapsRight}
 use Rattle.subgroup.specs.Generated.{entryRight, entriesRight, smallEnough, admitsGenerators}
 

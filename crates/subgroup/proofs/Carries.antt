@@ -10,8 +10,8 @@ use lib.ListN.{getD}
 use Rattle.egg.specs.declared.Reached.the-variants as reached
 use Rattle.egg.specs.Factor.{refusedReach}
 use Rattle.products.proofs.RadixLaws.{range-pos, high-small}
-use Rattle.group.specs.Handles.{handles, elementsOf, capped}
-use Rattle.group.proofs.Caps.{cap-small}
+use Rattle.handles.specs.Handles.{handles, elementsOf, capped}
+use Rattle.handles.proofs.Caps.{cap-small}
 use Rattle.appearance.specs.Renumber.{none}
 use Rattle.subgroup.specs.declared.Subgroup.{Subgroup}
 use Rattle.subgroup.specs.declared.Within.the-variants as within

@@ -6,8 +6,8 @@ use mathlib.Core.List.{List, [], _∷_, _++_}
 use native.Mathlib.Nat.{mul-assoc, mul-comm, mul-le-mul, mul-zero, zero-mul, one-mul}
 use native.Mathlib.Omega.{arith}
 use Rattle.egg.specs.declared.Factor.{Factor}
-use Rattle.group.specs.Handles.{handles, elementsOf, capped}
-use Rattle.group.proofs.Caps.{cap-small, cap-large, cap-times, capped-bound}
+use Rattle.handles.specs.Handles.{handles, elementsOf, capped}
+use Rattle.handles.proofs.Caps.{cap-small, cap-large, cap-times, capped-bound}
 use Rattle.subgroup.specs.declared.Subgroup.{Subgroup}
 use Rattle.subgroup.specs.Sides.{overSide, subSide}
 

@@ -18,11 +18,11 @@ use Rattle.egg.specs.Table.{pick}
 use Rattle.egg.specs.Factor.{fitsIn, stretch, readStep}
 use Rattle.egg.proofs.Rooms.{and-first, and-second, some}
 use Rattle.walks.specs.Walks.{onReached}
-use Rattle.group.specs.Handles.{handles, elementsOf, generatorsOf, allFit, capped}
-use Rattle.group.specs.Digits.{stepIn}
-use Rattle.group.proofs.Caps.{cap-small}
-use Rattle.group.proofs.Lists.{positive}
-use Rattle.group.proofs.Walks.{Below, element, refusal, below-element, step-below, steps-below}
+use Rattle.handles.specs.Handles.{handles, elementsOf, generatorsOf, allFit, capped}
+use Rattle.digits.specs.Digits.{stepIn}
+use Rattle.handles.proofs.Caps.{cap-small}
+use Rattle.handles.proofs.Lists.{positive}
+use Rattle.digits.proofs.Walks.{Below, element, refusal, below-element, step-below, steps-below}
 use Rattle.subgroup.specs.declared.Subgroup.{Subgroup}
 use Rattle.subgroup.specs.Sides.{overSide, subSide, sidesFit, sidesLimited}
 use Rattle.subgroup.specs.Questions.{strideOf, carriedOver, scaled, sideGenerator}

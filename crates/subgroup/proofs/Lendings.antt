@@ -17,8 +17,8 @@ use Rattle.egg.specs.declared.Counted.{Counted}
 use Rattle.builder.specs.Finish.{built}
 use Rattle.builder.specs.Lending.{tableNeed, workNeed, within, Ends, noFactor, refusedMade, madeOf}
 use Rattle.builder.proofs.Lending.{part-length, part-back, put-front}
-use Rattle.group.specs.declared.Group.{Group}
-use Rattle.group.specs.Handles.{handles, elementsOf}
+use Rattle.handles.specs.declared.Group.{Group}
+use Rattle.handles.specs.Handles.{handles, elementsOf}
 use Rattle.appearance.specs.Build.{Renumbering, renumbering, renumberIn}
 use Rattle.subgroup.specs.declared.Subgrouped.{Subgrouped}
 use Rattle.subgroup.specs.Lent.{shown, subgroupOf, Subgrouping, subgrouping, mapsRight, mapsBack}

@@ -15,9 +15,8 @@ use Rattle.egg.specs.Factor.{fitsIn, stretch}
 use Rattle.egg.proofs.Rooms.{and-first}
 use Rattle.builder.specs.Lending.{noFactor}
 use Rattle.walks.specs.Walks.{onReached, composeIn}
-use Rattle.group.specs.Handles.{allFit}
-use Rattle.group.specs.Digits.{above, digitwise}
-use Rattle.group.specs.Powers.{composes}
+use Rattle.handles.specs.Handles.{allFit}
+use Rattle.digits.specs.Digits.{above, digitwise, composes}
 
 pub one-handle : (hs : List Factor) {k : ℕ} {f : Factor} → k ≡ length hs → k ≡ 1 → f ≡ getD hs 0 noFactor → hs ≡ f ∷ []
 one-handle [] p q r = absurd (omega arith)

@@ -16,10 +16,10 @@ use Rattle.egg.specs.Factor.{fitsIn}
 use Rattle.egg.proofs.Rooms.{and-first, and-second}
 use Rattle.egg.proofs.Scans.{refused-fine}
 use Rattle.factor.specs.Questions.{ifReach}
-use Rattle.group.specs.declared.inner.Seen.{Seen}
-use Rattle.group.specs.Handles.{handles, elementsOf, capped, seen}
-use Rattle.group.proofs.Lists.{listed-few}
-use Rattle.group.proofs.Caps.{cap-small, cap-within, capped-bound}
+use Rattle.handles.specs.declared.inner.Seen.{Seen}
+use Rattle.handles.specs.Handles.{handles, elementsOf, capped, seen}
+use Rattle.handles.proofs.Lists.{listed-few}
+use Rattle.handles.proofs.Caps.{cap-small, cap-within, capped-bound}
 use Rattle.subgroup.specs.declared.Subgroup.{Subgroup}
 use Rattle.subgroup.specs.declared.Within.{Within}
 use Rattle.subgroup.specs.declared.inner.Outline.{Outline}

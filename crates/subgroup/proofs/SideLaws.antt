@@ -15,11 +15,11 @@ use Rattle.egg.specs.Scan.{refusedOf}
 use Rattle.egg.specs.Factor.{fitsIn}
 use Rattle.egg.proofs.Rooms.{and-first, and-second}
 use Rattle.egg.proofs.Scans.{refused-fine}
-use Rattle.group.specs.declared.Group.{Group}
-use Rattle.group.specs.Handles.{handles, elementsOf, allFit, capped}
-use Rattle.group.proofs.Caps.{cap-beyond, cap-within}
-use Rattle.group.proofs.Joins.{fit-both}
-use Rattle.group.proofs.Sums.{both-length}
+use Rattle.handles.specs.declared.Group.{Group}
+use Rattle.handles.specs.Handles.{handles, elementsOf, allFit, capped}
+use Rattle.handles.proofs.Caps.{cap-beyond, cap-within}
+use Rattle.handles.proofs.Joins.{fit-both}
+use Rattle.handles.proofs.Sums.{both-length}
 use Rattle.subgroup.specs.declared.Subgroup.{Subgroup}
 use Rattle.subgroup.specs.declared.Subgrouped.{Subgrouped}
 use Rattle.subgroup.specs.declared.Within.{Within}

@@ -12,9 +12,9 @@ use Rattle.egg.specs.declared.Verdict.the-variants as verdict
 use Rattle.egg.specs.Table.{pick}
 use Rattle.egg.specs.Scan.{refusedOf, andThen, scan}
 use Rattle.builder.specs.Lending.{tableNeed, workNeed, noFactor, refusedMade}
-use Rattle.group.specs.declared.Group.{Group}
-use Rattle.group.specs.Handles.{handles, elementsOf, allFit, limited}
-use Rattle.group.specs.Powers.{composes}
+use Rattle.handles.specs.declared.Group.{Group}
+use Rattle.handles.specs.Handles.{handles, elementsOf, allFit, limited}
+use Rattle.digits.specs.Digits.{composes}
 use Rattle.appearance.specs.Build.{renumberIn}
 use Rattle.subgroup.specs.Lent.{shown, subgroupOf, Subgrouping, subgrouping, mapsRight, mapsBack}
 

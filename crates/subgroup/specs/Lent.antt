@@ -8,8 +8,8 @@ use Rattle.egg.specs.declared.Made.{Made}
 use Rattle.egg.specs.Table.{pick}
 use Rattle.builder.specs.Finish.{built}
 use Rattle.builder.specs.Lending.{tableNeed, workNeed, lentRight, within, madeOf}
-use Rattle.group.specs.declared.Group.{Group}
-use Rattle.group.specs.Handles.{groupOf}
+use Rattle.handles.specs.declared.Group.{Group}
+use Rattle.handles.specs.Handles.{groupOf}
 use Rattle.appearance.specs.Build.{Renumbering, renumbering}
 use Rattle.subgroup.specs.declared.Subgrouped.{Subgrouped}
 

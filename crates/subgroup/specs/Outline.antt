@@ -11,8 +11,8 @@ use Rattle.egg.specs.declared.Reached.{Reached}
 use Rattle.egg.specs.Table.{pick}
 use Rattle.egg.specs.Scan.{refusedOf}
 use Rattle.factor.specs.Questions.{ifReach}
-use Rattle.group.specs.declared.inner.Seen.{Seen}
-use Rattle.group.specs.Handles.{handles, elementsOf, capped}
+use Rattle.handles.specs.declared.inner.Seen.{Seen}
+use Rattle.handles.specs.Handles.{handles, elementsOf, capped}
 use Rattle.subgroup.specs.declared.Subgroup.{Subgroup}
 use Rattle.subgroup.specs.declared.Within.{Within}
 use Rattle.subgroup.specs.declared.inner.Outline.{Outline}

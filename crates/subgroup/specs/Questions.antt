@@ -14,8 +14,8 @@ use Rattle.egg.specs.Table.{pick}
 use Rattle.egg.specs.Factor.{Paper, refusalPaper, refusedReach, readStep, stretch}
 use Rattle.factor.specs.Questions.{ifReach}
 use Rattle.walks.specs.Walks.{onReached}
-use Rattle.group.specs.Handles.{handles, elementsOf, generatorsOf, capped}
-use Rattle.group.specs.Digits.{stepIn}
+use Rattle.handles.specs.Handles.{handles, elementsOf, generatorsOf, capped}
+use Rattle.digits.specs.Digits.{stepIn}
 use Rattle.appearance.specs.Renumber.{none}
 use Rattle.subgroup.specs.declared.Subgroup.{Subgroup}
 use Rattle.subgroup.specs.declared.Within.{Within}

@@ -9,8 +9,8 @@ ghost use Rattle.egg.specs.Factor.{fitsIn};
 ghost use Rattle.builder.specs.Finish.{Built};
 ghost use Rattle.builder.specs.Lending.{noFactor};
 ghost use Rattle.reading.specs.Reading.{Placed};
-ghost use Rattle.group.specs.Powers.{composes};
-ghost use Rattle.group.specs.Handles.{handles, elementsOf, generatorsOf, allFit, capped};
+ghost use Rattle.digits.specs.Digits.{composes};
+ghost use Rattle.handles.specs.Handles.{handles, elementsOf, generatorsOf, allFit, capped};
 ghost use Rattle.appearance.specs.Renumber.{Mapped, mapRow, mapRows};
 ghost use Rattle.appearance.specs.Build.{Renumbering, renumberIn};
 ghost use Rattle.subgroup.specs.Lent.{shown, subgroupOf, Subgrouping, mapsRight};
@@ -32,8 +32,8 @@ use egg::Made;
 use egg::Reached;
 use egg::Refusal;
 use egg::Verdict;
-use group::Group;
-use group::inner::Seen;
+use handles::Group;
+use handles::inner::Seen;
 
 // A length or a position as far as 32 bits can tell.
 pub fn shown(i: usize) -> u32
@@ -46,7 +46,7 @@ pub fn shown(i: usize) -> u32
 fn entries_right(over: Group, gens: &[u32]) -> Verdict
     ensures { λ r. ⌜ r ≡ entriesRight (elementsOf (handles over)) (now (gens .entry)) ⌝ }
 {
-    let m = group::inner::elements_of(over);
+    let m = handles::inner::elements_of(over);
     let mut i: usize = 0;
     while i < gens.len() {
         let x = egg::inner::get(gens, i);
@@ -62,17 +62,17 @@ fn entries_right(over: Group, gens: &[u32]) -> Verdict
 pub fn small_enough(over: Group) -> bool
     ensures { λ r. ⌜ r ≡ smallEnough over ⌝ }
 {
-    if !group::inner::limited(over) {
+    if !handles::inner::limited(over) {
         return false;
     }
-    group::inner::elements_of(over) <= 65535
+    handles::inner::elements_of(over) <= 65535
 }
 
 // 17, 14, 15.
 pub fn admit_generators(from: &[u32], over: Group, gens: &[u32]) -> Verdict
     ensures { λ r. ⌜ r ≡ admitsGenerators (length (now (from .entry))) over (now (gens .entry)) ⌝ }
 {
-    if !group::inner::all_fit(from, over) {
+    if !handles::inner::all_fit(from, over) {
         return egg::inner::refused(17, 0, 0, 0);
     }
     let v = entries_right(over, gens);
@@ -107,7 +107,7 @@ fn product_row(
     while g < n {
         let at = egg::inner::get(&outw[..], row as usize);
         let by = egg::inner::get(gens, g as usize);
-        let reached = group::inner::compose_digits(
+        let reached = digits::inner::compose_digits(
             from,
             over,
             GroupElementId(at),
@@ -280,8 +280,8 @@ fn rows_of(
     requires { ⌜ (allFit (length (now from)) (handles over) ≡ true) × (elementsOf (handles over) ≤ 4294967295) ⌝ }
     ensures { λ r. ⌜ Mapped.mapped (Placed.placed r (now (t .exit))) (now (inn .exit)) (now (outw .exit)) ≡ mapRows room (productOf (now (from .entry)) (handles over) (now (gens .entry))) n room 0 1 (now (t .entry)) (now (inn .entry)) (now (outw .entry)) ⌝ }
 {
-    if group::inner::listed(over) == 1 {
-        let f = group::inner::handle(over, 0);
+    if handles::inner::listed(over) == 1 {
+        let f = handles::inner::handle(over, 0);
         return factor_rows(t, inn, outw, from, f, gens, n, room);
     }
     product_rows(t, inn, outw, from, over, gens, n, room)
@@ -313,8 +313,8 @@ pub fn generated_in(
 pub fn subgroup_of(over: Group, made: Made) -> Subgrouped
     ensures { λ r. ⌜ r ≡ subgroupOf over made ⌝ }
 {
-    let below = group::trivial();
-    let above = group::trivial();
+    let below = handles::trivial();
+    let above = handles::trivial();
     let factor = made.factor;
     let answer = made.answer;
     let subgroup = Subgroup {
@@ -329,7 +329,7 @@ pub fn subgroup_of(over: Group, made: Made) -> Subgrouped
 pub fn refused_subgroup(over: Group, why: Refusal) -> Subgrouped
     ensures { λ r. ⌜ r ≡ subgroupOf over (record { answer = verdict.Refused why; factor = noFactor }) ⌝ }
 {
-    subgroup_of(over, group::inner::no_factor_made(why))
+    subgroup_of(over, handles::inner::no_factor_made(why))
 }
 
 // No 4: the room is within its limits, and neither table, work nor a map is short.
@@ -370,7 +370,7 @@ fn generated_at(
     ensures { λ r. ⌜ Subgrouping.subgrouping r (now (table .exit)) (now (work .exit)) (now (inn .exit)) (now (outw .exit)) ≡ generatedInto (now (from .entry)) over (now (gens .entry)) (now (table .entry)) start (now (work .entry)) (now (inn .entry)) (now (outw .entry)) room ⌝ }
 {
     let n = gens.len() as u8;
-    let m = group::inner::elements_of(over) as usize;
+    let m = handles::inner::elements_of(over) as usize;
     let r = room as usize;
     let end = builder::inner::stretch_end(table.len(), start, room, n);
     let need = builder::inner::work_need(n, room);
@@ -407,7 +407,7 @@ pub fn generated_into(
     if 8 < k {
         return subgroup_of(over, builder::inner::refused_made(1, shown(k)));
     }
-    let m = group::inner::elements_of(over);
+    let m = handles::inner::elements_of(over);
     if !maps_right(
         table.len(),
         start,
@@ -451,15 +451,15 @@ fn around(s: Subgroup, m: u64) -> u64
 {
     let below = s.below;
     let above = s.above;
-    let high = times(m, group::inner::elements_of(above));
-    times(group::inner::elements_of(below), high)
+    let high = times(m, handles::inner::elements_of(above));
+    times(handles::inner::elements_of(below), high)
 }
 
 pub fn over_elements(s: Subgroup) -> u64
     ensures { λ r. ⌜ r ≡ capped (elementsOf (overSide s)) ⌝ }
 {
     let over = s.over;
-    around(s, group::inner::elements_of(over))
+    around(s, handles::inner::elements_of(over))
 }
 
 pub fn sub_elements(s: Subgroup) -> u64
@@ -478,15 +478,15 @@ pub fn sides_fit(from: &[u32], table: &[u32], s: Subgroup) -> bool
         return false;
     }
     let below = s.below;
-    if !group::inner::all_fit(from, below) {
+    if !handles::inner::all_fit(from, below) {
         return false;
     }
     let over = s.over;
-    if !group::inner::all_fit(from, over) {
+    if !handles::inner::all_fit(from, over) {
         return false;
     }
     let above = s.above;
-    group::inner::all_fit(from, above)
+    handles::inner::all_fit(from, above)
 }
 
 // Whether both sides have at most 8 factors.
@@ -505,8 +505,8 @@ fn few_factors(s: Subgroup) -> bool
     if 8 < above.count {
         return false;
     }
-    let k = group::inner::listed(below) + group::inner::listed(above);
-    if 8 < k + group::inner::listed(over) {
+    let k = handles::inner::listed(below) + handles::inner::listed(above);
+    if 8 < k + handles::inner::listed(over) {
         return false;
     }
     k < 8
@@ -595,9 +595,9 @@ pub fn outlined(from: &[u32], table: &[u32], s: Subgroup) -> Outline
     let above = s.above;
     let fits = egg::fits(table, factor);
     let few = few_factors(s);
-    let low = group::inner::look(from, below);
-    let middle = group::inner::look(from, over);
-    let high = group::inner::look(from, above);
+    let low = handles::inner::look(from, below);
+    let middle = handles::inner::look(from, over);
+    let high = handles::inner::look(from, above);
     outline_by(fits, few, factor.elements, low, middle, high)
 }
 
@@ -646,10 +646,10 @@ pub fn admit(o: Outline, map: usize, need: u64, a: u32, la: u64) -> Verdict
 pub fn refused_sides(number: u32) -> Subgrouped
     ensures { λ r. ⌜ r ≡ refusedSubgroup number ⌝ }
 {
-    let below = group::trivial();
-    let over = group::trivial();
-    let above = group::trivial();
-    let factor = group::inner::no_factor();
+    let below = handles::trivial();
+    let over = handles::trivial();
+    let above = handles::trivial();
+    let factor = handles::inner::no_factor();
     let subgroup = Subgroup {
         below,
         factor,
@@ -670,7 +670,7 @@ fn joinable(g: Group, h: Group) -> bool
     if 8 < h.count {
         return false;
     }
-    group::inner::listed(g) + group::inner::listed(h) <= 8
+    handles::inner::listed(g) + handles::inner::listed(h) <= 8
 }
 
 // The value where it is within its limits.
@@ -693,7 +693,7 @@ pub fn left_of(g: Group, s: Subgroup) -> Subgrouped
     if !joinable(g, side) {
         return refused_sides(15);
     }
-    let below = group::inner::joined(g, side);
+    let below = handles::inner::joined(g, side);
     let factor = s.factor;
     let over = s.over;
     let above = s.above;
@@ -712,7 +712,7 @@ pub fn right_of(s: Subgroup, g: Group) -> Subgrouped
     if !joinable(side, g) {
         return refused_sides(15);
     }
-    let above = group::inner::joined(side, g);
+    let above = handles::inner::joined(side, g);
     let factor = s.factor;
     let over = s.over;
     let below = s.below;
@@ -804,8 +804,8 @@ pub fn sub_generators(s: Subgroup) -> u32
     let below = s.below;
     let above = s.above;
     let factor = s.factor;
-    let low = group::inner::generators_of(below);
-    let high = group::inner::generators_of(above);
+    let low = handles::inner::generators_of(below);
+    let high = handles::inner::generators_of(above);
     low + ((factor.generators as u32) + high)
 }
 
@@ -828,13 +828,13 @@ fn side_generator(from: &[u32], table: &[u32], s: Subgroup, g: GeneratorId) -> R
     let below = s.below;
     let above = s.above;
     let factor = s.factor;
-    let k = group::inner::generators_of(below);
+    let k = handles::inner::generators_of(below);
     let all = g.0;
     if (all as u32) < k {
-        return group::inner::step_in(from, below, GroupElementId(0), g);
+        return digits::inner::step_in(from, below, GroupElementId(0), g);
     }
     let left = ((all as u32) - k) as u8;
-    let stride = group::inner::elements_of(below);
+    let stride = handles::inner::elements_of(below);
     if left < factor.generators {
         let part = egg::inner::part(table, factor);
         let within = egg::inner::next(
@@ -846,7 +846,7 @@ fn side_generator(from: &[u32], table: &[u32], s: Subgroup, g: GeneratorId) -> R
         );
         return scaled(within, stride);
     }
-    let high = group::inner::step_in(
+    let high = digits::inner::step_in(
         from,
         above,
         GroupElementId(0),

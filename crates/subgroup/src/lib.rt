@@ -12,7 +12,7 @@ use egg::GroupElementId;
 use egg::Reached;
 use egg::Refusal;
 use egg::Verdict;
-use group::Group;
+use handles::Group;
 
 pub mod inner;
 
@@ -76,7 +76,7 @@ pub fn product_left(from: &[u32], table: &[u32], g: Group, s: Subgroup) -> Subgr
     if !inner::sides_fit(from, table, s) {
         return inner::refused_sides(17);
     }
-    if !group::inner::all_fit(from, g) {
+    if !handles::inner::all_fit(from, g) {
         return inner::refused_sides(17);
     }
     inner::left_of(g, s)
@@ -89,7 +89,7 @@ pub fn product_right(from: &[u32], table: &[u32], s: Subgroup, g: Group) -> Subg
     if !inner::sides_fit(from, table, s) {
         return inner::refused_sides(17);
     }
-    if !group::inner::all_fit(from, g) {
+    if !handles::inner::all_fit(from, g) {
         return inner::refused_sides(17);
     }
     inner::right_of(s, g)

@@ -14,8 +14,8 @@ use Rattle.egg.specs.declared.Counted.the-variants as counted
 use Rattle.reading.specs.Reading.{readAll}
 use Rattle.builder.specs.Finish.{Built, built, zeroed, finishedPlaced}
 use Rattle.builder.specs.Lending.{tableNeed, workNeed}
-use Rattle.group.specs.declared.Group.{Group}
-use Rattle.group.specs.Handles.{handles, elementsOf}
+use Rattle.handles.specs.declared.Group.{Group}
+use Rattle.handles.specs.Handles.{handles, elementsOf}
 use Rattle.appearance.specs.Build.{Renumbering, renumbering, renumberIn}
 use Rattle.renumbering.specs.Orbit.{Inside, numberedStep, Appearing}
 use Rattle.renumbering.specs.Maps.{Filled}

@@ -4,14 +4,13 @@ use mathlib.Core.Path.{refl}
 use Rattle.egg.specs.Table.{putAt, startOf}
 use Rattle.egg.specs.Scan.{scan}
 use Rattle.egg.specs.Factor.{hasRoom, fitsIn, stretch, readStep}
-use Rattle.checks.specs.Checks.{missingRow, missing, check8, rangeRow, linksOf, ranges, wrongRow, wrong, check-table, wiped, arriveRow, arrivals, countsRight}
-use Rattle.checks.specs.Checks.{invertFrom, fillInverses, inversesRight, identityRow, columnsRow, spelledRow, spelled, check-steps, fillLeft, goesRow, allGo, lefts, check-rest, check-group}
+use Rattle.checks.specs.Checks.{missingRow, missing, check8, rangeRow, linksOf, ranges, wrongRow, wrong, check-table, wiped, arriveRow, arrivals, countsRight, invertFrom, fillInverses, inversesRight, identityRow, columnsRow, spelledRow, spelled, check-steps, fillLeft, goesRow, allGo, lefts, check-rest, check-group}
 use Rattle.reading.specs.Build.{setStep, setWord, adds}
 use Rattle.builder.specs.Finish.{finished}
 use Rattle.builder.specs.Lending.{lentRight, within}
 use Rattle.walks.specs.Walks.{along, readBack, backAlong, composeIn}
-use Rattle.group.specs.Handles.{limited}
-use Rattle.group.specs.Digits.{digitwise}
+use Rattle.handles.specs.Handles.{limited}
+use Rattle.digits.specs.Digits.{digitwise}
 use Rattle.appearance.specs.Renumber.{mapPlace, mapRow, mapRows}
 use Rattle.appearance.specs.Build.{renumberIn}
 use Rattle.subgroup.specs.Lent.{mapsRight}

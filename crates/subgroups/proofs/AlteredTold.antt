@@ -18,9 +18,9 @@ use Rattle.egg.specs.declared.Counted.the-variants.{Count, Refused}
 use Rattle.reading.specs.Build.{numbered}
 use Rattle.builder.specs.Finish.{built, zeroed}
 use Rattle.builder.specs.Lending.{tableNeed, workNeed}
-use Rattle.group.specs.declared.Group.{Group}
-use Rattle.group.specs.Handles.{handles, elementsOf}
-use Rattle.group.specs.Powers.{composes}
+use Rattle.handles.specs.declared.Group.{Group}
+use Rattle.handles.specs.Handles.{handles, elementsOf}
+use Rattle.digits.specs.Digits.{composes}
 use Rattle.appearance.specs.Build.{Renumbering, renumbering, renumberIn}
 use Rattle.renumbering.proofs.Order.{appearing}
 use Rattle.renumbering.proofs.Partial.{total, total-answering, partial-build}

@@ -27,10 +27,10 @@ use Rattle.numbering.specs.Read.{Readable, Refuses}
 use Rattle.numbering.proofs.Readings.{accepted-read, read-readable, refused-read, refuses-refused}
 use Rattle.refusals.specs.Firsts.{FirstOf}
 use Rattle.refusals.proofs.Firsts.{Decides, decides-fine, first-found, first-refused, first-fine}
-use Rattle.group.specs.declared.Group.{Group}
-use Rattle.group.specs.Handles as handling
-use Rattle.group.specs.Handles.{handles, elementsOf, allFit}
-use Rattle.group.proofs.Admitted.{few-factors}
+use Rattle.handles.specs.declared.Group.{Group}
+use Rattle.handles.specs.Handles as handling
+use Rattle.handles.specs.Handles.{handles, elementsOf, allFit}
+use Rattle.handles.proofs.Admitted.{few-factors}
 use Rattle.groups.specs.Products.{AllAccepted, direct}
 use Rattle.appearance.specs.Build.{Renumbering, renumbering, renumberIn}
 use Rattle.renumbering.specs.Orbit.{numberedStep}

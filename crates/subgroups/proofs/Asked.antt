@@ -17,11 +17,11 @@ use Rattle.egg.specs.Factor.{Paper, fitsIn}
 use Rattle.egg.proofs.Rooms.{and-first, and-second}
 use Rattle.egg.proofs.Scans.{refused-fine}
 use Rattle.answers.specs.Accepted.{reach}
-use Rattle.group.specs.declared.Group.{Group}
-use Rattle.group.specs.Handles.{handles, elementsOf, allFit, limited, capped, groupOf}
-use Rattle.group.proofs.Admitted.{few-factors}
-use Rattle.group.proofs.Caps.{cap-small}
-use Rattle.group.proofs.Joins.{fit-both, handles-of}
+use Rattle.handles.specs.declared.Group.{Group}
+use Rattle.handles.specs.Handles.{handles, elementsOf, allFit, limited, capped, groupOf}
+use Rattle.handles.proofs.Admitted.{few-factors}
+use Rattle.handles.proofs.Caps.{cap-small}
+use Rattle.handles.proofs.Joins.{fit-both, handles-of}
 use Rattle.appearance.specs.Renumber as appear
 use Rattle.subgroup.specs.declared.Subgroup.{Subgroup}
 use Rattle.subgroup.specs.declared.Subgrouped.{Subgrouped}

@@ -13,11 +13,11 @@ use Rattle.reading.specs.Build.{setStep, setWord, adds}
 use Rattle.builder.specs.Finish.{finished}
 use Rattle.builder.specs.Lending.{lentRight, within, noFactor}
 use Rattle.factor.specs.Questions as factor
+use Rattle.handles.specs.declared.Group.{Group}
+use Rattle.handles.specs.Handles.{groupOf, limited}
+use Rattle.digits.specs.Digits.{digitwise}
 use Rattle.walks.specs.Walks as walks
 use Rattle.words.specs.Words as words
-use Rattle.group.specs.declared.Group.{Group}
-use Rattle.group.specs.Handles.{groupOf, limited}
-use Rattle.group.specs.Digits.{digitwise}
 use Rattle.appearance.specs.Renumber.{none, mapPlace, mapRow, mapRows}
 use Rattle.appearance.specs.Build.{renumberIn}
 use Rattle.subgroup.specs.Lent.{subgrouping, mapsRight}

@@ -32,8 +32,8 @@ use Rattle.theory.proofs.Reading.{numbered-once}
 use Rattle.meaning.proofs.Accepted.{sound-group}
 use Rattle.promises.proofs.Lent.{handle, lentTable, stretch-part, fits-still}
 use Rattle.products.specs.Product.{product}
-use Rattle.group.specs.declared.Group.{Group}
-use Rattle.group.specs.Handles.{handles, elementsOf, groupOf}
+use Rattle.handles.specs.declared.Group.{Group}
+use Rattle.handles.specs.Handles.{handles, elementsOf, groupOf}
 use Rattle.groups.specs.Products.{parts, AllAccepted, direct}
 use Rattle.groups.proofs.Parts.{parts-elements}
 use Rattle.appearance.specs.Renumber as appear

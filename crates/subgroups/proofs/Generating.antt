@@ -10,9 +10,9 @@ use Rattle.egg.specs.declared.Verdict.the-variants.{Fine}
 use Rattle.egg.specs.Factor.{stretch, readStep}
 use Rattle.answers.specs.Accepted.{factorStep, reach}
 use Rattle.answers.proofs.Steps.{read-step}
-use Rattle.group.specs.declared.Group.{Group}
-use Rattle.group.specs.Handles.{handles, elementsOf, generatorsOf, groupOf, capped}
-use Rattle.group.proofs.Caps.{cap-small}
+use Rattle.handles.specs.declared.Group.{Group}
+use Rattle.handles.specs.Handles.{handles, elementsOf, generatorsOf, groupOf, capped}
+use Rattle.handles.proofs.Caps.{cap-small}
 use Rattle.subgroup.specs.declared.Subgroup.{Subgroup}
 use Rattle.subgroup.specs.Indices.{overOf}
 use Rattle.subgroup.specs.Sides.{subSide, admitsSides}

@@ -31,8 +31,8 @@ use Rattle.answers.proofs.Refuses.{verdict-fine, verdict-refused, verdict-pick,
 use Rattle.promises.specs.Leaves.{Leaves, untouched, zeros}
 use Rattle.promises.proofs.Zeros.{check-zeros}
 use Rattle.promises.proofs.Passing.{read-ranges}
-use Rattle.group.specs.declared.Group.{Group}
-use Rattle.group.specs.Handles.{handles, elementsOf, allFit}
+use Rattle.handles.specs.declared.Group.{Group}
+use Rattle.handles.specs.Handles.{handles, elementsOf, allFit}
 use Rattle.appearance.specs.Build.{renumbering}
 use Rattle.renumbering.specs.Orbit.{Inside, numberedStep, Appearing}
 use Rattle.renumbering.proofs.Partial.{total, total-answering}

@@ -29,8 +29,8 @@ use Rattle.derived.proofs.Marking.{set-length}
 use Rattle.promises.specs.Leaves.{Cleared, AllCleared}
 use Rattle.promises.proofs.ReadLengths.{adds-length}
 use Rattle.meaning.proofs.Accepted.{checks-kept}
-use Rattle.group.specs.declared.Group.{Group}
-use Rattle.group.specs.Handles.{handles, elementsOf}
+use Rattle.handles.specs.declared.Group.{Group}
+use Rattle.handles.specs.Handles.{handles, elementsOf}
 use Rattle.appearance.specs.Renumber.{none, Mapped, mapped, thenMapped, onNew, mapPlace, mapFrom, mapRow, mapRows, mapAll}
 use Rattle.appearance.specs.Build.{renumbering, finishedMapped, renumberIn}
 use Rattle.renumbering.proofs.Builds.{builtOf, settled-built, refused-maps}

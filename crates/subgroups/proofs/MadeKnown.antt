@@ -10,9 +10,9 @@ use native.Mathlib.Omega.{arith}
 use borrow.Author.Tests.{le-leb}
 use lib.ListN.{length, length-take}
 use Rattle.egg.specs.declared.Factor.{Factor}
-use Rattle.group.specs.declared.Group.{Group}
-use Rattle.group.specs.Handles.{handles, elementsOf, groupOf}
-use Rattle.group.proofs.Admitted.{few-factors}
+use Rattle.handles.specs.declared.Group.{Group}
+use Rattle.handles.specs.Handles.{handles, elementsOf, groupOf}
+use Rattle.handles.proofs.Admitted.{few-factors}
 use Rattle.subgroup.specs.declared.Subgroup.{Subgroup}
 use Rattle.subgroup.specs.Sides.{fewFactors, sidesLimited}
 use Rattle.subgroup.proofs.Admits.{small-limited, small-elements}

@@ -15,8 +15,8 @@ use Rattle.builder.specs.Finish.{built}
 use Rattle.theory.specs.Group.{GroupOn}
 use Rattle.products.specs.Product.{Part, product, IsGroup}
 use Rattle.products.proofs.ProductLaws.{product-group}
-use Rattle.group.specs.declared.inner.Asked.the-variants.{Compose}
-use Rattle.group.specs.Digits.{digitOf, digitwise}
+use Rattle.digits.specs.declared.inner.Asked.the-variants.{Compose}
+use Rattle.digits.specs.Digits.{digitOf, digitwise}
 use Rattle.groups.specs.Products.{parts, AllAccepted}
 use Rattle.groups.proofs.Parts.{all-groups, composes-are}
 use Rattle.appearance.specs.Renumber as appear

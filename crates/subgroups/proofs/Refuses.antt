@@ -18,8 +18,8 @@ use Rattle.meaning.specs.Numbers.{In}
 use Rattle.answers.specs.Refuses.{VerdictIn, ReachedIn}
 use Rattle.answers.proofs.Refuses.{reached-element, reached-refused, reached-pick, reached-on, reached-if, reached-widen, step-in}
 use Rattle.answers.proofs.Refuses.{verdict-fine, verdict-refused, verdict-pick}
-use Rattle.group.specs.declared.Group.{Group}
-use Rattle.group.specs.Handles.{handles, allFit, generatorsOf}
+use Rattle.handles.specs.declared.Group.{Group}
+use Rattle.handles.specs.Handles.{handles, allFit, generatorsOf}
 use Rattle.groups.proofs.Refuses.{stepped-in}
 use Rattle.appearance.specs.Renumber.{none}
 use Rattle.subgroup.specs.declared.Subgroup.{Subgroup}

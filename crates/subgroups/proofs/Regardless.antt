@@ -27,14 +27,13 @@ use Rattle.promises.specs.Composed.{Holding}
 use Rattle.promises.specs.Unaltered.{Wrote, part}
 use Rattle.promises.proofs.Lent.{handle, within-cell}
 use Rattle.products.proofs.RadixLaws.{joined-small, high-small, range-pos}
-use Rattle.group.specs.declared.Group.{Group}
-use Rattle.group.specs.declared.inner.Asked.the-variants.{Compose}
-use Rattle.group.specs.Handles.{handles, elementsOf, allFit, groupOf}
-use Rattle.group.specs.Digits.{digitOf, digitwise}
-use Rattle.group.specs.Powers.{composes}
+use Rattle.handles.specs.declared.Group.{Group}
+use Rattle.digits.specs.declared.inner.Asked.the-variants.{Compose}
+use Rattle.handles.specs.Handles.{handles, elementsOf, allFit, groupOf}
+use Rattle.digits.specs.Digits.{digitOf, digitwise, composes}
 use Rattle.walks.specs.Walks.{onReached}
-use Rattle.group.proofs.Lists.{positive}
-use Rattle.group.proofs.Walks.{Below, element, refusal, below-element, digit-below}
+use Rattle.handles.proofs.Lists.{positive}
+use Rattle.digits.proofs.Walks.{Below, element, refusal, below-element, digit-below}
 use Rattle.appearance.specs.Build.{renumbering, renumberIn}
 use Rattle.renumbering.specs.Orbit.{Inside, numberedStep, Appearing}
 use Rattle.renumbering.specs.Source.{Answering}

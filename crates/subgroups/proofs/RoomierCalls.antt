@@ -18,8 +18,8 @@ use Rattle.roomier.specs.Longer.{longer}
 use Rattle.roomier.proofs.Stores.{longer-get}
 use Rattle.promises.proofs.Roomier.{built-roomier}
 use Rattle.promises.proofs.Lent.{handle, stretch-cell}
-use Rattle.group.specs.declared.Group.{Group}
-use Rattle.group.specs.Handles.{handles, elementsOf, groupOf}
+use Rattle.handles.specs.declared.Group.{Group}
+use Rattle.handles.specs.Handles.{handles, elementsOf, groupOf}
 use Rattle.groups.specs.Products.{AllAccepted}
 use Rattle.appearance.specs.Build.{Renumbering, renumbering, renumberIn}
 use Rattle.renumbering.specs.Source.{Answering}

@@ -14,9 +14,9 @@ use Rattle.builder.specs.Lending.{tableNeed, workNeed, within}
 use Rattle.roomier.specs.Longer.{longer}
 use Rattle.roomier.proofs.Stores.{longer-get}
 use Rattle.promises.proofs.Lent.{handle, stretch-cell}
-use Rattle.group.specs.declared.Group.{Group}
-use Rattle.group.specs.Handles.{handles, elementsOf, groupOf}
-use Rattle.group.specs.Powers.{composes}
+use Rattle.handles.specs.declared.Group.{Group}
+use Rattle.handles.specs.Handles.{handles, elementsOf, groupOf}
+use Rattle.digits.specs.Digits.{composes}
 use Rattle.groups.specs.Products.{AllAccepted, direct}
 use Rattle.appearance.specs.Build.{Renumbering, renumbering}
 use Rattle.subgroup.specs.declared.Subgroup.{Subgroup}

@@ -9,8 +9,8 @@ use Rattle.egg.specs.declared.Factor.{Factor}
 use Rattle.meaning.proofs.Accepted.{sound-group}
 use Rattle.products.specs.Product.{Part, pair, product}
 use Rattle.products.proofs.ProductLaws.{product-group}
-use Rattle.group.specs.declared.Group.{Group}
-use Rattle.group.specs.Handles.{handles}
+use Rattle.handles.specs.declared.Group.{Group}
+use Rattle.handles.specs.Handles.{handles}
 use Rattle.groups.specs.Products.{part, parts, AllAccepted}
 use Rattle.groups.proofs.Parts.{all-groups, parts-elements}
 use Rattle.subgroup.specs.declared.Subgroup.{Subgroup}

@@ -30,9 +30,9 @@ use Rattle.theory.specs.Group.{GroupOn}
 use Rattle.meaning.specs.Numbers.{In}
 use Rattle.numbering.specs.Read.{Refuses}
 use Rattle.numbering.proofs.Readings.{refuses-refused}
-use Rattle.group.specs.declared.Group.{Group}
-use Rattle.group.specs.Handles.{handles, elementsOf, allFit}
-use Rattle.group.specs.Powers.{composes}
+use Rattle.handles.specs.declared.Group.{Group}
+use Rattle.handles.specs.Handles.{handles, elementsOf, allFit}
+use Rattle.digits.specs.Digits.{composes}
 use Rattle.groups.specs.Products.{AllAccepted, direct}
 use Rattle.appearance.specs.Build.{Renumbering, renumbering}
 use Rattle.renumbering.specs.Orbit.{numberedStep}

@@ -28,9 +28,9 @@ use Rattle.builder.proofs.Lending.{lent-table, lent-enough}
 use Rattle.theory.specs.Group.{GroupOn}
 use Rattle.promises.proofs.Lent.{handle}
 use Rattle.products.specs.Product.{product}
-use Rattle.group.specs.declared.Group.{Group}
-use Rattle.group.specs.Handles.{handles, elementsOf, groupOf}
-use Rattle.group.specs.Powers.{composes}
+use Rattle.handles.specs.declared.Group.{Group}
+use Rattle.handles.specs.Handles.{handles, elementsOf, groupOf}
+use Rattle.digits.specs.Digits.{composes}
 use Rattle.groups.specs.Products.{parts, AllAccepted, direct}
 use Rattle.groups.proofs.Parts.{parts-elements}
 use Rattle.appearance.specs.Renumber as appear

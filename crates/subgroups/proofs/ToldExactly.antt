@@ -17,9 +17,9 @@ use Rattle.theory.specs.Group.{GroupOn}
 use Rattle.theory.proofs.Reading.{numbered-once}
 use Rattle.numbering.specs.Read.{Readable}
 use Rattle.promises.proofs.Lent.{handle}
-use Rattle.group.specs.declared.Group.{Group}
-use Rattle.group.specs.Handles.{handles, elementsOf, groupOf}
-use Rattle.group.specs.Powers.{composes}
+use Rattle.handles.specs.declared.Group.{Group}
+use Rattle.handles.specs.Handles.{handles, elementsOf, groupOf}
+use Rattle.digits.specs.Digits.{composes}
 use Rattle.groups.specs.Products.{AllAccepted, direct}
 use Rattle.appearance.specs.Build.{Renumbering, renumbering}
 use Rattle.renumbering.specs.Orbit.{numberedStep}

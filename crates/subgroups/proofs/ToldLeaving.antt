@@ -20,9 +20,9 @@ use Rattle.builder.specs.Lending.{tableNeed, workNeed, within}
 use Rattle.meaning.proofs.Lengths.{checks-work}
 use Rattle.meaning.proofs.Accepted.{checks-kept}
 use Rattle.promises.specs.Leaves.{AllCleared}
-use Rattle.group.specs.declared.Group.{Group}
-use Rattle.group.specs.Handles.{handles, elementsOf}
-use Rattle.group.specs.Powers.{composes}
+use Rattle.handles.specs.declared.Group.{Group}
+use Rattle.handles.specs.Handles.{handles, elementsOf}
+use Rattle.digits.specs.Digits.{composes}
 use Rattle.appearance.specs.Renumber.{none, Mapped, mapped, mapAll}
 use Rattle.appearance.specs.Build.{Renumbering, renumbering, finishedMapped, renumberIn}
 use Rattle.renumbering.proofs.Builds.{settled-count, refused-maps}

@@ -20,12 +20,11 @@ use Rattle.meaning.proofs.Accepted.{sound-group}
 use Rattle.answers.specs.Accepted.{factorStep}
 use Rattle.answers.specs.Unaltered.{Unaltered}
 use Rattle.products.specs.Product.{product}
-use Rattle.group.specs.declared.Group.{Group}
-use Rattle.group.specs.Handles.{handles, elementsOf, generatorsOf, allFit, capped}
-use Rattle.group.specs.Digits.{digitwise, stepIn}
-use Rattle.group.specs.Powers.{composes}
-use Rattle.group.proofs.Caps.{cap-small, cap-large}
-use Rattle.group.proofs.Lists.{positive}
+use Rattle.handles.specs.declared.Group.{Group}
+use Rattle.handles.specs.Handles.{handles, elementsOf, generatorsOf, allFit, capped}
+use Rattle.digits.specs.Digits.{digitwise, stepIn, composes}
+use Rattle.handles.proofs.Caps.{cap-small, cap-large}
+use Rattle.handles.proofs.Lists.{positive}
 use Rattle.groups.specs.Products.{parts, direct}
 use Rattle.groups.specs.Unaltered.{AllUnaltered, none, more}
 use Rattle.appearance.specs.Renumber as appear

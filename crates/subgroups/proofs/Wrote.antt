@@ -22,9 +22,9 @@ use Rattle.promises.specs.Unaltered.{nothing, part, Apart}
 use Rattle.promises.proofs.Leaves.{no-factor-fits}
 use Rattle.promises.proofs.Never.{leaves-number}
 use Rattle.promises.proofs.Unaltered.{kept}
-use Rattle.group.specs.declared.Group.{Group}
-use Rattle.group.specs.Handles.{handles, elementsOf}
-use Rattle.group.specs.Powers.{composes}
+use Rattle.handles.specs.declared.Group.{Group}
+use Rattle.handles.specs.Handles.{handles, elementsOf}
+use Rattle.digits.specs.Digits.{composes}
 use Rattle.appearance.specs.Build.{Renumbering, renumbering, renumberIn}
 use Rattle.subgroup.specs.declared.Subgroup.{Subgroup}
 use Rattle.subgroup.specs.declared.Subgrouped.{Subgrouped}

@@ -17,8 +17,8 @@ use Rattle.builder.specs.Lending.{tableNeed, workNeed, within, noFactor}
 use Rattle.meaning.specs.Numbers.{In}
 use Rattle.answers.specs.Accepted.{Accepted, factorStep}
 use Rattle.promises.specs.Composed.{Taken}
-use Rattle.group.specs.declared.Group.{Group}
-use Rattle.group.specs.Handles.{handles, elementsOf, allFit, groupOf}
+use Rattle.handles.specs.declared.Group.{Group}
+use Rattle.handles.specs.Handles.{handles, elementsOf, allFit, groupOf}
 use Rattle.appearance.specs.Build.{renumbering}
 use Rattle.renumbering.specs.Orbit.{numberedStep, Appearing}
 use Rattle.renumbering.specs.Source.{outOf}

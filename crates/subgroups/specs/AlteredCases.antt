@@ -8,8 +8,8 @@ use lib.ListN.{length, replicate}
 use Rattle.egg.specs.Factor.{Paper}
 use Rattle.builder.specs.Lending.{tableNeed, workNeed}
 use Rattle.refusals.specs.Papers.{paper}
-use Rattle.group.specs.declared.Group.{Group}
-use Rattle.group.specs.Handles.{groupOf}
+use Rattle.handles.specs.declared.Group.{Group}
+use Rattle.handles.specs.Handles.{groupOf}
 use Rattle.subgroup.specs.Generated.{fromGenerators}
 use Rattle.predicate.specs.Predicate.{fromPredicate}
 use Rattle.subgroups.specs.Answers.{subgroupPaper}

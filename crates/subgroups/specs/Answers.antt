@@ -13,8 +13,8 @@ use Rattle.builder.specs.Lending.{tableNeed, workNeed}
 use Rattle.numbering.specs.Read.{Readable, Refuses}
 use Rattle.answers.specs.Papers.{valuePaper}
 use Rattle.refusals.specs.Firsts.{FirstOf}
-use Rattle.group.specs.declared.Group.{Group}
-use Rattle.group.specs.Handles.{handles, elementsOf, allFit}
+use Rattle.handles.specs.declared.Group.{Group}
+use Rattle.handles.specs.Handles.{handles, elementsOf, allFit}
 use Rattle.groups.specs.Products.{direct}
 use Rattle.renumbering.specs.Orbit.{numberedStep, Appearing}
 use Rattle.renumbering.specs.Subgroup.{rightBy, FirstIdentity, FirstRepeat}

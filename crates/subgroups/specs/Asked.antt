@@ -6,7 +6,7 @@ use mathlib.Core.Bool.{true}
 use mathlib.Core.List.{List}
 use lib.ListN.{length, getD}
 use Rattle.answers.specs.Accepted.{reach}
-use Rattle.group.specs.Handles.{elementsOf}
+use Rattle.handles.specs.Handles.{elementsOf}
 use Rattle.subgroup.specs.declared.Subgroup.{Subgroup}
 use Rattle.subgroup.specs.Indices.{overOf, subOf}
 use Rattle.subgroup.specs.Sides.{overSide, subSide, sidesFit, sidesLimited}

@@ -13,8 +13,8 @@ use Rattle.theory.specs.Appearance.{recorded}
 use Rattle.theory.specs.Regular.{compose, inverse}
 use Rattle.answers.specs.Accepted.{Accepted, factorStep, factorBack, factorWord}
 use Rattle.products.specs.Product.{Part, product}
-use Rattle.group.specs.declared.Group.{Group}
-use Rattle.group.specs.Handles.{handles, elementsOf, allFit, groupOf}
+use Rattle.handles.specs.declared.Group.{Group}
+use Rattle.handles.specs.Handles.{handles, elementsOf, allFit, groupOf}
 use Rattle.groups.specs.Products.{direct}
 use Rattle.appearance.specs.Renumber as appear
 use Rattle.renumbering.specs.Orbit.{numberedStep, Appearing}

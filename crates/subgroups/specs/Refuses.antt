@@ -11,7 +11,7 @@ use Rattle.egg.specs.declared.GroupElementId.{GroupElementId}
 use Rattle.egg.specs.declared.GeneratorId.{GeneratorId}
 use Rattle.meaning.specs.Numbers.{In}
 use Rattle.answers.specs.Refuses.{VerdictIn, ReachedIn}
-use Rattle.group.specs.declared.Group.{Group}
+use Rattle.handles.specs.declared.Group.{Group}
 use Rattle.subgroup.specs.declared.Subgroup.{Subgroup}
 use Rattle.subgroup.specs.declared.Within.{Within}
 use Rattle.subgroup.specs.declared.Within.the-variants as within

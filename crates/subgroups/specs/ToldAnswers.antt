@@ -14,8 +14,8 @@ use Rattle.egg.specs.Factor.{Paper, refusalPaper, verdictPaper}
 use Rattle.reading.specs.Build.{numbered}
 use Rattle.meaning.specs.Numbers.{In}
 use Rattle.numbering.specs.Read.{Refuses}
-use Rattle.group.specs.declared.Group.{Group}
-use Rattle.group.specs.Handles.{handles, elementsOf, allFit}
+use Rattle.handles.specs.declared.Group.{Group}
+use Rattle.handles.specs.Handles.{handles, elementsOf, allFit}
 use Rattle.groups.specs.Products.{direct}
 use Rattle.renumbering.specs.Orbit.{numberedStep, Appearing}
 use Rattle.renumbering.specs.Subgroup.{rightBy}

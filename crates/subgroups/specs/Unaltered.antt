@@ -9,8 +9,8 @@ use lib.ListN.{length, getD}
 use Rattle.egg.specs.declared.Factor.{Factor}
 use Rattle.egg.specs.declared.GroupElementId.{GroupElementId}
 use Rattle.egg.specs.Factor.{stretch}
-use Rattle.group.specs.declared.Group.{Group}
-use Rattle.group.specs.Handles.{handles, allFit}
+use Rattle.handles.specs.declared.Group.{Group}
+use Rattle.handles.specs.Handles.{handles, allFit}
 use Rattle.subgroup.specs.declared.Subgroup.{Subgroup}
 use Rattle.subgroup.specs.Sides.{sidesFit, leftProduct, rightProduct}
 use Rattle.subgroup.specs.Questions.{overCount, toOverAnswer, toSubAnswer}

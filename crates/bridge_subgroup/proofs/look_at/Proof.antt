@@ -4,9 +4,9 @@ use Rattle.bridge_subgroup.proofs.Laws.{turn-told}
 use borrow.Author.Needs.{needs}
 use native.Mathlib.Omega.{arith}
 use lib.ListN.{length}
-use Rattle.group.specs.Handles.{handles}
-use Rattle.group.proofs.Lists.{turned-all}
-use Rattle.group.proofs.Sums.{Looking, looking, looks-on, looks-end}
+use Rattle.handles.specs.Handles.{handles}
+use Rattle.handles.proofs.Lists.{turned-all}
+use Rattle.handles.proofs.Sums.{Looking, looking, looks-on, looks-end}
 use Rattle.bridge_group.specs.Product.{productAt}
 use Rattle.bridge_subgroup.proofs.look_at.Statement.{statement}
 use Rattle.bridge_subgroup.proofs.look_at.Tie as tie

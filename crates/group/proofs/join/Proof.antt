@@ -2,8 +2,8 @@
 use lib.ListN.{length}
 use mathlib.Core.Path.{_∙_, sym}
 use borrow.Author.Tests.{not-true, not-false}
-use Rattle.group.proofs.Admitted.{seen-fit}
-use Rattle.group.proofs.Splits.{join-handle, join-bad, join-good}
+use Rattle.handles.proofs.Admitted.{seen-fit}
+use Rattle.group.proofs.Calls.{join-handle, join-bad, join-good}
 use borrow.Author.Needs.{needs}
 use Rattle.group.proofs.join.Statement.{statement}
 use Rattle.group.proofs.join.Tie as tie

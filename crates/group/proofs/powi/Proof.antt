@@ -4,12 +4,12 @@ use mathlib.Core.Path.{_∙_, ap}
 use lib.IntN.{ℤ}
 use Rattle.group.specs.Questions.{powiAnswer}
 use Rattle.builder.specs.Lending.{noFactor}
-use Rattle.group.specs.Handles.{handles}
-use Rattle.group.specs.Powers.{composes, inverts, powers}
-use Rattle.group.specs.Alone.{powiAlone}
-use Rattle.group.proofs.Signs.{read-is}
+use Rattle.handles.specs.Handles.{handles}
+use Rattle.digits.specs.Digits.{composes, inverts}
+use Rattle.powers.specs.Powers.{powers, powiAlone}
+use Rattle.powers.proofs.Signs.{read-is}
 use Rattle.factor.proofs.Admits.{reach-refused, reach-fine}
-use Rattle.group.proofs.Admitted.{ready}
+use Rattle.handles.proofs.Admitted.{ready}
 use Rattle.group.proofs.OneFactor.{one-powi}
 use borrow.Author.Needs.{needs}
 use Rattle.group.proofs.powi.Statement.{statement}

@@ -2,9 +2,9 @@
 use lib.ListN.{length}
 use mathlib.Core.Path.{refl, sym}
 use Rattle.group.specs.Questions.{splitAnswer, splitLeaves}
-use Rattle.group.specs.Handles.{handles, sizes}
-use Rattle.group.proofs.Splits.{left-by}
-use Rattle.group.proofs.Admitted.{ready}
+use Rattle.handles.specs.Handles.{handles, sizes}
+use Rattle.digits.proofs.Splits.{left-by}
+use Rattle.handles.proofs.Admitted.{ready}
 use Rattle.factor.proofs.Admits.{count-refused, count-fine}
 use borrow.Author.Needs.{needs}
 use Rattle.group.proofs.split.Statement.{statement}

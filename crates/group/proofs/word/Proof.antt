@@ -4,7 +4,7 @@ use mathlib.Core.Path.{sym}
 use lib.Seq.{length-take-le}
 use Rattle.factor.proofs.Questions.{filled-count, filled-none}
 use Rattle.group.specs.Questions.{wordPart}
-use Rattle.group.proofs.Spelling.{answer-fits}
+use Rattle.group.proofs.Calls.{answer-fits}
 use borrow.Author.Needs.{needs}
 use Rattle.group.proofs.word.Statement.{statement}
 use Rattle.group.proofs.word.Tie as tie

@@ -1,5 +1,4 @@
 use Rattle.egg.proofs.Rooms.{stretch-end}
-use Rattle.egg.proofs.Rooms.{stretch-end}
 use Rattle.egg.specs.Factor.{stretch}
 use Prim.Native.Nat.{ℕ, _+_, _*_, _-_, _≤_, _<_}
 use lib.ListN.{length, take, drop}

@@ -4,8 +4,8 @@ use native.Mathlib.Omega.{arith}
 use borrow.Author.Tests.{not-true, not-false}
 use lib.ListN.{length, getD, set}
 use lib.Seq.{length-take-le}
-use Rattle.group.specs.Handles.{handles}
-use Rattle.group.specs.Powers.{composes}
+use Rattle.handles.specs.Handles.{handles}
+use Rattle.digits.specs.Digits.{composes}
 use Rattle.predicate.proofs.Choices.{set-long, eight-as, next-eight, turn-refused, turn-known, turn-ninth, turn-next}
 use borrow.Author.Needs.{needs}
 use Rattle.predicate.proofs.inner.choose.Statement.{statement}

@@ -5,8 +5,8 @@ use native.Mathlib.Omega.{arith}
 use borrow.Author.Needs.{needs}
 use lib.ListN.{length, getD, take}
 use Rattle.builder.specs.Finish.{built}
-use Rattle.group.specs.Handles.{handles}
-use Rattle.group.specs.Powers.{composes}
+use Rattle.handles.specs.Handles.{handles}
+use Rattle.digits.specs.Digits.{composes}
 use Rattle.appearance.specs.Build.{renumbering}
 use Rattle.predicate.specs.Predicate.{Eight, chooses, againIn}
 use Rattle.predicate.proofs.Choices.{turn-on, turns-begin, turns-end, turn-lengths}

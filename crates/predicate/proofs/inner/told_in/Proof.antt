@@ -2,8 +2,8 @@
 use mathlib.Core.Path.{refl, sym, _∙_}
 use native.Mathlib.Omega.{arith}
 use lib.ListN.{length, getD}
-use Rattle.group.specs.Handles.{handles}
-use Rattle.group.specs.Powers.{composes}
+use Rattle.handles.specs.Handles.{handles}
+use Rattle.digits.specs.Digits.{composes}
 use Rattle.predicate.proofs.Choices.{told-start}
 use borrow.Author.Needs.{needs}
 use Rattle.predicate.proofs.inner.told_in.Statement.{statement}

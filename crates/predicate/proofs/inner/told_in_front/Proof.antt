@@ -2,8 +2,8 @@
 use mathlib.Core.Path.{sym}
 use lib.ListN.{length, getD}
 use lib.Seq.{length-take-le}
-use Rattle.group.specs.Handles.{handles}
-use Rattle.group.specs.Powers.{composes}
+use Rattle.handles.specs.Handles.{handles}
+use Rattle.digits.specs.Digits.{composes}
 use Rattle.predicate.proofs.Front.{cleared-whole, told-front}
 use borrow.Author.Needs.{needs}
 use Rattle.predicate.proofs.inner.told_in_front.Statement.{statement}

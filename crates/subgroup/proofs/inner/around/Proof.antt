@@ -1,6 +1,6 @@
 -- Caps on the way make no difference.
-use Rattle.group.specs.Handles.{handles, elementsOf}
-use Rattle.group.proofs.Caps.{capped-bound}
+use Rattle.handles.specs.Handles.{handles, elementsOf}
+use Rattle.handles.proofs.Caps.{capped-bound}
 use Rattle.subgroup.proofs.Counts.{around-is, cap-low}
 use borrow.Author.Needs.{needs}
 use Rattle.subgroup.proofs.inner.around.Statement.{statement}

@@ -3,7 +3,7 @@ use Prim.Native.Nat.{ℕ, _-_, _<_}
 use mathlib.Core.Path.{_≡_, _∙_}
 use native.Mathlib.Omega.{arith}
 use lib.ListN.{length}
-use Rattle.group.specs.Handles.{handles, elementsOf, capped}
+use Rattle.handles.specs.Handles.{handles, elementsOf, capped}
 use Rattle.egg.proofs.Scans.{Scanning, stops, goes-on, ends}
 use Rattle.subgroup.specs.Generated.{entryRight, entriesRight}
 use Rattle.subgroup.proofs.Admits.{entries-begin, entry-bad, entry-good}

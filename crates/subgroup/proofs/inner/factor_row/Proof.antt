@@ -5,7 +5,7 @@ use native.Mathlib.Omega.{arith}
 use borrow.Author.Needs.{needs}
 use mathlib.Core.List.{[], _∷_}
 use lib.ListN.{length, getD}
-use Rattle.group.specs.Powers.{composes}
+use Rattle.digits.specs.Digits.{composes}
 use Rattle.appearance.specs.Renumber.{mapRow}
 use Rattle.appearance.proofs.PlaceLaws.{map-source-stop, map-row-next, map-row-stop, map-row-end, asked}
 use Rattle.subgroup.specs.Generated.{productOf}

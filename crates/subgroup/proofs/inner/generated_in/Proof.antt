@@ -1,6 +1,6 @@
 -- The steps of the build, put together by `renumber-in`.
 use lib.ListN.{length, getD}
-use Rattle.group.specs.Handles.{handles}
+use Rattle.handles.specs.Handles.{handles}
 use Rattle.subgroup.specs.Generated.{productOf}
 use Rattle.appearance.proofs.BuildLaws.{renumber-in}
 use borrow.Author.Needs.{needs}

@@ -1,7 +1,7 @@
 -- One law for each answer.
 use mathlib.Core.Path.{sym, _∙_}
 use borrow.Author.Tests.{not-true, not-false}
-use Rattle.group.specs.Handles.{handles, elementsOf}
+use Rattle.handles.specs.Handles.{handles, elementsOf}
 use Rattle.subgroup.proofs.Admits.{count-is}
 use Rattle.subgroup.proofs.Lendings.{generated-many, generated-short}
 use borrow.Author.Needs.{needs}

@@ -1,5 +1,5 @@
 -- Caps on the way make no difference.
-use Rattle.group.specs.Handles.{handles, elementsOf}
+use Rattle.handles.specs.Handles.{handles, elementsOf}
 use Rattle.subgroup.proofs.Counts.{over-elements-is, cap-low}
 use borrow.Author.Needs.{needs}
 use Rattle.subgroup.proofs.inner.over_elements.Statement.{statement}

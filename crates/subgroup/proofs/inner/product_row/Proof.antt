@@ -4,8 +4,8 @@ use mathlib.Core.Path.{_≡_, refl, sym, ap, _∙_}
 use native.Mathlib.Omega.{arith}
 use borrow.Author.Needs.{needs}
 use lib.ListN.{length, getD}
-use Rattle.group.specs.Handles.{handles}
-use Rattle.group.specs.Powers.{composes}
+use Rattle.handles.specs.Handles.{handles}
+use Rattle.digits.specs.Digits.{composes}
 use Rattle.appearance.specs.Renumber.{mapRow}
 use Rattle.appearance.proofs.PlaceLaws.{map-source-stop, map-row-next, map-row-stop, map-row-end, asked}
 use Rattle.subgroup.specs.Generated.{productOf}

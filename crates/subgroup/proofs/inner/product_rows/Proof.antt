@@ -4,7 +4,7 @@ use mathlib.Core.Path.{_≡_, refl, sym, ap, _∙_}
 use native.Mathlib.Omega.{arith}
 use borrow.Author.Needs.{needs}
 use lib.ListN.{length, getD}
-use Rattle.group.specs.Handles.{handles}
+use Rattle.handles.specs.Handles.{handles}
 use Rattle.subgroup.specs.Generated.{productOf}
 use Rattle.appearance.specs.Renumber.{mapRows}
 use Rattle.appearance.proofs.PlaceLaws.{map-rows-done, map-rows-next, map-rows-stop, map-rows-end}

@@ -3,7 +3,7 @@ use mathlib.Core.Path.{sym, ap, _∙_}
 use mathlib.Core.List.{List}
 use lib.ListN.{length}
 use Rattle.egg.specs.declared.Factor.{Factor}
-use Rattle.group.specs.Handles.{handles}
+use Rattle.handles.specs.Handles.{handles}
 use Rattle.appearance.specs.Renumber.{mapRows}
 use Rattle.subgroup.specs.Generated.{productOf}
 use Rattle.subgroup.proofs.OneFactor.{one-handle, one-fits}

@@ -2,7 +2,7 @@
 use native.Mathlib.Omega.{arith}
 use native.Mathlib.Nat.{mul-le-mul}
 use mathlib.Core.Path.{sym}
-use Rattle.group.proofs.Caps.{cap-small, cap-large}
+use Rattle.handles.proofs.Caps.{cap-small, cap-large}
 use Rattle.subgroup.proofs.Counts.{times-none-left, times-none-right, times-large-left, times-large-right}
 use Rattle.subgroup.proofs.inner.times.Statement.{statement}
 use Rattle.subgroup.proofs.inner.times.Tie as tie

@@ -1,0 +1,5 @@
+pub mod Lists
+pub mod Caps
+pub mod Sums
+pub mod Joins
+pub mod Admitted

@@ -1,0 +1,16 @@
+-- Going on from an answer to a count.
+-- Assumes nothing.
+use Prim.Native.Nat.{ℕ}
+use Rattle.egg.specs.declared.Reached.{Reached}
+use Rattle.egg.specs.declared.Reached.the-variants.{Element, Refused}
+use Rattle.egg.specs.declared.Counted.{Counted}
+use Rattle.egg.specs.declared.Counted.the-variants as counted
+
+-- What goes on from a count, or from an element to a count; a refusal stands.
+abbrev pub onCounted : Counted → (ℕ → Counted) → Counted
+onCounted (counted.Count k) f = f k
+onCounted (counted.Refused r) f = counted.Refused r
+
+abbrev pub onElement : Reached → (ℕ → Counted) → Counted
+onElement (Element e) f = f (e .0)
+onElement (Refused r) f = counted.Refused r

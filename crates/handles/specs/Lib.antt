@@ -1,0 +1,3 @@
+pub mod Handles
+pub mod Alone
+pub mod Counts

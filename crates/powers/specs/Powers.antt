@@ -1,0 +1,62 @@
+-- Powers by halving the exponent, and periods.
+-- Assumes nothing.
+use Prim.Native.Nat.{ℕ, zero, suc, _+_, _/_, _%_}
+use mathlib.Core.List.{List, [], _∷_}
+use mathlib.Core.Bool.{Bool, true, false}
+use lib.ListN.{length}
+use lib.Dec.{eqb}
+use lib.IntN.{ℤ, pos, negsuc}
+use Rattle.egg.specs.declared.Factor.{Factor}
+use Rattle.egg.specs.declared.GroupElementId.{GroupElementId}
+use Rattle.egg.specs.declared.Reached.{Reached}
+use Rattle.egg.specs.declared.Reached.the-variants.{Element}
+use Rattle.egg.specs.declared.Counted.{Counted}
+use Rattle.egg.specs.declared.Counted.the-variants as counted
+use Rattle.egg.specs.Table.{pick}
+use Rattle.egg.specs.Factor.{stretch}
+use Rattle.factor.specs.Questions.{admits, ifReach}
+use Rattle.walks.specs.Walks.{onReached, composeIn, inverseIn}
+use Rattle.products.specs.Divisors.{lcm}
+use Rattle.handles.specs.Counts.{onCounted, onElement}
+
+-- x is what the even part of the exponent gives; r is the rest.
+abbrev pub oddToo : (ℕ → ℕ → Reached) → ℕ → ℕ → ℕ → Reached
+oddToo op a x zero = Element (record { 0 = x })
+oddToo op a x (suc r) = op x a
+
+-- The k-th power: the square of the power by k / 2, and once more a if k is odd. It goes on at most `fuel` times, and k are enough.
+unfoldable pub halves : ℕ → (ℕ → ℕ → Reached) → ℕ → ℕ → Reached
+halves zero op a k = Element (record { 0 = 0 })
+halves (suc fuel) op a zero = Element (record { 0 = 0 })
+halves (suc fuel) op a (suc k) =
+    onReached (halves fuel op a (suc k / 2)) (λ x. onReached (op x x) (λ y. oddToo op a y (suc k % 2)))
+
+-- "`powi` as the source, i32::MIN included: it squares the 2^30 power of the inverse." i is the inverse, and -k the exponent; `half` is 2^30.
+abbrev pub negated : Bool → ℕ → (ℕ → ℕ → Reached) → ℕ → ℕ → Reached
+negated true half op i k = onReached (halves half op i half) (λ x. op x x)
+negated false half op i k = halves k op i k
+
+unfoldable pub powers : ℕ → (ℕ → ℕ → Reached) → (ℕ → Reached) → ℕ → ℤ → Reached
+powers half op inv a (pos k) = halves k op a k
+powers half op inv a (negsuc k) = onReached (inv a) (λ i. negated (eqb (suc k) (half + half)) half op i (suc k))
+
+-- `powi` in one factor, which has no such call of its own.
+unfoldable pub powiAlone : List ℕ → Factor → GroupElementId → ℤ → Reached
+powiAlone t f a i =
+    ifReach (admits (length t) f (a .0) 0)
+    (powers 1073741824 (composeIn (stretch t f) (f .generators) (f .elements)) (inverseIn (stretch t f) (f .generators) (f .elements)) (a .0) i)
+
+-- The powers of a from x, which is the k-th, on: the number of the first that is the identity, among `left` of them. "17 .. none of the first N powers in a
+-- period walk is the identity".
+unfoldable pub periodFrom : ℕ → (ℕ → ℕ → Reached) → ℕ → ℕ → ℕ → Counted
+periodFrom zero op a x k = counted.Refused (record { number = 17; a = 0; b = 0; c = 0 })
+periodFrom (suc left) op a x k = pick (eqb x 0) (counted.Count k) (onElement (op x a) (λ y. periodFrom left op a y (k + 1)))
+
+abbrev pub periodOf : List ℕ → Factor → ℕ → Counted
+periodOf t h a = periodFrom (h .elements) (composeIn (stretch t h) (h .generators) (h .elements)) a a 1
+
+-- The period in a product is the least common multiple of the periods in the factors; of no factors it is 1.
+unfoldable pub periods : List ℕ → List Factor → ℕ → Counted
+periods t [] a = counted.Count 1
+periods t (h ∷ hs) a =
+    onCounted (periodOf t h (a % h .elements)) (λ p. onCounted (periods t hs (a / h .elements)) (λ q. counted.Count (lcm p q)))

@@ -1,0 +1,2 @@
+// group.rs: powers and periods.
+pub mod inner;
