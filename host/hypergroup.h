@@ -49,6 +49,27 @@ extern "C" {
 
 /* The functions. tools/header.py writes them. */
 
+/* libbridge_builder.a */
+
+void hg_composed(uint32_t *table, size_t table_len, size_t start, uint32_t *work, size_t work_len,
+    const uint32_t *rows, size_t rows_len, uint8_t n, uint32_t room, uint32_t *out, size_t out_len);
+
+void hg_enumerate(uint32_t *table, size_t table_len, size_t start, uint32_t *work, size_t work_len,
+    const uint32_t *orders, size_t orders_len, uint8_t n, uint32_t room, uint32_t *out,
+    size_t out_len);
+
+void hg_begin(uint32_t *table, size_t table_len, size_t start, uint32_t room, uint8_t n,
+    uint32_t *out, size_t out_len);
+
+void hg_add(uint32_t *table, size_t table_len, size_t start, uint32_t room, uint8_t n,
+    uint32_t count, uint32_t e, uint8_t g, uint32_t *out, size_t out_len);
+
+uint64_t hg_set(uint32_t *table, size_t table_len, size_t start, uint32_t room, uint8_t n,
+    uint32_t count, uint32_t e, uint8_t g, uint32_t x);
+
+void hg_build(uint32_t *table, size_t table_len, size_t start, uint32_t room, uint8_t n,
+    uint32_t count, uint32_t *work, size_t work_len, uint32_t *out, size_t out_len);
+
 /* libbridge_factor.a */
 
 uint64_t hg_count(const uint32_t *table, size_t table_len, size_t start, uint32_t room, uint8_t n,
@@ -81,27 +102,6 @@ uint64_t hg_part(const uint32_t *table, size_t table_len, size_t start, uint32_t
 
 void hg_check(const uint32_t *table, size_t table_len, size_t start, uint32_t room, uint8_t n,
     uint32_t count, const uint32_t *orders, size_t orders_len, uint32_t *out, size_t out_len);
-
-/* libbridge_builder.a */
-
-void hg_composed(uint32_t *table, size_t table_len, size_t start, uint32_t *work, size_t work_len,
-    const uint32_t *rows, size_t rows_len, uint8_t n, uint32_t room, uint32_t *out, size_t out_len);
-
-void hg_enumerate(uint32_t *table, size_t table_len, size_t start, uint32_t *work, size_t work_len,
-    const uint32_t *orders, size_t orders_len, uint8_t n, uint32_t room, uint32_t *out,
-    size_t out_len);
-
-void hg_begin(uint32_t *table, size_t table_len, size_t start, uint32_t room, uint8_t n,
-    uint32_t *out, size_t out_len);
-
-void hg_add(uint32_t *table, size_t table_len, size_t start, uint32_t room, uint8_t n,
-    uint32_t count, uint32_t e, uint8_t g, uint32_t *out, size_t out_len);
-
-uint64_t hg_set(uint32_t *table, size_t table_len, size_t start, uint32_t room, uint8_t n,
-    uint32_t count, uint32_t e, uint8_t g, uint32_t x);
-
-void hg_build(uint32_t *table, size_t table_len, size_t start, uint32_t room, uint8_t n,
-    uint32_t count, uint32_t *work, size_t work_len, uint32_t *out, size_t out_len);
 
 /* libbridge_group.a */
 
@@ -159,6 +159,14 @@ void hg_product_flatten(const uint32_t *from, size_t from_len, const uint32_t *h
     size_t handles_len, uint8_t count, uint32_t *table, size_t table_len, size_t start,
     uint32_t *work, size_t work_len, uint32_t room, uint32_t *out, size_t out_len);
 
+/* libbridge_image.a */
+
+uint64_t hg_image_write(const uint32_t *table, size_t table_len, size_t start, uint32_t room,
+    uint8_t n, uint32_t count, uint8_t *out, size_t out_len);
+
+void hg_image_read(const uint8_t *bytes, size_t bytes_len, uint32_t *table, size_t table_len,
+    size_t start, uint32_t *work, size_t work_len, uint32_t *out, size_t out_len);
+
 /* libbridge_subgroup.a */
 
 /* The subgroup that elements of a product generate; `inn` maps the overgroup to it, `outw` back. */
@@ -197,14 +205,6 @@ void hg_subgroup_left(const uint32_t *from, size_t from_len, const uint32_t *tab
 void hg_subgroup_right(const uint32_t *from, size_t from_len, const uint32_t *table,
     size_t table_len, const uint32_t *sub, size_t sub_len, const uint32_t *handles,
     size_t handles_len, uint8_t count, uint32_t *out, size_t out_len);
-
-/* libbridge_image.a */
-
-uint64_t hg_image_write(const uint32_t *table, size_t table_len, size_t start, uint32_t room,
-    uint8_t n, uint32_t count, uint8_t *out, size_t out_len);
-
-void hg_image_read(const uint8_t *bytes, size_t bytes_len, uint32_t *table, size_t table_len,
-    size_t start, uint32_t *work, size_t work_len, uint32_t *out, size_t out_len);
 
 /* libexports.a */
 

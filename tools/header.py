@@ -39,9 +39,9 @@ def prototype(comment, name, parameters, answer):
 
 
 def functions():
-    for line in pathlib.Path("crates.txt").read_text().splitlines():
-        crate = line.split("#")[0].split(":")[0].strip()
-        for source in sorted(pathlib.Path(f"crates/{crate}/src").rglob("*.rt")) if crate else []:
+    # By name: the order of crates.txt follows the times of the checks, and is no reason to move a prototype.
+    for crate in sorted(path.name for path in pathlib.Path("crates").iterdir()):
+        for source in sorted(pathlib.Path(f"crates/{crate}/src").rglob("*.rt")):
             found = [prototype(*m.groups()) for m in FUNCTION.finditer(source.read_text())]
             if found:
                 yield f"\n/* lib{crate}.a */\n" + "".join(found)
