@@ -16,10 +16,10 @@ use Rattle.egg.specs.Table.{pick}
 use Rattle.egg.specs.Factor.{countedPaper}
 use Rattle.egg.proofs.Rooms.{positive, limited}
 use Rattle.checks.specs.Checks.{Checked, checked, verdictOf, check-group}
-use Rattle.builder.specs.Finish as finish
-use Rattle.builder.specs.Finish.{Built, settledBy, finished, finishedPlaced}
-use Rattle.builder.specs.Lending.{tableNeed, workNeed, lentRight, Making, making, lentBack}
-use Rattle.builder.proofs.Lending.{lent-table, lent-enough}
+use Rattle.lending.specs.Finish as finish
+use Rattle.lending.specs.Finish.{Built, settledBy, finished, finishedPlaced}
+use Rattle.lending.specs.Lending.{tableNeed, workNeed, lentRight, Making, making, lentBack}
+use Rattle.lending.proofs.Lending.{lent-table, lent-enough}
 use Rattle.reading.specs.Reading.{Placed, placed, readAll}
 use Rattle.factor.specs.Composed.{composedAt, composedIn, composed}
 use Rattle.numbering.specs.Read.{Read}

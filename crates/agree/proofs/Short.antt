@@ -15,8 +15,9 @@ use Rattle.egg.specs.declared.Counted.the-variants as counted
 use Rattle.egg.specs.Table.{pick, startOf, parentOf, lastOf, lengthOf, stepOf}
 use Rattle.egg.specs.Scan.{andThen}
 use Rattle.egg.proofs.Scans.{Says}
-use Rattle.checks.specs.Checks.{missing, check8, ranges, wrong, check-table, counted as arrived, countsRight, fillInverses, inversesRight, identityRow, spelled, check-steps}
-use Rattle.checks.specs.Checks.{Lefts, left, leftVerdict, thenLeft, lefts, verdictOf, thenChecked, withTable, check-rest, check-group}
+use Rattle.checks.specs.Checks.{missing, check8, ranges, wrong, check-table, counted as arrived, countsRight, verdictOf, thenChecked, withTable, check-rest, check-group}
+use Rattle.inverses.specs.Inverses.{fillInverses, inversesRight}
+use Rattle.lefts.specs.Lefts.{identityRow, spelled, check-steps, Lefts, left, leftVerdict, thenLeft, lefts}
 use Rattle.reading.specs.Reading.{Placed, placed, readAll}
 use Rattle.factor.specs.Composed.{composedAt}
 use Rattle.theory.specs.Table.{Table, Columns}

@@ -7,7 +7,7 @@ use lib.ListN.{replicate}
 use Rattle.egg.specs.declared.Reached.{Reached}
 use Rattle.egg.specs.declared.Counted.{Counted}
 use Rattle.egg.specs.Table.{putAt}
-use Rattle.builder.specs.Finish.{Built, built, finished}
+use Rattle.lending.specs.Finish.{Built, built, finished}
 use Rattle.reading.specs.Reading.{placed}
 use Rattle.appearance.specs.Renumber.{none, Mapped, mapped, mapRows, mapAll}
 use Rattle.appearance.specs.Build.{renumbering, keptAfter, settledMaps, finishedMapped, renumberIn}

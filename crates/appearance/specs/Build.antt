@@ -7,7 +7,7 @@ use lib.ListN.{replicate}
 use Rattle.egg.specs.declared.Reached.{Reached}
 use Rattle.egg.specs.declared.Counted.{Counted}
 use Rattle.egg.specs.declared.Counted.the-variants.{Count, Refused}
-use Rattle.builder.specs.Finish.{Built, built, zeroed, finishedPlaced}
+use Rattle.lending.specs.Finish.{Built, built, zeroed, finishedPlaced}
 use Rattle.appearance.specs.Renumber.{Mapped, mapped, mapAll}
 
 -- What a build answers and leaves in table and work, and what the two maps hold.

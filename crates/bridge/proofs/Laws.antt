@@ -8,7 +8,7 @@ use Rattle.egg.specs.declared.Made.{Made}
 use Rattle.egg.specs.declared.Verdict.{Verdict}
 use Rattle.egg.specs.declared.Verdict.the-variants.{Fine, Refused}
 use Rattle.egg.specs.Table.{putAt}
-use Rattle.builder.specs.Lending.{Making, making}
+use Rattle.lending.specs.Lending.{Making, making}
 use Rattle.egg.specs.declared.Reached.{Reached}
 use Rattle.egg.specs.declared.Reached.the-variants.{Element}
 use Rattle.egg.specs.declared.Reached.the-variants as reached

@@ -18,7 +18,7 @@ use Rattle.builder.specs.declared.Begun.{Begun}
 use Rattle.builder.specs.declared.Grown.{Grown}
 use Rattle.builder.specs.declared.Stored.{Stored}
 use Rattle.builder.specs.declared.Stored.the-variants as stored
-use Rattle.builder.specs.Lending.{Making, making}
+use Rattle.lending.specs.Lending.{Making, making}
 use Rattle.builder.specs.Calls.{Leaving, leaving}
 
 -- A handle from its numbers.

@@ -12,7 +12,7 @@ use mir.Syntax.{w32}
 use mir.Val.{SFits}
 use Rattle.egg.specs.declared.GroupElementId.{GroupElementId}
 use Rattle.egg.specs.declared.Reached.{Reached}
-use Rattle.builder.specs.Lending.{noFactor}
+use Rattle.lending.specs.Lending.{noFactor}
 use Rattle.bridge.specs.Bridge.{handle, paperInto}
 use Rattle.handles.specs.declared.Group.{Group}
 use Rattle.group.specs.Questions.{powiAnswer}

@@ -5,7 +5,7 @@ use mathlib.Core.Path.{_≡_, refl, _∙_}
 use mathlib.Core.List.{List, _∷_}
 use native.Mathlib.Omega.{arith}
 use lib.ListN.{length, getD, drop}
-use Rattle.builder.specs.Lending.{noFactor}
+use Rattle.lending.specs.Lending.{noFactor}
 use Rattle.handles.specs.Handles.{handles}
 use Rattle.handles.proofs.Lists.{listed-many, listed-few, turn-at}
 use Rattle.bridge_group.specs.Product.{handleAt, productAt}

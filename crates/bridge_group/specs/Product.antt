@@ -6,7 +6,7 @@ use lib.ListN.{length, getD}
 use lib.Dec.{ltb}
 use Rattle.egg.specs.declared.Factor.{Factor}
 use Rattle.egg.specs.Table.{pick, putAt}
-use Rattle.builder.specs.Lending.{noFactor}
+use Rattle.lending.specs.Lending.{noFactor}
 use Rattle.bridge.specs.Bridge.{handle, paperInto}
 use Rattle.handles.specs.declared.Group.{Group}
 use Rattle.handles.specs.declared.Grouped.{Grouped}

@@ -32,11 +32,11 @@ use Rattle.builder.specs.declared.Grown.{Grown}
 use Rattle.builder.specs.declared.Stored.{Stored}
 use Rattle.builder.specs.declared.Stored.the-variants as stored
 use Rattle.reading.specs.Build.{isNew, setStep, adds}
-use Rattle.builder.specs.Finish.{built}
-use Rattle.builder.specs.Own.{ownIn}
-use Rattle.builder.specs.Lending.{tableNeed, workNeed, within, Ends, noFactor, refusedMade, madeOf, making}
+use Rattle.lending.specs.Finish.{built}
+use Rattle.rereading.specs.Own.{ownIn}
+use Rattle.lending.specs.Lending.{tableNeed, workNeed, within, Ends, noFactor, refusedMade, madeOf, making}
 use Rattle.builder.specs.Calls.{Leaving, leaving, builderOf, refusedBegun, begins, placed, placedStep, overLong, grown, growsBy, grows, newOr, stores, builds}
-use Rattle.builder.proofs.Lending.{part-length, part-back, stretch-lent, build-back}
+use Rattle.lending.proofs.Lending.{part-length, part-back, stretch-lent, build-back}
 
 module _ (table : List ℕ) (start room n : ℕ) where
   pub begin-many : {x : Begun} → x ≡ refusedBegun 1 n → 8 < n → leaving x table ≡ begins table start room n

@@ -22,9 +22,9 @@ use Rattle.builder.specs.declared.Grown.{Grown}
 use Rattle.builder.specs.declared.Stored.{Stored}
 use Rattle.builder.specs.declared.Stored.the-variants as stored
 use Rattle.reading.specs.Build.{isNew, setStep, adds}
-use Rattle.builder.specs.Finish.{zeroed}
-use Rattle.builder.specs.Own.{ownIn}
-use Rattle.builder.specs.Lending.{tableNeed, workNeed, within, noFactor, refusedMade, Making, making, lentBack}
+use Rattle.lending.specs.Finish.{zeroed}
+use Rattle.rereading.specs.Own.{ownIn}
+use Rattle.lending.specs.Lending.{tableNeed, workNeed, within, noFactor, refusedMade, Making, making, lentBack}
 
 -- Document 01's number and values for what storing a step answers: 1 for a new step, 0 for one that was known, or a refusal.
 abbrev pub storedPaper : Stored → Paper

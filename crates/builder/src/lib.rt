@@ -1,6 +1,6 @@
 // builder.rs: a table built element by element.
 ghost use mathlib.Core.Path.{_≡_};
-ghost use Rattle.builder.specs.Lending.{Making};
+ghost use Rattle.lending.specs.Lending.{Making};
 ghost use Rattle.builder.specs.Calls.{Leaving, begins, grows, stores, builds};
 use egg::Factor;
 use egg::GeneratorId;
@@ -44,7 +44,7 @@ pub fn begin(table: &mut [u32], start: usize, room: u32, n: u8) -> Begun
     if !egg::has_room(table.len(), start, room, n) {
         return inner::refused_begun(4, 0);
     }
-    let end = inner::stretch_end(table.len(), start, room, n);
+    let end = lending::inner::stretch_end(table.len(), start, room, n);
     egg::inner::clear(&mut table[start..end]);
     Begun {
         answer: Verdict::Fine,
@@ -69,7 +69,7 @@ pub fn add_successor(table: &mut [u32], b: Builder, e: GroupElementId, g: Genera
         },
         Verdict::Fine => {
             let a = f.start;
-            let end = inner::stretch_end(table.len(), a, f.room, f.generators);
+            let end = lending::inner::stretch_end(table.len(), a, f.room, f.generators);
             inner::grow(&mut table[a..end], f, e, g)
         }
     }
@@ -90,7 +90,7 @@ pub fn set_successor(
         Verdict::Refused(why) => Stored::Refused(why),
         Verdict::Fine => {
             let a = f.start;
-            let end = inner::stretch_end(table.len(), a, f.room, f.generators);
+            let end = lending::inner::stretch_end(table.len(), a, f.room, f.generators);
             if reading::inner::set_successor(&mut table[a..end], f.generators, e, g, r) {
                 Stored::New
             } else {
@@ -106,20 +106,20 @@ pub fn build(table: &mut [u32], b: Builder, work: &mut [u32]) -> Made
 {
     let f = b.0;
     if !egg::fits(&table[..], f) {
-        return inner::refused_made(17, 0);
+        return lending::inner::refused_made(17, 0);
     }
-    let need = inner::work_need(f.generators, f.room);
+    let need = lending::inner::work_need(f.generators, f.room);
     if work.len() < need {
-        return inner::refused_made(4, 0);
+        return lending::inner::refused_made(4, 0);
     }
     let a = f.start;
-    let end = inner::stretch_end(table.len(), a, f.room, f.generators);
-    let count = inner::complete(
+    let end = lending::inner::stretch_end(table.len(), a, f.room, f.generators);
+    let count = rereading::inner::complete(
         &mut table[a..end],
         &mut work[..need],
         f.generators,
         f.room,
         f.elements,
     );
-    inner::made(a, f.room, f.generators, count)
+    lending::inner::made(a, f.room, f.generators, count)
 }

@@ -13,7 +13,7 @@ use Rattle.egg.specs.declared.Counted.the-variants.{Count, Refused}
 use Rattle.egg.specs.Table.{pick, lengthOf}
 use Rattle.reading.specs.Build.{numbered}
 use Rattle.reading.specs.Reading.{Placed, placed, thenPlaced, readPlace, readRow, readFrom, readAll}
-use Rattle.builder.specs.Own.{ownPlace, ownRow, ownFrom, ownAll}
+use Rattle.rereading.specs.Own.{ownPlace, ownRow, ownFrom, ownAll}
 use Rattle.theory.proofs.Induction.{Order, less, equal, more, order}
 use Rattle.numbering.proofs.Stores.{stepped, worded}
 use Rattle.numbering.proofs.State.{place-skip, place-old, place-long, place-new}

@@ -14,7 +14,7 @@ use Rattle.egg.specs.declared.Verdict.the-variants as verdict
 use Rattle.egg.specs.Factor.{Paper, refusalPaper, verdictPaper, fitsIn}
 use Rattle.reading.specs.Build.{numbered}
 use Rattle.builder.specs.declared.Builder.{Builder}
-use Rattle.builder.specs.Lending.{workNeed, refusedMade, Making, making}
+use Rattle.lending.specs.Lending.{workNeed, refusedMade, Making, making}
 use Rattle.builder.specs.Calls.{builds}
 use Rattle.promises.specs.Papers.{madePaper}
 use Rattle.builders.specs.Own.{ownRefusal}

@@ -12,9 +12,9 @@ use Rattle.egg.specs.declared.Counted.the-variants as counted-by
 use Rattle.egg.specs.declared.Counted.the-variants.{Count}
 use Rattle.checks.specs.Checks.{Checked, checked, check-group}
 use Rattle.reading.specs.Reading.{Placed, placed}
-use Rattle.builder.specs.Finish.{built, zeroed, settledBy, finished, finishedPlaced}
-use Rattle.builder.specs.Own.{storedAt, copied, ownAll, reachesAll, ownIn}
-use Rattle.builder.proofs.Copying.{copied-length}
+use Rattle.lending.specs.Finish.{built, zeroed, settledBy, finished, finishedPlaced}
+use Rattle.rereading.specs.Own.{storedAt, copied, ownAll, reachesAll, ownIn}
+use Rattle.rereading.proofs.Copying.{copied-length}
 use Rattle.meaning.proofs.AnyWork as checks
 use Rattle.meaning.proofs.Lengths.{checks-work}
 

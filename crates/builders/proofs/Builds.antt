@@ -15,7 +15,7 @@ use Rattle.egg.specs.Table.{pick}
 use Rattle.egg.specs.Factor.{fitsIn, stretch}
 use Rattle.egg.proofs.Rooms.{some}
 use Rattle.builder.specs.declared.Builder.{Builder}
-use Rattle.builder.specs.Lending.{workNeed, within, refusedMade, Making, making}
+use Rattle.lending.specs.Lending.{workNeed, within, refusedMade, Making, making}
 use Rattle.builder.specs.Calls.{builds}
 use Rattle.factor.specs.Composed.{composedAt}
 use Rattle.theory.proofs.Reading.{numbered-once}

@@ -17,7 +17,7 @@ use Rattle.egg.specs.declared.Verdict.the-variants as verdict
 use Rattle.egg.specs.Factor.{Paper, hasRoom, fitsIn, stretch}
 use Rattle.reading.specs.Build.{isNew, adds}
 use Rattle.builder.specs.declared.Builder.{Builder}
-use Rattle.builder.specs.Lending.{tableNeed, within}
+use Rattle.lending.specs.Lending.{tableNeed, within}
 use Rattle.builder.specs.Calls.{Leaving, leaving, withStretch, builderOf, begins, placed, overLong, grown, growsBy, grows, newOr, stores}
 use Rattle.builder.proofs.Calls.{begin-many, begin-short, place-handle, place-element, place-generator, place-fine}
 use Rattle.builder.proofs.Calls.{end-refused, end-out, end-fine, grows-refused, stores-refused}

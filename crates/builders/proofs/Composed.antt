@@ -16,12 +16,12 @@ use Rattle.egg.specs.Factor.{hasRoom, fitsIn, stretch}
 use Rattle.egg.proofs.Rooms.{has, some, room-enough, few, limited, within-length}
 use Rattle.reading.specs.Reading.{Placed, placed, readPlace, readAll}
 use Rattle.builder.specs.declared.Builder.{Builder}
-use Rattle.builder.specs.Finish.{zeroed, finishedPlaced}
-use Rattle.builder.specs.Lending.{tableNeed, workNeed, lentRight, lentBack}
-use Rattle.builder.specs.Own.{storedAt, copied, ownPlace, ownAll, allReached, reachesAll, ownIn}
+use Rattle.lending.specs.Finish.{zeroed, finishedPlaced}
+use Rattle.lending.specs.Lending.{tableNeed, workNeed, lentRight, lentBack}
+use Rattle.rereading.specs.Own.{storedAt, copied, ownPlace, ownAll, allReached, reachesAll, ownIn}
 use Rattle.builder.specs.Calls.{builds}
-use Rattle.builder.proofs.Copying.{copied-at, copied-length}
-use Rattle.builder.proofs.Owning.{own-read}
+use Rattle.rereading.proofs.Copying.{copied-at, copied-length}
+use Rattle.rereading.proofs.Owning.{own-read}
 use Rattle.factor.specs.Composed.{composedAt, composedIn, composed}
 use Rattle.theory.specs.Numbering.{Numbered}
 use Rattle.numbering.proofs.Readings.{accepted-read}

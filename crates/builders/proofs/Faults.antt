@@ -13,7 +13,7 @@ use Rattle.egg.specs.declared.Factor.{Factor}
 use Rattle.egg.specs.Factor.{fitsIn}
 use Rattle.egg.proofs.Rooms.{some, room-enough}
 use Rattle.builder.specs.declared.Builder.{Builder}
-use Rattle.builder.specs.Lending.{tableNeed, workNeed, within, noFactor, lentBack}
+use Rattle.lending.specs.Lending.{tableNeed, workNeed, within, noFactor, lentBack}
 use Rattle.factor.specs.Composed.{composedAt, composedIn, composed}
 use Rattle.theory.specs.Numbering.{Numbered}
 use Rattle.theory.proofs.Reading.{numbered-once}

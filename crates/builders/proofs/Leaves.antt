@@ -27,7 +27,7 @@ use Rattle.builder.specs.declared.Builder.{Builder}
 use Rattle.builder.specs.declared.Begun.{Begun}
 use Rattle.builder.specs.declared.Grown.{Grown}
 use Rattle.builder.specs.declared.Stored.the-variants as stored
-use Rattle.builder.specs.Lending.{tableNeed, workNeed, refusedMade, Making, making}
+use Rattle.lending.specs.Lending.{tableNeed, workNeed, refusedMade, Making, making}
 use Rattle.builder.specs.Calls.{leaving, builderOf, refusedBegun, begins, placed, placedStep, overLong, grownBy, grown, growsBy, grows, storesBy, stores, builds}
 use Rattle.builder.proofs.Calls.{place-fits}
 use Rattle.meaning.specs.Numbers.{In, lateNumbers}

@@ -18,8 +18,8 @@ use Rattle.egg.specs.Table.{pick, startOf, putAt, lengthOf}
 use Rattle.egg.proofs.Cells.{put-length}
 use Rattle.reading.specs.Build.{setStep, setWord}
 use Rattle.reading.specs.Reading.{readPlace, readAll}
-use Rattle.builder.specs.Own.{ownPlace, ownAll}
-use Rattle.builder.proofs.Owning.{own-missing, own-outside, own-read}
+use Rattle.rereading.specs.Own.{ownPlace, ownAll}
+use Rattle.rereading.proofs.Owning.{own-missing, own-outside, own-read}
 use Rattle.numbering.proofs.Stores.{cell, stepped, worded, step-length, step-keeps, step-predecessor, word-length, word-keeps}
 use Rattle.numbering.proofs.State.{place-skip, place-old}
 use Rattle.numbering.proofs.Runs.{zeros}

@@ -17,8 +17,8 @@ use Rattle.egg.specs.declared.Counted.the-variants.{Count, Refused}
 use Rattle.reading.specs.Build.{numbered}
 use Rattle.reading.specs.Reading.{Placed, placed, readAll}
 use Rattle.checks.specs.Checks.{check8, check-table, check-group}
-use Rattle.builder.specs.Finish.{Built, built, zeroed, settledBy, finished, finishedPlaced}
-use Rattle.builder.specs.Own.{storedAt, ownAll, allReached, reachesAll, ownIn}
+use Rattle.lending.specs.Finish.{Built, built, zeroed, settledBy, finished, finishedPlaced}
+use Rattle.rereading.specs.Own.{storedAt, ownAll, allReached, reachesAll, ownIn}
 use Rattle.numbering.specs.Read.{Read, Readable, Refuses}
 use Rattle.numbering.proofs.Readings.{accepted-read, refused-read, read-readable}
 use Rattle.builders.specs.Own.{ownNumber, ownRefusal}

@@ -13,7 +13,7 @@ use Rattle.egg.specs.Factor.{fitsIn}
 use Rattle.egg.proofs.Rooms.{false-true}
 use Rattle.reading.specs.Build.{numbered}
 use Rattle.builder.specs.declared.Builder.{Builder}
-use Rattle.builder.specs.Lending.{workNeed}
+use Rattle.lending.specs.Lending.{workNeed}
 use Rattle.builder.specs.Calls.{builds}
 use Rattle.factor.specs.Composed.{composedAt, composed}
 use Rattle.theory.specs.Numbering.{Numbered}

@@ -19,7 +19,7 @@ use Rattle.egg.proofs.Rooms.{has, within-length}
 use Rattle.reading.specs.Build.{isNew, setStep, Adds, adds}
 use Rattle.builder.specs.declared.Builder.{Builder}
 use Rattle.builder.specs.declared.Grown.{Grown}
-use Rattle.builder.specs.Lending.{tableNeed, within, making}
+use Rattle.lending.specs.Lending.{tableNeed, within, making}
 use Rattle.builder.specs.Calls.{Leaving, leaving, withStretch, builderOf, refusedBegun, begins, placed, placedStep, overLong, grownBy, grown, growsBy, grows, storesBy, stores, builds}
 use Rattle.builder.proofs.Calls.{place-fits, end-fits}
 use Rattle.derived.proofs.Marking.{set-length}

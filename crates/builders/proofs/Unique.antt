@@ -1,7 +1,7 @@
 -- "That the answer is unique is proved": for each of the builder's calls, over its own contract.
 -- Assumes nothing.
 use mathlib.Core.Path.{sym, _∙_}
-use Rattle.builder.specs.Lending.{making}
+use Rattle.lending.specs.Lending.{making}
 use Rattle.builder.specs.Calls.{leaving}
 use Rattle.builder.proofs.begin.Kinds as begin-kinds
 use Rattle.builder.proofs.begin.Reads as begin-reads

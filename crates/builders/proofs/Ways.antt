@@ -20,9 +20,9 @@ use Rattle.reading.specs.Build.{numbered}
 use Rattle.reading.specs.Reading.{placed}
 use Rattle.checks.specs.Checks.{Checked, checked, check8, check-group}
 use Rattle.builder.specs.declared.Builder.{Builder}
-use Rattle.builder.specs.Finish.{Built, built, zeroed, settledBy}
-use Rattle.builder.specs.Lending.{tableNeed, workNeed, within, noFactor, making, lentBack}
-use Rattle.builder.specs.Own.{ownAll, ownIn}
+use Rattle.lending.specs.Finish.{Built, built, zeroed, settledBy}
+use Rattle.lending.specs.Lending.{tableNeed, workNeed, within, noFactor, making, lentBack}
+use Rattle.rereading.specs.Own.{ownAll, ownIn}
 use Rattle.builder.specs.Calls.{builds}
 use Rattle.factor.specs.Composed.{composedAt, composed}
 use Rattle.theory.specs.Numbering.{start, Numbered}

@@ -9,7 +9,7 @@ use Rattle.egg.specs.declared.Refusal.{Refusal}
 use Rattle.egg.specs.Factor.{Paper, refusalPaper, fitsIn}
 use Rattle.reading.specs.Build.{numbered}
 use Rattle.builder.specs.declared.Builder.{Builder}
-use Rattle.builder.specs.Lending.{workNeed}
+use Rattle.lending.specs.Lending.{workNeed}
 use Rattle.factor.specs.Composed.{composedAt}
 use Rattle.theory.specs.Numbering.{Numbered}
 use Rattle.meaning.specs.Numbers.{In, lateNumbers}

@@ -10,7 +10,7 @@ use Rattle.egg.specs.declared.Factor.{Factor}
 use Rattle.egg.specs.declared.Verdict.the-variants as verdict
 use Rattle.egg.specs.Factor.{fitsIn}
 use Rattle.builder.specs.declared.Builder.{Builder}
-use Rattle.builder.specs.Lending.{workNeed, making}
+use Rattle.lending.specs.Lending.{workNeed, making}
 use Rattle.builder.specs.Calls.{builds}
 
 -- The arguments of `build` are right, so that it starts: the handle fits, and the work is long enough.

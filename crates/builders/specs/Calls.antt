@@ -17,7 +17,7 @@ use Rattle.builder.specs.declared.Builder.{Builder}
 use Rattle.builder.specs.declared.Begun.{Begun}
 use Rattle.builder.specs.declared.Grown.{Grown}
 use Rattle.builder.specs.declared.Stored.{Stored}
-use Rattle.builder.specs.Lending.{tableNeed, within}
+use Rattle.lending.specs.Lending.{tableNeed, within}
 use Rattle.builder.specs.Calls.{storedPaper, Leaving, leaving, withStretch, builderOf, noBuilder}
 use Rattle.answers.specs.Papers.{valuePaper}
 use Rattle.builders.specs.Own.{ownAt}

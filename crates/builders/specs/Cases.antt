@@ -9,7 +9,7 @@ use Rattle.egg.specs.declared.Verdict.the-variants.{Fine}
 use Rattle.egg.specs.Scan.{refusedOf}
 use Rattle.egg.specs.Factor.{refusedReach}
 use Rattle.builder.specs.declared.Builder.{Builder}
-use Rattle.builder.specs.Lending.{tableNeed, workNeed, Making, making}
+use Rattle.lending.specs.Lending.{tableNeed, workNeed, Making, making}
 use Rattle.builder.specs.Calls.{leaving, builderOf, begins, grows, stores, builds}
 
 -- A builder in a table that holds nothing else, and with so many elements.

@@ -9,7 +9,7 @@ use Rattle.egg.specs.declared.Factor.{Factor}
 use Rattle.egg.specs.Table.{pick}
 use Rattle.egg.specs.Factor.{stretch}
 use Rattle.reading.specs.Build.{numbered}
-use Rattle.builder.specs.Own.{storedAt, copied}
+use Rattle.rereading.specs.Own.{storedAt, copied}
 
 -- What stands for the step from e by g of a builder: one more than its number, or 0 where it is missing.
 abbrev pub ownAt : List ℕ → Factor → ℕ → ℕ → ℕ

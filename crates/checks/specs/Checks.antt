@@ -1,16 +1,16 @@
 -- Refusals 8 to 12 on a table of n generators and `count` elements, in document 01's order: "Reading ends before 8; then 8 to 13 in order. Places are
 -- the first in element order, then generator order; for 8 successors are searched before predecessors."
 -- Assumes nothing.
-use Prim.Native.Nat.{ℕ, zero, suc, _+_, _*_, _-_}
+use Prim.Native.Nat.{ℕ, zero, suc, _+_, _*_}
 use mathlib.Core.List.{List}
-use mathlib.Core.Bool.{Bool, true, false}
 use lib.ListN.{getD}
 use lib.Dec.{eqb, ltb, leb}
-use Rattle.egg.specs.declared.Refusal.{Refusal}
 use Rattle.egg.specs.declared.Verdict.{Verdict}
 use Rattle.egg.specs.declared.Verdict.the-variants.{Fine, Refused}
-use Rattle.egg.specs.Table.{pick, putAt, startOf, parentOf, lastOf, lengthOf, inverseOf, stepOf, backOf}
+use Rattle.egg.specs.Table.{pick, putAt, startOf, parentOf, lastOf, lengthOf, stepOf}
 use Rattle.egg.specs.Scan.{refusedOf, andThen, scan}
+use Rattle.inverses.specs.Inverses.{fillInverses, inversesRight}
+use Rattle.lefts.specs.Lefts.{check-steps, Lefts, left, lefts}
 
 -- 8, "a successor or predecessor missing": a place of the row that is still 0. Predecessors stand n places after the successors.
 abbrev pub missingAt : List ℕ → ℕ → ℕ → ℕ → ℕ → Verdict
@@ -76,81 +76,6 @@ arrivals (suc k) t n w e = arrivals k t n (arriveRow n t n e w 0) (e + 1)
 
 unfoldable pub countsRight : List ℕ → ℕ → ℕ → Verdict
 countsRight w n count = scan count (λ e. pick (eqb (getD w e 0) n) Fine (refusedOf 9 e n 0)) 0
-
--- "The inverse follows the reversed word through predecessors from the identity": k letters are left of the word that ends at the element `at`.
-unfoldable pub invertFrom : ℕ → List ℕ → ℕ → ℕ → ℕ → ℕ
-invertFrom zero t n at x = x
-invertFrom (suc k) t n at x = invertFrom k t n (parentOf t n at) (backOf t n x (lastOf t n at))
-
-abbrev pub invertOf : List ℕ → ℕ → ℕ → ℕ
-invertOf t n e = invertFrom (lengthOf t n e) t n e 0
-
--- The inverses of k elements from e on, stored.
-unfoldable pub fillInverses : ℕ → List ℕ → ℕ → ℕ → List ℕ
-fillInverses zero t n e = t
-fillInverses (suc k) t n e = fillInverses k (putAt t (startOf n e + 2 * n + 3) (invertOf t n e)) n (e + 1)
-
--- 10, "inverse of inverse differs": element, inverse, its inverse.
-abbrev pub inverseAt : List ℕ → ℕ → ℕ → Verdict
-inverseAt t n e =
-    pick (eqb (inverseOf t n (inverseOf t n e)) e) Fine (refusedOf 10 e (inverseOf t n e) (inverseOf t n (inverseOf t n e)))
-
-unfoldable pub inversesRight : List ℕ → ℕ → ℕ → Verdict
-inversesRight t n count = scan count (λ e. inverseAt t n e) 0
-
--- 11, "identity row is not 1..n".
-unfoldable pub identityRow : List ℕ → ℕ → Verdict
-identityRow t n = scan n (λ g. pick (eqb (stepOf t n 0 g) (g + 1)) Fine (refusedOf 11 g 0 0)) 0
-
--- 12, "no group has these right steps". First that the columns are permutations and that each recorded word leads to its element. So it is after every
--- reading and enumeration that has passed 8; the checks do not rest on that.
-unfoldable pub columnsRow : List ℕ → ℕ → ℕ → Verdict
-columnsRow t n e = scan n (λ g. pick (eqb (stepOf t n (backOf t n e g) g) e) Fine (refusedOf 12 0 0 0)) 0
-
-unfoldable pub spelledRow : List ℕ → ℕ → ℕ → Verdict
-spelledRow t n e =
-    pick (eqb e 0) (pick (eqb (lengthOf t n e) 0) Fine (refusedOf 12 0 0 0))
-    (pick (eqb (stepOf t n (parentOf t n e) (lastOf t n e)) e)
-    (pick (eqb (lengthOf t n e) (lengthOf t n (parentOf t n e) + 1)) Fine (refusedOf 12 0 0 0))
-    (refusedOf 12 0 0 0))
-
-unfoldable pub spelled : List ℕ → ℕ → ℕ → Verdict
-spelled t n count = scan count (λ e. andThen (columnsRow t n e) (spelledRow t n e)) 0
-
-unfoldable pub check-steps : List ℕ → ℕ → ℕ → Verdict
-check-steps t n count = andThen (identityRow t n) (spelled t n count)
-
--- Then, for each generator s, multiplication on the left by s, filled into the work by going from parent to parent, must commute with every step.
-abbrev pub leftOf : List ℕ → ℕ → ℕ → List ℕ → ℕ → ℕ
-leftOf t n s w x = pick (ltb 0 x) (stepOf t n (getD w (parentOf t n x) 0) (lastOf t n x)) (stepOf t n 0 s)
-
-unfoldable pub fillLeft : ℕ → List ℕ → ℕ → ℕ → List ℕ → ℕ → List ℕ
-fillLeft zero t n s w x = w
-fillLeft (suc k) t n s w x = fillLeft k t n s (putAt w x (leftOf t n s w x)) (x + 1)
-
-unfoldable pub goesRow : List ℕ → List ℕ → ℕ → ℕ → Verdict
-goesRow t w n x = scan n (λ g. pick (eqb (getD w (stepOf t n x g) 0) (stepOf t n (getD w x 0) g)) Fine (refusedOf 12 0 0 0)) 0
-
-unfoldable pub allGo : List ℕ → List ℕ → ℕ → ℕ → Verdict
-allGo t w n count = scan count (λ x. goesRow t w n x) 0
-
--- The verdict and what the work holds then.
-pub data Lefts : Type 0 where
-  left : Verdict → List ℕ → Lefts
-
-abbrev pub leftVerdict : Lefts → Verdict
-leftVerdict (left v w) = v
-
--- The verdict with the work, or what comes after it.
-abbrev pub thenLeft : Verdict → List ℕ → Lefts → Lefts
-thenLeft Fine w l = l
-thenLeft (Refused r) w l = left (Refused r) w
-
--- For k generators from s on.
-unfoldable pub lefts : ℕ → List ℕ → ℕ → ℕ → List ℕ → ℕ → Lefts
-lefts zero t n count w s = left Fine w
-lefts (suc k) t n count w s =
-    thenLeft (allGo t (fillLeft count t n s w 0) n count) (fillLeft count t n s w 0) (lefts k t n count (fillLeft count t n s w 0) (s + 1))
 
 -- All of it: the verdict, and what both stretches hold then.
 pub data Checked : Type 0 where

@@ -20,7 +20,7 @@ use Rattle.egg.specs.Scan.{refusedOf}
 use Rattle.egg.specs.Factor.{fitsIn, refusedReach}
 use Rattle.egg.proofs.Rooms.{and-first, and-second, some}
 use Rattle.egg.proofs.Scans.{scan-fine, Scanning, scanning}
-use Rattle.builder.specs.Lending.{noFactor}
+use Rattle.lending.specs.Lending.{noFactor}
 use Rattle.products.specs.Radix.{stride, split, join}
 use Rattle.products.proofs.RadixLaws.{stride-next, stride-small}
 use Rattle.handles.specs.declared.Group.{Group}

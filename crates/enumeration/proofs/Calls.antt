@@ -17,9 +17,9 @@ use Rattle.egg.specs.declared.Counted.{Counted}
 use Rattle.egg.specs.declared.Counted.the-variants.{Count, Refused}
 use Rattle.egg.specs.Pairs.{ordersRight}
 use Rattle.egg.proofs.Orders.{orders-limits, few-pairs}
-use Rattle.builder.specs.Finish.{Built, built, zeroed, finished}
-use Rattle.builder.specs.Lending.{tableNeed, workNeed, lentRight, Ends, refusedMade, madeOf, Making, making, lentBack}
-use Rattle.builder.proofs.Lending.{part-length, build-back}
+use Rattle.lending.specs.Finish.{Built, built, zeroed, finished}
+use Rattle.lending.specs.Lending.{tableNeed, workNeed, lentRight, Ends, refusedMade, madeOf, Making, making, lentBack}
+use Rattle.lending.proofs.Lending.{part-length, build-back}
 use Rattle.relations.specs.Relations.{relationsRow}
 use Rattle.rows.specs.Rows.{Orders}
 use Rattle.enumeration.specs.declared.inner.Ran.{Ran}

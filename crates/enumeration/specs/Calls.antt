@@ -13,8 +13,8 @@ use Rattle.egg.specs.declared.Counted.{Counted}
 use Rattle.egg.specs.declared.Counted.the-variants.{Count, Refused}
 use Rattle.egg.specs.Table.{pick}
 use Rattle.egg.specs.Pairs.{ordersRight}
-use Rattle.builder.specs.Finish.{Built, built, zeroed, finished}
-use Rattle.builder.specs.Lending.{tableNeed, workNeed, lentRight, noFactor, refusedMade, Making, making, lentBack}
+use Rattle.lending.specs.Finish.{Built, built, zeroed, finished}
+use Rattle.lending.specs.Lending.{tableNeed, workNeed, lentRight, noFactor, refusedMade, Making, making, lentBack}
 use Rattle.relations.specs.Relations.{relationsRow}
 use Rattle.enumeration.specs.declared.inner.Ran.{Ran}
 use Rattle.enumeration.specs.declared.inner.Ran.the-variants as ran

@@ -11,7 +11,7 @@ ghost use Rattle.enumeration.specs.Facts.{state, learns, woken, wakesAll
 ghost use Rattle.enumeration.specs.Carrying.{wakesRest};
 ghost use Rattle.enumeration.specs.Run.{discovered, visit, visits, advanced, outcome, runs, enumerated};
 ghost use Rattle.enumeration.specs.Calls.{ranCount, Relating, relates, enumeratedIn};
-ghost use Rattle.builder.specs.Finish.{Built};
+ghost use Rattle.lending.specs.Finish.{Built};
 use egg::Counted;
 use egg::GeneratorId;
 use egg::GroupElementId;
@@ -449,6 +449,6 @@ pub fn enumerate_in(t: &mut [u32], w: &mut [u32], orders: &[u32], n: u8, room: u
     ensures { λ r. ⌜ Built.built r (now (t .exit)) (now (w .exit)) ≡ enumeratedIn (length (now (t .entry))) (length (now (w .entry))) (now (orders .entry)) n room ⌝ }
 {
     let run = enumerate(t, w, orders, n, room);
-    let count = builder::inner::finish(t, w, n, counted(run));
+    let count = lending::inner::finish(t, w, n, counted(run));
     relate(t, orders, n, count)
 }

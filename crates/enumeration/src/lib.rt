@@ -2,7 +2,7 @@
 ghost use mathlib.Core.Path.{_≡_};
 ghost use Prim.Native.Nat.{_+_, _*_, _<_, _≤_};
 ghost use lib.ListN.{length};
-ghost use Rattle.builder.specs.Lending.{Making};
+ghost use Rattle.lending.specs.Lending.{Making};
 ghost use Rattle.enumeration.specs.Calls.{enumerates};
 use egg::Counted;
 use egg::Made;
@@ -23,16 +23,16 @@ pub fn enumerate(
     ensures { λ r. ⌜ Making.making r (now (table .exit)) (now (work .exit)) ≡ enumerates (now (table .entry)) start (now (work .entry)) (now (orders .entry)) n room ⌝ }
 {
     if 8 < n {
-        return builder::inner::refused_made(1, n as u32);
+        return lending::inner::refused_made(1, n as u32);
     }
     if let Verdict::Refused(why) = egg::inner::orders_right(orders, n) {
-        return builder::inner::made(start, room, n, Counted::Refused(why));
+        return lending::inner::made(start, room, n, Counted::Refused(why));
     }
-    if !builder::inner::lent_right(table.len(), start, work.len(), room, n) {
-        return builder::inner::refused_made(4, 0);
+    if !lending::inner::lent_right(table.len(), start, work.len(), room, n) {
+        return lending::inner::refused_made(4, 0);
     }
-    let end = builder::inner::stretch_end(table.len(), start, room, n);
-    let need = builder::inner::work_need(n, room);
+    let end = lending::inner::stretch_end(table.len(), start, room, n);
+    let need = lending::inner::work_need(n, room);
     let count = inner::enumerate_in(&mut table[start..end], &mut work[..need], orders, n, room);
-    builder::inner::made(start, room, n, count)
+    lending::inner::made(start, room, n, count)
 }

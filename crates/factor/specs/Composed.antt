@@ -7,8 +7,8 @@ use mathlib.Core.Bool.{_&&_}
 use lib.ListN.{length, getD, take, replicate}
 use lib.Dec.{ltb, leb}
 use Rattle.egg.specs.Table.{pick}
-use Rattle.builder.specs.Finish.{Built, finishedPlaced}
-use Rattle.builder.specs.Lending.{tableNeed, workNeed, lentRight, refusedMade, Making, making, lentBack}
+use Rattle.lending.specs.Finish.{Built, finishedPlaced}
+use Rattle.lending.specs.Lending.{tableNeed, workNeed, lentRight, refusedMade, Making, making, lentBack}
 use Rattle.reading.specs.Reading.{readAll}
 
 -- The number at (e, g) of a list of rows of n numbers.

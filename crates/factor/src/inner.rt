@@ -1,9 +1,12 @@
 // The work of the calls, on a factor's own stretch; the layers above use it too.
 ghost use mathlib.Core.Path.{_≡_};
-ghost use Prim.Native.Nat.{_+_, _*_};
-ghost use lib.ListN.{length};
-ghost use Rattle.builder.specs.Finish.{Built};
-ghost use Rattle.reading.specs.Reading.{Placed, readRow, readAll};
+ghost use mathlib.Core.Bool.{Bool, true};
+ghost use Prim.Native.Nat.{_+_, _*_, _-_, _<_, _≤_};
+ghost use lib.ListN.{length, getD, set};
+ghost use lib.Dec.{ltb};
+ghost use Rattle.egg.specs.Factor.{fitsIn, refusedReach};
+ghost use Rattle.lending.specs.Finish.{Built};
+ghost use Rattle.reading.specs.Reading.{Placed, readPlace, readRow, readAll};
 ghost use Rattle.factor.specs.Composed.{composedAt, composedIn};
 ghost use Rattle.factor.specs.Questions.{admits};
 use egg::Counted;
@@ -56,7 +59,7 @@ pub fn compose_in(t: &mut [u32], w: &mut [u32], rows: &[u32], n: u8, room: u32) 
 {
     egg::inner::clear(t);
     let read = read_rows(t, rows, n, room);
-    builder::inner::finish(t, w, n, read)
+    lending::inner::finish(t, w, n, read)
 }
 
 // 17 in the handle, then 14 for two elements; with one element, the identity stands for the other.

@@ -2,7 +2,7 @@
 ghost use mathlib.Core.Path.{_≡_};
 ghost use Prim.Native.Nat.{_+_, _*_, _<_, _≤_};
 ghost use lib.ListN.{length};
-ghost use Rattle.builder.specs.Lending.{Making};
+ghost use Rattle.lending.specs.Lending.{Making};
 ghost use Rattle.factor.specs.Composed.{composed};
 ghost use Rattle.factor.specs.Questions.{composeAnswer, inverseAnswer, conjugateAnswer, countAnswer, generatorAnswer, lengthAnswer, writeAnswer, written, wordPart};
 ghost use Rattle.factor.specs.Relations.{checkAnswer};
@@ -29,18 +29,18 @@ pub fn from_composed(
     ensures { λ r. ⌜ Making.making r (now (table .exit)) (now (work .exit)) ≡ composed (now (table .entry)) start (now (work .entry)) (now (rows .entry)) n room ⌝ }
 {
     if 8 < n {
-        return builder::inner::refused_made(1, n as u32);
+        return lending::inner::refused_made(1, n as u32);
     }
-    if !builder::inner::lent_right(table.len(), start, work.len(), room, n) {
-        return builder::inner::refused_made(4, 0);
+    if !lending::inner::lent_right(table.len(), start, work.len(), room, n) {
+        return lending::inner::refused_made(4, 0);
     }
     if rows.len() < (room as usize) * (n as usize) {
-        return builder::inner::refused_made(4, 0);
+        return lending::inner::refused_made(4, 0);
     }
-    let end = builder::inner::stretch_end(table.len(), start, room, n);
-    let need = builder::inner::work_need(n, room);
+    let end = lending::inner::stretch_end(table.len(), start, room, n);
+    let need = lending::inner::work_need(n, room);
     let count = inner::compose_in(&mut table[start..end], &mut work[..need], rows, n, room);
-    builder::inner::made(start, room, n, count)
+    lending::inner::made(start, room, n, count)
 }
 
 pub fn element_count(table: &[u32], f: Factor) -> Counted

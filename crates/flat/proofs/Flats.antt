@@ -21,9 +21,9 @@ use Rattle.egg.specs.declared.Counted.{Counted}
 use Rattle.egg.specs.declared.Counted.the-variants.{Count, Refused}
 use Rattle.egg.specs.Table.{pick}
 use Rattle.reading.specs.Build.{adds}
-use Rattle.builder.specs.Finish.{Built, built, finished, finishedPlaced}
-use Rattle.builder.specs.Lending.{tableNeed, workNeed, lentRight, Ends, refusedMade, madeOf, Making, making, noFactor}
-use Rattle.builder.proofs.Lending.{part-length, build-back}
+use Rattle.lending.specs.Finish.{Built, built, finished, finishedPlaced}
+use Rattle.lending.specs.Lending.{tableNeed, workNeed, lentRight, Ends, refusedMade, madeOf, Making, making, noFactor}
+use Rattle.lending.proofs.Lending.{part-length, build-back}
 use Rattle.reading.specs.Reading.{Placed, placed, thenPlaced, onAdds, readPlace}
 use Rattle.handles.specs.Handles.{generatorsOf}
 use Rattle.digits.specs.Digits.{stepIn}

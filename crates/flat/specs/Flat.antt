@@ -11,8 +11,8 @@ use Rattle.egg.specs.declared.Verdict.{Verdict}
 use Rattle.egg.specs.declared.Verdict.the-variants as verdict
 use Rattle.egg.specs.declared.Counted.the-variants.{Count, Refused}
 use Rattle.egg.specs.Table.{pick}
-use Rattle.builder.specs.Finish.{Built, finishedPlaced}
-use Rattle.builder.specs.Lending.{tableNeed, workNeed, lentRight, noFactor, refusedMade, Making, making, lentBack}
+use Rattle.lending.specs.Finish.{Built, finishedPlaced}
+use Rattle.lending.specs.Lending.{tableNeed, workNeed, lentRight, noFactor, refusedMade, Making, making, lentBack}
 use Rattle.reading.specs.Reading.{Placed, placed, thenPlaced, readPlace}
 use Rattle.handles.specs.declared.Group.{Group}
 use Rattle.handles.specs.Handles.{handles, generatorsOf, admits}

@@ -5,8 +5,8 @@ ghost use Prim.Native.Nat.{_<_, _≤_};
 ghost use lib.ListN.{length};
 ghost use Rattle.handles.specs.Handles.{handles, elementsOf, allFit};
 ghost use Rattle.digits.specs.Digits.{stepIn};
-ghost use Rattle.builder.specs.Finish.{Built};
-ghost use Rattle.builder.specs.Lending.{Making};
+ghost use Rattle.lending.specs.Finish.{Built};
+ghost use Rattle.lending.specs.Lending.{Making};
 ghost use Rattle.reading.specs.Reading.{Placed};
 ghost use Rattle.flat.specs.Flat.{rowBy, rowsBy, flatIn, flatInto};
 use egg::Counted;
@@ -77,7 +77,7 @@ fn flat_in(t: &mut [u32], w: &mut [u32], from: &[u32], g: Group, n: u8, room: u3
 {
     egg::inner::clear(t);
     let read = flat_rows(t, from, g, n, room);
-    builder::inner::finish(t, w, n, read)
+    lending::inner::finish(t, w, n, read)
 }
 
 // 1, then 4; then the build.
@@ -95,14 +95,14 @@ pub fn flat_into(
     let seen = handles::inner::look(from, g);
     let k = seen.generators;
     if 8 < k {
-        return builder::inner::refused_made(1, k);
+        return lending::inner::refused_made(1, k);
     }
     let n = (k % 256) as u8;
-    if !builder::inner::lent_right(table.len(), start, work.len(), room, n) {
-        return builder::inner::refused_made(4, 0);
+    if !lending::inner::lent_right(table.len(), start, work.len(), room, n) {
+        return lending::inner::refused_made(4, 0);
     }
-    let end = builder::inner::stretch_end(table.len(), start, room, n);
-    let need = builder::inner::work_need(n, room);
+    let end = lending::inner::stretch_end(table.len(), start, room, n);
+    let need = lending::inner::work_need(n, room);
     let count = flat_in(&mut table[start..end], &mut work[..need], from, g, n, room);
-    builder::inner::made(start, room, n, count)
+    lending::inner::made(start, room, n, count)
 }

@@ -25,6 +25,7 @@ use Rattle.egg.specs.Scan.{refusedOf}
 use Rattle.egg.specs.Factor as egg
 use Rattle.egg.specs.Factor.{fitsIn, stretch, readStep}
 use Rattle.egg.proofs.Rooms.{some, room-enough, has, limited as room-limited}
+use Rattle.lending.specs.Lending.{noFactor}
 use Rattle.factor.specs.Questions as factor
 use Rattle.factor.specs.Questions.{ifReach, ifCount}
 use Rattle.walks.specs.Walks.{onReached, composeIn, inverseIn, generatorIn}
@@ -37,9 +38,6 @@ use Rattle.digits.specs.Digits.{above, digitOf, digitwise, stepIn, composes, in
 use Rattle.powers.specs.Powers.{oddToo, halves, negated, powers, powiAlone}
 use Rattle.handles.specs.Counts.{onCounted}
 use Rattle.spelling.specs.Words.{lengths, readables, spellFrom, spells, writesBy, writes, leaves}
-use Rattle.group.specs.declared.Group.{Group}
-use Rattle.group.specs.declared.inner.Asked.{Asked}
-use Rattle.group.specs.declared.inner.Asked.the-variants.{Compose, Inverse, Conjugate}
 use Rattle.group.specs.Questions.{stepAnswer, generatorAnswer, composeAnswer, inverseAnswer, conjugateAnswer, powiAnswer, lengthAnswer, writeAnswer, written}
 use Rattle.handles.proofs.Admitted.{Goes, goes-on}
 use Rattle.digits.proofs.Walks.{Below, element, below-on, digit-below}

@@ -19,9 +19,9 @@ use Rattle.egg.specs.declared.Counted.the-variants.{Count, Refused}
 use Rattle.egg.specs.Factor.{hasRoom}
 use Rattle.egg.proofs.Rooms.{positive, limited}
 use Rattle.reading.specs.Reading.{Placed, placed, readAll}
-use Rattle.builder.specs.Finish.{Built, built, zeroed, finished, finishedPlaced}
-use Rattle.builder.specs.Lending.{tableNeed, workNeed, lentRight, noFactor, within, making, lentBack}
-use Rattle.builder.proofs.Lending.{lent-table, lent-enough}
+use Rattle.lending.specs.Finish.{Built, built, zeroed, finished, finishedPlaced}
+use Rattle.lending.specs.Lending.{tableNeed, workNeed, lentRight, noFactor, within, making, lentBack}
+use Rattle.lending.proofs.Lending.{lent-table, lent-enough}
 use Rattle.theory.specs.Numbering.{Numbered, IdentityRow, Distinct}
 use Rattle.theory.specs.AnyGroup.{SomeGroup}
 use Rattle.theory.proofs.AnyCarrier.{any-carrier}

@@ -8,7 +8,7 @@ use lib.ListN.{length}
 use Rattle.egg.specs.declared.Factor.{Factor}
 use Rattle.egg.specs.declared.Verdict.the-variants.{Fine}
 use Rattle.egg.proofs.Rooms.{room-enough}
-use Rattle.builder.specs.Lending.{making}
+use Rattle.lending.specs.Lending.{making}
 use Rattle.theory.specs.Table.{Table}
 use Rattle.theory.specs.Words.{Word, empty, letter, walk, Spelled}
 use Rattle.theory.specs.Group.{GroupOn, RightSteps}

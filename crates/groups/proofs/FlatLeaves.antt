@@ -24,9 +24,9 @@ use Rattle.egg.specs.Table.{pick, startOf}
 use Rattle.egg.specs.Factor.{stretch, readStep, hasRoom}
 use Rattle.egg.proofs.Rooms.{positive, limited, false-true}
 use Rattle.reading.specs.Reading.{Placed, placed, thenPlaced, readPlace, readRow, readFrom, readAll}
-use Rattle.builder.specs.Finish.{Built, built, zeroed, finished, finishedPlaced}
-use Rattle.builder.specs.Lending.{tableNeed, workNeed, lentRight, noFactor, refusedMade, Making, making, lentBack}
-use Rattle.builder.proofs.Lending.{lent-table, lent-enough}
+use Rattle.lending.specs.Finish.{Built, built, zeroed, finished, finishedPlaced}
+use Rattle.lending.specs.Lending.{tableNeed, workNeed, lentRight, noFactor, refusedMade, Making, making, lentBack}
+use Rattle.lending.proofs.Lending.{lent-table, lent-enough}
 use Rattle.walks.specs.Walks.{onReached}
 use Rattle.meaning.specs.Numbers.{member, In}
 use Rattle.promises.specs.Leaves.{Leaves, lentFor}

@@ -17,8 +17,8 @@ use Rattle.egg.specs.declared.Verdict.the-variants as verdict
 use Rattle.egg.specs.Table.{pick}
 use Rattle.egg.proofs.Rooms.{within-length}
 use Rattle.reading.specs.Reading.{readAll}
-use Rattle.builder.specs.Finish.{Built, finishedPlaced}
-use Rattle.builder.specs.Lending.{tableNeed, workNeed, lentRight, refusedMade, Making, making, lentBack}
+use Rattle.lending.specs.Finish.{Built, finishedPlaced}
+use Rattle.lending.specs.Lending.{tableNeed, workNeed, lentRight, refusedMade, Making, making, lentBack}
 use Rattle.meaning.specs.Numbers.{In}
 use Rattle.answers.specs.Papers.{valuePaper}
 use Rattle.promises.specs.Leaves.{composedNumbers, tableFor}

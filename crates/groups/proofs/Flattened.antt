@@ -12,8 +12,8 @@ use lib.ListN.{length, getD, take, replicate}
 use lib.Dec.{ltb}
 use Rattle.egg.specs.declared.Factor.{Factor}
 use Rattle.egg.specs.declared.Counted.the-variants.{Count, Refused}
-use Rattle.builder.specs.Finish.{finishedPlaced}
-use Rattle.builder.specs.Lending.{tableNeed, workNeed, lentRight, lentBack}
+use Rattle.lending.specs.Finish.{finishedPlaced}
+use Rattle.lending.specs.Lending.{tableNeed, workNeed, lentRight, lentBack}
 use Rattle.reading.specs.Reading.{Placed, placed, thenPlaced, readPlace, readRow, readFrom, readAll}
 use Rattle.factor.specs.Composed.{composedAt, composedIn, composed}
 use Rattle.products.specs.Product.{product}

@@ -5,9 +5,11 @@ use Rattle.egg.specs.Table.{putAt, startOf}
 use Rattle.egg.specs.Scan.{scan}
 use Rattle.egg.specs.Factor.{hasRoom, fitsIn, stretch, readStep}
 use Rattle.checks.specs.Checks as checks
+use Rattle.inverses.specs.Inverses as inverses
+use Rattle.lefts.specs.Lefts as lefts
 use Rattle.reading.specs.Build.{setStep, setWord, adds}
-use Rattle.builder.specs.Finish.{finished}
-use Rattle.builder.specs.Lending.{lentRight, within}
+use Rattle.lending.specs.Finish.{finished}
+use Rattle.lending.specs.Lending.{lentRight, within}
 use Rattle.reading.specs.Reading.{readPlace, readRow, readFrom}
 use Rattle.factor.specs.Composed.{composedIn, composed}
 use Rattle.walks.specs.Walks.{along, readBack, backAlong, composeIn, inverseIn, conjugateIn}
@@ -22,7 +24,7 @@ use Rattle.group.specs.Questions as questions
 use Rattle.groups.specs.Known.{KnownProducts}
 
 pub known-products : KnownProducts
-unfolding putAt startOf scan hasRoom fitsIn stretch readStep checks.missingRow checks.missing checks.check8 checks.rangeRow checks.linksOf checks.ranges checks.wrongRow checks.wrong checks.check-table checks.wiped checks.arriveRow checks.arrivals checks.countsRight checks.invertFrom checks.fillInverses checks.inversesRight checks.identityRow checks.columnsRow checks.spelledRow checks.spelled checks.check-steps checks.fillLeft checks.goesRow checks.allGo checks.lefts checks.check-rest checks.check-group setStep setWord adds finished lentRight within readPlace readRow readFrom composedIn composed along readBack backAlong composeIn inverseIn conjugateIn readable lengthIn limited admits joins digitwise stepIn periodFrom periods lengths readables spellFrom spells writes rowBy rowsBy flatIn flatInto flat questions.countAnswer questions.generatorsAnswer questions.generatorAnswer questions.stepAnswer questions.projectAnswer questions.injectAnswer splitTail questions.splitAnswer questions.splitLeaves digitsRight joinTail questions.joinAnswer questions.composeAnswer questions.conjugateAnswer questions.periodAnswer questions.lengthAnswer questions.writeAnswer questions.written
+unfolding putAt startOf scan hasRoom fitsIn stretch readStep checks.missingRow checks.missing checks.check8 checks.rangeRow checks.linksOf checks.ranges checks.wrongRow checks.wrong checks.check-table checks.wiped checks.arriveRow checks.arrivals checks.countsRight inverses.invertFrom inverses.fillInverses inverses.inversesRight lefts.identityRow lefts.columnsRow lefts.spelledRow lefts.spelled lefts.check-steps lefts.fillLeft lefts.goesRow lefts.allGo lefts.lefts checks.check-rest checks.check-group setStep setWord adds finished lentRight within readPlace readRow readFrom composedIn composed along readBack backAlong composeIn inverseIn conjugateIn readable lengthIn limited admits joins digitwise stepIn periodFrom periods lengths readables spellFrom spells writes rowBy rowsBy flatIn flatInto flat questions.countAnswer questions.generatorsAnswer questions.generatorAnswer questions.stepAnswer questions.projectAnswer questions.injectAnswer splitTail questions.splitAnswer questions.splitLeaves digitsRight joinTail questions.joinAnswer questions.composeAnswer questions.conjugateAnswer questions.periodAnswer questions.lengthAnswer questions.writeAnswer questions.written
 known-products = record {
   joined = refl;
   counted = refl;

@@ -5,7 +5,7 @@ use Prim.Native.Nat.{ℕ}
 use mathlib.Core.Path.{sym, _∙_, ap}
 use mathlib.Core.List.{List}
 use Rattle.egg.specs.declared.Counted.{Counted}
-use Rattle.builder.specs.Lending.{making}
+use Rattle.lending.specs.Lending.{making}
 use Rattle.handles.proofs.trivial.Kinds as trivial-kinds
 use Rattle.handles.proofs.trivial.Reads as trivial-reads
 use Rattle.handles.proofs.of.Kinds as of-kinds

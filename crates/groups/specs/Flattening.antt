@@ -8,8 +8,8 @@ use lib.ListN.{length, getD, replicate}
 use Rattle.egg.specs.declared.Factor.{Factor}
 use Rattle.egg.specs.declared.Verdict.the-variants as verdict
 use Rattle.egg.specs.Factor.{stretch}
-use Rattle.builder.specs.Lending as built
-use Rattle.builder.specs.Lending.{tableNeed, workNeed, lentRight}
+use Rattle.lending.specs.Lending as built
+use Rattle.lending.specs.Lending.{tableNeed, workNeed, lentRight}
 use Rattle.theory.specs.Numbering.{NumberingRule}
 use Rattle.theory.specs.Appearance.{recorded}
 use Rattle.promises.specs.Leaves.{composedNumbers}

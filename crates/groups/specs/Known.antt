@@ -14,7 +14,7 @@ use Rattle.egg.specs.declared.Counted.the-variants.{Count, Refused}
 use Rattle.egg.specs.Table.{stepOf}
 use Rattle.egg.specs.Scan.{refusedOf}
 use Rattle.egg.specs.Factor.{refusedReach}
-use Rattle.builder.specs.Lending.{Making, making, noFactor}
+use Rattle.lending.specs.Lending.{Making, making, noFactor}
 use Rattle.factor.specs.Composed.{composed}
 use Rattle.answers.specs.Accepted.{reach}
 use Rattle.handles.specs.declared.Group.{Group}

@@ -11,7 +11,7 @@ use Rattle.egg.specs.declared.Factor.{Factor}
 use Rattle.egg.specs.declared.Verdict.the-variants.{Fine}
 use Rattle.egg.specs.Scan.{refusedOf}
 use Rattle.egg.specs.Factor.{fitsIn}
-use Rattle.builder.specs.Lending.{noFactor}
+use Rattle.lending.specs.Lending.{noFactor}
 use Rattle.handles.specs.declared.Group.{Group}
 use Rattle.handles.specs.declared.Grouped.{Grouped}
 use Rattle.handles.specs.Handles.{handles, elementsOf, allFit, capped, groupOf, noGroup, joins}

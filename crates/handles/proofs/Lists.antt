@@ -11,7 +11,7 @@ use lib.Seq.{length-take-le, take-all, drop-cons, getD-take}
 use Rattle.egg.specs.declared.Factor.{Factor}
 use Rattle.egg.specs.Factor.{fitsIn}
 use Rattle.egg.proofs.Rooms.{and-first, and-second, some, room-enough, has, limited}
-use Rattle.builder.specs.Lending.{noFactor}
+use Rattle.lending.specs.Lending.{noFactor}
 use Rattle.products.specs.Radix.{count}
 use Rattle.handles.specs.declared.Group.{Group}
 use Rattle.handles.specs.Handles.{handles, sizes, elementsOf, allFit}

@@ -9,7 +9,7 @@ use native.Mathlib.Omega.{arith}
 use lib.ListN.{length, getD, drop, replicate}
 use Rattle.egg.specs.declared.Factor.{Factor}
 use Rattle.egg.specs.Factor.{fitsIn}
-use Rattle.builder.specs.Lending.{noFactor}
+use Rattle.lending.specs.Lending.{noFactor}
 use Rattle.handles.specs.declared.Group.{Group}
 use Rattle.handles.specs.declared.inner.Seen.{Seen}
 use Rattle.handles.specs.Handles.{elementsOf, generatorsOf, allFit, capped, seen, groupOf}

@@ -11,7 +11,7 @@ use Rattle.egg.specs.declared.Verdict.the-variants as verdict
 use Rattle.egg.specs.Table.{pick}
 use Rattle.egg.specs.Scan.{refusedOf}
 use Rattle.egg.specs.Factor.{fitsIn}
-use Rattle.builder.specs.Lending.{noFactor}
+use Rattle.lending.specs.Lending.{noFactor}
 use Rattle.products.specs.Radix.{count}
 use Rattle.handles.specs.declared.Group.{Group}
 use Rattle.handles.specs.declared.Grouped.{Grouped}

@@ -5,7 +5,7 @@ ghost use mathlib.Core.List.{_++_};
 ghost use Prim.Native.Nat.{_+_, _*_, _≤_};
 ghost use lib.ListN.{length, getD};
 ghost use Rattle.egg.specs.Scan.{refusedOf};
-ghost use Rattle.builder.specs.Lending.{noFactor};
+ghost use Rattle.lending.specs.Lending.{noFactor};
 ghost use Rattle.handles.specs.Handles.{handles, sizes, elementsOf, generatorsOf, allFit, capped, seen, limitOf, limitSeen, limited, admits, groupOf, noGroup};
 ghost use Rattle.handles.specs.Alone.{Alone};
 use super::Group;
@@ -15,18 +15,6 @@ use egg::Factor;
 use egg::Made;
 use egg::Refusal;
 use egg::Verdict;
-
-// A handle that fits no buffer.
-pub fn no_factor() -> Factor
-    ensures { λ r. ⌜ r ≡ noFactor ⌝ }
-{
-    Factor {
-        start: 0,
-        room: 0,
-        generators: 0,
-        elements: 0,
-    }
-}
 
 // How many handles are listed.
 pub fn listed(g: Group) -> usize
@@ -48,10 +36,10 @@ pub fn handle(g: Group, f: usize) -> Factor
     ensures { λ r. ⌜ r ≡ getD (handles g) f noFactor ⌝ }
 {
     if listed(g) <= f {
-        return no_factor();
+        return lending::inner::no_factor();
     }
     if 8 <= f {
-        return no_factor();
+        return lending::inner::no_factor();
     }
     g.factors[f]
 }
@@ -203,7 +191,7 @@ pub fn admit(table: &[u32], g: Group, a: u32, la: Limit, b: u32, lb: Limit) -> V
 pub fn refused_grouped(number: u32) -> Grouped
     ensures { λ r. ⌜ r ≡ record { answer = refusedOf number 0 0 0; group = noGroup } ⌝ }
 {
-    let none = no_factor();
+    let none = lending::inner::no_factor();
     let factors = [none, none, none, none, none, none, none, none];
     let group = Group { factors, count: 1 };
     let answer = egg::inner::refused(number, 0, 0, 0);
@@ -244,7 +232,7 @@ pub fn joined(a: Group, b: Group) -> Group
 pub fn no_factor_made(why: Refusal) -> Made
     ensures { λ r. ⌜ r ≡ record { answer = Verdict.Refused why; factor = noFactor } ⌝ }
 {
-    let factor = no_factor();
+    let factor = lending::inner::no_factor();
     let answer = Verdict::Refused(why);
     Made { answer, factor }
 }

@@ -24,7 +24,7 @@ pub struct Grouped {
 pub fn trivial() -> Group
     ensures { λ r. ⌜ r ≡ groupOf [] ⌝ }
 {
-    let none = inner::no_factor();
+    let none = lending::inner::no_factor();
     let factors = [none, none, none, none, none, none, none, none];
     Group { factors, count: 0 }
 }
@@ -33,7 +33,7 @@ pub fn trivial() -> Group
 pub fn of(f: Factor) -> Group
     ensures { λ r. ⌜ r ≡ groupOf (f ∷ []) ⌝ }
 {
-    let none = inner::no_factor();
+    let none = lending::inner::no_factor();
     let factors = [f, none, none, none, none, none, none, none];
     Group { factors, count: 1 }
 }

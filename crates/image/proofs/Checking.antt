@@ -9,7 +9,7 @@ use borrow.Author.Tests.{eq-eqb, ne-eqb, lt-ltb, le-ltb}
 use borrow.Rule.Slice.PartMut.{midOf}
 use lib.ListN.{length, take, drop, replicate, length-drop, length-replicate}
 use lib.Seq.{length-take-le}
-use Rattle.builder.specs.Lending.{tableNeed, workNeed}
+use Rattle.lending.specs.Lending.{tableNeed, workNeed}
 use Rattle.cells.specs.Cells.{cells, halves}
 use Rattle.cells.proofs.Laws.{cells-length}
 use Rattle.packed.specs.Short.{SomeWork, judged}

@@ -7,7 +7,7 @@ use mathlib.Core.List.{List, _++_}
 use lib.ListN.{length, getD, drop, replicate}
 use lib.Dec.{ltb, eqb}
 use Rattle.egg.specs.Table.{pick}
-use Rattle.builder.specs.Lending.{tableNeed, workNeed}
+use Rattle.lending.specs.Lending.{tableNeed, workNeed}
 use Rattle.cells.specs.Cells.{spell2, spell4, halves}
 use Rattle.packed.specs.Short.{built}
 

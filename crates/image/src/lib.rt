@@ -2,7 +2,7 @@
 ghost use mathlib.Core.Path.{_≡_};
 ghost use Prim.Native.Nat.{_*_, _≤_};
 ghost use lib.ListN.{length, getD};
-ghost use Rattle.builder.specs.Lending.{tableNeed, Making};
+ghost use Rattle.lending.specs.Lending.{tableNeed, Making};
 ghost use Rattle.image.specs.Written.{imageSize, writeCount, writtenImage};
 ghost use Rattle.image.specs.Read.{headPlace, readImage};
 ghost use Rattle.image.specs.Walked.{walkNumber};
@@ -85,7 +85,7 @@ pub fn head(image: &[u8]) -> u32
 fn table_bytes(n: u8, count: u32) -> usize
     ensures { λ r. ⌜ r ≡ 4 * tableNeed n count ⌝ }
 {
-    4 * builder::inner::table_need(n, count)
+    4 * lending::inner::table_need(n, count)
 }
 
 // How many bytes of work the check of an image needs.
@@ -171,15 +171,15 @@ pub fn read(image: &[u8], table: &mut [u32], start: usize, work: &mut [u32]) -> 
 {
     let found = head(image);
     if found != 0 {
-        return builder::inner::refused_made(found, head_place(image, found));
+        return lending::inner::refused_made(found, head_place(image, found));
     }
     let n = generators(image);
     let count = elements(image);
-    if !builder::inner::lent_right(table.len(), start, work.len(), count, n) {
-        return builder::inner::refused_made(4, 0);
+    if !lending::inner::lent_right(table.len(), start, work.len(), count, n) {
+        return lending::inner::refused_made(4, 0);
     }
-    let end = builder::inner::stretch_end(table.len(), start, count, n);
-    let need = builder::inner::work_need(n, count);
+    let end = lending::inner::stretch_end(table.len(), start, count, n);
+    let need = lending::inner::work_need(n, count);
     let made = taking::read_in(
         &mut table[start..end],
         &mut work[..need],
@@ -187,7 +187,7 @@ pub fn read(image: &[u8], table: &mut [u32], start: usize, work: &mut [u32]) -> 
         n,
         count,
     );
-    builder::inner::made(start, count, n, made)
+    lending::inner::made(start, count, n, made)
 }
 
 // Walks a word of generators from an element: the element reached, or 65,536 + the refusal's number.

@@ -18,8 +18,8 @@ use Rattle.egg.specs.declared.Counted.the-variants.{Count, Refused}
 use Rattle.egg.specs.Table.{pick}
 use Rattle.egg.specs.Factor.{verdictPaper}
 use Rattle.checks.specs.Checks.{check-group, verdictOf}
-use Rattle.builder.specs.Finish.{finished, finishedPlaced}
-use Rattle.builder.specs.Lending.{tableNeed, workNeed, lentRight, refusedMade, Making, making, lentBack}
+use Rattle.lending.specs.Finish.{finished, finishedPlaced}
+use Rattle.lending.specs.Lending.{tableNeed, workNeed, lentRight, refusedMade, Making, making, lentBack}
 use Rattle.reading.specs.Reading.{Placed, placed, readAll}
 use Rattle.factor.specs.Composed.{composedAt, composedIn, composed}
 use Rattle.cells.specs.Cells.{halves}

@@ -8,7 +8,7 @@ use mathlib.Core.List.{List}
 use lib.ListN.{length}
 use Rattle.egg.specs.declared.Factor.{Factor}
 use Rattle.egg.specs.Factor.{countedPaper}
-use Rattle.builder.specs.Lending.{lentRight}
+use Rattle.lending.specs.Lending.{lentRight}
 use Rattle.answers.specs.Accepted.{Accepted, factorStep}
 use Rattle.image.specs.Written.{imageSize, imageOf}
 use Rattle.image.specs.Read.{readImage}

@@ -14,8 +14,8 @@ use Rattle.egg.specs.declared.Factor.{Factor}
 use Rattle.egg.specs.declared.Verdict.the-variants as verdict
 use Rattle.egg.specs.Table.{pick}
 use Rattle.egg.proofs.Rooms.{false-true, within-length}
-use Rattle.builder.specs.Lending.{tableNeed, workNeed, lentRight, Making, making, refusedMade}
-use Rattle.builder.proofs.Lending.{lent-table, lent-enough}
+use Rattle.lending.specs.Lending.{tableNeed, workNeed, lentRight, Making, making, refusedMade}
+use Rattle.lending.proofs.Lending.{lent-table, lent-enough}
 use Rattle.reading.specs.Reading.{Placed, readAll}
 use Rattle.factor.specs.Composed.{composedAt}
 use Rattle.cells.specs.Cells.{halves}

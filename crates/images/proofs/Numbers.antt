@@ -11,8 +11,9 @@ use Rattle.egg.specs.declared.Verdict.the-variants.{Fine, Refused}
 use Rattle.egg.specs.Scan.{refusedOf}
 use Rattle.egg.proofs.Scans.{Says, says-fine, says-refused, says-pick, says-then, says-scan}
 use Rattle.checks.specs.Checks.{missing, missingRow, check8, ranges, rangeRow, linksOf, wrong, wrongRow, check-table, counted, countsRight}
-use Rattle.checks.specs.Checks.{fillInverses, inversesRight, identityRow, columnsRow, spelledRow, spelled, check-steps}
-use Rattle.checks.specs.Checks.{fillLeft, goesRow, allGo, leftVerdict, lefts, Checked, checked, verdictOf, check-rest, check-group}
+use Rattle.inverses.specs.Inverses.{fillInverses, inversesRight}
+use Rattle.lefts.specs.Lefts.{identityRow, columnsRow, spelledRow, spelled, check-steps, fillLeft, goesRow, allGo, leftVerdict, lefts}
+use Rattle.checks.specs.Checks.{Checked, checked, verdictOf, check-rest, check-group}
 use Rattle.packed.specs.Short.{verdictNumber}
 use Rattle.meaning.proofs.Refused.{left-says, checked-says, table-says}
 

@@ -15,7 +15,7 @@ use Rattle.egg.specs.declared.Counted.the-variants.{Count}
 use Rattle.egg.specs.Factor.{stretch, countedPaper}
 use Rattle.egg.proofs.Scans.{scan-fine}
 use Rattle.egg.proofs.Rooms.{few, limited, room-enough, has, some}
-use Rattle.builder.specs.Lending.{lentRight, making}
+use Rattle.lending.specs.Lending.{lentRight, making}
 use Rattle.cells.specs.Cells.{halves}
 use Rattle.theory.specs.Table.{Table}
 use Rattle.theory.specs.Words.{Word, empty, letter, walk}

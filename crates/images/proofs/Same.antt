@@ -13,7 +13,7 @@ use Rattle.egg.specs.declared.Factor.{Factor}
 use Rattle.egg.specs.declared.Verdict.the-variants as verdict
 use Rattle.egg.specs.declared.Counted.the-variants.{Count, Refused}
 use Rattle.egg.specs.Table.{pick}
-use Rattle.builder.specs.Lending.{tableNeed, lentRight, making}
+use Rattle.lending.specs.Lending.{tableNeed, lentRight, making}
 use Rattle.reading.specs.Reading.{Placed, placed, thenPlaced, readPlace, readRow, readFrom, readAll}
 use Rattle.factor.specs.Composed.{composedAt, composedIn, composed}
 use Rattle.cells.specs.Cells.{halves}

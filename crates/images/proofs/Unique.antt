@@ -5,7 +5,7 @@ use Prim.Native.Nat.{ℕ}
 use mathlib.Core.Path.{sym, _∙_, ap}
 use mathlib.Core.List.{List}
 use Rattle.egg.specs.declared.Counted.{Counted}
-use Rattle.builder.specs.Lending.{making}
+use Rattle.lending.specs.Lending.{making}
 use Rattle.image.proofs.head.Kinds as head-kinds
 use Rattle.image.proofs.head.Reads as head-reads
 use Rattle.image.proofs.generators.Kinds as generators-kinds

@@ -6,7 +6,7 @@ use mathlib.Core.List.{List}
 use native.Mathlib.Omega.{arith}
 use lib.ListN.{length, getD}
 use Rattle.egg.specs.declared.Factor.{Factor}
-use Rattle.builder.specs.Lending.{refusedMade, making}
+use Rattle.lending.specs.Lending.{refusedMade, making}
 use Rattle.answers.specs.Accepted.{Accepted, factorStep}
 use Rattle.image.specs.Image.{lengthOf, generatorsOf, elementsOf, headNumber, imageNumber}
 use Rattle.image.specs.Written.{imageOf}

@@ -6,7 +6,7 @@ use mathlib.Core.List.{List, [], _∷_}
 use Rattle.egg.specs.declared.Factor.{Factor}
 use Rattle.egg.specs.declared.Verdict.the-variants as verdict
 use Rattle.egg.specs.Factor.{reachedPaper}
-use Rattle.builder.specs.Lending.{making}
+use Rattle.lending.specs.Lending.{making}
 use Rattle.theory.specs.Words.{Word, empty, letter, walk}
 use Rattle.theory.specs.Group.{GroupOn, RightSteps}
 use Rattle.theory.proofs.AnyCarrier.{any-carrier}

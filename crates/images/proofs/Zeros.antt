@@ -14,9 +14,9 @@ use Rattle.egg.specs.declared.Made.{Made}
 use Rattle.egg.specs.declared.Verdict.the-variants as verdict
 use Rattle.egg.specs.declared.Counted.the-variants.{Count, Refused}
 use Rattle.checks.specs.Checks.{Checked, checked, check-group}
-use Rattle.builder.specs.Finish.{Built, built, zeroed, settledBy, finished, finishedPlaced}
-use Rattle.builder.specs.Lending.{tableNeed, workNeed, lentRight, within, noFactor, making, lentBack}
-use Rattle.builder.proofs.Lending.{lent-enough}
+use Rattle.lending.specs.Finish.{Built, built, zeroed, settledBy, finished, finishedPlaced}
+use Rattle.lending.specs.Lending.{tableNeed, workNeed, lentRight, within, noFactor, making, lentBack}
+use Rattle.lending.proofs.Lending.{lent-enough}
 use Rattle.reading.specs.Reading.{Placed, placed, readAll}
 use Rattle.factor.specs.Composed.{composedAt}
 use Rattle.cells.specs.Cells.{halves}

@@ -8,7 +8,7 @@ use lib.ListN.{length, getD, drop}
 use Rattle.egg.specs.declared.Factor.{Factor}
 use Rattle.egg.specs.declared.Verdict.the-variants as verdict
 use Rattle.egg.specs.Factor.{stretch, countedPaper}
-use Rattle.builder.specs.Lending.{lentRight, Making, making}
+use Rattle.lending.specs.Lending.{lentRight, Making, making}
 use Rattle.factor.specs.Composed.{composedAt}
 use Rattle.cells.specs.Cells.{halves}
 use Rattle.image.specs.Image.{lengthOf, generatorsOf, elementsOf, bytesNeed, imageNumber}

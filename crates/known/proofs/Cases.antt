@@ -8,8 +8,10 @@ use Rattle.egg.specs.Factor.{hasRoom, fitsIn, stretch, readStep}
 use Rattle.reading.specs.Build.{setStep, setWord, adds}
 use Rattle.reading.specs.Reading.{readPlace, readRow, readFrom}
 use Rattle.checks.specs.Checks as checks
-use Rattle.builder.specs.Finish.{finished}
-use Rattle.builder.specs.Lending.{lentRight, within}
+use Rattle.inverses.specs.Inverses as inverses
+use Rattle.lefts.specs.Lefts as lefts
+use Rattle.lending.specs.Finish.{finished}
+use Rattle.lending.specs.Lending.{lentRight, within}
 use Rattle.factor.specs.Composed.{composedIn, composed}
 use Rattle.factor.specs.Questions as factor
 use Rattle.walks.specs.Walks as walks
@@ -34,7 +36,7 @@ use Rattle.image.specs.Read.{imageIn, readImage}
 use Rattle.known.specs.Cases.{KnownCases}
 
 pub known-cases : KnownCases
-unfolding putAt startOf scan pairCode pairCount ordersRight hasRoom fitsIn stretch readStep setStep setWord adds readPlace readRow readFrom checks.missingRow checks.missing checks.check8 checks.rangeRow checks.linksOf checks.ranges checks.wrongRow checks.wrong checks.check-table checks.wiped checks.arriveRow checks.arrivals checks.countsRight checks.invertFrom checks.fillInverses checks.inversesRight checks.identityRow checks.columnsRow checks.spelledRow checks.spelled checks.check-steps checks.fillLeft checks.goesRow checks.allGo checks.lefts checks.check-rest checks.check-group finished lentRight within composedIn composed factor.admits walks.along walks.readBack walks.backAlong walks.composeIn walks.inverseIn walks.conjugateIn factor.composeAnswer factor.conjugateAnswer words.readable words.lengthIn words.spell words.writeIn factor.writeAnswer factor.written factor.wordPart turned doubledRow pairsRow relations checkAnswer rows.workWidth rows.placeAt rows.rowsAt rows.readRow rows.writeRow rows.backFrom rows.forwardFrom rows.filled rows.appended rows.waits rows.addedRow rows.addRowsFrom facts.learns facts.woken facts.wakes facts.wakesAll facts.emptied facts.updated facts.settleFrom enumerated runs visits discovered advanced enumeratedIn enumerates limited admits digitwise halves powers periodFrom periods lengths readables spellFrom spells writes splitTail group.splitAnswer group.splitLeaves group.composeAnswer group.inverseAnswer group.powiAnswer group.periodAnswer group.writeAnswer group.written group.wordPart cells.halves built headNumber imageNumber rowOf rowsOf spelled imageOf knownRow allKnown writeCount writtenImage imageIn readImage
+unfolding putAt startOf scan pairCode pairCount ordersRight hasRoom fitsIn stretch readStep setStep setWord adds readPlace readRow readFrom checks.missingRow checks.missing checks.check8 checks.rangeRow checks.linksOf checks.ranges checks.wrongRow checks.wrong checks.check-table checks.wiped checks.arriveRow checks.arrivals checks.countsRight inverses.invertFrom inverses.fillInverses inverses.inversesRight lefts.identityRow lefts.columnsRow lefts.spelledRow lefts.spelled lefts.check-steps lefts.fillLeft lefts.goesRow lefts.allGo lefts.lefts checks.check-rest checks.check-group finished lentRight within composedIn composed factor.admits walks.along walks.readBack walks.backAlong walks.composeIn walks.inverseIn walks.conjugateIn factor.composeAnswer factor.conjugateAnswer words.readable words.lengthIn words.spell words.writeIn factor.writeAnswer factor.written factor.wordPart turned doubledRow pairsRow relations checkAnswer rows.workWidth rows.placeAt rows.rowsAt rows.readRow rows.writeRow rows.backFrom rows.forwardFrom rows.filled rows.appended rows.waits rows.addedRow rows.addRowsFrom facts.learns facts.woken facts.wakes facts.wakesAll facts.emptied facts.updated facts.settleFrom enumerated runs visits discovered advanced enumeratedIn enumerates limited admits digitwise halves powers periodFrom periods lengths readables spellFrom spells writes splitTail group.splitAnswer group.splitLeaves group.composeAnswer group.inverseAnswer group.powiAnswer group.periodAnswer group.writeAnswer group.written group.wordPart cells.halves built headNumber imageNumber rowOf rowsOf spelled imageOf knownRow allKnown writeCount writtenImage imageIn readImage
 known-cases = record {
   square-made = refl;
   square-rows = refl;

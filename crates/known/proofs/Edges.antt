@@ -6,8 +6,8 @@ use Rattle.egg.specs.Scan.{scan}
 use Rattle.egg.specs.Pairs.{pairCode, pairCount, ordersRight}
 use Rattle.egg.specs.Factor.{hasRoom}
 use Rattle.reading.specs.Build.{setStep, setWord, adds}
-use Rattle.builder.specs.Finish.{finished}
-use Rattle.builder.specs.Lending.{lentRight, within}
+use Rattle.lending.specs.Finish.{finished}
+use Rattle.lending.specs.Lending.{lentRight, within}
 use Rattle.rows.specs.Rows as rows
 use Rattle.enumeration.specs.Facts as facts
 use Rattle.enumeration.specs.Run.{enumerated, runs, visits, discovered, advanced}

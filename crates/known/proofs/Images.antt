@@ -7,8 +7,10 @@ use Rattle.egg.specs.Factor.{hasRoom, fitsIn, stretch, readStep}
 use Rattle.reading.specs.Build.{setStep, setWord, adds}
 use Rattle.reading.specs.Reading.{readPlace, readRow, readFrom}
 use Rattle.checks.specs.Checks as checks
-use Rattle.builder.specs.Finish.{finished}
-use Rattle.builder.specs.Lending.{lentRight, within}
+use Rattle.inverses.specs.Inverses as inverses
+use Rattle.lefts.specs.Lefts as lefts
+use Rattle.lending.specs.Finish.{finished}
+use Rattle.lending.specs.Lending.{lentRight, within}
 use Rattle.factor.specs.Composed.{composedIn, composed}
 use Rattle.cells.specs.Cells.{halves}
 use Rattle.packed.specs.Short.{built}
@@ -19,7 +21,7 @@ use Rattle.image.specs.Walked.{lettersBelow, follow, walkNumber}
 use Rattle.known.specs.Images.{KnownImages}
 
 pub known-images : KnownImages
-unfolding putAt startOf scan hasRoom fitsIn stretch readStep setStep setWord adds readPlace readRow readFrom checks.missingRow checks.missing checks.check8 checks.rangeRow checks.linksOf checks.ranges checks.wrongRow checks.wrong checks.check-table checks.wiped checks.arriveRow checks.arrivals checks.countsRight checks.invertFrom checks.fillInverses checks.inversesRight checks.identityRow checks.columnsRow checks.spelledRow checks.spelled checks.check-steps checks.fillLeft checks.goesRow checks.allGo checks.lefts checks.check-rest checks.check-group finished lentRight within composedIn composed halves built headNumber imageNumber rowOf rowsOf spelled imageOf knownRow allKnown writeCount writtenImage imageIn readImage lettersBelow follow walkNumber
+unfolding putAt startOf scan hasRoom fitsIn stretch readStep setStep setWord adds readPlace readRow readFrom checks.missingRow checks.missing checks.check8 checks.rangeRow checks.linksOf checks.ranges checks.wrongRow checks.wrong checks.check-table checks.wiped checks.arriveRow checks.arrivals checks.countsRight inverses.invertFrom inverses.fillInverses inverses.inversesRight lefts.identityRow lefts.columnsRow lefts.spelledRow lefts.spelled lefts.check-steps lefts.fillLeft lefts.goesRow lefts.allGo lefts.lefts checks.check-rest checks.check-group finished lentRight within composedIn composed halves built headNumber imageNumber rowOf rowsOf spelled imageOf knownRow allKnown writeCount writtenImage imageIn readImage lettersBelow follow walkNumber
 known-images = record {
   work-short = refl;
   eight = refl;

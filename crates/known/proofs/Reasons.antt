@@ -3,7 +3,7 @@
 use Prim.Native.Nat.{ℕ}
 use mathlib.Core.List.{[], _∷_}
 use lib.ListN.{replicate}
-use Rattle.builder.specs.Lending.{tableNeed, workNeed}
+use Rattle.lending.specs.Lending.{tableNeed, workNeed}
 use Rattle.factor.specs.Composed.{composedAt}
 use Rattle.promises.specs.Composed.{Groupless}
 use Rattle.refusals.specs.Faults.{Lacks, Strays, Twists, Misnumbers}

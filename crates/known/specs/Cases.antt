@@ -6,7 +6,7 @@ use lib.ListN.{replicate}
 use lib.IntN.{pos, negsuc}
 use Rattle.egg.specs.Table.{stepOf}
 use Rattle.egg.specs.Factor.{verdictPaper, reachedPaper, countedPaper}
-use Rattle.builder.specs.Lending.{making}
+use Rattle.lending.specs.Lending.{making}
 use Rattle.factor.specs.Composed.{composedAt}
 use Rattle.factor.specs.Questions as factor
 use Rattle.factor.specs.Relations.{checkAnswer}

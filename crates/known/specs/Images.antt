@@ -7,7 +7,7 @@ use lib.ListN.{replicate}
 use Rattle.egg.specs.declared.Factor.{Factor}
 use Rattle.egg.specs.declared.Verdict.the-variants as verdict
 use Rattle.egg.specs.Factor.{countedPaper}
-use Rattle.builder.specs.Lending.{refusedMade, making}
+use Rattle.lending.specs.Lending.{refusedMade, making}
 use Rattle.factor.specs.Composed.{composedAt, composed}
 use Rattle.refusals.specs.Papers.{paper}
 use Rattle.image.specs.Image.{imageNumber}

@@ -9,7 +9,7 @@ use Rattle.egg.specs.declared.GroupElementId.{GroupElementId}
 use Rattle.egg.specs.declared.Verdict.the-variants.{Fine}
 use Rattle.egg.specs.Factor.{Paper}
 use Rattle.egg.specs.Table.{inverseOf}
-use Rattle.builder.specs.Lending.{tableNeed, workNeed, Making, making}
+use Rattle.lending.specs.Lending.{tableNeed, workNeed, Making, making}
 use Rattle.factor.specs.Composed.{composed}
 use Rattle.enumeration.specs.Calls.{enumerates}
 use Rattle.refusals.specs.Papers.{paper}

@@ -16,7 +16,7 @@ use Rattle.egg.specs.declared.Verdict.the-variants as verdict
 use Rattle.egg.specs.Table.{pick}
 use Rattle.egg.specs.Pairs.{pairCount, ordersRight}
 use Rattle.egg.proofs.Rooms.{room-enough}
-use Rattle.builder.specs.Lending.{Making, making}
+use Rattle.lending.specs.Lending.{Making, making}
 use Rattle.enumeration.specs.Calls.{enumerates}
 use Rattle.promises.proofs.Enumerated.{enumeration-accepted}
 use Rattle.page.specs.Text.{groupText, refusedText}

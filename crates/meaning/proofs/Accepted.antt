@@ -9,8 +9,9 @@ use lib.ListN.{length, getD, length-append, List·getD-eq-default}
 use Rattle.egg.specs.declared.Verdict.{Verdict}
 use Rattle.egg.specs.declared.Verdict.the-variants.{Fine, Refused}
 use Rattle.egg.specs.Table.{startOf, parentOf, lastOf, lengthOf, stepOf, backOf}
-use Rattle.checks.specs.Checks.{check-table, counted, countsRight, fillInverses, inversesRight, spelled, check-steps}
-use Rattle.checks.specs.Checks.{Lefts, left, lefts, Checked, checked, thenChecked, withTable, check-rest, check-group}
+use Rattle.checks.specs.Checks.{check-table, counted, countsRight, Checked, checked, thenChecked, withTable, check-rest, check-group}
+use Rattle.inverses.specs.Inverses.{fillInverses, inversesRight}
+use Rattle.lefts.specs.Lefts.{spelled, check-steps, Lefts, left, lefts}
 use Rattle.theory.specs.Table.{Table, Columns}
 use Rattle.theory.specs.Words.{Parents, Recorded}
 use Rattle.theory.specs.Group.{GroupOn, RightSteps, RightRegular}

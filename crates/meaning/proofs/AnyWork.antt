@@ -18,8 +18,9 @@ use Rattle.egg.specs.Table.{pick, putAt, startOf, parentOf, stepOf}
 use Rattle.egg.specs.Scan.{scan}
 use Rattle.egg.proofs.Cells.{put-other, put-length}
 use Rattle.egg.proofs.Scans.{refused-fine}
-use Rattle.checks.specs.Checks.{wiped, arriveRow, arrivals, countsRight, leftOf, fillLeft, goesRow, allGo, Lefts, left, thenLeft, lefts}
-use Rattle.checks.specs.Checks.{Checked, checked, thenChecked, withTable, counted, check-table, fillInverses, inversesRight, check-steps, check-rest, check-group}
+use Rattle.checks.specs.Checks.{wiped, arriveRow, arrivals, countsRight, Checked, checked, thenChecked, withTable, counted, check-table, check-rest, check-group}
+use Rattle.lefts.specs.Lefts.{leftOf, fillLeft, goesRow, allGo, Lefts, left, thenLeft, lefts, check-steps}
+use Rattle.inverses.specs.Inverses.{fillInverses, inversesRight}
 use Rattle.meaning.proofs.Arrivals.{put-zero}
 use Rattle.meaning.proofs.Inverses.{fill-kept}
 use Rattle.meaning.proofs.Tests.{check8-fine, ranges-fine, table-fine}

@@ -9,8 +9,9 @@ use native.Mathlib.Omega.{arith}
 use lib.ListN.{length, getD}
 use Rattle.egg.specs.declared.Verdict.the-variants.{Fine}
 use Rattle.egg.specs.Table.{startOf, parentOf, lastOf, lengthOf, inverseOf, stepOf}
-use Rattle.checks.specs.Checks.{check8, ranges, wrong, counted, fillInverses, inversesRight, check-steps}
-use Rattle.checks.specs.Checks.{checked, check-rest, check-group}
+use Rattle.checks.specs.Checks.{check8, ranges, wrong, counted, checked, check-rest, check-group}
+use Rattle.inverses.specs.Inverses.{fillInverses, inversesRight}
+use Rattle.lefts.specs.Lefts.{check-steps}
 use Rattle.theory.specs.Table.{Table, Columns}
 use Rattle.theory.specs.Words.{Parents, Recorded}
 use Rattle.theory.specs.Group.{RightRegular}

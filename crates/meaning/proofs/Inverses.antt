@@ -6,7 +6,7 @@ use mathlib.Core.List.{List, [], _∷_, _++_}
 use native.Mathlib.Omega.{arith}
 use lib.ListN.{length, getD, length-append}
 use Rattle.egg.specs.Table.{putAt, startOf, lengthOf, inverseOf, stepOf, backOf}
-use Rattle.checks.specs.Checks.{invertFrom, invertOf, fillInverses}
+use Rattle.inverses.specs.Inverses.{invertFrom, invertOf, fillInverses}
 use Rattle.theory.specs.Table.{Table, Columns}
 use Rattle.theory.specs.Words.{Parents, Recorded, retrace}
 use Rattle.theory.specs.Regular.{inverse}

@@ -10,7 +10,7 @@ use lib.ListN.{length, getD}
 use Rattle.egg.specs.declared.Verdict.{Verdict}
 use Rattle.egg.specs.declared.Verdict.the-variants.{Fine, Refused}
 use Rattle.egg.specs.Table.{putAt, stepOf}
-use Rattle.checks.specs.Checks.{leftOf, fillLeft, allGo, Lefts, left, thenLeft, lefts}
+use Rattle.lefts.specs.Lefts.{leftOf, fillLeft, allGo, Lefts, left, thenLeft, lefts}
 use Rattle.theory.specs.Table.{Table}
 use Rattle.theory.specs.Words.{Parents, Recorded}
 use Rattle.theory.specs.Regular.{Check}

@@ -6,8 +6,9 @@ use mathlib.Core.List.{List}
 use lib.ListN.{length}
 use Rattle.egg.specs.declared.Verdict.{Verdict}
 use Rattle.egg.specs.declared.Verdict.the-variants.{Fine, Refused}
-use Rattle.checks.specs.Checks.{fillLeft, allGo, Lefts, left, thenLeft, lefts, Checked, checked, thenChecked, withTable, counted, check-rest, check-group}
-use Rattle.checks.specs.Checks.{check-table, countsRight, fillInverses, inversesRight, check-steps}
+use Rattle.lefts.specs.Lefts.{fillLeft, allGo, Lefts, left, thenLeft, lefts, check-steps}
+use Rattle.checks.specs.Checks.{Checked, checked, thenChecked, withTable, counted, check-rest, check-group, check-table, countsRight}
+use Rattle.inverses.specs.Inverses.{fillInverses, inversesRight}
 use Rattle.meaning.proofs.Lefts.{left-length}
 use Rattle.meaning.proofs.Arrivals.{counted-length}
 

@@ -14,10 +14,9 @@ use Rattle.egg.specs.Scan.{refusedOf}
 use Rattle.egg.specs.Pairs.{ordersRight}
 use Rattle.egg.proofs.Rooms.{false-true}
 use Rattle.egg.proofs.Scans.{Says, says-fine, says-refused, says-pick, says-then, says-scan}
-use Rattle.checks.specs.Checks.{missing, missingRow, check8, ranges, wrong, wrongRow, check-table, counted, countsRight}
-use Rattle.checks.specs.Checks.{fillInverses, inversesRight, identityRow, columnsRow, spelledRow, spelled, check-steps}
-use Rattle.checks.specs.Checks.{fillLeft, goesRow, allGo, lefts}
-use Rattle.checks.specs.Checks.{checked, check-rest, check-group}
+use Rattle.checks.specs.Checks.{missing, missingRow, check8, ranges, wrong, wrongRow, check-table, counted, countsRight, checked, check-rest, check-group}
+use Rattle.inverses.specs.Inverses.{fillInverses, inversesRight}
+use Rattle.lefts.specs.Lefts.{identityRow, columnsRow, spelledRow, spelled, check-steps, fillLeft, goesRow, allGo, lefts}
 use Rattle.meaning.specs.Numbers.{member, every, In, lateNumbers}
 use Rattle.meaning.proofs.Refused.{leftVerdict, verdictOf, left-says, checked-says, table-says}
 

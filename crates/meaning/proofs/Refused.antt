@@ -14,9 +14,10 @@ use Rattle.egg.specs.declared.Verdict.{Verdict}
 use Rattle.egg.specs.declared.Verdict.the-variants.{Fine, Refused}
 use Rattle.egg.specs.Scan.{refusedOf, andThen}
 use Rattle.checks.specs.Checks.{missing, missingRow, check8, ranges, rangeRow, linksOf, wrong, wrongRow, check-table, counted, countsRight}
-use Rattle.checks.specs.Checks.{fillInverses, inversesRight, identityRow, columnsRow, spelledRow, spelled, check-steps}
-use Rattle.checks.specs.Checks.{fillLeft, goesRow, allGo, Lefts, left, thenLeft, lefts}
-pub use Rattle.checks.specs.Checks.{leftVerdict, verdictOf}
+use Rattle.inverses.specs.Inverses.{fillInverses, inversesRight}
+use Rattle.lefts.specs.Lefts.{identityRow, columnsRow, spelledRow, spelled, check-steps, fillLeft, goesRow, allGo, Lefts, left, thenLeft, lefts}
+pub use Rattle.lefts.specs.Lefts.{leftVerdict}
+pub use Rattle.checks.specs.Checks.{verdictOf}
 use Rattle.checks.specs.Checks.{Checked, checked, thenChecked, withTable, check-rest, check-group}
 use Rattle.theory.specs.Table.{Table, Columns}
 use Rattle.theory.specs.Words.{Parents, Recorded}

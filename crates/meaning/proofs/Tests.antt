@@ -8,8 +8,9 @@ use native.Mathlib.Nat.{add-zero}
 use lib.ListN.{getD}
 use Rattle.egg.specs.declared.Verdict.the-variants.{Fine}
 use Rattle.egg.specs.Table.{startOf, parentOf, lastOf, lengthOf, inverseOf, stepOf, backOf}
-use Rattle.checks.specs.Checks.{missing, missingRow, check8, ranges, rangeRow, linksOf, wrong, wrongRow, check-table, countsRight, inversesRight}
-use Rattle.checks.specs.Checks.{identityRow, spelled, columnsRow, spelledRow, check-steps, allGo, goesRow}
+use Rattle.checks.specs.Checks.{missing, missingRow, check8, ranges, rangeRow, linksOf, wrong, wrongRow, check-table, countsRight}
+use Rattle.inverses.specs.Inverses.{inversesRight}
+use Rattle.lefts.specs.Lefts.{identityRow, spelled, columnsRow, spelledRow, check-steps, allGo, goesRow}
 use Rattle.egg.proofs.Scans.{andThen-fine, scan-fine}
 use Rattle.meaning.proofs.Passes.{eq-then, eq-passes, ne-then, ne-passes, le-passes, le-then, lt-then, lt-passes, first-or, unless-first}
 

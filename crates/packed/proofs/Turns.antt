@@ -12,7 +12,7 @@ use Rattle.egg.specs.declared.Verdict.the-variants.{Fine, Refused}
 use Rattle.egg.specs.declared.Counted.{Counted}
 use Rattle.egg.specs.declared.Counted.the-variants as counted
 use Rattle.egg.proofs.Scans.{left-suc}
-use Rattle.checks.specs.Checks.{fillLeft, allGo, left, leftVerdict, lefts}
+use Rattle.lefts.specs.Lefts.{fillLeft, allGo, left, leftVerdict, lefts}
 use Rattle.reading.specs.Reading.{placed, readAll}
 use Rattle.factor.specs.Composed.{composedAt}
 use Rattle.packed.specs.Short.{shortTable, short, SomeWork, verdictNumber, judged}

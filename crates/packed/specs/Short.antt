@@ -11,7 +11,9 @@ use Rattle.egg.specs.declared.Verdict.the-variants.{Fine, Refused}
 use Rattle.egg.specs.declared.Counted.the-variants as counted
 use Rattle.egg.specs.Table.{pick}
 use Rattle.egg.specs.Factor.{verdictPaper}
-use Rattle.checks.specs.Checks.{missing, wrong, fillInverses, inversesRight, identityRow, Lefts, left, leftVerdict, thenLeft, lefts, verdictOf, check-group}
+use Rattle.checks.specs.Checks.{missing, wrong, verdictOf, check-group}
+use Rattle.inverses.specs.Inverses.{fillInverses, inversesRight}
+use Rattle.lefts.specs.Lefts.{identityRow, Lefts, left, leftVerdict, thenLeft, lefts}
 use Rattle.reading.specs.Reading.{Placed, placed, readAll}
 use Rattle.factor.specs.Composed.{composedAt}
 

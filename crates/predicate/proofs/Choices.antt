@@ -22,9 +22,9 @@ use Rattle.egg.specs.Table.{pick}
 use Rattle.egg.specs.Scan.{refusedOf}
 use Rattle.egg.proofs.Scans.{left-suc, refused-fine}
 use Rattle.reading.specs.Build.{numbered}
-use Rattle.builder.specs.Finish.{built, zeroed}
-use Rattle.builder.specs.Lending.{tableNeed, workNeed, Ends, refusedMade, madeOf}
-use Rattle.builder.proofs.Lending.{part-length}
+use Rattle.lending.specs.Finish.{built, zeroed}
+use Rattle.lending.specs.Lending.{tableNeed, workNeed, Ends, refusedMade, madeOf}
+use Rattle.lending.proofs.Lending.{part-length}
 use Rattle.handles.specs.declared.Group.{Group}
 use Rattle.handles.specs.Handles.{handles, elementsOf, allFit}
 use Rattle.digits.specs.Digits.{composes}

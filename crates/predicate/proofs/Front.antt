@@ -23,9 +23,9 @@ use Rattle.reading.specs.Build.{adds}
 use Rattle.reading.specs.Reading.{placed}
 use Rattle.reading.proofs.Readings.{added-within}
 use Rattle.checks.specs.Checks.{Checked, checked, check-group}
-use Rattle.builder.specs.Finish.{Built, built, zeroed, settledBy, finished}
-use Rattle.builder.specs.Lending.{workNeed, lentRight}
-use Rattle.builder.proofs.Lending.{lent-table, lent-enough}
+use Rattle.lending.specs.Finish.{Built, built, zeroed, settledBy, finished}
+use Rattle.lending.specs.Lending.{workNeed, lentRight}
+use Rattle.lending.proofs.Lending.{lent-table, lent-enough}
 use Rattle.meaning.proofs.Lengths.{checks-work}
 use Rattle.appearance.specs.Renumber.{none, Mapped, mapped, thenMapped, onNew, mapPlace, mapFrom, mapRow, mapRows, mapAll}
 use Rattle.appearance.specs.Build.{Renumbering, renumbering, settledMaps, finishedMapped, renumberIn}

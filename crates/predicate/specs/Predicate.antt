@@ -15,8 +15,8 @@ use Rattle.egg.specs.declared.Counted.the-variants.{Count, Refused}
 use Rattle.egg.specs.Table.{pick}
 use Rattle.egg.specs.Scan.{refusedOf}
 use Rattle.reading.specs.Build.{numbered}
-use Rattle.builder.specs.Finish.{built, zeroed}
-use Rattle.builder.specs.Lending.{tableNeed, workNeed, refusedMade}
+use Rattle.lending.specs.Finish.{built, zeroed}
+use Rattle.lending.specs.Lending.{tableNeed, workNeed, refusedMade}
 use Rattle.handles.specs.declared.Group.{Group}
 use Rattle.handles.specs.Handles.{handles, elementsOf, allFit}
 use Rattle.digits.specs.Digits.{composes}

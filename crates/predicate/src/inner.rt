@@ -3,7 +3,7 @@ ghost use mathlib.Core.Path.{_≡_};
 ghost use mathlib.Core.Bool.{true};
 ghost use Prim.Native.Nat.{_*_, _≤_};
 ghost use lib.ListN.{length, getD, take};
-ghost use Rattle.builder.specs.Finish.{Built};
+ghost use Rattle.lending.specs.Finish.{Built};
 ghost use Rattle.handles.specs.Handles.{handles, elementsOf, allFit};
 ghost use Rattle.digits.specs.Digits.{composes};
 ghost use Rattle.appearance.specs.Build.{Renumbering};
@@ -221,8 +221,8 @@ fn told_at(
 {
     let m = handles::inner::elements_of(over) as usize;
     let r = room as usize;
-    let end = builder::inner::stretch_end(table.len(), start, room, 8);
-    let need = builder::inner::work_need(8, room);
+    let end = lending::inner::stretch_end(table.len(), start, room, 8);
+    let need = lending::inner::work_need(8, room);
     let p = told_in_front(
         &mut table[start..end],
         &mut work[..need],
@@ -234,7 +234,7 @@ fn told_at(
         room,
     );
     let made = p.made;
-    subgroup::inner::subgroup_of(over, builder::inner::made(start, room, p.generators, made))
+    subgroup::inner::subgroup_of(over, lending::inner::made(start, room, p.generators, made))
 }
 
 // 4; then the builds.
@@ -263,10 +263,10 @@ pub fn told_into(
         8,
         m,
     ) {
-        return subgroup::inner::subgroup_of(over, builder::inner::refused_made(4, 0));
+        return subgroup::inner::subgroup_of(over, lending::inner::refused_made(4, 0));
     }
     if (members.len() as u64) < m {
-        return subgroup::inner::subgroup_of(over, builder::inner::refused_made(4, 0));
+        return subgroup::inner::subgroup_of(over, lending::inner::refused_made(4, 0));
     }
     told_at(from, over, members, table, start, work, inn, outw, room)
 }

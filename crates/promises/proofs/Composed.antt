@@ -17,9 +17,9 @@ use Rattle.egg.specs.Table.{pick}
 use Rattle.egg.specs.Scan.{refusedOf}
 use Rattle.egg.specs.Factor.{hasRoom, stretch}
 use Rattle.egg.proofs.Rooms.{and-first, and-second, positive, limited}
-use Rattle.builder.specs.Finish.{Built}
-use Rattle.builder.specs.Lending.{tableNeed, workNeed, lentRight, within, noFactor, making, lentBack, refusedMade, Making}
-use Rattle.builder.proofs.Lending.{lent-table, lent-enough}
+use Rattle.lending.specs.Finish.{Built}
+use Rattle.lending.specs.Lending.{tableNeed, workNeed, lentRight, within, noFactor, making, lentBack, refusedMade, Making}
+use Rattle.lending.proofs.Lending.{lent-table, lent-enough}
 use Rattle.factor.specs.Composed.{composedAt, composedIn, composed}
 use Rattle.promises.specs.Composed.{RowsRight, Taken, Groupless, Holding, Given}
 use Rattle.promises.proofs.Lent.{refused-making, handle, lentTable, by-build, by-refused, stretch-part, fits-still}

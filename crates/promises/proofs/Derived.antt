@@ -13,7 +13,7 @@ use Rattle.egg.specs.declared.Counted.the-variants.{Count, Refused}
 use Rattle.egg.specs.Table.{startOf, stepOf}
 use Rattle.egg.specs.Pairs.{ordersRight}
 use Rattle.checks.specs.Checks.{checked, check-group}
-use Rattle.builder.specs.Finish.{Built, built, zeroed, finished}
+use Rattle.lending.specs.Finish.{Built, built, zeroed, finished}
 use Rattle.relations.specs.Relations.{relationsRow, relations}
 use Rattle.enumeration.specs.declared.inner.Ran.{Ran}
 use Rattle.enumeration.specs.declared.inner.Ran.the-variants as ran

@@ -16,8 +16,8 @@ use Rattle.egg.specs.Pairs.{ordersRight}
 use Rattle.egg.specs.Factor.{hasRoom, stretch}
 use Rattle.egg.proofs.Orders.{orders-limits}
 use Rattle.egg.proofs.Rooms.{positive, limited}
-use Rattle.builder.specs.Lending.{tableNeed, workNeed, lentRight, within, refusedMade, Making, making, lentBack}
-use Rattle.builder.proofs.Lending.{lent-table}
+use Rattle.lending.specs.Lending.{tableNeed, workNeed, lentRight, within, refusedMade, Making, making, lentBack}
+use Rattle.lending.proofs.Lending.{lent-table}
 use Rattle.enumeration.specs.Calls.{enumeratedIn, refusedMaking, enumerates}
 use Rattle.theory.proofs.Walking.{walk-closed}
 use Rattle.theory.proofs.Sound.{compose-words}

@@ -22,9 +22,9 @@ use Rattle.egg.specs.Pairs.{ordersRight}
 use Rattle.egg.specs.Factor.{hasRoom, fitsIn}
 use Rattle.egg.proofs.Rooms.{false-true, and-first, and-second, within-length, positive, limited}
 use Rattle.egg.proofs.Scans.{refused-fine}
-use Rattle.builder.specs.Finish.{Built, built}
-use Rattle.builder.specs.Lending.{tableNeed, workNeed, lentRight, within, noFactor, refusedMade, Making, making, lentBack}
-use Rattle.builder.proofs.Lending.{lent-table, lent-enough}
+use Rattle.lending.specs.Finish.{Built, built}
+use Rattle.lending.specs.Lending.{tableNeed, workNeed, lentRight, within, noFactor, refusedMade, Making, making, lentBack}
+use Rattle.lending.proofs.Lending.{lent-table, lent-enough}
 use Rattle.factor.specs.Composed.{composedAt, composedIn, composed}
 use Rattle.enumeration.specs.Calls.{enumeratedIn, refusedMaking, enumerates}
 use Rattle.meaning.specs.Numbers.{member, In}

@@ -9,7 +9,7 @@ use lib.ListN.{length, replicate, length-replicate, getD-replicate}
 use Rattle.egg.specs.declared.Refusal.{Refusal}
 use Rattle.egg.specs.declared.Factor.{Factor}
 use Rattle.egg.specs.declared.Verdict.the-variants as verdict
-use Rattle.builder.specs.Lending.{making}
+use Rattle.lending.specs.Lending.{making}
 use Rattle.factor.specs.Composed.{composed}
 use Rattle.enumeration.specs.Calls.{enumerates}
 use Rattle.meaning.specs.Numbers.{member, every, In}

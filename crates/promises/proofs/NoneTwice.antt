@@ -26,8 +26,8 @@ use Rattle.egg.specs.declared.Verdict.the-variants as verdict
 use Rattle.egg.specs.declared.Counted.the-variants.{Count}
 use Rattle.egg.specs.Table.{startOf, parentOf, lastOf, stepOf, backOf}
 use Rattle.egg.specs.Pairs.{ordersRight}
-use Rattle.builder.specs.Finish.{built, zeroed}
-use Rattle.builder.specs.Lending.{tableNeed, workNeed, lentRight, within, making, lentBack}
+use Rattle.lending.specs.Finish.{built, zeroed}
+use Rattle.lending.specs.Lending.{tableNeed, workNeed, lentRight, within, making, lentBack}
 use Rattle.enumeration.specs.Run.{enumerated}
 use Rattle.enumeration.specs.declared.inner.Ran.the-variants as ran
 use Rattle.enumeration.specs.Calls.{enumeratedIn, enumerates}

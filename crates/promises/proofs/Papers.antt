@@ -9,7 +9,7 @@ use Rattle.egg.specs.declared.Refusal.{Refusal}
 use Rattle.egg.specs.declared.Factor.{Factor}
 use Rattle.egg.specs.declared.Verdict.{Verdict}
 use Rattle.egg.specs.declared.Verdict.the-variants as verdict
-use Rattle.builder.specs.Lending.{tableNeed, workNeed, Making, making}
+use Rattle.lending.specs.Lending.{tableNeed, workNeed, Making, making}
 use Rattle.factor.specs.Composed.{composedAt, composed}
 use Rattle.enumeration.specs.Run.{enumerated}
 use Rattle.enumeration.specs.declared.inner.Ran.the-variants as ran

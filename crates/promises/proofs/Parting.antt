@@ -8,7 +8,7 @@ use mathlib.Core.List.{List}
 use lib.ListN.{length}
 use Rattle.egg.specs.declared.Factor.{Factor}
 use Rattle.egg.specs.Scan.{refusedOf}
-use Rattle.builder.specs.Lending.{lentRight, making}
+use Rattle.lending.specs.Lending.{lentRight, making}
 use Rattle.factor.specs.Composed.{composedAt, composed}
 use Rattle.theory.proofs.Counting.{numbered-table}
 use Rattle.theory.proofs.FirstPlaces.{numbered-spelled}

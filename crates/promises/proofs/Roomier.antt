@@ -20,10 +20,11 @@ use Rattle.egg.specs.declared.Reached.{Reached}
 use Rattle.egg.specs.declared.Reached.the-variants.{Element, Refused}
 use Rattle.egg.specs.Factor.{readStep, hasRoom}
 use Rattle.egg.proofs.Cells.{put-length, inside}
-use Rattle.checks.specs.Checks.{checked, check-group, invertFrom, invertOf, fillInverses}
-use Rattle.builder.specs.Finish.{built, zeroed, finishedPlaced}
-use Rattle.builder.specs.Lending.{tableNeed, workNeed, lentRight, within, making, lentBack, Making}
-use Rattle.builder.proofs.Lending.{lent-table}
+use Rattle.checks.specs.Checks.{checked, check-group}
+use Rattle.inverses.specs.Inverses.{invertFrom, invertOf, fillInverses}
+use Rattle.lending.specs.Finish.{built, zeroed, finishedPlaced}
+use Rattle.lending.specs.Lending.{tableNeed, workNeed, lentRight, within, making, lentBack, Making}
+use Rattle.lending.proofs.Lending.{lent-table}
 use Rattle.walks.specs.Walks.{onReached}
 use Rattle.relations.specs.Relations.{turned, doubledRow, pairsRow, relationsRow}
 use Rattle.reading.specs.Reading.{placed, readAll}

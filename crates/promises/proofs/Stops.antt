@@ -16,9 +16,9 @@ use Rattle.egg.specs.Pairs.{ordersRight}
 use Rattle.egg.specs.Factor.{hasRoom}
 use Rattle.egg.proofs.Rooms.{positive, limited}
 use Rattle.checks.specs.Checks.{check-group}
-use Rattle.builder.specs.Finish.{built, zeroed, finished, finishedPlaced}
-use Rattle.builder.specs.Lending.{tableNeed, workNeed, lentRight, within, noFactor, making, lentBack}
-use Rattle.builder.proofs.Lending.{lent-table}
+use Rattle.lending.specs.Finish.{built, zeroed, finished, finishedPlaced}
+use Rattle.lending.specs.Lending.{tableNeed, workNeed, lentRight, within, noFactor, making, lentBack}
+use Rattle.lending.proofs.Lending.{lent-table}
 use Rattle.reading.specs.Reading.{Placed, placed, readAll}
 use Rattle.factor.specs.Composed.{composedAt, composedIn, composed}
 use Rattle.enumeration.specs.Run.{Outcome, enumerated}

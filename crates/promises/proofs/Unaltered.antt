@@ -13,8 +13,8 @@ use Rattle.egg.specs.declared.Verdict.{Verdict}
 use Rattle.egg.specs.declared.Verdict.the-variants as verdict
 use Rattle.egg.specs.Factor.{fitsIn, stretch}
 use Rattle.egg.proofs.Rooms.{has, within-length}
-use Rattle.builder.specs.Lending.{tableNeed, within, making}
-use Rattle.builder.proofs.Lending.{lent-table}
+use Rattle.lending.specs.Lending.{tableNeed, within, making}
+use Rattle.lending.proofs.Lending.{lent-table}
 use Rattle.factor.specs.Composed.{composed}
 use Rattle.enumeration.specs.Calls.{enumerates}
 use Rattle.answers.specs.Accepted.{Accepted}

@@ -15,7 +15,7 @@ use Rattle.egg.specs.declared.Counted.the-variants.{Count, Refused}
 use Rattle.egg.specs.Pairs.{ordersRight}
 use Rattle.egg.proofs.Scans.{Says}
 use Rattle.checks.specs.Checks.{check-table, Checked, checked, check-group}
-use Rattle.builder.specs.Finish.{built, zeroed, settledBy, finished, finishedPlaced}
+use Rattle.lending.specs.Finish.{built, zeroed, settledBy, finished, finishedPlaced}
 use Rattle.reading.specs.Reading.{Placed, placed, readAll}
 use Rattle.relations.specs.Relations.{relationsRow}
 use Rattle.enumeration.specs.declared.inner.Ran.{Ran}

@@ -8,7 +8,7 @@ use lib.ListN.{length, getD, replicate}
 use Rattle.egg.specs.declared.Factor.{Factor}
 use Rattle.egg.specs.Table.{stepOf}
 use Rattle.egg.specs.Factor.{stretch}
-use Rattle.builder.specs.Lending.{tableNeed, workNeed, lentRight, within}
+use Rattle.lending.specs.Lending.{tableNeed, workNeed, lentRight, within}
 use Rattle.factor.specs.Composed.{composedAt}
 use Rattle.theory.specs.Numbering.{IdentityRow}
 use Rattle.theory.specs.Appearance.{recorded}

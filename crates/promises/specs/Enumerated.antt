@@ -10,7 +10,7 @@ use Rattle.egg.specs.declared.Factor.{Factor}
 use Rattle.egg.specs.declared.Verdict.the-variants as verdict
 use Rattle.egg.specs.Pairs.{ordersRight}
 use Rattle.egg.specs.Factor.{stretch}
-use Rattle.builder.specs.Lending.{tableNeed, workNeed, lentRight, within}
+use Rattle.lending.specs.Lending.{tableNeed, workNeed, lentRight, within}
 use Rattle.factor.specs.Questions.{composeAnswer}
 use Rattle.relations.specs.Relations.{relations}
 use Rattle.theory.specs.Words.{Word, walk}

@@ -6,7 +6,7 @@ use mathlib.Core.Path.{_≡_}
 use mathlib.Core.List.{List, [], _∷_}
 use lib.ListN.{length, getD, replicate}
 use Rattle.egg.specs.declared.Refusal.{Refusal}
-use Rattle.builder.specs.Lending.{tableNeed, workNeed, within}
+use Rattle.lending.specs.Lending.{tableNeed, workNeed, within}
 use Rattle.meaning.specs.Numbers.{In, lateNumbers}
 
 -- A lent buffer at entry and at exit, and the stretch of it that the call needs.

@@ -12,7 +12,7 @@ use Rattle.egg.specs.declared.Refusal.{Refusal}
 use Rattle.egg.specs.declared.Verdict.the-variants as verdict
 use Rattle.egg.specs.declared.Counted.the-variants.{Count, Refused}
 use Rattle.checks.specs.Checks.{checked, check-group}
-use Rattle.builder.specs.Finish.{Built, built, zeroed, finished, finishedPlaced}
+use Rattle.lending.specs.Finish.{Built, built, zeroed, finished, finishedPlaced}
 use Rattle.reading.specs.Build.{numbered}
 use Rattle.reading.specs.Reading.{placed, readAll}
 use Rattle.numbering.specs.Read.{Readable}

@@ -15,8 +15,10 @@ use Rattle.egg.specs.Table.{parentOf, lastOf, backOf}
 use Rattle.egg.specs.Scan.{andThen}
 use Rattle.egg.proofs.Scans.{refused-fine}
 use Rattle.reading.specs.Build.{numbered}
-use Rattle.checks.specs.Checks.{missing, missingRow, check8, ranges, wrong, wrongRow, check-table, counted, countsRight, fillInverses, inversesRight}
-use Rattle.checks.specs.Checks.{identityRow, spelled, check-steps, lefts, Checked, checked, thenChecked, withTable, check-rest, check-group}
+use Rattle.checks.specs.Checks.{missing, missingRow, check8, ranges, wrong, wrongRow, check-table, counted, countsRight}
+use Rattle.inverses.specs.Inverses.{fillInverses, inversesRight}
+use Rattle.lefts.specs.Lefts.{identityRow, spelled, check-steps, lefts}
+use Rattle.checks.specs.Checks.{Checked, checked, thenChecked, withTable, check-rest, check-group}
 use Rattle.theory.specs.Table.{Table, Columns, generator}
 use Rattle.theory.specs.Words.{Parents, Recorded}
 use Rattle.theory.specs.Appearance.{recorded}

@@ -18,9 +18,9 @@ use Rattle.egg.specs.declared.Verdict.the-variants as verdict
 use Rattle.egg.specs.Factor.{Paper, refusalPaper, verdictPaper, hasRoom}
 use Rattle.egg.proofs.Rooms.{false-true, and-first, and-second, positive, limited, within-length}
 use Rattle.reading.specs.Reading.{readAll}
-use Rattle.builder.specs.Finish.{finishedPlaced}
-use Rattle.builder.specs.Lending.{tableNeed, workNeed, lentRight, refusedMade, Making, making, lentBack}
-use Rattle.builder.proofs.Lending.{lent-table, lent-enough}
+use Rattle.lending.specs.Finish.{finishedPlaced}
+use Rattle.lending.specs.Lending.{tableNeed, workNeed, lentRight, refusedMade, Making, making, lentBack}
+use Rattle.lending.proofs.Lending.{lent-table, lent-enough}
 use Rattle.factor.specs.Composed.{composedAt, composedIn, composed}
 use Rattle.promises.specs.Composed.{Taken}
 use Rattle.promises.proofs.Composed.{composed-is-build, work-lent}

@@ -9,8 +9,8 @@ use Rattle.egg.specs.declared.Refusal.{Refusal}
 use Rattle.egg.specs.declared.Verdict.the-variants as verdict
 use Rattle.egg.specs.declared.Counted.the-variants.{Count, Refused}
 use Rattle.egg.proofs.Scans.{refused-fine}
-use Rattle.builder.specs.Finish.{Built, built, finishedPlaced}
-use Rattle.builder.specs.Lending.{lentBack}
+use Rattle.lending.specs.Finish.{Built, built, finishedPlaced}
+use Rattle.lending.specs.Lending.{lentBack}
 use Rattle.reading.specs.Reading.{readAll}
 use Rattle.promises.specs.Composed.{Taken}
 use Rattle.promises.proofs.Built.{built-holds, taken-built}

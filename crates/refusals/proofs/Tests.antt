@@ -15,7 +15,8 @@ use Rattle.egg.specs.declared.Verdict.the-variants.{Fine, Refused}
 use Rattle.egg.specs.Table.{pick, startOf, inverseOf, stepOf}
 use Rattle.egg.specs.Scan.{refusedOf}
 use Rattle.reading.specs.Build.{numbered}
-use Rattle.checks.specs.Checks.{missingAt, wrongAt, fillInverses, inverseAt}
+use Rattle.checks.specs.Checks.{missingAt, wrongAt}
+use Rattle.inverses.specs.Inverses.{fillInverses, inverseAt}
 use Rattle.theory.specs.Table.{Table, Columns, generator}
 use Rattle.theory.specs.Words.{Parents, Recorded}
 use Rattle.theory.specs.Regular.{inverse}

@@ -20,8 +20,8 @@ use Rattle.egg.specs.Table.{startOf}
 use Rattle.egg.specs.Factor.{stretch}
 use Rattle.egg.proofs.Rooms.{room-enough}
 use Rattle.egg.proofs.Scans.{refused-fine}
-use Rattle.builder.specs.Lending.{workNeed, Making, making}
-use Rattle.builder.proofs.Lending.{lent-enough}
+use Rattle.lending.specs.Lending.{workNeed, Making, making}
+use Rattle.lending.proofs.Lending.{lent-enough}
 use Rattle.factor.specs.Composed.{composedAt, composed}
 use Rattle.factor.specs.Questions.{lengthAnswer}
 use Rattle.theory.specs.Words.{walk}

@@ -9,7 +9,7 @@ use lib.ListN.{length}
 use Rattle.egg.specs.declared.Refusal.{Refusal}
 use Rattle.egg.specs.declared.Verdict.{Verdict}
 use Rattle.egg.specs.Factor.{Paper, refusalPaper, verdictPaper}
-use Rattle.builder.specs.Lending.{tableNeed, workNeed, Making, making}
+use Rattle.lending.specs.Lending.{tableNeed, workNeed, Making, making}
 use Rattle.factor.specs.Composed.{composedAt, composed}
 use Rattle.promises.specs.Composed.{Taken}
 use Rattle.refusals.specs.Faults.{Fault}

@@ -10,7 +10,7 @@ use Rattle.egg.specs.declared.Refusal.{Refusal}
 use Rattle.egg.specs.declared.Reached.{Reached}
 use Rattle.egg.specs.declared.Counted.the-variants.{Count, Refused}
 use Rattle.egg.specs.Table.{stepOf}
-use Rattle.builder.specs.Finish.{Built, built, zeroed, finishedPlaced}
+use Rattle.lending.specs.Finish.{Built, built, zeroed, finishedPlaced}
 use Rattle.reading.specs.Reading.{readAll}
 use Rattle.promises.specs.Composed.{Taken, Holding}
 use Rattle.promises.proofs.Built.{passed, built-holds, built-work, taken-built}

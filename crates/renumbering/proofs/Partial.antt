@@ -15,7 +15,7 @@ use Rattle.egg.specs.declared.Reached.{Reached}
 use Rattle.egg.specs.declared.Reached.the-variants as reached
 use Rattle.egg.specs.declared.Counted.the-variants.{Count, Refused}
 use Rattle.egg.specs.Table.{pick, putAt}
-use Rattle.builder.specs.Finish.{built, zeroed, finished}
+use Rattle.lending.specs.Finish.{built, zeroed, finished}
 use Rattle.reading.specs.Reading.{placed}
 use Rattle.appearance.specs.Build.{renumbering, finishedMapped, renumberIn}
 use Rattle.renumbering.specs.Orbit.{Inside}

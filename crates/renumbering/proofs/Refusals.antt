@@ -15,8 +15,9 @@ use Rattle.egg.specs.declared.Verdict.{Verdict}
 use Rattle.egg.specs.declared.Verdict.the-variants.{Fine, Refused}
 use Rattle.egg.specs.Table.{stepOf, parentOf, lastOf}
 use Rattle.egg.specs.Scan.{refusedOf, andThen, scan}
-use Rattle.checks.specs.Checks.{wrong, wrongRow, check-table, check8, ranges, counted, fillInverses, identityRow, check-steps}
-use Rattle.checks.specs.Checks.{checked, check-rest, check-group}
+use Rattle.checks.specs.Checks.{wrong, wrongRow, check-table, check8, ranges, counted, checked, check-rest, check-group}
+use Rattle.inverses.specs.Inverses.{fillInverses}
+use Rattle.lefts.specs.Lefts.{identityRow, check-steps}
 use Rattle.theory.specs.Group.{RightRegular}
 use Rattle.theory.specs.Table.{Columns}
 use Rattle.theory.specs.Words.{Parents, Recorded}

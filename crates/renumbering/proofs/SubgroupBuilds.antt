@@ -14,7 +14,7 @@ use Rattle.egg.specs.declared.Verdict.the-variants as verdict
 use Rattle.egg.specs.declared.Counted.the-variants.{Count, Refused}
 use Rattle.checks.specs.Checks.{checked, check-group}
 use Rattle.reading.specs.Build.{numbered}
-use Rattle.builder.specs.Finish.{Built, built, zeroed, finished, finishedPlaced}
+use Rattle.lending.specs.Finish.{Built, built, zeroed, finished, finishedPlaced}
 use Rattle.reading.specs.Reading.{Placed, placed, readAll}
 use Rattle.theory.specs.Group.{GroupOn, RightRegular}
 use Rattle.theory.specs.Appearance.{recorded}

@@ -14,7 +14,7 @@ use Rattle.egg.specs.declared.Verdict.the-variants.{Fine, Refused}
 use Rattle.egg.specs.Scan.{refusedOf, scan}
 use Rattle.egg.proofs.Rooms.{and-first, and-second}
 use Rattle.egg.proofs.Scans.{Scanning, scanning, refused-fine}
-use Rattle.builder.specs.Lending.{lentRight}
+use Rattle.lending.specs.Lending.{lentRight}
 use Rattle.handles.specs.declared.Group.{Group}
 use Rattle.handles.specs.Handles.{handles, elementsOf, allFit, capped, limited}
 use Rattle.handles.proofs.Caps.{cap-beyond, cap-small}

@@ -14,9 +14,9 @@ use Rattle.egg.specs.declared.Reached.{Reached}
 use Rattle.egg.specs.declared.Verdict.{Verdict}
 use Rattle.egg.specs.declared.Verdict.the-variants.{Fine, Refused}
 use Rattle.egg.specs.declared.Counted.{Counted}
-use Rattle.builder.specs.Finish.{built}
-use Rattle.builder.specs.Lending.{tableNeed, workNeed, within, Ends, noFactor, refusedMade, madeOf}
-use Rattle.builder.proofs.Lending.{part-length, part-back, put-front}
+use Rattle.lending.specs.Finish.{built}
+use Rattle.lending.specs.Lending.{tableNeed, workNeed, within, Ends, noFactor, refusedMade, madeOf}
+use Rattle.lending.proofs.Lending.{part-length, part-back, put-front}
 use Rattle.handles.specs.declared.Group.{Group}
 use Rattle.handles.specs.Handles.{handles, elementsOf}
 use Rattle.appearance.specs.Build.{Renumbering, renumbering, renumberIn}

@@ -13,7 +13,7 @@ use Rattle.egg.specs.declared.Reached.{Reached}
 use Rattle.egg.specs.declared.Reached.the-variants.{Element, Refused}
 use Rattle.egg.specs.Factor.{fitsIn, stretch}
 use Rattle.egg.proofs.Rooms.{and-first}
-use Rattle.builder.specs.Lending.{noFactor}
+use Rattle.lending.specs.Lending.{noFactor}
 use Rattle.walks.specs.Walks.{onReached, composeIn}
 use Rattle.handles.specs.Handles.{allFit}
 use Rattle.digits.specs.Digits.{above, digitwise, composes}

@@ -11,7 +11,7 @@ use Rattle.egg.specs.declared.Verdict.{Verdict}
 use Rattle.egg.specs.declared.Verdict.the-variants as verdict
 use Rattle.egg.specs.Table.{pick}
 use Rattle.egg.specs.Scan.{refusedOf, andThen, scan}
-use Rattle.builder.specs.Lending.{tableNeed, workNeed, noFactor, refusedMade}
+use Rattle.lending.specs.Lending.{tableNeed, workNeed, noFactor, refusedMade}
 use Rattle.handles.specs.declared.Group.{Group}
 use Rattle.handles.specs.Handles.{handles, elementsOf, allFit, limited}
 use Rattle.digits.specs.Digits.{composes}

@@ -6,8 +6,8 @@ use mathlib.Core.Bool.{Bool, _&&_}
 use lib.Dec.{ltb, leb}
 use Rattle.egg.specs.declared.Made.{Made}
 use Rattle.egg.specs.Table.{pick}
-use Rattle.builder.specs.Finish.{built}
-use Rattle.builder.specs.Lending.{tableNeed, workNeed, lentRight, within, madeOf}
+use Rattle.lending.specs.Finish.{built}
+use Rattle.lending.specs.Lending.{tableNeed, workNeed, lentRight, within, madeOf}
 use Rattle.handles.specs.declared.Group.{Group}
 use Rattle.handles.specs.Handles.{groupOf}
 use Rattle.appearance.specs.Build.{Renumbering, renumbering}

@@ -6,8 +6,8 @@ ghost use Prim.Native.Nat.{_+_, _*_, _<_, _≤_};
 ghost use lib.ListN.{length, getD};
 ghost use Rattle.egg.specs.declared.Verdict.the-variants as verdict;
 ghost use Rattle.egg.specs.Factor.{fitsIn};
-ghost use Rattle.builder.specs.Finish.{Built};
-ghost use Rattle.builder.specs.Lending.{noFactor};
+ghost use Rattle.lending.specs.Finish.{Built};
+ghost use Rattle.lending.specs.Lending.{noFactor};
 ghost use Rattle.reading.specs.Reading.{Placed};
 ghost use Rattle.digits.specs.Digits.{composes};
 ghost use Rattle.handles.specs.Handles.{handles, elementsOf, generatorsOf, allFit, capped};
@@ -305,7 +305,7 @@ pub fn generated_in(
     egg::inner::clear(t);
     appearance::inner::start(inn, outw, GroupElementId(0));
     let read = rows_of(t, inn, outw, from, over, gens, n, room);
-    let made = builder::inner::finish(t, w, n, read);
+    let made = lending::inner::finish(t, w, n, read);
     appearance::inner::settle(inn, outw, made)
 }
 
@@ -345,7 +345,7 @@ pub fn maps_right(
 ) -> bool
     ensures { λ r. ⌜ r ≡ mapsRight table start work inn outw room n m ⌝ }
 {
-    if !builder::inner::lent_right(table, start, work, room, n) {
+    if !lending::inner::lent_right(table, start, work, room, n) {
         return false;
     }
     if (inn as u64) < m {
@@ -372,8 +372,8 @@ fn generated_at(
     let n = gens.len() as u8;
     let m = handles::inner::elements_of(over) as usize;
     let r = room as usize;
-    let end = builder::inner::stretch_end(table.len(), start, room, n);
-    let need = builder::inner::work_need(n, room);
+    let end = lending::inner::stretch_end(table.len(), start, room, n);
+    let need = lending::inner::work_need(n, room);
     let count = generated_in(
         &mut table[start..end],
         &mut work[..need],
@@ -385,7 +385,7 @@ fn generated_at(
         n,
         room,
     );
-    subgroup_of(over, builder::inner::made(start, room, n, count))
+    subgroup_of(over, lending::inner::made(start, room, n, count))
 }
 
 // 1, then 4; then the build.
@@ -405,7 +405,7 @@ pub fn generated_into(
 {
     let k = gens.len();
     if 8 < k {
-        return subgroup_of(over, builder::inner::refused_made(1, shown(k)));
+        return subgroup_of(over, lending::inner::refused_made(1, shown(k)));
     }
     let m = handles::inner::elements_of(over);
     if !maps_right(
@@ -418,7 +418,7 @@ pub fn generated_into(
         k as u8,
         m,
     ) {
-        return subgroup_of(over, builder::inner::refused_made(4, 0));
+        return subgroup_of(over, lending::inner::refused_made(4, 0));
     }
     generated_at(from, over, gens, table, start, work, inn, outw, room)
 }
@@ -649,7 +649,7 @@ pub fn refused_sides(number: u32) -> Subgrouped
     let below = handles::trivial();
     let over = handles::trivial();
     let above = handles::trivial();
-    let factor = handles::inner::no_factor();
+    let factor = lending::inner::no_factor();
     let subgroup = Subgroup {
         below,
         factor,

@@ -12,8 +12,8 @@ use Rattle.egg.specs.declared.Reached.the-variants as reached
 use Rattle.egg.specs.declared.Verdict.the-variants as verdict
 use Rattle.egg.specs.declared.Counted.the-variants as counted
 use Rattle.reading.specs.Reading.{readAll}
-use Rattle.builder.specs.Finish.{Built, built, zeroed, finishedPlaced}
-use Rattle.builder.specs.Lending.{tableNeed, workNeed}
+use Rattle.lending.specs.Finish.{Built, built, zeroed, finishedPlaced}
+use Rattle.lending.specs.Lending.{tableNeed, workNeed}
 use Rattle.handles.specs.declared.Group.{Group}
 use Rattle.handles.specs.Handles.{handles, elementsOf}
 use Rattle.appearance.specs.Build.{Renumbering, renumbering, renumberIn}

@@ -4,10 +4,12 @@ use mathlib.Core.Path.{refl}
 use Rattle.egg.specs.Table.{putAt, startOf}
 use Rattle.egg.specs.Scan.{scan}
 use Rattle.egg.specs.Factor.{hasRoom, fitsIn, stretch, readStep}
-use Rattle.checks.specs.Checks.{missingRow, missing, check8, rangeRow, linksOf, ranges, wrongRow, wrong, check-table, wiped, arriveRow, arrivals, countsRight, invertFrom, fillInverses, inversesRight, identityRow, columnsRow, spelledRow, spelled, check-steps, fillLeft, goesRow, allGo, lefts, check-rest, check-group}
+use Rattle.checks.specs.Checks.{missingRow, missing, check8, rangeRow, linksOf, ranges, wrongRow, wrong, check-table, wiped, arriveRow, arrivals, countsRight, check-rest, check-group}
+use Rattle.lefts.specs.Lefts.{spelled, lefts, identityRow, columnsRow, spelledRow, check-steps, fillLeft, goesRow, allGo}
+use Rattle.inverses.specs.Inverses.{invertFrom, fillInverses, inversesRight}
 use Rattle.reading.specs.Build.{setStep, setWord, adds}
-use Rattle.builder.specs.Finish.{finished}
-use Rattle.builder.specs.Lending.{lentRight, within}
+use Rattle.lending.specs.Finish.{finished}
+use Rattle.lending.specs.Lending.{lentRight, within}
 use Rattle.walks.specs.Walks.{along, readBack, backAlong, composeIn}
 use Rattle.handles.specs.Handles.{limited}
 use Rattle.digits.specs.Digits.{digitwise}

@@ -19,9 +19,9 @@ use Rattle.egg.proofs.Rooms.{positive, limited, within-length, false-true}
 use Rattle.egg.proofs.Scans.{scan-each}
 use Rattle.reading.specs.Build.{numbered}
 use Rattle.reading.specs.Reading.{Placed, placed, readAll}
-use Rattle.builder.specs.Finish.{built, zeroed, finished, finishedPlaced}
-use Rattle.builder.specs.Lending.{tableNeed, workNeed, lentRight}
-use Rattle.builder.proofs.Lending.{lent-table, lent-enough}
+use Rattle.lending.specs.Finish.{built, zeroed, finished, finishedPlaced}
+use Rattle.lending.specs.Lending.{tableNeed, workNeed, lentRight}
+use Rattle.lending.proofs.Lending.{lent-table, lent-enough}
 use Rattle.theory.proofs.Reading.{numbered-once}
 use Rattle.numbering.specs.Read.{Readable, Refuses}
 use Rattle.numbering.proofs.Readings.{accepted-read, read-readable, refused-read, refuses-refused}

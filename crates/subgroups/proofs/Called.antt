@@ -24,9 +24,9 @@ use Rattle.egg.specs.Factor.{hasRoom, stretch}
 use Rattle.egg.proofs.Rooms.{positive, limited}
 use Rattle.egg.proofs.Scans.{scan-each, refused-fine}
 use Rattle.reading.specs.Build.{numbered}
-use Rattle.builder.specs.Finish.{Built, built}
-use Rattle.builder.specs.Lending.{tableNeed, workNeed, lentRight, within, noFactor, refusedMade, madeOf}
-use Rattle.builder.proofs.Lending.{lent-table, lent-enough}
+use Rattle.lending.specs.Finish.{Built, built}
+use Rattle.lending.specs.Lending.{tableNeed, workNeed, lentRight, within, noFactor, refusedMade, madeOf}
+use Rattle.lending.proofs.Lending.{lent-table, lent-enough}
 use Rattle.theory.specs.Group.{GroupOn}
 use Rattle.theory.proofs.Reading.{numbered-once}
 use Rattle.meaning.proofs.Accepted.{sound-group}

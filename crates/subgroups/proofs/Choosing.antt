@@ -15,7 +15,7 @@ use borrow.Author.Tests.{eqb-true, eqb-false, not-true, not-false, eq-eqb, ne-eq
 use Rattle.egg.specs.Table.{pick}
 use Rattle.egg.proofs.Rooms.{and-first, and-second, false-true}
 use Rattle.egg.specs.declared.Counted.the-variants.{Count, Refused}
-use Rattle.builder.specs.Finish.{built}
+use Rattle.lending.specs.Finish.{built}
 use Rattle.appearance.specs.Renumber as appear
 use Rattle.appearance.specs.Build.{Renumbering, renumbering}
 use Rattle.renumbering.specs.Orbit.{Orbit, origin, onward}

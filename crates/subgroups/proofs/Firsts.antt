@@ -13,7 +13,7 @@ use lib.Seq.{take-all, take-append-le, getD-take, length-take-le, ext-getD}
 use lib.Dec.{ltb}
 use borrow.Author.Tests.{ltb-true}
 use Rattle.egg.specs.declared.Counted.the-variants.{Count, Refused}
-use Rattle.builder.specs.Finish.{built}
+use Rattle.lending.specs.Finish.{built}
 use Rattle.appearance.specs.Build.{Renumbering, renumbering}
 use Rattle.renumbering.proofs.Chosen.{orbit-more}
 use Rattle.predicate.specs.Predicate.{Picked, picked, isNew, chooses}

@@ -10,8 +10,8 @@ use Rattle.egg.specs.declared.Reached.{Reached}
 use Rattle.egg.specs.declared.Reached.the-variants as reached
 use Rattle.egg.specs.declared.Counted.the-variants.{Count}
 use Rattle.egg.specs.Table.{stepOf, backOf}
-use Rattle.builder.specs.Finish.{built}
-use Rattle.builder.specs.Lending.{tableNeed}
+use Rattle.lending.specs.Finish.{built}
+use Rattle.lending.specs.Lending.{tableNeed}
 use Rattle.theory.specs.Group.{GroupOn}
 use Rattle.theory.specs.Regular.{compose, inverse}
 use Rattle.meaning.specs.Stored.{wordOf}

@@ -21,8 +21,8 @@ use Rattle.egg.proofs.Scans.{refused-fine}
 use Rattle.checks.specs.Checks.{check-group}
 use Rattle.reading.specs.Build.{numbered}
 use Rattle.reading.specs.Reading.{Placed, placed, readAll}
-use Rattle.builder.specs.Finish.{built, finished, finishedPlaced}
-use Rattle.builder.specs.Lending.{tableNeed, workNeed}
+use Rattle.lending.specs.Finish.{built, finished, finishedPlaced}
+use Rattle.lending.specs.Lending.{tableNeed, workNeed}
 use Rattle.meaning.specs.Numbers.{member, In, lateNumbers}
 use Rattle.meaning.proofs.Numbers.{each-in, ranged-numbers}
 use Rattle.numbering.proofs.Readings.{accepted-read, refused-read}

@@ -21,9 +21,9 @@ use Rattle.egg.proofs.Rooms.{within-length}
 use Rattle.checks.specs.Checks.{Checked, checked, check-group}
 use Rattle.reading.specs.Build.{setStep, adds}
 use Rattle.reading.specs.Reading.{placed}
-use Rattle.builder.specs.Finish.{built, zeroed, settledBy, finished}
-use Rattle.builder.specs.Lending.{tableNeed, workNeed, within}
-use Rattle.builder.proofs.Lending.{lent-table, lent-enough}
+use Rattle.lending.specs.Finish.{built, zeroed, settledBy, finished}
+use Rattle.lending.specs.Lending.{tableNeed, workNeed, within}
+use Rattle.lending.proofs.Lending.{lent-table, lent-enough}
 use Rattle.meaning.proofs.Lengths.{checks-work}
 use Rattle.derived.proofs.Marking.{set-length}
 use Rattle.promises.specs.Leaves.{Cleared, AllCleared}

@@ -9,7 +9,7 @@ use lib.Dec.{eqb, ltb}
 use borrow.Author.Tests.{eq-eqb, ne-eqb, lt-ltb, le-ltb}
 use Rattle.egg.specs.declared.Refusal.{Refusal}
 use Rattle.egg.specs.declared.Counted.the-variants.{Count, Refused}
-use Rattle.builder.specs.Finish.{built}
+use Rattle.lending.specs.Finish.{built}
 use Rattle.appearance.specs.Renumber as appear
 use Rattle.appearance.specs.Build.{Renumbering, renumbering}
 use Rattle.predicate.specs.Predicate.{picked, ninth, chooses}

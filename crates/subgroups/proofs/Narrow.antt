@@ -7,8 +7,8 @@ use native.Mathlib.Nat.{le-refl}
 use lib.ListN.{length, take, replicate, length-replicate}
 use lib.Seq.{take-at}
 use Rattle.egg.specs.declared.Counted.the-variants.{Count}
-use Rattle.builder.specs.Finish.{Built, built, finishedPlaced}
-use Rattle.builder.specs.Lending.{tableNeed, workNeed}
+use Rattle.lending.specs.Finish.{Built, built, finishedPlaced}
+use Rattle.lending.specs.Lending.{tableNeed, workNeed}
 use Rattle.reading.specs.Reading.{readAll}
 use Rattle.roomier.specs.Longer.{longer}
 use Rattle.promises.specs.Composed.{Holding}

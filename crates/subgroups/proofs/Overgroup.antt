@@ -11,7 +11,7 @@ use Rattle.egg.specs.declared.Reached.{Reached}
 use Rattle.egg.specs.declared.Reached.the-variants as reached
 use Rattle.egg.specs.declared.Counted.the-variants.{Count}
 use Rattle.egg.specs.Table.{stepOf}
-use Rattle.builder.specs.Finish.{built}
+use Rattle.lending.specs.Finish.{built}
 use Rattle.theory.specs.Group.{GroupOn}
 use Rattle.products.specs.Product.{Part, product, IsGroup}
 use Rattle.products.proofs.ProductLaws.{product-group}

@@ -18,9 +18,9 @@ use Rattle.egg.specs.declared.Counted.the-variants as counted
 use Rattle.egg.specs.Factor.{hasRoom, stretch}
 use Rattle.egg.proofs.Rooms as rooms
 use Rattle.egg.proofs.Rooms.{limited, within-length}
-use Rattle.builder.specs.Finish.{built, zeroed}
-use Rattle.builder.specs.Lending.{tableNeed, workNeed, lentRight, within}
-use Rattle.builder.proofs.Lending.{lent-table, lent-enough}
+use Rattle.lending.specs.Finish.{built, zeroed}
+use Rattle.lending.specs.Lending.{tableNeed, workNeed, lentRight, within}
+use Rattle.lending.proofs.Lending.{lent-table, lent-enough}
 use Rattle.answers.specs.Refuses.{ReachedIn}
 use Rattle.answers.proofs.Refuses.{reached-element, reached-on, compose-in}
 use Rattle.promises.specs.Composed.{Holding}

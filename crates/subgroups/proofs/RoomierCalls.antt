@@ -10,8 +10,8 @@ use lib.ListN.{length, getD, take, replicate, List·getD-append}
 use Rattle.egg.specs.declared.Reached.{Reached}
 use Rattle.egg.specs.declared.Verdict.the-variants.{Fine}
 use Rattle.egg.specs.declared.Counted.the-variants.{Count}
-use Rattle.builder.specs.Finish.{Built, built, finishedPlaced}
-use Rattle.builder.specs.Lending.{tableNeed, workNeed, within}
+use Rattle.lending.specs.Finish.{Built, built, finishedPlaced}
+use Rattle.lending.specs.Lending.{tableNeed, workNeed, within}
 use Rattle.reading.specs.Reading.{readAll}
 use Rattle.theory.specs.Group.{GroupOn}
 use Rattle.roomier.specs.Longer.{longer}

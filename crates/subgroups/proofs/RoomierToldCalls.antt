@@ -9,8 +9,8 @@ use native.Mathlib.Omega.{arith}
 use lib.ListN.{length, getD, take}
 use Rattle.egg.specs.declared.Verdict.the-variants.{Fine}
 use Rattle.egg.specs.declared.Counted.the-variants.{Count}
-use Rattle.builder.specs.Finish.{built}
-use Rattle.builder.specs.Lending.{tableNeed, workNeed, within}
+use Rattle.lending.specs.Finish.{built}
+use Rattle.lending.specs.Lending.{tableNeed, workNeed, within}
 use Rattle.roomier.specs.Longer.{longer}
 use Rattle.roomier.proofs.Stores.{longer-get}
 use Rattle.promises.proofs.Lent.{handle, stretch-cell}

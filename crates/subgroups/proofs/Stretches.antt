@@ -12,7 +12,7 @@ use lib.Seq.{length-take-le, drop-at, take-append-le, getD-take}
 use Rattle.egg.specs.Table.{startOf, stepOf}
 use Rattle.egg.specs.Factor.{hasRoom, fitsIn, stretch}
 use Rattle.egg.proofs.Rooms.{positive, limited, within-length}
-use Rattle.builder.specs.Lending.{tableNeed, workNeed, within}
+use Rattle.lending.specs.Lending.{tableNeed, workNeed, within}
 use Rattle.theory.proofs.RuleLaws.{numbered-agree}
 use Rattle.promises.proofs.Lent.{handle, within-long}
 use Rattle.renumbering.specs.Maps.{Held}

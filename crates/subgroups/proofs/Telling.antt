@@ -13,7 +13,7 @@ use Rattle.egg.specs.declared.Reached.{Reached}
 use Rattle.egg.specs.declared.Reached.the-variants as reached
 use Rattle.egg.specs.declared.Counted.the-variants.{Count, Refused}
 use Rattle.egg.specs.Table.{stepOf}
-use Rattle.builder.specs.Finish.{built}
+use Rattle.lending.specs.Finish.{built}
 use Rattle.theory.specs.Group.{GroupOn}
 use Rattle.appearance.specs.Renumber as appear
 use Rattle.appearance.specs.Build.{Renumbering, renumbering, renumberIn}

@@ -24,8 +24,8 @@ use Rattle.egg.specs.Factor.{Paper, verdictPaper}
 use Rattle.egg.proofs.Rooms.{false-true, and-first, and-second}
 use Rattle.reading.specs.Build.{numbered}
 use Rattle.reading.specs.Reading.{Placed, placed}
-use Rattle.builder.specs.Finish.{built, zeroed, finished, finishedPlaced}
-use Rattle.builder.specs.Lending.{tableNeed, workNeed}
+use Rattle.lending.specs.Finish.{built, zeroed, finished, finishedPlaced}
+use Rattle.lending.specs.Lending.{tableNeed, workNeed}
 use Rattle.theory.specs.Group.{GroupOn}
 use Rattle.meaning.specs.Numbers.{In}
 use Rattle.numbering.specs.Read.{Refuses}

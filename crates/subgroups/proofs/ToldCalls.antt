@@ -22,9 +22,9 @@ use Rattle.egg.specs.Factor.{hasRoom, stretch}
 use Rattle.egg.proofs.Rooms.{positive, limited, and-first, and-second}
 use Rattle.egg.proofs.Scans.{refused-fine}
 use Rattle.reading.specs.Build.{numbered}
-use Rattle.builder.specs.Finish.{built}
-use Rattle.builder.specs.Lending.{tableNeed, workNeed, lentRight, within, noFactor, refusedMade, madeOf}
-use Rattle.builder.proofs.Lending.{lent-table, lent-enough}
+use Rattle.lending.specs.Finish.{built}
+use Rattle.lending.specs.Lending.{tableNeed, workNeed, lentRight, within, noFactor, refusedMade, madeOf}
+use Rattle.lending.proofs.Lending.{lent-table, lent-enough}
 use Rattle.theory.specs.Group.{GroupOn}
 use Rattle.promises.proofs.Lent.{handle}
 use Rattle.products.specs.Product.{product}

@@ -11,8 +11,8 @@ use Rattle.egg.specs.declared.Reached.{Reached}
 use Rattle.egg.specs.declared.Reached.the-variants as reached
 use Rattle.egg.specs.declared.Verdict.the-variants.{Fine}
 use Rattle.egg.specs.declared.Counted.the-variants.{Count}
-use Rattle.builder.specs.Finish.{built}
-use Rattle.builder.specs.Lending.{tableNeed, workNeed, within}
+use Rattle.lending.specs.Finish.{built}
+use Rattle.lending.specs.Lending.{tableNeed, workNeed, within}
 use Rattle.theory.specs.Group.{GroupOn}
 use Rattle.theory.proofs.Reading.{numbered-once}
 use Rattle.numbering.specs.Read.{Readable}

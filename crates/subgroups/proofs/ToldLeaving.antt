@@ -15,8 +15,8 @@ use Rattle.egg.specs.declared.Counted.the-variants.{Count, Refused}
 use Rattle.egg.specs.Table.{pick, putAt}
 use Rattle.checks.specs.Checks.{Checked, checked, check-group}
 use Rattle.reading.specs.Reading.{placed}
-use Rattle.builder.specs.Finish.{built, zeroed, settledBy, finished}
-use Rattle.builder.specs.Lending.{tableNeed, workNeed, within}
+use Rattle.lending.specs.Finish.{built, zeroed, settledBy, finished}
+use Rattle.lending.specs.Lending.{tableNeed, workNeed, within}
 use Rattle.meaning.proofs.Lengths.{checks-work}
 use Rattle.meaning.proofs.Accepted.{checks-kept}
 use Rattle.promises.specs.Leaves.{AllCleared}

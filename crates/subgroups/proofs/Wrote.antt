@@ -11,8 +11,8 @@ use Rattle.egg.specs.declared.Refusal.{Refusal}
 use Rattle.egg.specs.declared.Verdict.{Verdict}
 use Rattle.egg.specs.declared.Verdict.the-variants as verdict
 use Rattle.egg.specs.declared.Counted.the-variants as counted
-use Rattle.builder.specs.Finish.{built}
-use Rattle.builder.specs.Lending.{tableNeed, workNeed, noFactor}
+use Rattle.lending.specs.Finish.{built}
+use Rattle.lending.specs.Lending.{tableNeed, workNeed, noFactor}
 use Rattle.meaning.specs.Numbers.{In}
 use Rattle.meaning.proofs.Numbers.{none-of}
 use Rattle.answers.specs.Accepted.{Accepted}

@@ -12,8 +12,8 @@ use Rattle.egg.specs.declared.Verdict.the-variants as verdict
 use Rattle.egg.specs.declared.Counted.the-variants as counted
 use Rattle.reading.specs.Build.{numbered}
 use Rattle.reading.specs.Reading.{readAll}
-use Rattle.builder.specs.Finish.{Built, built, finishedPlaced}
-use Rattle.builder.specs.Lending.{tableNeed, workNeed, within, noFactor}
+use Rattle.lending.specs.Finish.{Built, built, finishedPlaced}
+use Rattle.lending.specs.Lending.{tableNeed, workNeed, within, noFactor}
 use Rattle.meaning.specs.Numbers.{In}
 use Rattle.answers.specs.Accepted.{Accepted, factorStep}
 use Rattle.promises.specs.Composed.{Taken}

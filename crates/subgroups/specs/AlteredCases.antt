@@ -6,7 +6,7 @@ use mathlib.Core.Path.{_≡_}
 use mathlib.Core.List.{List, [], _∷_, _++_}
 use lib.ListN.{length, replicate}
 use Rattle.egg.specs.Factor.{Paper}
-use Rattle.builder.specs.Lending.{tableNeed, workNeed}
+use Rattle.lending.specs.Lending.{tableNeed, workNeed}
 use Rattle.refusals.specs.Papers.{paper}
 use Rattle.handles.specs.declared.Group.{Group}
 use Rattle.handles.specs.Handles.{groupOf}

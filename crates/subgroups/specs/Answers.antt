@@ -9,7 +9,7 @@ use lib.ListN.{length, getD}
 use Rattle.egg.specs.declared.Refusal.{Refusal}
 use Rattle.egg.specs.Factor.{Paper, refusalPaper, verdictPaper}
 use Rattle.reading.specs.Build.{numbered}
-use Rattle.builder.specs.Lending.{tableNeed, workNeed}
+use Rattle.lending.specs.Lending.{tableNeed, workNeed}
 use Rattle.numbering.specs.Read.{Readable, Refuses}
 use Rattle.answers.specs.Papers.{valuePaper}
 use Rattle.refusals.specs.Firsts.{FirstOf}

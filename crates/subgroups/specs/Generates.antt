@@ -8,7 +8,7 @@ use lib.ListN.{length, getD, take, replicate}
 use Rattle.egg.specs.declared.Factor.{Factor}
 use Rattle.egg.specs.declared.Verdict.the-variants.{Fine}
 use Rattle.egg.specs.Factor.{stretch}
-use Rattle.builder.specs.Lending.{tableNeed, workNeed, within}
+use Rattle.lending.specs.Lending.{tableNeed, workNeed, within}
 use Rattle.theory.specs.Appearance.{recorded}
 use Rattle.theory.specs.Regular.{compose, inverse}
 use Rattle.answers.specs.Accepted.{Accepted, factorStep, factorBack, factorWord}

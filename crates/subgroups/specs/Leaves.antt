@@ -3,7 +3,7 @@
 -- Assumes nothing.
 use Prim.Native.Nat.{ℕ}
 use mathlib.Core.List.{List, [], _∷_}
-use Rattle.builder.specs.Lending.{workNeed}
+use Rattle.lending.specs.Lending.{workNeed}
 use Rattle.meaning.specs.Numbers.{lateNumbers}
 use Rattle.promises.specs.Leaves.{Lent, tableFor}
 use Rattle.promises.specs.Unaltered.{Wrote}

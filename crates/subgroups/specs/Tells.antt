@@ -6,7 +6,7 @@ use mathlib.Core.Logic.{_↔_}
 use mathlib.Core.Bool.{true}
 use mathlib.Core.List.{List}
 use lib.ListN.{length, getD}
-use Rattle.builder.specs.Lending.{tableNeed, workNeed, within}
+use Rattle.lending.specs.Lending.{tableNeed, workNeed, within}
 use Rattle.handles.specs.declared.Group.{Group}
 use Rattle.handles.specs.Handles.{handles, elementsOf, allFit}
 use Rattle.groups.specs.Products.{direct}

@@ -3,7 +3,7 @@ use lib.ListN.{length, getD}
 use mathlib.Core.Path.{_∙_, ap}
 use lib.IntN.{ℤ}
 use Rattle.group.specs.Questions.{powiAnswer}
-use Rattle.builder.specs.Lending.{noFactor}
+use Rattle.lending.specs.Lending.{noFactor}
 use Rattle.handles.specs.Handles.{handles}
 use Rattle.digits.specs.Digits.{composes, inverts}
 use Rattle.powers.specs.Powers.{powers, powiAlone}

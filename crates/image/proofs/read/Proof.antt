@@ -4,18 +4,18 @@ use borrow.Author.Tests.{leb-true, not-true, not-false}
 use native.Mathlib.Omega.{arith}
 use lib.ListN.{length}
 use lib.Seq.{length-take-le}
-use Rattle.builder.proofs.Lending.{lent-table, lent-enough}
+use Rattle.lending.proofs.Lending.{lent-table, lent-enough}
 use Rattle.image.proofs.ReadLaws.{whole-image, read-bad, read-short, read-built}
 use borrow.Author.Needs.{needs}
 use Rattle.image.proofs.read.Statement.{statement}
 use Rattle.image.proofs.read.Tie as tie
 use Rattle.image.proofs.read.Reads as reads
 use Rattle.image.proofs.read.Lts as lts
-use Rattle.builder.proofs.inner.lent_right.Reads as lent-right-reads
-use Rattle.builder.proofs.inner.made.Reads as made-reads
-use Rattle.builder.proofs.inner.refused_made.Reads as refused-made-reads
-use Rattle.builder.proofs.inner.stretch_end.Reads as stretch-end-reads
-use Rattle.builder.proofs.inner.work_need.Reads as work-need-reads
+use Rattle.lending.proofs.inner.lent_right.Reads as lent-right-reads
+use Rattle.lending.proofs.inner.made.Reads as made-reads
+use Rattle.lending.proofs.inner.refused_made.Reads as refused-made-reads
+use Rattle.lending.proofs.inner.stretch_end.Reads as stretch-end-reads
+use Rattle.lending.proofs.inner.work_need.Reads as work-need-reads
 use Rattle.image.proofs.elements.Reads as elements-reads
 use Rattle.image.proofs.generators.Reads as generators-reads
 use Rattle.image.proofs.head.Reads as head-reads

@@ -1,7 +1,7 @@
 // A build from an image's successors, two bytes each.
 ghost use mathlib.Core.Path.{_≡_};
 ghost use lib.ListN.{length};
-ghost use Rattle.builder.specs.Finish.{Built};
+ghost use Rattle.lending.specs.Finish.{Built};
 ghost use Rattle.reading.specs.Reading.{Placed, readRow, readAll};
 ghost use Rattle.factor.specs.Composed.{composedAt};
 ghost use Rattle.cells.specs.Cells.{halves};
@@ -77,5 +77,5 @@ pub fn read_in(t: &mut [u32], w: &mut [u32], rows: &[u8], n: u8, room: u32) -> C
     egg::inner::clear(t);
     let read = read_rows(t, rows, n, room);
     let all = reached_all(room, read);
-    builder::inner::finish(t, w, n, all)
+    lending::inner::finish(t, w, n, all)
 }

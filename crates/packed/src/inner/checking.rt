@@ -2,8 +2,10 @@
 ghost use mathlib.Core.Path.{_≡_};
 ghost use mathlib.Core.Bool.{true};
 ghost use lib.ListN.{getD};
-ghost use Rattle.checks.specs.Checks.{missingRow, missing, wrongAt, wrongRow, wrong, invertOf, inversesRight, identityRow, leftOf, goesRow, allGo};
-ghost use Rattle.checks.specs.Hints.{Follows, Hint, Hints, inverseBy};
+ghost use Rattle.checks.specs.Checks.{missingRow, missing, wrongAt, wrongRow, wrong};
+ghost use Rattle.inverses.specs.Inverses.{invertOf, inversesRight};
+ghost use Rattle.lefts.specs.Lefts.{identityRow, leftOf, goesRow, allGo};
+ghost use Rattle.inverses.specs.Hints.{Follows, Hint, Hints, inverseBy};
 ghost use Rattle.cells.specs.Cells.{cells};
 use super::table;
 use egg::GeneratorId;
@@ -131,7 +133,7 @@ pub fn hint_of(t: &[u8], w: &[u8], n: u8, e: GroupElementId) -> u32
         if table::word_length(t, n, GroupElementId(0)) != 0 {
             return 0;
         }
-        return checks::inner::pack(GroupElementId(0), g);
+        return inverses::inner::pack(GroupElementId(0), g);
     }
     let p = table::parent(t, n, e);
     if e.0 <= p {
@@ -146,7 +148,7 @@ pub fn hint_of(t: &[u8], w: &[u8], n: u8, e: GroupElementId) -> u32
     if !follows_on(t, n, from, y, e) {
         return 0;
     }
-    checks::inner::pack(y, (h - 1) % 256)
+    inverses::inner::pack(y, (h - 1) % 256)
 }
 
 // The inverse of e by its hint in the work: one step back from an inverse that is written already, and not a walk of the

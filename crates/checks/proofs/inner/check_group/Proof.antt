@@ -2,7 +2,7 @@
 use mathlib.Core.Path.{sym, _∙_}
 use borrow.Author.Needs.{needs}
 use Rattle.checks.specs.Checks.{check-group}
-use Rattle.checks.proofs.Hints.{counted-again}
+use Rattle.checks.proofs.Counting.{counted-again}
 use Rattle.checks.proofs.inner.check_group.Statement.{statement}
 use Rattle.checks.proofs.inner.check_group.Tie as tie
 

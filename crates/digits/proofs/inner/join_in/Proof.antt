@@ -3,7 +3,7 @@ use Prim.Native.Nat.{_-_, _<_}
 use lib.ListN.{length, getD}
 use native.Mathlib.Omega.{arith}
 use mathlib.Core.Path.{_∙_}
-use Rattle.builder.specs.Lending.{noFactor}
+use Rattle.lending.specs.Lending.{noFactor}
 use Rattle.handles.specs.Handles.{handles}
 use Rattle.handles.proofs.Lists.{turn-at, turned-all, positive, handle-at}
 use Rattle.handles.proofs.Admitted.{limited-many, seen-few, seen-many, few-elements}

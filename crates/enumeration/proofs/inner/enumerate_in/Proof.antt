@@ -6,7 +6,7 @@ use Rattle.enumeration.proofs.inner.enumerate_in.Statement.{statement}
 use Rattle.enumeration.proofs.inner.enumerate_in.Tie as tie
 use Rattle.enumeration.proofs.inner.enumerate_in.Reads as reads
 use Rattle.enumeration.proofs.inner.enumerate_in.Lts as lts
-use Rattle.builder.proofs.inner.finish.Reads as finish-reads
+use Rattle.lending.proofs.inner.finish.Reads as finish-reads
 use Rattle.enumeration.proofs.inner.counted.Reads as counted-reads
 use Rattle.enumeration.proofs.inner.enumerate.Reads as enumerate-reads
 use Rattle.enumeration.proofs.inner.relate.Reads as relate-reads

@@ -7,7 +7,7 @@ use Rattle.factor.proofs.inner.compose_in.Statement.{statement}
 use Rattle.factor.proofs.inner.compose_in.Tie as tie
 use Rattle.factor.proofs.inner.compose_in.Reads as reads
 use Rattle.factor.proofs.inner.compose_in.Lts as lts
-use Rattle.builder.proofs.inner.finish.Reads as finish-reads
+use Rattle.lending.proofs.inner.finish.Reads as finish-reads
 use Rattle.egg.proofs.inner.clear.Reads as clear-reads
 use Rattle.factor.proofs.inner.read_rows.Reads as read-rows-reads
 

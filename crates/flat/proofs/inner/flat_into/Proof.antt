@@ -5,7 +5,7 @@ use Rattle.handles.specs.declared.inner.Seen.{Seen}
 use native.Mathlib.Omega.{arith}
 use borrow.Author.Tests.{not-true, not-false, leb-true}
 use lib.Seq.{length-take-le}
-use Rattle.builder.proofs.Lending.{lent-table, lent-enough}
+use Rattle.lending.proofs.Lending.{lent-table, lent-enough}
 use Rattle.handles.specs.Handles.{handles}
 use Rattle.flat.proofs.Flats.{flat-generators, flat-short, flat-built}
 use borrow.Author.Needs.{needs}

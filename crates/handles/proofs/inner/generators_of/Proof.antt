@@ -3,7 +3,7 @@ use Prim.Native.Nat.{_-_, _≤_, _<_}
 use lib.ListN.{getD}
 use native.Mathlib.Omega.{arith}
 use borrow.Author.Needs.{needs}
-use Rattle.builder.specs.Lending.{noFactor}
+use Rattle.lending.specs.Lending.{noFactor}
 use Rattle.handles.specs.Handles.{handles}
 use Rattle.handles.proofs.Lists.{turn-at, turned-all}
 use Rattle.handles.proofs.Sums.{Adding, adding, adds-on, adds-end}

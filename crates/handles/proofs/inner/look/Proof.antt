@@ -1,7 +1,7 @@
 -- One pass: what was seen so far and what is left give the whole.
 use Rattle.handles.proofs.Lists.{turn-at, turned-all}
 use lib.ListN.{length, getD}
-use Rattle.builder.specs.Lending.{noFactor}
+use Rattle.lending.specs.Lending.{noFactor}
 use Prim.Native.Nat.{_-_, _≤_, _<_}
 use native.Mathlib.Omega.{arith}
 use Rattle.handles.specs.Handles.{handles}

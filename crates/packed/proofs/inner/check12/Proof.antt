@@ -2,7 +2,7 @@
 use mathlib.Core.Path.{ap}
 use mathlib.Core.List.{List}
 use Prim.Native.Nat.{ℕ}
-use Rattle.checks.specs.Checks.{fillLeft, allGo}
+use Rattle.lefts.specs.Lefts.{fillLeft, allGo}
 use Rattle.packed.proofs.Turns.{lefts-next, lefts-stop, lefts-end}
 use Prim.Native.Nat.{_-_}
 use mathlib.Core.Path.{_≡_, refl, _∙_, sym}
@@ -10,7 +10,7 @@ use native.Mathlib.Nat.{sub-zero, sub-eq-zero-of-le}
 use lib.ListN.{length, take, drop}
 use borrow.Author.Needs.{needs}
 use Rattle.cells.specs.Cells.{cells}
-use Rattle.checks.specs.Checks.{lefts}
+use Rattle.lefts.specs.Lefts.{lefts}
 use Rattle.egg.proofs.Scans.{left-suc}
 use Rattle.packed.proofs.inner.check12.Statement.{statement}
 use Rattle.packed.proofs.inner.check12.Tie as tie

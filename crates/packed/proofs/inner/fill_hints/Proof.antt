@@ -4,8 +4,8 @@ use mathlib.Core.Path.{_≡_, refl, _∙_}
 use lib.ListN.{length, take, drop}
 use borrow.Author.Needs.{needs}
 use Rattle.cells.specs.Cells.{cells}
-use Rattle.checks.specs.Hints.{Hints}
-use Rattle.checks.proofs.Hints.{no-hints, next-hint, hints-end}
+use Rattle.inverses.specs.Hints.{Hints}
+use Rattle.inverses.proofs.Hints.{no-hints, next-hint, hints-end}
 use Rattle.packed.proofs.inner.fill_hints.Statement.{statement}
 use Rattle.packed.proofs.inner.fill_hints.Tie as tie
 

@@ -5,7 +5,7 @@ use mathlib.Core.List.{List}
 use lib.ListN.{length, getD, take, drop}
 use borrow.Author.Needs.{needs}
 use Rattle.cells.specs.Cells.{cells}
-use Rattle.checks.proofs.Hints.{Filling, filling, by-hint, fills, filled}
+use Rattle.inverses.proofs.Hints.{Filling, filling, by-hint, fills, filled}
 use Rattle.packed.proofs.inner.fill_inverses.Statement.{statement}
 use Rattle.packed.proofs.inner.fill_inverses.Tie as tie
 

@@ -6,7 +6,7 @@ use native.Mathlib.Omega.{arith}
 use lib.ListN.{length, take, drop}
 use borrow.Author.Needs.{needs}
 use Rattle.cells.specs.Cells.{cells}
-use Rattle.checks.specs.Checks.{fillLeft}
+use Rattle.lefts.specs.Lefts.{fillLeft}
 use Rattle.egg.proofs.Scans.{left-suc}
 use Rattle.packed.proofs.inner.fill_left.Statement.{statement}
 use Rattle.packed.proofs.inner.fill_left.Tie as tie

@@ -5,7 +5,7 @@ use Prim.Native.Nat.{ℕ}
 use lib.ListN.{take}
 use lib.Seq.{length-take-le}
 use Rattle.cells.specs.Cells.{cells}
-use Rattle.checks.specs.Checks.{allGo}
+use Rattle.lefts.specs.Lefts.{allGo}
 use Rattle.packed.proofs.Parts.{rest-lent}
 use borrow.Author.Needs.{needs}
 use Rattle.packed.proofs.inner.goes_at.Statement.{statement}

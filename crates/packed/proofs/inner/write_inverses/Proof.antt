@@ -4,7 +4,7 @@ use mathlib.Core.Path.{ap, _∙_}
 use mathlib.Core.List.{List}
 use borrow.Author.Needs.{needs}
 use Rattle.cells.specs.Cells.{cells}
-use Rattle.checks.specs.Checks.{fillInverses}
+use Rattle.inverses.specs.Inverses.{fillInverses}
 use Rattle.packed.proofs.inner.write_inverses.Statement.{statement}
 use Rattle.packed.proofs.inner.write_inverses.Tie as tie
 

@@ -1,5 +1,5 @@
 -- Writing what is left gives what writing the whole gives.
-use Rattle.builder.specs.Lending.{noFactor}
+use Rattle.lending.specs.Lending.{noFactor}
 use Prim.Native.Nat.{_-_, _≤_, _<_}
 use lib.ListN.{length, getD}
 use mathlib.Core.Path.{refl}

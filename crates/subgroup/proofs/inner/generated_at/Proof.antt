@@ -3,7 +3,7 @@ use mathlib.Core.Path.{sym}
 use lib.ListN.{length}
 use lib.Seq.{length-take-le}
 use borrow.Author.Tests.{leb-true}
-use Rattle.builder.proofs.Lending.{lent-table, lent-enough}
+use Rattle.lending.proofs.Lending.{lent-table, lent-enough}
 use Rattle.handles.specs.Handles.{handles, elementsOf}
 use Rattle.subgroup.proofs.Admits.{maps-lent, maps-inn, maps-outw, count-is}
 use Rattle.subgroup.proofs.Lendings.{generated-built}

@@ -7,7 +7,7 @@ use Rattle.image.proofs.inner.taking.read_in.Statement.{statement}
 use Rattle.image.proofs.inner.taking.read_in.Tie as tie
 use Rattle.image.proofs.inner.taking.read_in.Reads as reads
 use Rattle.image.proofs.inner.taking.read_in.Lts as lts
-use Rattle.builder.proofs.inner.finish.Reads as finish-reads
+use Rattle.lending.proofs.inner.finish.Reads as finish-reads
 use Rattle.egg.proofs.inner.clear.Reads as clear-reads
 use Rattle.image.proofs.inner.taking.reached_all.Reads as reached-all-reads
 use Rattle.image.proofs.inner.taking.read_rows.Reads as read-rows-reads

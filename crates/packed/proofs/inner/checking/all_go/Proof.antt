@@ -4,7 +4,7 @@ use Rattle.cells.specs.Cells.{cells, halves}
 use Prim.Native.Nat.{_-_}
 use mathlib.Core.Path.{sym, _∙_}
 use borrow.Author.Needs.{needs}
-use Rattle.checks.specs.Checks.{goesRow, allGo}
+use Rattle.lefts.specs.Lefts.{goesRow, allGo}
 use Rattle.egg.proofs.Scans.{Scanning, scanning, hands-on, goes-on, ends}
 use Rattle.packed.proofs.inner.checking.all_go.Statement.{statement}
 use Rattle.packed.proofs.inner.checking.all_go.Tie as tie

@@ -10,7 +10,7 @@ use borrow.Author.Needs.{needs}
 use Rattle.egg.specs.Table.{pick, stepOf}
 use Rattle.egg.specs.declared.Verdict.the-variants.{Fine}
 use Rattle.egg.specs.Scan.{refusedOf}
-use Rattle.checks.specs.Checks.{goesRow}
+use Rattle.lefts.specs.Lefts.{goesRow}
 use Rattle.egg.proofs.Scans.{Scanning, scanning, stops, goes-on, ends}
 use Rattle.packed.proofs.inner.checking.goes_row.Statement.{statement}
 use Rattle.packed.proofs.inner.checking.goes_row.Tie as tie

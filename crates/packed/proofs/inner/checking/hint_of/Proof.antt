@@ -2,7 +2,7 @@
 use mathlib.Core.Path.{sym, _∙_}
 use borrow.Author.Tests.{not-false}
 use borrow.Author.Needs.{needs}
-use Rattle.checks.proofs.Hints.{hint-single, hint-on}
+use Rattle.inverses.proofs.Hints.{hint-single, hint-on}
 use Rattle.packed.proofs.inner.checking.hint_of.Statement.{statement}
 use Rattle.packed.proofs.inner.checking.hint_of.Tie as tie
 

@@ -9,7 +9,7 @@ use borrow.Author.Needs.{needs}
 use Rattle.egg.specs.Table.{pick, stepOf}
 use Rattle.egg.specs.declared.Verdict.the-variants.{Fine}
 use Rattle.egg.specs.Scan.{refusedOf}
-use Rattle.checks.specs.Checks.{identityRow}
+use Rattle.lefts.specs.Lefts.{identityRow}
 use Rattle.egg.proofs.Scans.{Scanning, scanning, stops, goes-on, ends}
 use Rattle.packed.proofs.inner.checking.identity_row.Statement.{statement}
 use Rattle.packed.proofs.inner.checking.identity_row.Tie as tie

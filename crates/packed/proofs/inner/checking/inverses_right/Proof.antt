@@ -5,7 +5,7 @@ use Prim.Native.Nat.{_-_}
 use mathlib.Core.Path.{_∙_}
 use borrow.Author.Tests.{eq-eqb, ne-eqb}
 use borrow.Author.Needs.{needs}
-use Rattle.checks.specs.Checks.{inverseAt, inversesRight}
+use Rattle.inverses.specs.Inverses.{inverseAt, inversesRight}
 use Rattle.egg.proofs.Scans.{Scanning, scanning, stops, goes-on, ends}
 use Rattle.packed.proofs.inner.checking.inverses_right.Statement.{statement}
 use Rattle.packed.proofs.inner.checking.inverses_right.Tie as tie

@@ -3,8 +3,8 @@ use mathlib.Core.Path.{_≡_, refl, _∙_}
 use native.Mathlib.Omega.{arith}
 use borrow.Author.Needs.{needs}
 use Rattle.cells.specs.Cells.{cells}
-use Rattle.checks.specs.Checks.{invertFrom}
-use Rattle.checks.proofs.Undoing.{undo-letter}
+use Rattle.inverses.specs.Inverses.{invertFrom}
+use Rattle.inverses.proofs.Undoing.{undo-letter}
 use Rattle.packed.proofs.inner.checking.invert.Statement.{statement}
 use Rattle.packed.proofs.inner.checking.invert.Tie as tie
 

@@ -1,0 +1,2 @@
+pub mod Undoing
+pub mod Hints

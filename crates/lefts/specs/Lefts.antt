@@ -1,0 +1,64 @@
+-- Refusals 11 and 12 on a table of n generators and `count` elements: the identity row, the columns and words, and multiplication on the left.
+-- Assumes nothing.
+use Prim.Native.Nat.{ℕ, zero, suc, _+_}
+use mathlib.Core.List.{List}
+use lib.ListN.{getD}
+use lib.Dec.{eqb, ltb}
+use Rattle.egg.specs.declared.Verdict.{Verdict}
+use Rattle.egg.specs.declared.Verdict.the-variants.{Fine, Refused}
+use Rattle.egg.specs.Table.{pick, putAt, parentOf, lastOf, lengthOf, stepOf, backOf}
+use Rattle.egg.specs.Scan.{refusedOf, andThen, scan}
+
+-- 11, "identity row is not 1..n".
+unfoldable pub identityRow : List ℕ → ℕ → Verdict
+identityRow t n = scan n (λ g. pick (eqb (stepOf t n 0 g) (g + 1)) Fine (refusedOf 11 g 0 0)) 0
+
+-- 12, "no group has these right steps". First that the columns are permutations and that each recorded word leads to its element. So it is after every
+-- reading and enumeration that has passed 8; the checks do not rest on that.
+unfoldable pub columnsRow : List ℕ → ℕ → ℕ → Verdict
+columnsRow t n e = scan n (λ g. pick (eqb (stepOf t n (backOf t n e g) g) e) Fine (refusedOf 12 0 0 0)) 0
+
+unfoldable pub spelledRow : List ℕ → ℕ → ℕ → Verdict
+spelledRow t n e =
+    pick (eqb e 0) (pick (eqb (lengthOf t n e) 0) Fine (refusedOf 12 0 0 0))
+    (pick (eqb (stepOf t n (parentOf t n e) (lastOf t n e)) e)
+    (pick (eqb (lengthOf t n e) (lengthOf t n (parentOf t n e) + 1)) Fine (refusedOf 12 0 0 0))
+    (refusedOf 12 0 0 0))
+
+unfoldable pub spelled : List ℕ → ℕ → ℕ → Verdict
+spelled t n count = scan count (λ e. andThen (columnsRow t n e) (spelledRow t n e)) 0
+
+unfoldable pub check-steps : List ℕ → ℕ → ℕ → Verdict
+check-steps t n count = andThen (identityRow t n) (spelled t n count)
+
+-- Then, for each generator s, multiplication on the left by s, filled into the work by going from parent to parent, must commute with every step.
+abbrev pub leftOf : List ℕ → ℕ → ℕ → List ℕ → ℕ → ℕ
+leftOf t n s w x = pick (ltb 0 x) (stepOf t n (getD w (parentOf t n x) 0) (lastOf t n x)) (stepOf t n 0 s)
+
+unfoldable pub fillLeft : ℕ → List ℕ → ℕ → ℕ → List ℕ → ℕ → List ℕ
+fillLeft zero t n s w x = w
+fillLeft (suc k) t n s w x = fillLeft k t n s (putAt w x (leftOf t n s w x)) (x + 1)
+
+unfoldable pub goesRow : List ℕ → List ℕ → ℕ → ℕ → Verdict
+goesRow t w n x = scan n (λ g. pick (eqb (getD w (stepOf t n x g) 0) (stepOf t n (getD w x 0) g)) Fine (refusedOf 12 0 0 0)) 0
+
+unfoldable pub allGo : List ℕ → List ℕ → ℕ → ℕ → Verdict
+allGo t w n count = scan count (λ x. goesRow t w n x) 0
+
+-- The verdict and what the work holds then.
+pub data Lefts : Type 0 where
+  left : Verdict → List ℕ → Lefts
+
+abbrev pub leftVerdict : Lefts → Verdict
+leftVerdict (left v w) = v
+
+-- The verdict with the work, or what comes after it.
+abbrev pub thenLeft : Verdict → List ℕ → Lefts → Lefts
+thenLeft Fine w l = l
+thenLeft (Refused r) w l = left (Refused r) w
+
+-- For k generators from s on.
+unfoldable pub lefts : ℕ → List ℕ → ℕ → ℕ → List ℕ → ℕ → Lefts
+lefts zero t n count w s = left Fine w
+lefts (suc k) t n count w s =
+    thenLeft (allGo t (fillLeft count t n s w 0) n count) (fillLeft count t n s w 0) (lefts k t n count (fillLeft count t n s w 0) (s + 1))
