@@ -1,46 +1,23 @@
 -- Laws of reading an image back: one for each answer.
 -- Assumes nothing.
-use Prim.Native.Nat.{ℕ, _+_, _-_, _≤_, _<_}
-use mathlib.Core.Path.{_≡_, sym, ap, _∙_}
+use Prim.Native.Nat.{ℕ, _+_, _-_, _≤_}
+use mathlib.Core.Path.{_≡_, sym, _∙_}
 use mathlib.Core.Bool.{true, false}
 use mathlib.Core.List.{List, _++_}
-use borrow.Author.Tests.{eq-eqb, ne-eqb, lt-ltb, le-ltb}
+use borrow.Author.Tests.{eq-eqb, ne-eqb}
 use borrow.Rule.Slice.PartMut.{midOf, putMid}
-use lib.ListN.{length, take, drop, replicate}
-use Rattle.egg.specs.declared.Refusal.{Refusal}
+use lib.ListN.{length, take, drop}
 use Rattle.egg.specs.declared.Made.{Made}
 use Rattle.egg.specs.declared.Counted.{Counted}
-use Rattle.egg.specs.declared.Counted.the-variants.{Count, Refused}
-use Rattle.reading.specs.Build.{numbered}
-use Rattle.lending.specs.Finish.{Built, built, finished, finishedPlaced}
+use Rattle.lending.specs.Finish.{built}
 use Rattle.lending.specs.Lending.{tableNeed, workNeed, lentRight, Ends, refusedMade, madeOf, making}
 use Rattle.lending.proofs.Lending.{part-length, build-back}
-use Rattle.reading.specs.Reading.{Placed, placed, readAll}
-use Rattle.factor.specs.Composed.{composedAt}
 use Rattle.cells.specs.Cells.{halves}
 use Rattle.packed.proofs.Parts.{rest-lent}
 use Rattle.image.specs.Image.{generatorsOf, elementsOf, headNumber}
-use Rattle.image.specs.Read.{reachedAll, allPlaced, imageIn, headPlace, readImage}
+use Rattle.image_rows.specs.Read.{imageIn}
+use Rattle.image.specs.Read.{headPlace, readImage}
 use Rattle.image.proofs.Heads.{right-head}
-
--- Where a reading gave a refusal, too few, or all.
-module _ (room : ℕ) {c : Counted} where
-  pub all-refused : {r : Refusal} → c ≡ Refused r → Refused r ≡ reachedAll room c
-  all-refused e = rw e
-
-  pub all-fewer : {k : ℕ} → c ≡ Count k → k < room → Refused (numbered 16 0 0 0) ≡ reachedAll room c
-  all-fewer e h = rw e (simp (lt-ltb _ _ h))
-
-  pub all-whole : {k : ℕ} → c ≡ Count k → room ≤ k → Count k ≡ reachedAll room c
-  all-whole e h = rw e (simp (le-ltb _ _ h))
-
--- The build: a zeroed table, read into, and finished.
-pub image-in : (size : ℕ) (w rows : List ℕ) (n room : ℕ) {t₀ t : List ℕ} {c d : Counted} {b : Built} → t₀ ≡ replicate size 0
-    → placed c t ≡ readAll (composedAt rows n) n room t₀ → d ≡ reachedAll room c → b ≡ finished d n t w → b ≡ imageIn size w rows n room
-unfolding imageIn
-image-in size w rows n room {t₀} {t} {c} {d} a p r q =
-    let e : placed c t ≡ readAll (composedAt rows n) n room (replicate size 0) = rw a at p in
-    q ∙ ap (λ (x : Counted). finished x n t w) r ∙ ap (λ (x : Placed). finishedPlaced (allPlaced room x) n w) e
 
 -- The place of a bad head.
 module _ (l : List ℕ) {h : ℕ} (qh : h ≡ headNumber l) where

@@ -4,45 +4,15 @@ use Prim.Native.Nat.{ℕ, _+_, _-_, _≤_, _<_}
 use mathlib.Core.Path.{_≡_, sym, _∙_}
 use mathlib.Core.Bool.{true, false}
 use mathlib.Core.List.{List}
-use native.Mathlib.Numerals.{add-one}
-use borrow.Author.Tests.{eq-eqb, ne-eqb, lt-ltb, le-ltb, lt-leb, le-leb}
+use borrow.Author.Tests.{eq-eqb, ne-eqb, lt-leb, le-leb}
 use borrow.Rule.Slice.PartMut.{midOf}
-use lib.ListN.{length, getD, drop, drop-of-length-le}
-use lib.Seq.{drop-cons}
-use Rattle.factor.specs.Composed.{composedAt}
+use lib.ListN.{length}
 use Rattle.cells.specs.Cells.{halves}
 use Rattle.packed.proofs.Parts.{rest-lent}
 use Rattle.image.specs.Image.{generatorsOf, elementsOf, headNumber}
-use Rattle.image.specs.Walked.{lettersBelow, follow, walkNumber}
+use Rattle.image_rows.specs.Walked.{lettersBelow, follow}
+use Rattle.image.specs.Walked.{walkNumber}
 use Rattle.image.proofs.ReadLaws.{whole-image}
-
-module _ (n : ℕ) (w : List ℕ) (i : ℕ) where
-  pub letter-none : length w ≤ i → true ≡ lettersBelow n (drop i w)
-  unfolding lettersBelow
-  letter-none h = rw (drop-of-length-le w h)
-
-  module _ (h : i < length w) {g : ℕ} (q : g ≡ getD w i 0) where
-    pub letter-wrong : n ≤ g → false ≡ lettersBelow n (drop i w)
-    unfolding lettersBelow
-    letter-wrong k = rw (drop-cons w i 0 h, ← q) (simp (le-ltb _ _ k))
-
-    pub letter-right : g < n → lettersBelow n (drop (i + 1) w) ≡ lettersBelow n (drop i w)
-    unfolding lettersBelow
-    letter-right k = rw (add-one, drop-cons w i 0 h, ← q) (simp (lt-ltb _ _ k))
-
-module _ (rows : List ℕ) (n count x : ℕ) (w : List ℕ) (i : ℕ) where
-  pub follow-end : length w ≤ i → x ≡ follow rows n count x (drop i w)
-  unfolding follow
-  follow-end h = rw (drop-of-length-le w h)
-
-  module _ (h : i < length w) {g y : ℕ} (q : g ≡ getD w i 0) (p : y ≡ composedAt rows n x g) where
-    pub follow-wrong : count ≤ y → 65553 ≡ follow rows n count x (drop i w)
-    unfolding follow
-    follow-wrong k = rw (drop-cons w i 0 h, ← q, ← p) (simp (le-leb _ _ k))
-
-    pub follow-on : y < count → follow rows n count y (drop (i + 1) w) ≡ follow rows n count x (drop i w)
-    unfolding follow
-    follow-on k = rw (add-one, drop-cons w i 0 h, ← q, ← p) (simp (lt-leb _ _ k))
 
 module _ (l : List ℕ) (start : ℕ) (word : List ℕ) {h : ℕ} (qh : h ≡ headNumber l) where
   pub walk-head : (h ≡ 0 → ⊥) → 65536 + h ≡ walkNumber l start word

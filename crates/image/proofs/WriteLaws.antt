@@ -6,11 +6,7 @@ use mathlib.Core.List.{List}
 use native.Mathlib.Nat.{mul-le-mul}
 use native.Mathlib.Omega.{arith}
 use Rattle.egg.specs.declared.Refusal.{Refusal}
-use Rattle.egg.specs.declared.GroupElementId.{GroupElementId}
 use Rattle.egg.specs.declared.Verdict.the-variants as verdict
-use Rattle.egg.specs.declared.Reached.{Reached}
-use Rattle.egg.specs.declared.Reached.the-variants as reached
-use Rattle.egg.proofs.Scans.{left-suc}
 use mathlib.Core.Bool.{true, false}
 use borrow.Author.Tests.{lt-ltb, le-ltb}
 use lib.ListN.{length}
@@ -21,41 +17,12 @@ use Rattle.egg.specs.declared.Counted.the-variants.{Count, Refused}
 use Rattle.egg.specs.Table.{stepOf}
 use Rattle.egg.specs.Factor.{fitsIn, stretch}
 use Rattle.egg.proofs.Rooms.{has, few, limited, room-enough}
-use Rattle.image.specs.Written.{stepRead, allKnown, imageSize, writeCount, imageBy, writtenImage, putHalf, putRow, putRows, putHead}
-use Rattle.image.proofs.Bytes.{put-image}
-
-module _ {v w : Reached} (q : v ≡ w) where
-  pub step-refused : {r : Refusal} → v ≡ reached.Refused r → verdict.Refused r ≡ stepRead w
-  step-refused e = rw (← q, e)
-
-  pub step-read : {x : GroupElementId} → v ≡ reached.Element x → verdict.Fine ≡ stepRead w
-  step-read e = rw (← q, e)
+use Rattle.image_rows.specs.Written.{allKnown, imageSize, putRows, putHead}
+use Rattle.image.specs.Written.{writeCount, imageBy, writtenImage}
+use Rattle.image_rows.proofs.Bytes.{put-image}
 
 pub size-small : {n count : ℕ} → n ≤ 8 → count ≤ 65535 → 2 * n * count ≤ 1048560
 size-small {n} h k = let p : 2 * n ≤ 16 = omega arith in omega (arith, mul-le-mul p k)
-
-pub place-small : {n e : ℕ} → n ≤ 255 → e ≤ 65535 → e * n ≤ 16711425
-place-small h k = omega (arith, mul-le-mul k h)
-
-module _ (src : ℕ → ℕ → ℕ) (n e : ℕ) (out : List ℕ) where
-  module _ (g : ℕ) where
-    pub row-next : g < n → {v : ℕ} → v ≡ src e g
-        → putRow (n - (g + 1)) src n e (g + 1) (putHalf out (8 + 2 * (e * n + g)) v) ≡ putRow (n - g) src n e g out
-    unfolding putRow
-    row-next h q = rw (left-suc h, q)
-
-    pub row-end : n ≤ g → out ≡ putRow (n - g) src n e g out
-    unfolding putRow
-    row-end h = let z : n - g ≡ 0 = omega arith in rw z
-
-  module _ (count : ℕ) where
-    pub rows-next : e < count → {l : List ℕ} → l ≡ putRow n src n e 0 out → putRows (count - (e + 1)) src n (e + 1) l ≡ putRows (count - e) src n e out
-    unfolding putRows
-    rows-next h q = rw (left-suc h, q)
-
-    pub rows-end : count ≤ e → out ≡ putRows (count - e) src n e out
-    unfolding putRows
-    rows-end h = let z : count - e ≡ 0 = omega arith in rw z
 
 -- The handle's numbers are small.
 pub fits-small : (len : ℕ) (f : Factor) → fitsIn len f ≡ true → (f .generators ≤ 8) × (f .elements ≤ 65535)

@@ -3,20 +3,19 @@ ghost use mathlib.Core.Path.{_≡_};
 ghost use Prim.Native.Nat.{_*_, _≤_};
 ghost use lib.ListN.{length, getD};
 ghost use Rattle.lending.specs.Lending.{tableNeed, Making};
-ghost use Rattle.image.specs.Written.{imageSize, writeCount, writtenImage};
+ghost use Rattle.image_rows.specs.Written.{imageSize};
+ghost use Rattle.image.specs.Written.{writeCount, writtenImage};
 ghost use Rattle.image.specs.Read.{headPlace, readImage};
 ghost use Rattle.image.specs.Walked.{walkNumber};
 ghost use Rattle.image.specs.Image.{lengthOf, generatorsOf, elementsOf, headNumber, bytesNeed, imageNumber, imageWork, Said};
-use self::inner::taking;
-use self::inner::walking;
-use self::inner::writing;
 use egg::Counted;
 use egg::Factor;
 use egg::GroupElementId;
 use egg::Made;
 use egg::Verdict;
-
-pub mod inner;
+use image_rows::inner::taking;
+use image_rows::inner::walking;
+use image_rows::inner::writing;
 
 // The byte at i, and 0 past the end.
 fn byte(s: &[u8], i: usize) -> u8

@@ -28,7 +28,8 @@ use Rattle.numbering.proofs.Readings.{accepted-read, readable-accepted, refused
 use Rattle.packed.specs.Short.{verdictNumber, numberBy, built}
 use Rattle.agree.proofs.Composed.{fewer, madeNumber, built-is-composed}
 use Rattle.image.specs.Image.{generatorsOf, elementsOf, headNumber, bytesNeed, imageNumber}
-use Rattle.image.specs.Read.{allPlaced, imageIn, headPlace, readImage}
+use Rattle.image_rows.specs.Read.{allPlaced, imageIn}
+use Rattle.image.specs.Read.{headPlace, readImage}
 use Rattle.promises.specs.Composed.{Taken, Given}
 use Rattle.promises.specs.Papers.{madePaper}
 use Rattle.promises.proofs.Built.{checked-holds, taken-checked}

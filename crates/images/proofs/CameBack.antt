@@ -10,9 +10,9 @@ use Rattle.egg.specs.declared.Factor.{Factor}
 use Rattle.egg.specs.Factor.{countedPaper}
 use Rattle.lending.specs.Lending.{lentRight}
 use Rattle.answers.specs.Accepted.{Accepted, factorStep}
-use Rattle.image.specs.Written.{imageSize, imageOf}
+use Rattle.image_rows.specs.Written.{imageSize, imageOf}
 use Rattle.image.specs.Read.{readImage}
-use Rattle.image.proofs.Bytes.{image-length}
+use Rattle.image_rows.proofs.Bytes.{image-length}
 use Rattle.images.specs.Images.{Bytes, CameBack, RoundTrip}
 use Rattle.images.proofs.Heads.{image-bytes}
 use Rattle.images.proofs.Back.{number-exactly}

@@ -22,9 +22,9 @@ use Rattle.answers.specs.Accepted.{factorStep}
 use Rattle.promises.specs.Composed.{Taken, Given}
 use Rattle.promises.proofs.Composed.{begun, composed-exactly, composed-given}
 use Rattle.promises.proofs.Roomier.{composed-roomier}
-use Rattle.image.specs.Written.{rowsOf, imageOf}
+use Rattle.image_rows.specs.Written.{rowsOf, imageOf}
 use Rattle.image.specs.Read.{readImage}
-use Rattle.image.proofs.Bytes.{rows-length}
+use Rattle.image_rows.proofs.Bytes.{rows-length}
 use Rattle.images.proofs.Spelling.{rows-entry}
 use Rattle.images.proofs.Heads.{image-bytes}
 use Rattle.images.proofs.Back.{group-composed}

@@ -27,7 +27,8 @@ use Rattle.answers.specs.Accepted.{factorStep, reach}
 use Rattle.answers.proofs.Handles.{compose-answer}
 use Rattle.image.specs.Image.{generatorsOf, elementsOf, headNumber, bytesNeed, imageNumber}
 use Rattle.image.specs.Read.{readImage}
-use Rattle.image.specs.Walked.{lettersBelow, follow, walkNumber}
+use Rattle.image_rows.specs.Walked.{lettersBelow, follow}
+use Rattle.image.specs.Walked.{walkNumber}
 use Rattle.images.specs.Images.{Bytes, imageStep, WellFormed, GroupImage}
 use Rattle.images.proofs.Heads.{formed-head}
 use Rattle.images.proofs.Back.{number-exactly, read-given}

@@ -25,7 +25,8 @@ use Rattle.meaning.proofs.Lengths.{checks-work}
 use Rattle.promises.proofs.Lent.{refused-making}
 use Rattle.promises.proofs.ReadLengths.{read-length}
 use Rattle.image.specs.Image.{generatorsOf, elementsOf}
-use Rattle.image.specs.Read.{allPlaced, imageIn, readImage}
+use Rattle.image_rows.specs.Read.{allPlaced, imageIn}
+use Rattle.image.specs.Read.{readImage}
 use Rattle.images.specs.Images.{Bytes, WellFormed}
 use Rattle.images.proofs.Back.{lent-read, all-listed}
 

@@ -31,8 +31,10 @@ use Rattle.group.specs.Questions as group
 use Rattle.cells.specs.Cells as cells
 use Rattle.packed.specs.Short.{built}
 use Rattle.image.specs.Image.{headNumber, imageNumber}
-use Rattle.image.specs.Written.{rowOf, rowsOf, spelled, imageOf, knownRow, allKnown, writeCount, writtenImage}
-use Rattle.image.specs.Read.{imageIn, readImage}
+use Rattle.image_rows.specs.Written.{rowOf, rowsOf, spelled, imageOf, knownRow, allKnown}
+use Rattle.image.specs.Written.{writeCount, writtenImage}
+use Rattle.image_rows.specs.Read.{imageIn}
+use Rattle.image.specs.Read.{readImage}
 use Rattle.known.specs.Cases.{KnownCases}
 
 pub known-cases : KnownCases

@@ -14,10 +14,10 @@ use Rattle.theory.specs.Words.{walk}
 use Rattle.refusals.specs.Papers.{paperOf, paper}
 use Rattle.group.specs.Questions as group
 use Rattle.image.specs.Image.{imageNumber}
-use Rattle.image.specs.Written.{rowsOf, writtenImage}
+use Rattle.image_rows.specs.Written.{rowsOf}
+use Rattle.image.specs.Written.{writtenImage}
 use Rattle.image.specs.Read.{readImage}
-use Rattle.known.specs.Tables.{square, s3, z2, z3, twisted, repeated, crossed, z2-image, none-image, rows, orders, madeBy, tableBy, element, factorOf, acceptedAs, answer}
-use Rattle.known.specs.Tables.{inversesOf, both, S3, S3-Z2}
+use Rattle.known.specs.Tables.{square, s3, z2, z3, twisted, repeated, crossed, z2-image, none-image, rows, orders, madeBy, tableBy, element, factorOf, acceptedAs, answer, inversesOf, both, S3, S3-Z2}
 
 pub record KnownCases : Type 0 where
   -- "orders [2]: rows 1 2 / 0 3 / 3 0 / 2 1."

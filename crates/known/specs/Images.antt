@@ -11,7 +11,8 @@ use Rattle.lending.specs.Lending.{refusedMade, making}
 use Rattle.factor.specs.Composed.{composedAt, composed}
 use Rattle.refusals.specs.Papers.{paper}
 use Rattle.image.specs.Image.{imageNumber}
-use Rattle.image.specs.Written.{imageOf, writeCount, writtenImage}
+use Rattle.image_rows.specs.Written.{imageOf}
+use Rattle.image.specs.Written.{writeCount, writtenImage}
 use Rattle.image.specs.Read.{readImage}
 use Rattle.image.specs.Walked.{walkNumber}
 use Rattle.known.specs.Tables.{twisted, repeated, crossed, z2-image, none-image, tableBy, answer}

@@ -1,0 +1,4 @@
+pub mod ReadLaws
+pub mod WalkLaws
+pub mod WriteLaws
+pub mod Bytes
