@@ -17,20 +17,12 @@ fn rows_within(s: &[u32], n: u8, count: u32) -> bool
     (count as usize) * egg::inner::width(n) <= s.len()
 }
 
-// What stands at a place that is known to be there, with no test.
-fn read(s: &[u32], i: usize) -> u32
-    requires { ⌜ i < length (now s) ⌝ }
-    ensures { λ r. ⌜ r ≡ getD (now (s .entry)) i 0 ⌝ }
-{
-    s[i]
-}
-
 // One of the four numbers behind the steps of a row: parent, last letter, length, inverse.
 fn recorded(s: &[u32], n: u8, count: u32, e: GroupElementId, k: usize) -> u32
     requires { ⌜ (count * (2 * n + 4) ≤ length (now s)) × ((e .0 < count) × (k < 4)) ⌝ }
     ensures { λ r. ⌜ r ≡ getD (now (s .entry)) (startOf n (e .0) + 2 * n + k) 0 ⌝ }
 {
-    read(s, egg::inner::start(n, e) + 2 * (n as usize) + k)
+    egg::inner::read(s, egg::inner::start(n, e) + 2 * (n as usize) + k)
 }
 
 // The step back from the element that is stored as y, one more than its number: the next row need not wait for the 1 to be
@@ -40,7 +32,7 @@ fn stored_back(s: &[u32], n: u8, count: u32, y: u32, letter: u32) -> u32
     ensures { λ r. ⌜ r ≡ getD (now (s .entry)) (startOf n (y - 1) + n + letter) 0 ⌝ }
 {
     let behind = (n as usize) + 4 - (letter as usize);
-    read(s, egg::inner::start(n, GroupElementId(y)) - behind)
+    egg::inner::read(s, egg::inner::start(n, GroupElementId(y)) - behind)
 }
 
 // From an element back along a word, with one test for each number that is read; the count where one is out of range.

@@ -30,6 +30,14 @@ pub fn get(s: &[u32], i: usize) -> u32
     if i < s.len() { s[i] } else { 0 }
 }
 
+// What stands at a place that is known to be there, with no test.
+pub fn read(s: &[u32], i: usize) -> u32
+    requires { ⌜ i < length (now s) ⌝ }
+    ensures { λ r. ⌜ r ≡ getD (now (s .entry)) i 0 ⌝ }
+{
+    s[i]
+}
+
 // Stores v at i; nothing past the end, and nothing where v has more than 32 bits.
 pub fn put(s: &mut [u32], i: usize, v: usize)
     ensures { λ r. ⌜ now (s .exit) ≡ putAt (now (s .entry)) i v ⌝ }

@@ -7,7 +7,7 @@ use Rattle.compose.proofs.inner.recorded.Tie as tie
 use Rattle.compose.proofs.inner.recorded.Reads as reads
 use Rattle.compose.proofs.inner.recorded.Lts as lts
 use Rattle.egg.proofs.inner.start.Reads as start-reads
-use Rattle.compose.proofs.inner.read.Reads as read-reads
+use Rattle.egg.proofs.inner.read.Reads as read-reads
 
 start-requires : tie.Need-start-requires
 start-requires c κs = search needs

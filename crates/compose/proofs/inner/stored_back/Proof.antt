@@ -7,7 +7,7 @@ use Rattle.compose.proofs.inner.stored_back.Tie as tie
 use Rattle.compose.proofs.inner.stored_back.Reads as reads
 use Rattle.compose.proofs.inner.stored_back.Lts as lts
 use Rattle.egg.proofs.inner.start.Reads as start-reads
-use Rattle.compose.proofs.inner.read.Reads as read-reads
+use Rattle.egg.proofs.inner.read.Reads as read-reads
 
 add-behind : tie.Need-add-behind
 add-behind c = search needs
