@@ -10,8 +10,8 @@ use Rattle.egg.specs.declared.Factor.{Factor}
 use Rattle.egg.specs.Factor.{fitsIn}
 use Rattle.egg.specs.Table.{putAt}
 use Rattle.bridge.specs.Bridge.{madeInto}
-use Rattle.subgroup.specs.declared.Subgrouped.{Subgrouped}
-use Rattle.subgroup.specs.Lent.{Subgrouping, subgrouping}
+use Rattle.generated.specs.declared.Subgrouped.{Subgrouped}
+use Rattle.generated.specs.Lent.{Subgrouping, subgrouping}
 use Rattle.subgroup.specs.declared.inner.Outline.{Outline}
 use Rattle.subgroup.specs.Sides.{fewFactors}
 use Rattle.subgroup.specs.Outline.{outlineOf, outlineBy, fewOf}

@@ -6,11 +6,11 @@ use lib.ListN.{getD}
 use Rattle.egg.specs.Table.{putAt}
 use Rattle.bridge.specs.Bridge.{refusalCode, madeInto}
 use Rattle.bridge_group.specs.Product.{byteOf, handleAt, productAt}
-use Rattle.subgroup.specs.declared.Subgroup.{Subgroup}
-use Rattle.subgroup.specs.declared.Subgrouped.{Subgrouped}
+use Rattle.generated.specs.declared.Subgroup.{Subgroup}
+use Rattle.generated.specs.declared.Subgrouped.{Subgrouped}
 use Rattle.subgroup.specs.declared.Within.{Within}
 use Rattle.subgroup.specs.declared.Within.the-variants as within
-use Rattle.subgroup.specs.Lent.{Subgrouping, subgrouping}
+use Rattle.generated.specs.Lent.{Subgrouping, subgrouping}
 
 -- The handle of its factor in the first five; the counts of the three products, which are below, over and above, in the next three; and the handles of each,
 -- 40 numbers a product.

@@ -8,7 +8,7 @@ ghost use Rattle.bridge.specs.Bridge.{reachedCode, paperInto};
 ghost use Rattle.bridge_group.specs.Product.{byteOf, productOf, productAt};
 ghost use Rattle.handles.specs.Handles.{handles, seen};
 ghost use Rattle.subgroup.specs.Outline.{outlineOf, Measured};
-ghost use Rattle.subgroup.specs.Generated.{fromGenerators};
+ghost use Rattle.generated.specs.Generated.{fromGenerators};
 ghost use Rattle.predicate.specs.Predicate.{fromPredicate};
 ghost use Rattle.subgroup.specs.Sides.{leftProduct, rightProduct};
 ghost use Rattle.subgroup.specs.Questions.{toOverAnswer, toSubAnswer, generatorAnswer};
@@ -16,9 +16,9 @@ ghost use Rattle.bridge_subgroup.specs.Subgroup.{subgroupFrom, withinCod
 use egg::GeneratorId;
 use egg::GroupElementId;
 use egg::Made;
+use generated::Subgroup;
+use generated::Subgrouped;
 use handles::inner::Seen;
-use subgroup::Subgroup;
-use subgroup::Subgrouped;
 use subgroup::Within;
 use subgroup::inner::Outline;
 

@@ -30,13 +30,13 @@ use Rattle.handles.specs.Handles.{handles, elementsOf, allFit}
 use Rattle.digits.specs.Digits.{composes}
 use Rattle.appearance.specs.Renumber as appear
 use Rattle.appearance.specs.Build.{Renumbering, renumbering, renumberIn}
-use Rattle.subgroup.specs.declared.Subgrouped.{Subgrouped}
+use Rattle.generated.specs.declared.Subgrouped.{Subgrouped}
 use Rattle.predicate.specs.declared.inner.Picks.{Picks}
-use Rattle.subgroup.specs.Lent.{subgroupOf, subgrouping, mapsRight, mapsBack}
-use Rattle.subgroup.specs.Generated.{smallEnough}
+use Rattle.generated.specs.Lent.{subgroupOf, subgrouping, mapsRight, mapsBack}
+use Rattle.generated.specs.Generated.{smallEnough}
 use Rattle.predicate.specs.Predicate.{Picked, picked, ninth, isNew, chooses, againIn, predicateIn, Eight, pickedOf, ninthOf, admitsOver, toldBack, toldInto}
-use Rattle.subgroup.proofs.Admits.{maps-inn, maps-outw}
-use Rattle.subgroup.proofs.Lendings.{maps-back}
+use Rattle.generated.proofs.Admits.{maps-inn, maps-outw}
+use Rattle.generated.proofs.Lendings.{maps-back}
 
 module _ (inn : List ℕ) (byte : ℕ → ℕ) (x : ℕ) {v : ℕ} (q : v ≡ getD inn x 0) where
   pub new-known : ¬ (v ≡ appear.none) → false ≡ isNew inn byte x

@@ -23,8 +23,8 @@ use Rattle.digits.specs.Digits.{composes}
 use Rattle.appearance.specs.Renumber as appear
 use Rattle.appearance.specs.Build.{Renumbering, renumbering, renumberIn}
 use Rattle.predicate.specs.declared.inner.Picks.{Picks}
-use Rattle.subgroup.specs.Lent.{subgroupOf, Subgrouping, subgrouping, mapsRight, mapsBack}
-use Rattle.subgroup.specs.Generated.{smallEnough, ifSubgrouping}
+use Rattle.generated.specs.Lent.{subgroupOf, Subgrouping, subgrouping, mapsRight, mapsBack}
+use Rattle.generated.specs.Generated.{smallEnough, ifSubgrouping}
 
 -- The generators that were chosen, and the last build.
 pub data Picked : Type 0 where

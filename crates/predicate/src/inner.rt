@@ -7,14 +7,15 @@ ghost use Rattle.lending.specs.Finish.{Built};
 ghost use Rattle.handles.specs.Handles.{handles, elementsOf, allFit};
 ghost use Rattle.digits.specs.Digits.{composes};
 ghost use Rattle.appearance.specs.Build.{Renumbering};
-ghost use Rattle.subgroup.specs.Lent.{Subgrouping, mapsRight};
+ghost use Rattle.generated.specs.Lent.{Subgrouping, mapsRight};
 ghost use Rattle.predicate.specs.Predicate.{isNew, Eight, ninthOf, chooses, againIn, predicateIn, pickedOf, admitsOver, toldInto};
 use egg::Counted;
 use egg::GroupElementId;
 use egg::Refusal;
 use egg::Verdict;
+use generated::Subgrouped;
+use group::Group;
 use handles::Group;
-use subgroup::Subgrouped;
 
 // The elements that a predicate has chosen so far, the first `generators` of eight, and how their build ended.
 pub struct Picks {
@@ -30,7 +31,7 @@ pub fn admit_over(from: &[u32], over: Group) -> Verdict
     if !handles::inner::all_fit(from, over) {
         return egg::inner::refused(17, 0, 0, 0);
     }
-    if !subgroup::inner::small_enough(over) {
+    if !generated::inner::small_enough(over) {
         return egg::inner::refused(15, 0, 0, 0);
     }
     Verdict::Fine
@@ -105,7 +106,7 @@ fn choose(
     let mut chosen = p.chosen;
     chosen[k] = new;
     let n = k + 1;
-    let made = subgroup::inner::generated_in(
+    let made = generated::inner::generated_in(
         t,
         w,
         inn,
@@ -175,7 +176,17 @@ fn told_in(
 {
     let chosen = [0u32; 8];
     let none: usize = 0;
-    let made = subgroup::inner::generated_in(t, w, inn, outw, from, over, &chosen[..none], 0, room);
+    let made = generated::inner::generated_in(
+        t,
+        w,
+        inn,
+        outw,
+        from,
+        over,
+        &chosen[..none],
+        0,
+        room,
+    );
     let p = Picks {
         chosen,
         generators: 0,
@@ -234,7 +245,7 @@ fn told_at(
         room,
     );
     let made = p.made;
-    subgroup::inner::subgroup_of(over, lending::inner::made(start, room, p.generators, made))
+    generated::inner::subgroup_of(over, lending::inner::made(start, room, p.generators, made))
 }
 
 // 4; then the builds.
@@ -253,7 +264,7 @@ pub fn told_into(
     ensures { λ r. ⌜ Subgrouping.subgrouping r (now (table .exit)) (now (work .exit)) (now (inn .exit)) (now (outw .exit)) ≡ toldInto (now (from .entry)) over (now (members .entry)) (now (table .entry)) start (now (work .entry)) (now (inn .entry)) (now (outw .entry)) room ⌝ }
 {
     let m = handles::inner::elements_of(over);
-    if !subgroup::inner::maps_right(
+    if !generated::inner::maps_right(
         table.len(),
         start,
         work.len(),
@@ -263,10 +274,10 @@ pub fn told_into(
         8,
         m,
     ) {
-        return subgroup::inner::subgroup_of(over, lending::inner::refused_made(4, 0));
+        return generated::inner::subgroup_of(over, lending::inner::refused_made(4, 0));
     }
     if (members.len() as u64) < m {
-        return subgroup::inner::subgroup_of(over, lending::inner::refused_made(4, 0));
+        return generated::inner::subgroup_of(over, lending::inner::refused_made(4, 0));
     }
     told_at(from, over, members, table, start, work, inn, outw, room)
 }

@@ -1,10 +1,11 @@
 // subgroup_action.rs, `from_subgroup_predicate`: the subgroup that a predicate tells, a lent byte for each element of the overgroup.
 ghost use mathlib.Core.Path.{_≡_};
-ghost use Rattle.subgroup.specs.Lent.{Subgrouping};
+ghost use Rattle.generated.specs.Lent.{Subgrouping};
 ghost use Rattle.predicate.specs.Predicate.{fromPredicate};
 use egg::Verdict;
+use generated::Subgrouped;
+use group::Group;
 use handles::Group;
-use subgroup::Subgrouped;
 
 pub mod inner;
 
@@ -23,7 +24,7 @@ pub fn from_predicate(
     ensures { λ r. ⌜ Subgrouping.subgrouping r (now (table .exit)) (now (work .exit)) (now (inn .exit)) (now (outw .exit)) ≡ fromPredicate (now (from .entry)) over (now (members .entry)) (now (table .entry)) start (now (work .entry)) (now (inn .entry)) (now (outw .entry)) room ⌝ }
 {
     match inner::admit_over(from, over) {
-        Verdict::Refused(why) => subgroup::inner::refused_subgroup(over, why),
+        Verdict::Refused(why) => generated::inner::refused_subgroup(over, why),
         Verdict::Fine => inner::told_into(from, over, members, table, start, work, inn, outw, room),
     }
 }

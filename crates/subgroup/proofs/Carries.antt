@@ -13,7 +13,7 @@ use Rattle.products.proofs.RadixLaws.{range-pos, high-small}
 use Rattle.handles.specs.Handles.{handles, elementsOf, capped}
 use Rattle.handles.proofs.Caps.{cap-small}
 use Rattle.appearance.specs.Renumber.{none}
-use Rattle.subgroup.specs.declared.Subgroup.{Subgroup}
+use Rattle.generated.specs.declared.Subgroup.{Subgroup}
 use Rattle.subgroup.specs.declared.Within.the-variants as within
 use Rattle.subgroup.specs.Indices.{factorIndices, unfactorIndices, withWithin}
 use Rattle.subgroup.specs.Sides.{overSide, subSide}

@@ -8,7 +8,7 @@ use native.Mathlib.Omega.{arith}
 use Rattle.egg.specs.declared.Factor.{Factor}
 use Rattle.handles.specs.Handles.{handles, elementsOf, capped}
 use Rattle.handles.proofs.Caps.{cap-small, cap-large, cap-times, capped-bound}
-use Rattle.subgroup.specs.declared.Subgroup.{Subgroup}
+use Rattle.generated.specs.declared.Subgroup.{Subgroup}
 use Rattle.subgroup.specs.Sides.{overSide, subSide}
 
 pub elements-append : (xs ys : List Factor) → elementsOf (xs ++ ys) ≡ elementsOf xs * elementsOf ys

@@ -23,7 +23,7 @@ use Rattle.digits.specs.Digits.{stepIn}
 use Rattle.handles.proofs.Caps.{cap-small}
 use Rattle.handles.proofs.Lists.{positive}
 use Rattle.digits.proofs.Walks.{Below, element, refusal, below-element, step-below, steps-below}
-use Rattle.subgroup.specs.declared.Subgroup.{Subgroup}
+use Rattle.generated.specs.declared.Subgroup.{Subgroup}
 use Rattle.subgroup.specs.Sides.{overSide, subSide, sidesFit, sidesLimited}
 use Rattle.subgroup.specs.Questions.{strideOf, carriedOver, scaled, sideGenerator}
 use Rattle.subgroup.proofs.Counts.{sub-count}

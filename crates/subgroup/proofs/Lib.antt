@@ -1,9 +1,6 @@
-pub mod Admits
-pub mod Lendings
 pub mod Counts
 pub mod IndexLaws
 pub mod SideLaws
 pub mod Carries
 pub mod Outlines
 pub mod Generators
-pub mod OneFactor

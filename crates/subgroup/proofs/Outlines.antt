@@ -20,7 +20,7 @@ use Rattle.handles.specs.declared.inner.Seen.{Seen}
 use Rattle.handles.specs.Handles.{handles, elementsOf, capped, seen}
 use Rattle.handles.proofs.Lists.{listed-few}
 use Rattle.handles.proofs.Caps.{cap-small, cap-within, capped-bound}
-use Rattle.subgroup.specs.declared.Subgroup.{Subgroup}
+use Rattle.generated.specs.declared.Subgroup.{Subgroup}
 use Rattle.subgroup.specs.declared.Within.{Within}
 use Rattle.subgroup.specs.declared.inner.Outline.{Outline}
 use Rattle.subgroup.specs.Sides.{overSide, subSide, fewFactors, sidesLimited, admitsSides}

@@ -20,8 +20,8 @@ use Rattle.handles.specs.Handles.{handles, elementsOf, allFit, capped}
 use Rattle.handles.proofs.Caps.{cap-beyond, cap-within}
 use Rattle.handles.proofs.Joins.{fit-both}
 use Rattle.handles.proofs.Sums.{both-length}
-use Rattle.subgroup.specs.declared.Subgroup.{Subgroup}
-use Rattle.subgroup.specs.declared.Subgrouped.{Subgrouped}
+use Rattle.generated.specs.declared.Subgroup.{Subgroup}
+use Rattle.generated.specs.declared.Subgrouped.{Subgrouped}
 use Rattle.subgroup.specs.declared.Within.{Within}
 use Rattle.subgroup.specs.declared.Within.the-variants as within
 use Rattle.subgroup.specs.Sides.{overSide, subSide, sidesFit, fewFactors, sidesLimited, admitsSides, leftOf, rightOf, refusedSubgroup, ifLimited, joinable, multiplied, leftProduct, rightProduct}

@@ -1,5 +1,3 @@
-pub mod Lent
-pub mod Generated
 pub mod Indices
 pub mod Sides
 pub mod Questions

@@ -13,7 +13,7 @@ use Rattle.egg.specs.Scan.{refusedOf}
 use Rattle.factor.specs.Questions.{ifReach}
 use Rattle.handles.specs.declared.inner.Seen.{Seen}
 use Rattle.handles.specs.Handles.{handles, elementsOf, capped}
-use Rattle.subgroup.specs.declared.Subgroup.{Subgroup}
+use Rattle.generated.specs.declared.Subgroup.{Subgroup}
 use Rattle.subgroup.specs.declared.Within.{Within}
 use Rattle.subgroup.specs.declared.inner.Outline.{Outline}
 use Rattle.subgroup.specs.Sides.{sidesFit, fewFactors}

@@ -17,7 +17,7 @@ use Rattle.walks.specs.Walks.{onReached}
 use Rattle.handles.specs.Handles.{handles, elementsOf, generatorsOf, capped}
 use Rattle.digits.specs.Digits.{stepIn}
 use Rattle.appearance.specs.Renumber.{none}
-use Rattle.subgroup.specs.declared.Subgroup.{Subgroup}
+use Rattle.generated.specs.declared.Subgroup.{Subgroup}
 use Rattle.subgroup.specs.declared.Within.{Within}
 use Rattle.subgroup.specs.declared.Within.the-variants as within
 use Rattle.subgroup.specs.Indices.{overOf, subOf}

@@ -14,8 +14,8 @@ use Rattle.egg.specs.Factor.{fitsIn}
 use Rattle.lending.specs.Lending.{noFactor}
 use Rattle.handles.specs.declared.Group.{Group}
 use Rattle.handles.specs.Handles.{handles, elementsOf, allFit, groupOf}
-use Rattle.subgroup.specs.declared.Subgroup.{Subgroup}
-use Rattle.subgroup.specs.declared.Subgrouped.{Subgrouped}
+use Rattle.generated.specs.declared.Subgroup.{Subgroup}
+use Rattle.generated.specs.declared.Subgrouped.{Subgrouped}
 
 -- The factors of the overgroup, and those of the subgroup, the fastest digit first.
 abbrev pub overSide : Subgroup → List Factor

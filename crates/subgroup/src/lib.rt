@@ -1,35 +1,22 @@
 // subgroup_action.rs without its actions: subgroups of a product, numbered in order of first appearance, with two lent maps between them and the overgroup.
 // Every call checks, in this order: 17 for each handle, 14 for its arguments, 15, 1, 4, and then 17 in what it reads.
 ghost use mathlib.Core.Path.{_≡_};
-ghost use Rattle.subgroup.specs.Lent.{Subgrouping};
-ghost use Rattle.subgroup.specs.Generated.{fromGenerators};
+ghost use Rattle.generated.specs.Lent.{Subgrouping};
+ghost use Rattle.generated.specs.Generated.{fromGenerators};
 ghost use Rattle.subgroup.specs.Sides.{leftProduct, rightProduct};
 ghost use Rattle.subgroup.specs.Questions.{toOverAnswer, toSubAnswer, generatorAnswer};
 ghost use lib.ListN.{length};
-use egg::Factor;
 use egg::GeneratorId;
 use egg::GroupElementId;
 use egg::Reached;
 use egg::Refusal;
 use egg::Verdict;
+use generated::Subgroup;
+use generated::Subgrouped;
+use group::Group;
 use handles::Group;
 
 pub mod inner;
-
-// A subgroup of the product `over`, with other factors multiplied on at either side: the overgroup is below · over · above, and the subgroup is below · factor · above,
-// the fastest digit first. The handles of the overgroup stand in one lent buffer, the factor in the one that it was built in.
-pub struct Subgroup {
-    pub below: Group,
-    pub factor: Factor,
-    pub over: Group,
-    pub above: Group,
-}
-
-// What a call that makes a subgroup answers; the subgroup stands beside the verdict, and its factor fits no buffer where it was refused.
-pub struct Subgrouped {
-    pub answer: Verdict,
-    pub subgroup: Subgroup,
-}
 
 // What an element of the overgroup is in the subgroup.
 pub enum Within {
@@ -53,9 +40,9 @@ pub fn from_generators(
 ) -> Subgrouped
     ensures { λ r. ⌜ Subgrouping.subgrouping r (now (table .exit)) (now (work .exit)) (now (inn .exit)) (now (outw .exit)) ≡ fromGenerators (now (from .entry)) over (now (gens .entry)) (now (table .entry)) start (now (work .entry)) (now (inn .entry)) (now (outw .entry)) room ⌝ }
 {
-    match inner::admit_generators(from, over, gens) {
-        Verdict::Refused(why) => inner::refused_subgroup(over, why),
-        Verdict::Fine => inner::generated_into(
+    match generated::inner::admit_generators(from, over, gens) {
+        Verdict::Refused(why) => generated::inner::refused_subgroup(over, why),
+        Verdict::Fine => generated::inner::generated_into(
             from,
             over,
             gens,

@@ -22,9 +22,9 @@ use Rattle.renumbering.specs.Maps.{Filled}
 use Rattle.renumbering.proofs.Order.{appearing}
 use Rattle.renumbering.proofs.Partial.{total, total-answering, partial-build}
 use Rattle.renumbering.proofs.Builds.{builtOf, renumber-built, renumber-filled, refused-maps}
-use Rattle.subgroup.specs.declared.Subgroup.{Subgroup}
-use Rattle.subgroup.specs.Lent.{subgrouping, mapsBack}
-use Rattle.subgroup.specs.Generated.{productOf, fromGenerators}
+use Rattle.generated.specs.declared.Subgroup.{Subgroup}
+use Rattle.generated.specs.Lent.{subgrouping, mapsBack}
+use Rattle.generated.specs.Generated.{productOf, fromGenerators}
 use Rattle.subgroups.specs.Generates.{Started}
 use Rattle.subgroups.specs.Altered.{stepsRead, MapsAfter, filled, zeros, BySteps, Stopped, Regardless}
 use Rattle.subgroups.proofs.Called as called

@@ -15,8 +15,8 @@ use Rattle.handles.specs.Handles.{limited}
 use Rattle.digits.specs.Digits.{digitwise}
 use Rattle.appearance.specs.Renumber.{mapPlace, mapRow, mapRows}
 use Rattle.appearance.specs.Build.{renumberIn}
-use Rattle.subgroup.specs.Lent.{mapsRight}
-use Rattle.subgroup.specs.Generated.{entriesRight, smallEnough, admitsGenerators, generatedInto, fromGenerators}
+use Rattle.generated.specs.Lent.{mapsRight}
+use Rattle.generated.specs.Generated.{entriesRight, smallEnough, admitsGenerators, generatedInto, fromGenerators}
 use Rattle.predicate.specs.Predicate.{chooses, admitsOver, toldInto, fromPredicate}
 use Rattle.subgroups.specs.AlteredCases.{AlteredCases}
 

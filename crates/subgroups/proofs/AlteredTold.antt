@@ -25,9 +25,9 @@ use Rattle.appearance.specs.Build.{Renumbering, renumbering, renumberIn}
 use Rattle.renumbering.proofs.Order.{appearing}
 use Rattle.renumbering.proofs.Partial.{total, total-answering, partial-build}
 use Rattle.renumbering.proofs.Builds.{builtOf, renumber-built}
-use Rattle.subgroup.specs.declared.Subgroup.{Subgroup}
-use Rattle.subgroup.specs.Lent.{subgrouping}
-use Rattle.subgroup.specs.Generated.{productOf}
+use Rattle.generated.specs.declared.Subgroup.{Subgroup}
+use Rattle.generated.specs.Lent.{subgrouping}
+use Rattle.generated.specs.Generated.{productOf}
 use Rattle.predicate.specs.Predicate.{Picked, picked, isNew, chooses, againIn, predicateIn, fromPredicate}
 use Rattle.predicate.specs.Predicate as predicate
 use Rattle.subgroups.specs.Tells.{Predicated}

@@ -22,8 +22,8 @@ use Rattle.walks.specs.Walks as walks
 use Rattle.words.specs.Words as words
 use Rattle.appearance.specs.Renumber.{none, mapPlace, mapRow, mapRows}
 use Rattle.appearance.specs.Build.{renumberIn}
-use Rattle.subgroup.specs.Lent.{subgrouping, mapsRight}
-use Rattle.subgroup.specs.Generated.{entriesRight, smallEnough, admitsGenerators, generatedInto, fromGenerators}
+use Rattle.generated.specs.Lent.{subgrouping, mapsRight}
+use Rattle.generated.specs.Generated.{entriesRight, smallEnough, admitsGenerators, generatedInto, fromGenerators}
 
 -- Its rows: successor and predecessor plus 1, parent, last generator, length of the word, inverse.
 abbrev rows : List ℕ

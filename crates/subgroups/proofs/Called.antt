@@ -44,11 +44,11 @@ use Rattle.renumbering.specs.Subgroup.{rightBy}
 use Rattle.renumbering.proofs.Subgroups.{right-inside, generator-outside}
 use Rattle.renumbering.proofs.Builds.{renumber-holds}
 use Rattle.renumbering.proofs.SubgroupBuilds.{subgroup-exactly}
-use Rattle.subgroup.specs.declared.Subgroup.{Subgroup}
-use Rattle.subgroup.specs.declared.Subgrouped.{Subgrouped}
-use Rattle.subgroup.specs.Lent.{shown, subgroupOf, Subgrouping, subgrouping, mapsRight, mapsBack}
-use Rattle.subgroup.specs.Generated.{productOf, entryRight, entriesRight, smallEnough, admitsGenerators, generatedInto, fromGenerators}
-use Rattle.subgroup.proofs.Admits.{generators-fine, admitted, small-elements, maps-lent, maps-inn, maps-outw}
+use Rattle.generated.specs.declared.Subgroup.{Subgroup}
+use Rattle.generated.specs.declared.Subgrouped.{Subgrouped}
+use Rattle.generated.specs.Lent.{shown, subgroupOf, Subgrouping, subgrouping, mapsRight, mapsBack}
+use Rattle.generated.specs.Generated.{productOf, entryRight, entriesRight, smallEnough, admitsGenerators, generatedInto, fromGenerators}
+use Rattle.generated.proofs.Admits.{generators-fine, admitted, small-elements, maps-lent, maps-inn, maps-outw}
 use Rattle.subgroups.specs.Carried.{Carried, Homomorphic}
 use Rattle.subgroups.specs.Made.{SubgroupMade}
 use Rattle.subgroups.specs.Generates.{Started, Generates, Acceptable}

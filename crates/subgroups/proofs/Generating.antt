@@ -13,7 +13,7 @@ use Rattle.answers.proofs.Steps.{read-step}
 use Rattle.handles.specs.declared.Group.{Group}
 use Rattle.handles.specs.Handles.{handles, elementsOf, generatorsOf, groupOf, capped}
 use Rattle.handles.proofs.Caps.{cap-small}
-use Rattle.subgroup.specs.declared.Subgroup.{Subgroup}
+use Rattle.generated.specs.declared.Subgroup.{Subgroup}
 use Rattle.subgroup.specs.Indices.{overOf}
 use Rattle.subgroup.specs.Sides.{subSide, admitsSides}
 use Rattle.subgroup.specs.Questions.{carriedOver, scaled, sideGenerator, generatorAnswer}

@@ -38,10 +38,10 @@ use Rattle.renumbering.specs.Orbit.{Inside, numberedStep, Appearing}
 use Rattle.renumbering.proofs.Partial.{total, total-answering}
 use Rattle.renumbering.proofs.Numberings.{refused-5-or-6}
 use Rattle.renumbering.proofs.Builds.{builtOf}
-use Rattle.subgroup.specs.declared.Subgroup.{Subgroup}
-use Rattle.subgroup.specs.Lent.{shown, subgrouping, mapsRight}
-use Rattle.subgroup.specs.Generated.{productOf, entryRight, entriesRight, smallEnough, admitsGenerators, fromGenerators}
-use Rattle.subgroup.proofs.Admits.{generators-fine, admitted}
+use Rattle.generated.specs.declared.Subgroup.{Subgroup}
+use Rattle.generated.specs.Lent.{shown, subgrouping, mapsRight}
+use Rattle.generated.specs.Generated.{productOf, entryRight, entriesRight, smallEnough, admitsGenerators, fromGenerators}
+use Rattle.generated.proofs.Admits.{generators-fine, admitted}
 use Rattle.predicate.specs.Predicate.{admitsOver, fromPredicate}
 use Rattle.predicate.proofs.Choices.{over-fine, over-admitted}
 use Rattle.subgroups.specs.Generates.{Started}

@@ -34,10 +34,10 @@ use Rattle.handles.specs.Handles.{handles, elementsOf}
 use Rattle.appearance.specs.Renumber.{none, Mapped, mapped, thenMapped, onNew, mapPlace, mapFrom, mapRow, mapRows, mapAll}
 use Rattle.appearance.specs.Build.{renumbering, finishedMapped, renumberIn}
 use Rattle.renumbering.proofs.Builds.{builtOf, settled-built, refused-maps}
-use Rattle.subgroup.specs.declared.Subgroup.{Subgroup}
-use Rattle.subgroup.specs.Lent.{subgrouping, mapsRight}
-use Rattle.subgroup.specs.Generated.{productOf, fromGenerators}
-use Rattle.subgroup.proofs.Admits.{maps-lent, maps-inn, maps-outw}
+use Rattle.generated.specs.declared.Subgroup.{Subgroup}
+use Rattle.generated.specs.Lent.{subgrouping, mapsRight}
+use Rattle.generated.specs.Generated.{productOf, fromGenerators}
+use Rattle.generated.proofs.Admits.{maps-lent, maps-inn, maps-outw}
 use Rattle.subgroups.specs.Generates.{Started}
 use Rattle.subgroups.specs.Leaves.{mapsFor}
 use Rattle.subgroups.proofs.Called.{is-build, back-refused, work-long}

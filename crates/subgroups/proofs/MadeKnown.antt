@@ -13,9 +13,9 @@ use Rattle.egg.specs.declared.Factor.{Factor}
 use Rattle.handles.specs.declared.Group.{Group}
 use Rattle.handles.specs.Handles.{handles, elementsOf, groupOf}
 use Rattle.handles.proofs.Admitted.{few-factors}
-use Rattle.subgroup.specs.declared.Subgroup.{Subgroup}
+use Rattle.generated.specs.declared.Subgroup.{Subgroup}
 use Rattle.subgroup.specs.Sides.{fewFactors, sidesLimited}
-use Rattle.subgroup.proofs.Admits.{small-limited, small-elements}
+use Rattle.generated.proofs.Admits.{small-limited, small-elements}
 use Rattle.subgroup.proofs.SideLaws.{fit-law}
 use Rattle.subgroups.specs.Altered.{Regardless}
 use Rattle.subgroups.specs.Asked.{Known}

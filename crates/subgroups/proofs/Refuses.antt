@@ -16,14 +16,13 @@ use Rattle.egg.specs.Table.{pick}
 use Rattle.egg.specs.Factor.{stretch}
 use Rattle.meaning.specs.Numbers.{In}
 use Rattle.answers.specs.Refuses.{VerdictIn, ReachedIn}
-use Rattle.answers.proofs.Refuses.{reached-element, reached-refused, reached-pick, reached-on, reached-if, reached-widen, step-in}
-use Rattle.answers.proofs.Refuses.{verdict-fine, verdict-refused, verdict-pick}
+use Rattle.answers.proofs.Refuses.{reached-element, reached-refused, reached-pick, reached-on, reached-if, reached-widen, step-in, verdict-fine, verdict-refused, verdict-pick}
 use Rattle.handles.specs.declared.Group.{Group}
 use Rattle.handles.specs.Handles.{handles, allFit, generatorsOf}
 use Rattle.groups.proofs.Refuses.{stepped-in}
 use Rattle.appearance.specs.Renumber.{none}
-use Rattle.subgroup.specs.declared.Subgroup.{Subgroup}
-use Rattle.subgroup.specs.declared.Subgrouped.{Subgrouped}
+use Rattle.generated.specs.declared.Subgroup.{Subgroup}
+use Rattle.generated.specs.declared.Subgrouped.{Subgrouped}
 use Rattle.subgroup.specs.declared.Within.{Within}
 use Rattle.subgroup.specs.declared.Within.the-variants as within
 use Rattle.subgroup.specs.Sides.{sidesFit, sidesLimited, admitsSides, leftOf, rightOf, ifLimited, joinable, multiplied, leftProduct, rightProduct}

@@ -41,10 +41,10 @@ use Rattle.renumbering.specs.Maps.{Filled}
 use Rattle.renumbering.proofs.Order.{appearing}
 use Rattle.renumbering.proofs.Partial.{ranged-inside, total, total-answering, partial-build}
 use Rattle.renumbering.proofs.Builds.{builtOf, renumber-built, renumber-holds, renumber-work, renumber-filled, renumber-maps}
-use Rattle.subgroup.specs.declared.Subgroup.{Subgroup}
-use Rattle.subgroup.specs.Lent.{mapsRight}
-use Rattle.subgroup.specs.Generated.{productOf, smallEnough}
-use Rattle.subgroup.proofs.Admits.{small-elements, maps-lent, maps-inn, maps-outw}
+use Rattle.generated.specs.declared.Subgroup.{Subgroup}
+use Rattle.generated.specs.Lent.{mapsRight}
+use Rattle.generated.specs.Generated.{productOf, smallEnough}
+use Rattle.generated.proofs.Admits.{small-elements, maps-lent, maps-inn, maps-outw}
 use Rattle.subgroups.specs.Altered.{stepsRead, Regardless}
 use Rattle.subgroups.proofs.Narrow.{narrow}
 use Rattle.subgroups.proofs.Stretches.{fewer-rows, fewer-work, first-part, handle-fits}

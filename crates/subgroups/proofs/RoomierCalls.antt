@@ -30,9 +30,9 @@ use Rattle.renumbering.proofs.Order.{appearing}
 use Rattle.renumbering.proofs.Subgroups.{right-inside}
 use Rattle.renumbering.proofs.Builds.{builtOf, renumber-built, renumber-filled}
 use Rattle.renumbering.proofs.RoomierMaps.{inward-same, outward-same}
-use Rattle.subgroup.specs.declared.Subgroup.{Subgroup}
-use Rattle.subgroup.specs.Lent.{Subgrouping, subgrouping, mapsBack}
-use Rattle.subgroup.specs.Generated.{productOf, fromGenerators}
+use Rattle.generated.specs.declared.Subgroup.{Subgroup}
+use Rattle.generated.specs.Lent.{Subgrouping, subgrouping, mapsBack}
+use Rattle.generated.specs.Generated.{productOf, fromGenerators}
 use Rattle.subgroups.specs.Generates.{Started, RoomierGenerates}
 use Rattle.subgroups.proofs.Called as called
 use Rattle.subgroups.proofs.ToldLeaving.{accepted-lengths}

@@ -19,8 +19,8 @@ use Rattle.handles.specs.Handles.{handles, elementsOf, groupOf}
 use Rattle.digits.specs.Digits.{composes}
 use Rattle.groups.specs.Products.{AllAccepted, direct}
 use Rattle.appearance.specs.Build.{Renumbering, renumbering}
-use Rattle.subgroup.specs.declared.Subgroup.{Subgroup}
-use Rattle.subgroup.specs.Lent.{subgrouping}
+use Rattle.generated.specs.declared.Subgroup.{Subgroup}
+use Rattle.generated.specs.Lent.{subgrouping}
 use Rattle.predicate.specs.Predicate.{Picked, picked, againIn, predicateIn, toldBack, fromPredicate}
 use Rattle.subgroups.specs.Predicate.{Chosen}
 use Rattle.subgroups.specs.Tells.{Predicated}

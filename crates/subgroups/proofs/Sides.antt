@@ -13,7 +13,7 @@ use Rattle.handles.specs.declared.Group.{Group}
 use Rattle.handles.specs.Handles.{handles}
 use Rattle.groups.specs.Products.{part, parts, AllAccepted}
 use Rattle.groups.proofs.Parts.{all-groups, parts-elements}
-use Rattle.subgroup.specs.declared.Subgroup.{Subgroup}
+use Rattle.generated.specs.declared.Subgroup.{Subgroup}
 use Rattle.subgroup.specs.Indices.{overOf}
 use Rattle.subgroups.specs.Carried.{Carried, Homomorphic}
 use Rattle.subgroups.specs.Generates.{Holds}

@@ -43,8 +43,8 @@ use Rattle.renumbering.proofs.Numberings.{refused-5-or-6}
 use Rattle.renumbering.proofs.Chosen.{chosen-proper, orbit-more}
 use Rattle.renumbering.proofs.Builds.{builtOf, renumber-built}
 use Rattle.renumbering.proofs.SubgroupBuilds.{subgroup-refused}
-use Rattle.subgroup.specs.Lent.{mapsRight}
-use Rattle.subgroup.specs.Generated.{smallEnough}
+use Rattle.generated.specs.Lent.{mapsRight}
+use Rattle.generated.specs.Generated.{smallEnough}
 use Rattle.predicate.specs.Predicate.{Picked, picked, againIn, predicateIn, admitsOver, toldBack, fromPredicate}
 use Rattle.subgroups.specs.Predicate.{Reach, Chosen, Ends, accepted, refused, too-many}
 use Rattle.subgroups.specs.Tellable.{Buildable, Tellable}

@@ -35,11 +35,11 @@ use Rattle.groups.specs.Products.{parts, AllAccepted, direct}
 use Rattle.groups.proofs.Parts.{parts-elements}
 use Rattle.appearance.specs.Renumber as appear
 use Rattle.appearance.specs.Build.{Renumbering, renumbering}
-use Rattle.subgroup.specs.declared.Subgroup.{Subgroup}
-use Rattle.subgroup.specs.declared.Subgrouped.{Subgrouped}
-use Rattle.subgroup.specs.Lent.{subgroupOf, Subgrouping, subgrouping, mapsRight, mapsBack}
-use Rattle.subgroup.specs.Generated.{smallEnough}
-use Rattle.subgroup.proofs.Admits.{small-elements, maps-lent}
+use Rattle.generated.specs.declared.Subgroup.{Subgroup}
+use Rattle.generated.specs.declared.Subgrouped.{Subgrouped}
+use Rattle.generated.specs.Lent.{subgroupOf, Subgrouping, subgrouping, mapsRight, mapsBack}
+use Rattle.generated.specs.Generated.{smallEnough}
+use Rattle.generated.proofs.Admits.{small-elements, maps-lent}
 use Rattle.predicate.specs.Predicate.{Picked, picked, predicateIn, admitsOver, toldBack, toldInto, fromPredicate}
 use Rattle.predicate.proofs.Choices.{over-fine, over-admitted}
 use Rattle.meaning.specs.Sound.{Sound, Ruled}

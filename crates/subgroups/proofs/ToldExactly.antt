@@ -29,8 +29,8 @@ use Rattle.renumbering.proofs.Subgroups.{right-inside}
 use Rattle.renumbering.proofs.Builds.{renumber-holds}
 use Rattle.renumbering.proofs.Chosen.{chosen-proper}
 use Rattle.renumbering.proofs.SubgroupBuilds.{subgroup-exactly}
-use Rattle.subgroup.specs.declared.Subgroup.{Subgroup}
-use Rattle.subgroup.specs.Lent.{subgrouping}
+use Rattle.generated.specs.declared.Subgroup.{Subgroup}
+use Rattle.generated.specs.Lent.{subgrouping}
 use Rattle.predicate.specs.Predicate.{Picked, picked, againIn, predicateIn, toldBack, fromPredicate}
 use Rattle.subgroups.specs.Predicate.{Chosen}
 use Rattle.subgroups.specs.Tells.{Predicated}

@@ -27,8 +27,8 @@ use Rattle.appearance.specs.Renumber.{none, Mapped, mapped, mapAll}
 use Rattle.appearance.specs.Build.{Renumbering, renumbering, finishedMapped, renumberIn}
 use Rattle.renumbering.proofs.Builds.{settled-count, refused-maps}
 use Rattle.renumbering.proofs.Sizes.{Long, all-long}
-use Rattle.subgroup.specs.declared.Subgroup.{Subgroup}
-use Rattle.subgroup.specs.Lent.{subgrouping}
+use Rattle.generated.specs.declared.Subgroup.{Subgroup}
+use Rattle.generated.specs.Lent.{subgrouping}
 use Rattle.predicate.specs.Predicate.{Picked, picked, isNew, ninth, chooses, againIn, predicateIn, toldBack, fromPredicate}
 use Rattle.subgroups.specs.Leaves.{mapsFor}
 use Rattle.subgroups.specs.Tells.{Predicated}

@@ -28,10 +28,10 @@ use Rattle.handles.proofs.Lists.{positive}
 use Rattle.groups.specs.Products.{parts, direct}
 use Rattle.groups.specs.Unaltered.{AllUnaltered, none, more}
 use Rattle.appearance.specs.Renumber as appear
-use Rattle.subgroup.specs.declared.Subgroup.{Subgroup}
+use Rattle.generated.specs.declared.Subgroup.{Subgroup}
 use Rattle.subgroup.specs.Sides.{overSide, subSide, sidesFit, admitsSides, leftProduct, rightProduct}
 use Rattle.subgroup.specs.Questions.{carriedOver, carriedBack, toOverAnswer, toSubAnswer, sideGenerator, generatorAnswer}
-use Rattle.subgroup.specs.Generated.{productOf, admitsGenerators, generatedInto, fromGenerators}
+use Rattle.generated.specs.Generated.{productOf, admitsGenerators, generatedInto, fromGenerators}
 use Rattle.subgroup.proofs.SideLaws.{fit-law}
 use Rattle.predicate.specs.Predicate.{admitsOver, toldInto, fromPredicate}
 use Rattle.subgroups.specs.Generates.{Holds}

@@ -2,7 +2,7 @@
 -- the values at entry, so two outcomes that meet it are both that.
 -- Assumes nothing.
 use mathlib.Core.Path.{sym, _∙_}
-use Rattle.subgroup.specs.Lent.{subgrouping}
+use Rattle.generated.specs.Lent.{subgrouping}
 use Rattle.subgroup.proofs.from_generators.Kinds as from-generators-kinds
 use Rattle.subgroup.proofs.from_generators.Reads as from-generators-reads
 use Rattle.subgroup.proofs.product_left.Kinds as product-left-kinds

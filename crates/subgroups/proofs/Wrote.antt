@@ -26,10 +26,10 @@ use Rattle.handles.specs.declared.Group.{Group}
 use Rattle.handles.specs.Handles.{handles, elementsOf}
 use Rattle.digits.specs.Digits.{composes}
 use Rattle.appearance.specs.Build.{Renumbering, renumbering, renumberIn}
-use Rattle.subgroup.specs.declared.Subgroup.{Subgroup}
-use Rattle.subgroup.specs.declared.Subgrouped.{Subgrouped}
-use Rattle.subgroup.specs.Lent.{subgrouping, mapsBack}
-use Rattle.subgroup.specs.Generated.{productOf, fromGenerators}
+use Rattle.generated.specs.declared.Subgroup.{Subgroup}
+use Rattle.generated.specs.declared.Subgrouped.{Subgrouped}
+use Rattle.generated.specs.Lent.{subgrouping, mapsBack}
+use Rattle.generated.specs.Generated.{productOf, fromGenerators}
 use Rattle.subgroup.specs.Sides.{sidesFit}
 use Rattle.predicate.specs.Predicate.{Picked, picked, predicateIn, toldBack, fromPredicate}
 use Rattle.subgroups.specs.Leaves.{mapsFor, generatorsAfter, predicateAfter, AllWrote}

@@ -23,9 +23,9 @@ use Rattle.appearance.specs.Build.{renumbering}
 use Rattle.renumbering.specs.Orbit.{numberedStep, Appearing}
 use Rattle.renumbering.specs.Source.{outOf}
 use Rattle.renumbering.specs.Maps.{Filled}
-use Rattle.subgroup.specs.declared.Subgroup.{Subgroup}
-use Rattle.subgroup.specs.Lent.{subgroupOf, Subgrouping, subgrouping, mapsBack}
-use Rattle.subgroup.specs.Generated.{productOf, smallEnough}
+use Rattle.generated.specs.declared.Subgroup.{Subgroup}
+use Rattle.generated.specs.Lent.{subgroupOf, Subgrouping, subgrouping, mapsBack}
+use Rattle.generated.specs.Generated.{productOf, smallEnough}
 use Rattle.subgroups.specs.Carried.{Carried}
 use Rattle.subgroups.specs.Leaves.{mapsFor, AllWrote}
 

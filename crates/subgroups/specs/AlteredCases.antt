@@ -10,7 +10,7 @@ use Rattle.lending.specs.Lending.{tableNeed, workNeed}
 use Rattle.refusals.specs.Papers.{paper}
 use Rattle.handles.specs.declared.Group.{Group}
 use Rattle.handles.specs.Handles.{groupOf}
-use Rattle.subgroup.specs.Generated.{fromGenerators}
+use Rattle.generated.specs.Generated.{fromGenerators}
 use Rattle.predicate.specs.Predicate.{fromPredicate}
 use Rattle.subgroups.specs.Answers.{subgroupPaper}
 

@@ -18,7 +18,7 @@ use Rattle.handles.specs.Handles.{handles, elementsOf, allFit}
 use Rattle.groups.specs.Products.{direct}
 use Rattle.renumbering.specs.Orbit.{numberedStep, Appearing}
 use Rattle.renumbering.specs.Subgroup.{rightBy, FirstIdentity, FirstRepeat}
-use Rattle.subgroup.specs.Lent.{shown, Subgrouping, subgrouping}
+use Rattle.generated.specs.Lent.{shown, Subgrouping, subgrouping}
 use Rattle.subgroups.specs.Generates.{Acceptable}
 
 -- What a call that makes a subgroup answers, on paper.

@@ -7,7 +7,7 @@ use mathlib.Core.List.{List}
 use lib.ListN.{length, getD}
 use Rattle.answers.specs.Accepted.{reach}
 use Rattle.handles.specs.Handles.{elementsOf}
-use Rattle.subgroup.specs.declared.Subgroup.{Subgroup}
+use Rattle.generated.specs.declared.Subgroup.{Subgroup}
 use Rattle.subgroup.specs.Indices.{overOf, subOf}
 use Rattle.subgroup.specs.Sides.{overSide, subSide, sidesFit, sidesLimited}
 use Rattle.subgroup.specs.Questions.{withinPaper, strideOf, overCount, toOverAnswer, toSubAnswer}

@@ -19,9 +19,9 @@ use Rattle.groups.specs.Products.{direct}
 use Rattle.appearance.specs.Renumber as appear
 use Rattle.renumbering.specs.Orbit.{numberedStep, Appearing}
 use Rattle.renumbering.specs.Subgroup.{rightBy, Generated, Proper}
-use Rattle.subgroup.specs.declared.Subgroup.{Subgroup}
-use Rattle.subgroup.specs.Lent.{Subgrouping, subgrouping, mapsRight}
-use Rattle.subgroup.specs.Generated.{entriesRight, smallEnough}
+use Rattle.generated.specs.declared.Subgroup.{Subgroup}
+use Rattle.generated.specs.Lent.{Subgrouping, subgrouping, mapsRight}
+use Rattle.generated.specs.Generated.{entriesRight, smallEnough}
 use Rattle.subgroups.specs.Carried.{Carried, Homomorphic}
 
 -- The arguments are right, and the buffers long enough: 17 in the handles, 14, 15, 1 and 4 have passed.

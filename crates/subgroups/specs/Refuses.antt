@@ -12,7 +12,7 @@ use Rattle.egg.specs.declared.GeneratorId.{GeneratorId}
 use Rattle.meaning.specs.Numbers.{In}
 use Rattle.answers.specs.Refuses.{VerdictIn, ReachedIn}
 use Rattle.handles.specs.declared.Group.{Group}
-use Rattle.subgroup.specs.declared.Subgroup.{Subgroup}
+use Rattle.generated.specs.declared.Subgroup.{Subgroup}
 use Rattle.subgroup.specs.declared.Within.{Within}
 use Rattle.subgroup.specs.declared.Within.the-variants as within
 use Rattle.subgroup.specs.Sides.{leftProduct, rightProduct}

@@ -12,9 +12,9 @@ use Rattle.handles.specs.Handles.{handles, elementsOf, allFit}
 use Rattle.groups.specs.Products.{direct}
 use Rattle.appearance.specs.Renumber as appear
 use Rattle.renumbering.specs.Subgroup as sub
-use Rattle.subgroup.specs.declared.Subgroup.{Subgroup}
-use Rattle.subgroup.specs.Lent.{mapsRight}
-use Rattle.subgroup.specs.Generated.{smallEnough}
+use Rattle.generated.specs.declared.Subgroup.{Subgroup}
+use Rattle.generated.specs.Lent.{mapsRight}
+use Rattle.generated.specs.Generated.{smallEnough}
 use Rattle.subgroups.specs.Generates.{Holds}
 use Rattle.subgroups.specs.Told.{Told}
 

@@ -11,7 +11,7 @@ use Rattle.egg.specs.declared.GroupElementId.{GroupElementId}
 use Rattle.egg.specs.Factor.{stretch}
 use Rattle.handles.specs.declared.Group.{Group}
 use Rattle.handles.specs.Handles.{handles, allFit}
-use Rattle.subgroup.specs.declared.Subgroup.{Subgroup}
+use Rattle.generated.specs.declared.Subgroup.{Subgroup}
 use Rattle.subgroup.specs.Sides.{sidesFit, leftProduct, rightProduct}
 use Rattle.subgroup.specs.Questions.{overCount, toOverAnswer, toSubAnswer}
 use Rattle.subgroups.specs.Asked.{Known}

@@ -2,8 +2,8 @@
 use mathlib.Core.Path.{_∙_}
 use lib.ListN.{length}
 use Rattle.predicate.specs.Predicate.{fromPredicate}
-use Rattle.subgroup.proofs.Admits.{small-elements}
-use Rattle.subgroup.proofs.Lendings.{subgrouping-refused, subgrouping-fine}
+use Rattle.generated.proofs.Admits.{small-elements}
+use Rattle.generated.proofs.Lendings.{subgrouping-refused, subgrouping-fine}
 use Rattle.predicate.proofs.Choices.{over-admitted}
 use borrow.Author.Needs.{needs}
 use Rattle.predicate.proofs.from_predicate.Statement.{statement}

@@ -1,0 +1,4 @@
+pub mod Admits
+pub mod Lendings
+pub mod OneFactor
+pub mod LetterLaws

@@ -1,0 +1,3 @@
+pub mod Lent
+pub mod Generated
+pub mod Letters

@@ -1,0 +1,522 @@
+// The work of a build by generators, on overgroups whose handles fit and whose elements are at most 65,535.
+ghost use mathlib.Core.Path.{_≡_};
+ghost use mathlib.Core.Bool.{true};
+ghost use mathlib.Core.List.{[], _∷_};
+ghost use Prim.Native.Nat.{_<_, _≤_, _%_};
+ghost use lib.ListN.{length};
+ghost use Rattle.egg.specs.declared.Verdict.the-variants as verdict;
+ghost use Rattle.egg.specs.Table.{lengthOf};
+ghost use Rattle.egg.specs.Factor.{fitsIn, stretch};
+ghost use Rattle.lending.specs.Finish.{Built};
+ghost use Rattle.lending.specs.Lending.{noFactor};
+ghost use Rattle.reading.specs.Reading.{Placed};
+ghost use Rattle.digits.specs.Digits.{composes};
+ghost use Rattle.handles.specs.Handles.{handles, elementsOf, allFit};
+ghost use Rattle.appearance.specs.Renumber.{Mapped, mapRow, mapRows};
+ghost use Rattle.appearance.specs.Build.{Renumbering, renumberIn};
+ghost use Rattle.generated.specs.Lent.{shown, subgroupOf, Subgrouping, mapsRight};
+ghost use Rattle.generated.specs.Generated.{productOf, entriesRight, smallEnough, admitsGenerators, generatedInto};
+ghost use Rattle.generated.specs.Letters.{OneLetter, Letters};
+use super::Subgroup;
+use super::Subgrouped;
+use egg::Counted;
+use egg::Factor;
+use egg::GeneratorId;
+use egg::GroupElementId;
+use egg::Made;
+use egg::Reached;
+use egg::Refusal;
+use egg::Verdict;
+use group::Group;
+
+// A length or a position as far as 32 bits can tell.
+pub fn shown(i: usize) -> u32
+    ensures { λ r. ⌜ r ≡ shown i ⌝ }
+{
+    if i < 4294967295 { i as u32 } else { 4294967295 }
+}
+
+// 14 for the first entry that is no element.
+fn entries_right(over: Group, gens: &[u32]) -> Verdict
+    ensures { λ r. ⌜ r ≡ entriesRight (elementsOf (handles over)) (now (gens .entry)) ⌝ }
+{
+    let m = handles::inner::elements_of(over);
+    let mut i: usize = 0;
+    while i < gens.len() {
+        let x = egg::inner::get(gens, i);
+        if m <= (x as u64) {
+            return egg::inner::refused(14, shown(i), 0, 0);
+        }
+        i += 1;
+    }
+    Verdict::Fine
+}
+
+// Whether the overgroup is a product, and small enough to number.
+pub fn small_enough(over: Group) -> bool
+    ensures { λ r. ⌜ r ≡ smallEnough over ⌝ }
+{
+    if !handles::inner::limited(over) {
+        return false;
+    }
+    handles::inner::elements_of(over) <= 65535
+}
+
+// 17, 14, 15.
+pub fn admit_generators(from: &[u32], over: Group, gens: &[u32]) -> Verdict
+    ensures { λ r. ⌜ r ≡ admitsGenerators (length (now (from .entry))) over (now (gens .entry)) ⌝ }
+{
+    if !handles::inner::all_fit(from, over) {
+        return egg::inner::refused(17, 0, 0, 0);
+    }
+    let v = entries_right(over, gens);
+    let Verdict::Fine = v else {
+        return v;
+    };
+    if !small_enough(over) {
+        return egg::inner::refused(15, 0, 0, 0);
+    }
+    Verdict::Fine
+}
+
+// A row: from the element of e, by the elements of the generators, in the product.
+fn product_row(
+    t: &mut [u32],
+    inn: &mut [u32],
+    outw: &mut [u32],
+    from: &[u32],
+    over: Group,
+    gens: &[u32],
+    n: u8,
+    room: u32,
+    e: GroupElementId,
+    first: u32,
+) -> Counted
+    requires { ⌜ (allFit (length (now from)) (handles over) ≡ true) × (elementsOf (handles over) ≤ 4294967295) ⌝ }
+    ensures { λ r. ⌜ Mapped.mapped (Placed.placed r (now (t .exit))) (now (inn .exit)) (now (outw .exit)) ≡ mapRow n (productOf (now (from .entry)) (handles over) (now (gens .entry))) n room (e .0) 0 first (now (t .entry)) (now (inn .entry)) (now (outw .entry)) ⌝ }
+{
+    let row = e.0;
+    let mut g: u8 = 0;
+    let mut count = first;
+    while g < n {
+        let at = egg::inner::get(&outw[..], row as usize);
+        let by = egg::inner::get(gens, g as usize);
+        let reached = digits::inner::compose_digits(
+            from,
+            over,
+            GroupElementId(at),
+            GroupElementId(by),
+        );
+        let x = match reached {
+            Reached::Refused(why) => {
+                return Counted::Refused(why);
+            }
+            Reached::Element(y) => y,
+        };
+        let c = appearance::inner::place(t, inn, outw, n, room, count, e, GeneratorId(g), x);
+        let Counted::Count(k) = c else {
+            return c;
+        };
+        count = k;
+        g += 1;
+    }
+    Counted::Count(count)
+}
+
+// Rows in the order of their elements, as long as there is a next element.
+fn product_rows(
+    t: &mut [u32],
+    inn: &mut [u32],
+    outw: &mut [u32],
+    from: &[u32],
+    over: Group,
+    gens: &[u32],
+    n: u8,
+    room: u32,
+) -> Counted
+    requires { ⌜ (allFit (length (now from)) (handles over) ≡ true) × (elementsOf (handles over) ≤ 4294967295) ⌝ }
+    ensures { λ r. ⌜ Mapped.mapped (Placed.placed r (now (t .exit))) (now (inn .exit)) (now (outw .exit)) ≡ mapRows room (productOf (now (from .entry)) (handles over) (now (gens .entry))) n room 0 1 (now (t .entry)) (now (inn .entry)) (now (outw .entry)) ⌝ }
+{
+    let mut e: u32 = 0;
+    let mut count: u32 = 1;
+    while e < room {
+        if count <= e {
+            return Counted::Count(count);
+        }
+        let c = product_row(
+            t,
+            inn,
+            outw,
+            from,
+            over,
+            gens,
+            n,
+            room,
+            GroupElementId(e),
+            count,
+        );
+        let Counted::Count(k) = c else {
+            return c;
+        };
+        count = k;
+        e += 1;
+    }
+    Counted::Count(count)
+}
+
+// The product of two elements where the overgroup is one factor.
+fn factor_product(from: &[u32], f: Factor, a: GroupElementId, b: GroupElementId) -> Reached
+    requires { ⌜ fitsIn (length (now from)) f ≡ true ⌝ }
+    ensures { λ r. ⌜ r ≡ composes (now (from .entry)) (f ∷ []) (a .0) (b .0) ⌝ }
+{
+    let m = f.elements;
+    let x = a.0;
+    let y = b.0;
+    compose::inner::compose_elements(
+        egg::inner::part(from, f),
+        f.generators,
+        m,
+        GroupElementId(x % m),
+        GroupElementId(y % m),
+    )
+}
+
+// One more than the letter by which a product with b is a step back; 0 where none is known to be: the word of b has one letter, and so has its inverse's.
+fn letter_of(s: &[u32], n: u8, count: u32, b: GroupElementId) -> u32
+    ensures { λ r. ⌜ OneLetter (now (s .entry)) n count (b .0) r ⌝ }
+{
+    if egg::inner::word_length(s, n, b) != 1 {
+        return 0;
+    }
+    let i = egg::inner::get(s, egg::inner::inverse_at(n, b));
+    if count <= i {
+        return 0;
+    }
+    if egg::inner::word_length(s, n, GroupElementId(i)) != 1 {
+        return 0;
+    }
+    if count <= egg::inner::parent(s, n, GroupElementId(i)) {
+        return 0;
+    }
+    let letter = egg::inner::last(s, n, GroupElementId(i));
+    if (n as u32) <= letter {
+        return 0;
+    }
+    letter + 1
+}
+
+// The same for each of the generators' elements that the list has room for.
+fn find_letters(s: &[u32], n: u8, count: u32, gens: &[u32], letters: &mut [u32])
+    requires { ⌜ 0 < count ⌝ }
+    ensures { λ r. ⌜ Letters (now (s .entry)) n count (now (gens .entry)) (now (letters .exit)) ⌝ }
+{
+    let mut i: usize = 0;
+    while i < letters.len() {
+        let by = egg::inner::get(gens, i);
+        letters[i] = letter_of(s, n, count, GroupElementId(by % count));
+        i += 1;
+    }
+}
+
+// Whether a product of a with what `letter` is of is a step back: there is a letter, and a is an element whose word has one.
+fn one_step(s: &[u32], n: u8, count: u32, a: GroupElementId, letter: u32) -> bool
+    ensures { λ r. ⌜ (r ≡ true → (0 < letter) × ((a .0 < count) × (0 < lengthOf (now (s .entry)) n (a .0)))) ⌝ }
+{
+    let x = a.0;
+    if letter == 0 {
+        return false;
+    }
+    if count <= x {
+        return false;
+    }
+    0 < egg::inner::word_length(s, n, a)
+}
+
+// The product with an element of which a letter is known, or none is.
+fn letter_product(
+    from: &[u32],
+    f: Factor,
+    a: GroupElementId,
+    b: GroupElementId,
+    letter: u32,
+) -> Reached
+    requires { ⌜ (fitsIn (length (now from)) f ≡ true) × OneLetter (stretch (now from) f) (f .generators) (f .elements) (b .0 % f .elements) letter ⌝ }
+    ensures { λ r. ⌜ r ≡ composes (now (from .entry)) (f ∷ []) (a .0) (b .0) ⌝ }
+{
+    let s = egg::inner::part(from, f);
+    if !one_step(s, f.generators, f.elements, a, letter) {
+        return factor_product(from, f, a, b);
+    }
+    walks::inner::previous(
+        s,
+        f.generators,
+        f.elements,
+        a,
+        GeneratorId((letter - 1) as u8),
+    )
+}
+
+// The same rows where the overgroup is one factor: its handle is 24 bytes, and a product of 200 would be copied at each place.
+fn factor_row(
+    t: &mut [u32],
+    inn: &mut [u32],
+    outw: &mut [u32],
+    from: &[u32],
+    f: Factor,
+    gens: &[u32],
+    letters: &[u32],
+    n: u8,
+    room: u32,
+    e: GroupElementId,
+    first: u32,
+) -> Counted
+    requires { ⌜ (fitsIn (length (now from)) f ≡ true) × Letters (stretch (now from) f) (f .generators) (f .elements) (now gens) (now letters) ⌝ }
+    ensures { λ r. ⌜ Mapped.mapped (Placed.placed r (now (t .exit))) (now (inn .exit)) (now (outw .exit)) ≡ mapRow n (productOf (now (from .entry)) (f ∷ []) (now (gens .entry))) n room (e .0) 0 first (now (t .entry)) (now (inn .entry)) (now (outw .entry)) ⌝ }
+{
+    let row = e.0;
+    let mut g: u8 = 0;
+    let mut count = first;
+    while g < n {
+        let at = egg::inner::get(&outw[..], row as usize);
+        let by = egg::inner::get(gens, g as usize);
+        let letter = egg::inner::get(letters, g as usize);
+        let reached = letter_product(from, f, GroupElementId(at), GroupElementId(by), letter);
+        let x = match reached {
+            Reached::Refused(why) => {
+                return Counted::Refused(why);
+            }
+            Reached::Element(y) => y,
+        };
+        let c = appearance::inner::place(t, inn, outw, n, room, count, e, GeneratorId(g), x);
+        let Counted::Count(k) = c else {
+            return c;
+        };
+        count = k;
+        g += 1;
+    }
+    Counted::Count(count)
+}
+
+fn lettered_rows(
+    t: &mut [u32],
+    inn: &mut [u32],
+    outw: &mut [u32],
+    from: &[u32],
+    f: Factor,
+    gens: &[u32],
+    letters: &[u32],
+    n: u8,
+    room: u32,
+) -> Counted
+    requires { ⌜ (fitsIn (length (now from)) f ≡ true) × Letters (stretch (now from) f) (f .generators) (f .elements) (now gens) (now letters) ⌝ }
+    ensures { λ r. ⌜ Mapped.mapped (Placed.placed r (now (t .exit))) (now (inn .exit)) (now (outw .exit)) ≡ mapRows room (productOf (now (from .entry)) (f ∷ []) (now (gens .entry))) n room 0 1 (now (t .entry)) (now (inn .entry)) (now (outw .entry)) ⌝ }
+{
+    let mut e: u32 = 0;
+    let mut count: u32 = 1;
+    while e < room {
+        if count <= e {
+            return Counted::Count(count);
+        }
+        let c = factor_row(
+            t,
+            inn,
+            outw,
+            from,
+            f,
+            gens,
+            letters,
+            n,
+            room,
+            GroupElementId(e),
+            count,
+        );
+        let Counted::Count(k) = c else {
+            return c;
+        };
+        count = k;
+        e += 1;
+    }
+    Counted::Count(count)
+}
+
+// A generator is often an element of one letter, and then a product with it is a step: for that the letters are found once.
+fn factor_rows(
+    t: &mut [u32],
+    inn: &mut [u32],
+    outw: &mut [u32],
+    from: &[u32],
+    f: Factor,
+    gens: &[u32],
+    n: u8,
+    room: u32,
+) -> Counted
+    requires { ⌜ fitsIn (length (now from)) f ≡ true ⌝ }
+    ensures { λ r. ⌜ Mapped.mapped (Placed.placed r (now (t .exit))) (now (inn .exit)) (now (outw .exit)) ≡ mapRows room (productOf (now (from .entry)) (f ∷ []) (now (gens .entry))) n room 0 1 (now (t .entry)) (now (inn .entry)) (now (outw .entry)) ⌝ }
+{
+    let mut letters = [0; 8];
+    find_letters(
+        egg::inner::part(from, f),
+        f.generators,
+        f.elements,
+        gens,
+        &mut letters,
+    );
+    lettered_rows(t, inn, outw, from, f, gens, &letters[..], n, room)
+}
+
+// By how many factors the overgroup has.
+fn rows_of(
+    t: &mut [u32],
+    inn: &mut [u32],
+    outw: &mut [u32],
+    from: &[u32],
+    over: Group,
+    gens: &[u32],
+    n: u8,
+    room: u32,
+) -> Counted
+    requires { ⌜ (allFit (length (now from)) (handles over) ≡ true) × (elementsOf (handles over) ≤ 4294967295) ⌝ }
+    ensures { λ r. ⌜ Mapped.mapped (Placed.placed r (now (t .exit))) (now (inn .exit)) (now (outw .exit)) ≡ mapRows room (productOf (now (from .entry)) (handles over) (now (gens .entry))) n room 0 1 (now (t .entry)) (now (inn .entry)) (now (outw .entry)) ⌝ }
+{
+    if handles::inner::listed(over) == 1 {
+        let f = handles::inner::handle(over, 0);
+        return factor_rows(t, inn, outw, from, f, gens, n, room);
+    }
+    product_rows(t, inn, outw, from, over, gens, n, room)
+}
+
+// The whole build, in its stretches.
+pub fn generated_in(
+    t: &mut [u32],
+    w: &mut [u32],
+    inn: &mut [u32],
+    outw: &mut [u32],
+    from: &[u32],
+    over: Group,
+    gens: &[u32],
+    n: u8,
+    room: u32,
+) -> Counted
+    requires { ⌜ (allFit (length (now from)) (handles over) ≡ true) × (elementsOf (handles over) ≤ 4294967295) ⌝ }
+    ensures { λ r. ⌜ Renumbering.renumbering (Built.built r (now (t .exit)) (now (w .exit))) (now (inn .exit)) (now (outw .exit)) ≡ renumberIn (length (now (t .entry))) (now (w .entry)) (productOf (now (from .entry)) (handles over) (now (gens .entry))) n room (length (now (inn .entry))) (length (now (outw .entry))) 0 ⌝ }
+{
+    egg::inner::clear(t);
+    appearance::inner::start(inn, outw, GroupElementId(0));
+    let read = rows_of(t, inn, outw, from, over, gens, n, room);
+    let made = lending::inner::finish(t, w, n, read);
+    appearance::inner::settle(inn, outw, made)
+}
+
+// The value that goes with what was made, or refused.
+pub fn subgroup_of(over: Group, made: Made) -> Subgrouped
+    ensures { λ r. ⌜ r ≡ subgroupOf over made ⌝ }
+{
+    let below = group::trivial();
+    let above = group::trivial();
+    let factor = made.factor;
+    let answer = made.answer;
+    let subgroup = Subgroup {
+        below,
+        factor,
+        over,
+        above,
+    };
+    Subgrouped { answer, subgroup }
+}
+
+pub fn refused_subgroup(over: Group, why: Refusal) -> Subgrouped
+    ensures { λ r. ⌜ r ≡ subgroupOf over (record { answer = verdict.Refused why; factor = noFactor }) ⌝ }
+{
+    subgroup_of(over, handles::inner::no_factor_made(why))
+}
+
+// No 4: the room is within its limits, and neither table, work nor a map is short.
+pub fn maps_right(
+    table: usize,
+    start: usize,
+    work: usize,
+    inn: usize,
+    outw: usize,
+    room: u32,
+    n: u8,
+    m: u64,
+) -> bool
+    ensures { λ r. ⌜ r ≡ mapsRight table start work inn outw room n m ⌝ }
+{
+    if !lending::inner::lent_right(table, start, work, room, n) {
+        return false;
+    }
+    if (inn as u64) < m {
+        return false;
+    }
+    (room as usize) <= outw
+}
+
+// The build in the parts of the four buffers that it needs, which are long enough.
+fn generated_at(
+    from: &[u32],
+    over: Group,
+    gens: &[u32],
+    table: &mut [u32],
+    start: usize,
+    work: &mut [u32],
+    inn: &mut [u32],
+    outw: &mut [u32],
+    room: u32,
+) -> Subgrouped
+    requires { ⌜ ((allFit (length (now from)) (handles over) ≡ true) × (elementsOf (handles over) ≤ 65535)) × ((length (now gens) ≤ 8) × (mapsRight (length (now table)) start (length (now work)) (length (now inn)) (length (now outw)) room (length (now gens)) (elementsOf (handles over)) ≡ true)) ⌝ }
+    ensures { λ r. ⌜ Subgrouping.subgrouping r (now (table .exit)) (now (work .exit)) (now (inn .exit)) (now (outw .exit)) ≡ generatedInto (now (from .entry)) over (now (gens .entry)) (now (table .entry)) start (now (work .entry)) (now (inn .entry)) (now (outw .entry)) room ⌝ }
+{
+    let n = gens.len() as u8;
+    let m = handles::inner::elements_of(over) as usize;
+    let r = room as usize;
+    let end = lending::inner::stretch_end(table.len(), start, room, n);
+    let need = lending::inner::work_need(n, room);
+    let count = generated_in(
+        &mut table[start..end],
+        &mut work[..need],
+        &mut inn[..m],
+        &mut outw[..r],
+        from,
+        over,
+        gens,
+        n,
+        room,
+    );
+    subgroup_of(over, lending::inner::made(start, room, n, count))
+}
+
+// 1, then 4; then the build.
+pub fn generated_into(
+    from: &[u32],
+    over: Group,
+    gens: &[u32],
+    table: &mut [u32],
+    start: usize,
+    work: &mut [u32],
+    inn: &mut [u32],
+    outw: &mut [u32],
+    room: u32,
+) -> Subgrouped
+    requires { ⌜ (allFit (length (now from)) (handles over) ≡ true) × (elementsOf (handles over) ≤ 65535) ⌝ }
+    ensures { λ r. ⌜ Subgrouping.subgrouping r (now (table .exit)) (now (work .exit)) (now (inn .exit)) (now (outw .exit)) ≡ generatedInto (now (from .entry)) over (now (gens .entry)) (now (table .entry)) start (now (work .entry)) (now (inn .entry)) (now (outw .entry)) room ⌝ }
+{
+    let k = gens.len();
+    if 8 < k {
+        return subgroup_of(over, lending::inner::refused_made(1, shown(k)));
+    }
+    let m = handles::inner::elements_of(over);
+    if !maps_right(
+        table.len(),
+        start,
+        work.len(),
+        inn.len(),
+        outw.len(),
+        room,
+        k as u8,
+        m,
+    ) {
+        return subgroup_of(over, lending::inner::refused_made(4, 0));
+    }
+    generated_at(from, over, gens, table, start, work, inn, outw, room)
+}
