@@ -2,7 +2,7 @@
 -- Assumes nothing.
 use Prim.Native.Nat.{ℕ, suc, _+_, _-_, _%_, _≤_, _<_}
 use mathlib.Core.Path.{_≡_, refl, sym, ap, _∙_}
-use mathlib.Core.Bool.{true, false}
+use mathlib.Core.Bool.{Bool, true, false}
 use mathlib.Core.List.{List, [], _∷_}
 use native.Mathlib.Nat.{mod-eq-of-lt}
 use native.Mathlib.Decide.{ℕ-discrete, decLt}
@@ -73,14 +73,18 @@ pub letter-read : {s : List ℕ} {n count : ℕ} {gens l : List ℕ} (g : ℕ) {
 letter-read g L q w = rw (q, w) (L .all g)
 
 pub letter-step : (t : List ℕ) (f : Factor) (a b h : ℕ) {s : List ℕ} {r : Reached} → s ≡ stretch t f
-    → OneLetter (stretch t f) (f .generators) (f .elements) (b % f .elements) h → 0 < h → a < f .elements → 0 < lengthOf s (f .generators) a
+    → OneLetter (stretch t f) (f .generators) (f .elements) (b % f .elements) h → 0 < h → (a < f .elements) × (0 < lengthOf (stretch t f) (f .generators) a)
     → r ≡ readBack s (f .generators) (f .elements) a (h - 1) → r ≡ composes t (f ∷ []) a b
-letter-step t f a b h {s} {r} p L some small has q =
-    let has′ : 0 < lengthOf (stretch t f) (f .generators) a = rw (← p) has in
+letter-step t f a b h {s} {r} p L some has q =
     let q′ : r ≡ readBack (stretch t f) (f .generators) (f .elements) a (h - 1) = rw (← p) q in
-    let d : a % f .elements ≡ a = mod-eq-of-lt small in
-    one-product t f a b refl (q′ ∙ sym (L .leads some a has′) ∙ ap (λ (x : ℕ). composeIn (stretch t f) (f .generators) (f .elements) x (b % f .elements)) (sym d))
+    let d : a % f .elements ≡ a = mod-eq-of-lt (has .0) in
+    one-product t f a b refl
+    (q′ ∙ sym (L .leads some a (has .1)) ∙ ap (λ (x : ℕ). composeIn (stretch t f) (f .generators) (f .elements) x (b % f .elements)) (sym d))
 
 -- The letters in the part that is the stretch.
 pub letters-of : {s s′ : List ℕ} {n count : ℕ} {gens l : List ℕ} → s ≡ s′ → Letters s n count gens l → Letters s′ n count gens l
 letters-of p L = rw (← p) L
+
+pub steps-of : {s s′ : List ℕ} (n : ℕ) {count a : ℕ} {b : Bool} → s ≡ s′ → (b ≡ true → (a < count) × (0 < lengthOf s n a))
+    → b ≡ true → (a < count) × (0 < lengthOf s′ n a)
+steps-of n p h q = rw (← p) (h q)

@@ -2,3 +2,4 @@ pub mod Admits
 pub mod Lendings
 pub mod OneFactor
 pub mod LetterLaws
+pub mod Keeps

@@ -27,7 +27,7 @@ use egg::Made;
 use egg::Reached;
 use egg::Refusal;
 use egg::Verdict;
-use group::Group;
+use handles::Group;
 
 // A length or a position as far as 32 bits can tell.
 pub fn shown(i: usize) -> u32
@@ -170,14 +170,14 @@ fn factor_product(from: &[u32], f: Factor, a: GroupElementId, b: GroupElementId)
     ensures { λ r. ⌜ r ≡ composes (now (from .entry)) (f ∷ []) (a .0) (b .0) ⌝ }
 {
     let m = f.elements;
-    let x = a.0;
-    let y = b.0;
+    let first = a.0;
+    let second = b.0;
     compose::inner::compose_elements(
         egg::inner::part(from, f),
         f.generators,
         m,
-        GroupElementId(x % m),
-        GroupElementId(y % m),
+        GroupElementId(first % m),
+        GroupElementId(second % m),
     )
 }
 
@@ -218,14 +218,11 @@ fn find_letters(s: &[u32], n: u8, count: u32, gens: &[u32], letters: &mut [u32])
     }
 }
 
-// Whether a product of a with what `letter` is of is a step back: there is a letter, and a is an element whose word has one.
-fn one_step(s: &[u32], n: u8, count: u32, a: GroupElementId, letter: u32) -> bool
-    ensures { λ r. ⌜ (r ≡ true → (0 < letter) × ((a .0 < count) × (0 < lengthOf (now (s .entry)) n (a .0)))) ⌝ }
+// Whether a is an element whose word has letters: a product with a letter is a step back from it.
+fn steps_from(s: &[u32], n: u8, count: u32, a: GroupElementId) -> bool
+    ensures { λ r. ⌜ (r ≡ true → (a .0 < count) × (0 < lengthOf (now (s .entry)) n (a .0))) ⌝ }
 {
     let x = a.0;
-    if letter == 0 {
-        return false;
-    }
     if count <= x {
         return false;
     }
@@ -239,16 +236,19 @@ fn letter_product(
     a: GroupElementId,
     b: GroupElementId,
     letter: u32,
+    steps: bool,
 ) -> Reached
-    requires { ⌜ (fitsIn (length (now from)) f ≡ true) × OneLetter (stretch (now from) f) (f .generators) (f .elements) (b .0 % f .elements) letter ⌝ }
+    requires { ⌜ (fitsIn (length (now from)) f ≡ true) × (OneLetter (stretch (now from) f) (f .generators) (f .elements) (b .0 % f .elements) letter × (steps ≡ true → (a .0 < f .elements) × (0 < lengthOf (stretch (now from) f) (f .generators) (a .0)))) ⌝ }
     ensures { λ r. ⌜ r ≡ composes (now (from .entry)) (f ∷ []) (a .0) (b .0) ⌝ }
 {
-    let s = egg::inner::part(from, f);
-    if !one_step(s, f.generators, f.elements, a, letter) {
+    if letter == 0 {
+        return factor_product(from, f, a, b);
+    }
+    if !steps {
         return factor_product(from, f, a, b);
     }
     walks::inner::previous(
-        s,
+        egg::inner::part(from, f),
         f.generators,
         f.elements,
         a,
@@ -256,7 +256,8 @@ fn letter_product(
     )
 }
 
-// The same rows where the overgroup is one factor: its handle is 24 bytes, and a product of 200 would be copied at each place.
+// The same rows where the overgroup is one factor: its handle is 24 bytes, and a product of 200 would be copied at each place. What stands at e is read once: new
+// elements come behind it.
 fn factor_row(
     t: &mut [u32],
     inn: &mut [u32],
@@ -270,17 +271,30 @@ fn factor_row(
     e: GroupElementId,
     first: u32,
 ) -> Counted
-    requires { ⌜ (fitsIn (length (now from)) f ≡ true) × Letters (stretch (now from) f) (f .generators) (f .elements) (now gens) (now letters) ⌝ }
+    requires { ⌜ ((fitsIn (length (now from)) f ≡ true) × Letters (stretch (now from) f) (f .generators) (f .elements) (now gens) (now letters)) × (e .0 < first) ⌝ }
     ensures { λ r. ⌜ Mapped.mapped (Placed.placed r (now (t .exit))) (now (inn .exit)) (now (outw .exit)) ≡ mapRow n (productOf (now (from .entry)) (f ∷ []) (now (gens .entry))) n room (e .0) 0 first (now (t .entry)) (now (inn .entry)) (now (outw .entry)) ⌝ }
 {
     let row = e.0;
+    let at = egg::inner::get(&outw[..], row as usize);
+    let steps = steps_from(
+        egg::inner::part(from, f),
+        f.generators,
+        f.elements,
+        GroupElementId(at),
+    );
     let mut g: u8 = 0;
     let mut count = first;
     while g < n {
-        let at = egg::inner::get(&outw[..], row as usize);
         let by = egg::inner::get(gens, g as usize);
         let letter = egg::inner::get(letters, g as usize);
-        let reached = letter_product(from, f, GroupElementId(at), GroupElementId(by), letter);
+        let reached = letter_product(
+            from,
+            f,
+            GroupElementId(at),
+            GroupElementId(by),
+            letter,
+            steps,
+        );
         let x = match reached {
             Reached::Refused(why) => {
                 return Counted::Refused(why);
@@ -411,8 +425,8 @@ pub fn generated_in(
 pub fn subgroup_of(over: Group, made: Made) -> Subgrouped
     ensures { λ r. ⌜ r ≡ subgroupOf over made ⌝ }
 {
-    let below = group::trivial();
-    let above = group::trivial();
+    let below = handles::trivial();
+    let above = handles::trivial();
     let factor = made.factor;
     let answer = made.answer;
     let subgroup = Subgroup {

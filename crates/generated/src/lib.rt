@@ -1,7 +1,7 @@
 // The build of a subgroup from generators: the overgroup's products, numbered in order of first appearance. `subgroup` has the calls.
 use egg::Factor;
 use egg::Verdict;
-use group::Group;
+use handles::Group;
 
 pub mod inner;
 

@@ -14,7 +14,6 @@ use egg::GroupElementId;
 use egg::Refusal;
 use egg::Verdict;
 use generated::Subgrouped;
-use group::Group;
 use handles::Group;
 
 // The elements that a predicate has chosen so far, the first `generators` of eight, and how their build ended.

@@ -4,7 +4,6 @@ ghost use Rattle.generated.specs.Lent.{Subgrouping};
 ghost use Rattle.predicate.specs.Predicate.{fromPredicate};
 use egg::Verdict;
 use generated::Subgrouped;
-use group::Group;
 use handles::Group;
 
 pub mod inner;

@@ -28,7 +28,7 @@ use egg::Refusal;
 use egg::Verdict;
 use generated::Subgroup;
 use generated::Subgrouped;
-use group::Group;
+use handles::Group;
 use handles::inner::Seen;
 
 // p·q as far as 32 bits can tell.

@@ -13,7 +13,6 @@ use egg::Refusal;
 use egg::Verdict;
 use generated::Subgroup;
 use generated::Subgrouped;
-use group::Group;
 use handles::Group;
 
 pub mod inner;

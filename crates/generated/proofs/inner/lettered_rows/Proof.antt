@@ -33,7 +33,7 @@ returns : tie.Need-returns Inv-loop μ-loop
 returns c = let a = (c .before .before .before .before .before .before .before .before .before .args) in map-rows-done (productOf (a .from .now) (a .f ∷ []) (a .gens .now)) (a .n) (a .room) (c .before .before .loop .e) (c .before .before .loop .count) (c .before .before .loop .t) (c .before .before .loop .inn) (c .before .before .loop .outw) (c .before .loop-test .taken) (c .if1 .taken) ∙ (c .before .before .loop .inv .4)
 
 factor-row-requires : tie.Need-factor-row-requires Inv-loop μ-loop
-factor-row-requires c κs = (c .before .before .before .before .before .before .before .before .before .before .before .before .pre)
+factor-row-requires c κs = ((c .before .before .before .before .before .before .before .before .before .before .before .before .pre), (c .before .before .before .if1 .left))
 
 enum-known-c : tie.Need-enum-known-c Inv-loop μ-loop
 enum-known-c c = search needs
