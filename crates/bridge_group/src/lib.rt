@@ -6,12 +6,11 @@ ghost use Rattle.bridge.specs.Bridge.{reachedCode, countedCode, Bridged, bridge
 ghost use Rattle.handles.specs.Handles.{joins};
 ghost use Rattle.group.specs.Questions.{countAnswer, generatorsAnswer, generatorAnswer, stepAnswer, projectAnswer, injectAnswer, splitAnswer, splitLeaves, joinAnswer, composeAnswer, inverseAnswer, conjugateAnswer, powiAnswer, periodAnswer, lengthAnswer, writeAnswer, written};
 ghost use Rattle.flat.specs.Flat.{flat};
-ghost use Rattle.bridge_group.specs.Product.{productOf, groupedInto};
+ghost use Rattle.bridge_list.specs.Product.{productOf};
+ghost use Rattle.bridge_group.specs.Product.{groupedInto};
 use egg::GeneratorId;
 use egg::GroupElementId;
 use handles::Grouped;
-
-pub mod inner;
 
 fn write_grouped(out: &mut [u32], g: Grouped)
     ensures { λ x. ⌜ now (out .exit) ≡ groupedInto g (now (out .entry)) ⌝ }
@@ -34,8 +33,8 @@ pub extern "C" fn hg_product(
 )
     ensures { λ x. ⌜ now (out .exit) ≡ groupedInto (joins (length (now (table .entry))) (productOf (now (first .entry)) k) (productOf (now (second .entry)) m)) (now (out .entry)) ⌝ }
 {
-    let a = inner::product_of(first, k);
-    let b = inner::product_of(second, m);
+    let a = bridge_list::inner::product_of(first, k);
+    let b = bridge_list::inner::product_of(second, m);
     let p = group::product(table, a, b);
     write_grouped(out, p);
 }
@@ -44,7 +43,7 @@ pub extern "C" fn hg_product(
 pub extern "C" fn hg_product_count(table: &[u32], handles: &[u32], count: u8) -> u64
     ensures { λ r. ⌜ r ≡ countedCode (countAnswer (now (table .entry)) (productOf (now (handles .entry)) count)) ⌝ }
 {
-    let g = inner::product_of(handles, count);
+    let g = bridge_list::inner::product_of(handles, count);
     bridge::inner::counted_code(group::element_count(table, g))
 }
 
@@ -52,7 +51,7 @@ pub extern "C" fn hg_product_count(table: &[u32], handles: &[u32], count: u8) ->
 pub extern "C" fn hg_product_generators(table: &[u32], handles: &[u32], count: u8) -> u64
     ensures { λ r. ⌜ r ≡ countedCode (generatorsAnswer (now (table .entry)) (productOf (now (handles .entry)) count)) ⌝ }
 {
-    let g = inner::product_of(handles, count);
+    let g = bridge_list::inner::product_of(handles, count);
     bridge::inner::counted_code(group::generator_count(table, g))
 }
 
@@ -60,16 +59,25 @@ pub extern "C" fn hg_product_generators(table: &[u32], handles: &[u32], count: u
 pub extern "C" fn hg_product_generator(table: &[u32], handles: &[u32], count: u8, x: u8) -> u64
     ensures { λ r. ⌜ r ≡ reachedCode (generatorAnswer (now (table .entry)) (productOf (now (handles .entry)) count) (record { 0 = x })) ⌝ }
 {
-    let g = inner::product_of(handles, count);
-    bridge::inner::reached_code(group::generator(table, g, GeneratorId(x)))
+    bridge::inner::reached_code(bridge_list::inner::passes::generator(
+        table,
+        handles,
+        count,
+        GeneratorId(x),
+    ))
 }
 
 #[no_mangle]
 pub extern "C" fn hg_product_step(table: &[u32], handles: &[u32], count: u8, e: u32, x: u8) -> u64
     ensures { λ r. ⌜ r ≡ reachedCode (stepAnswer (now (table .entry)) (productOf (now (handles .entry)) count) (record { 0 = e }) (record { 0 = x })) ⌝ }
 {
-    let g = inner::product_of(handles, count);
-    bridge::inner::reached_code(group::step(table, g, GroupElementId(e), GeneratorId(x)))
+    bridge::inner::reached_code(bridge_list::inner::passes::step(
+        table,
+        handles,
+        count,
+        GroupElementId(e),
+        GeneratorId(x),
+    ))
 }
 
 #[no_mangle]
@@ -82,7 +90,7 @@ pub extern "C" fn hg_product_project(
 ) -> u64
     ensures { λ r. ⌜ r ≡ reachedCode (projectAnswer (now (table .entry)) (productOf (now (handles .entry)) count) f (record { 0 = e })) ⌝ }
 {
-    let g = inner::product_of(handles, count);
+    let g = bridge_list::inner::product_of(handles, count);
     bridge::inner::reached_code(group::project(table, g, f, GroupElementId(e)))
 }
 
@@ -90,7 +98,7 @@ pub extern "C" fn hg_product_project(
 pub extern "C" fn hg_product_inject(table: &[u32], handles: &[u32], count: u8, f: u8, e: u32) -> u64
     ensures { λ r. ⌜ r ≡ reachedCode (injectAnswer (now (table .entry)) (productOf (now (handles .entry)) count) f (record { 0 = e })) ⌝ }
 {
-    let g = inner::product_of(handles, count);
+    let g = bridge_list::inner::product_of(handles, count);
     bridge::inner::reached_code(group::inject(table, g, f, GroupElementId(e)))
 }
 
@@ -104,7 +112,7 @@ pub extern "C" fn hg_product_compose(
 ) -> u64
     ensures { λ r. ⌜ r ≡ reachedCode (composeAnswer (now (table .entry)) (productOf (now (handles .entry)) count) (record { 0 = a }) (record { 0 = b })) ⌝ }
 {
-    let g = inner::product_of(handles, count);
+    let g = bridge_list::inner::product_of(handles, count);
     bridge::inner::reached_code(group::compose(table, g, GroupElementId(a), GroupElementId(b)))
 }
 
@@ -112,8 +120,12 @@ pub extern "C" fn hg_product_compose(
 pub extern "C" fn hg_product_inverse(table: &[u32], handles: &[u32], count: u8, a: u32) -> u64
     ensures { λ r. ⌜ r ≡ reachedCode (inverseAnswer (now (table .entry)) (productOf (now (handles .entry)) count) (record { 0 = a })) ⌝ }
 {
-    let g = inner::product_of(handles, count);
-    bridge::inner::reached_code(group::inverse(table, g, GroupElementId(a)))
+    bridge::inner::reached_code(bridge_list::inner::passes::inverse(
+        table,
+        handles,
+        count,
+        GroupElementId(a),
+    ))
 }
 
 #[no_mangle]
@@ -126,7 +138,7 @@ pub extern "C" fn hg_product_conjugate(
 ) -> u64
     ensures { λ r. ⌜ r ≡ reachedCode (conjugateAnswer (now (table .entry)) (productOf (now (handles .entry)) count) (record { 0 = a }) (record { 0 = b })) ⌝ }
 {
-    let g = inner::product_of(handles, count);
+    let g = bridge_list::inner::product_of(handles, count);
     bridge::inner::reached_code(group::conjugate(table, g, GroupElementId(a), GroupElementId(b)))
 }
 
@@ -134,7 +146,7 @@ pub extern "C" fn hg_product_conjugate(
 pub extern "C" fn hg_product_powi(table: &[u32], handles: &[u32], count: u8, a: u32, i: i32) -> u64
     ensures { λ r. ⌜ r ≡ reachedCode (powiAnswer (now (table .entry)) (productOf (now (handles .entry)) count) (record { 0 = a }) i) ⌝ }
 {
-    let g = inner::product_of(handles, count);
+    let g = bridge_list::inner::product_of(handles, count);
     bridge::inner::reached_code(group::powi(table, g, GroupElementId(a), i))
 }
 
@@ -142,7 +154,7 @@ pub extern "C" fn hg_product_powi(table: &[u32], handles: &[u32], count: u8, a: 
 pub extern "C" fn hg_product_period(table: &[u32], handles: &[u32], count: u8, a: u32) -> u64
     ensures { λ r. ⌜ r ≡ countedCode (periodAnswer (now (table .entry)) (productOf (now (handles .entry)) count) (record { 0 = a })) ⌝ }
 {
-    let g = inner::product_of(handles, count);
+    let g = bridge_list::inner::product_of(handles, count);
     bridge::inner::counted_code(group::period(table, g, GroupElementId(a)))
 }
 
@@ -150,7 +162,7 @@ pub extern "C" fn hg_product_period(table: &[u32], handles: &[u32], count: u8, a
 pub extern "C" fn hg_product_length(table: &[u32], handles: &[u32], count: u8, e: u32) -> u64
     ensures { λ r. ⌜ r ≡ countedCode (lengthAnswer (now (table .entry)) (productOf (now (handles .entry)) count) (record { 0 = e })) ⌝ }
 {
-    let g = inner::product_of(handles, count);
+    let g = bridge_list::inner::product_of(handles, count);
     bridge::inner::counted_code(group::word_length(table, g, GroupElementId(e)))
 }
 
@@ -165,7 +177,7 @@ pub extern "C" fn hg_product_split(
 ) -> u64
     ensures { λ r. ⌜ (r ≡ countedCode (splitAnswer (now (table .entry)) (productOf (now (handles .entry)) count) (record { 0 = e }) (length (now (out .entry))))) × (now (out .exit) ≡ splitLeaves (now (table .entry)) (productOf (now (handles .entry)) count) (record { 0 = e }) (now (out .entry))) ⌝ }
 {
-    let g = inner::product_of(handles, count);
+    let g = bridge_list::inner::product_of(handles, count);
     bridge::inner::counted_code(group::split(table, g, GroupElementId(e), out))
 }
 
@@ -173,7 +185,7 @@ pub extern "C" fn hg_product_split(
 pub extern "C" fn hg_product_join(table: &[u32], handles: &[u32], count: u8, digits: &[u32]) -> u64
     ensures { λ r. ⌜ r ≡ reachedCode (joinAnswer (now (table .entry)) (productOf (now (handles .entry)) count) (now (digits .entry))) ⌝ }
 {
-    let g = inner::product_of(handles, count);
+    let g = bridge_list::inner::product_of(handles, count);
     bridge::inner::reached_code(group::join(table, g, digits))
 }
 
@@ -187,7 +199,7 @@ pub extern "C" fn hg_product_word(
 ) -> u64
     ensures { λ r. ⌜ (r ≡ countedCode (writeAnswer (now (table .entry)) (productOf (now (handles .entry)) count) (record { 0 = e }) (length (now (out .entry))))) × (now (out .exit) ≡ written (now (table .entry)) (productOf (now (handles .entry)) count) (record { 0 = e }) (now (out .entry))) ⌝ }
 {
-    let g = inner::product_of(handles, count);
+    let g = bridge_list::inner::product_of(handles, count);
     bridge::inner::counted_code(group::write_word(table, g, GroupElementId(e), out))
 }
 
@@ -204,7 +216,7 @@ pub extern "C" fn hg_product_flatten(
 )
     ensures { λ x. ⌜ Bridged.holds (now (table .exit)) (now (work .exit)) (now (out .exit)) ≡ bridged (flat (now (from .entry)) (productOf (now (handles .entry)) count) (now (table .entry)) start (now (work .entry)) room) (now (out .entry)) ⌝ }
 {
-    let g = inner::product_of(handles, count);
+    let g = bridge_list::inner::product_of(handles, count);
     let m = group::flatten(from, g, table, start, work, room);
     bridge::inner::write_made(out, m);
 }

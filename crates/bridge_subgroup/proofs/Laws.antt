@@ -1,11 +1,11 @@
 -- What the lent lists hold after a subgroup was made; what the numbers of a subgroup show.
 -- Assumes nothing.
-use Prim.Native.Nat.{ℕ, _+_, _*_, _≤_, _<_}
+use Prim.Native.Nat.{ℕ, _≤_, _<_}
 use mathlib.Core.Path.{_≡_, refl, ap, _∙_, subst}
 use mathlib.Core.Bool.{Bool}
-use mathlib.Core.List.{List, _∷_}
+use mathlib.Core.List.{List}
 use native.Mathlib.Omega.{arith}
-use lib.ListN.{length, getD, drop}
+use lib.ListN.{getD}
 use Rattle.egg.specs.declared.Factor.{Factor}
 use Rattle.egg.specs.Factor.{fitsIn}
 use Rattle.egg.specs.Table.{putAt}
@@ -18,8 +18,7 @@ use Rattle.subgroup.specs.Outline.{outlineOf, outlineBy, fewOf}
 use Rattle.subgroup.proofs.Outlines.{few-counts, outline-is}
 use Rattle.handles.specs.declared.inner.Seen.{Seen}
 use Rattle.handles.specs.Handles.{handles, seen}
-use Rattle.bridge_group.specs.Product.{byteOf, handleAt, productAt}
-use Rattle.bridge_group.proofs.Looks.{told-turn}
+use Rattle.bridge_list.specs.Product.{byteOf, handleAt, productAt}
 use Rattle.bridge_subgroup.specs.Subgroup.{subgroupFrom, subgroupedInto, Bridged, holds, bridged}
 
 pub subgroup-holds : {m : Subgrouped} {t w i o : List ℕ} {x : Subgrouping} (out : List ℕ) {l : List ℕ} → subgrouping m t w i o ≡ x → l ≡ subgroupedInto m out
@@ -49,8 +48,3 @@ unfolding subgroupFrom
 element-fits l {f} p h =
     let z : f .elements ≤ 4294967296 = omega arith in
     subst (λ (x : Factor). x .elements ≤ 4294967296) p z
-
--- A turn of the pass over the handles of a product that stand in a list.
-pub turn-told : (l : List ℕ) (at count f : ℕ) {k : ℕ} {h : Factor} → k ≡ length (handles (productAt l at count)) → f < k → k ≤ 8 → h ≡ handleAt l (at + f * 5)
-    → drop f (handles (productAt l at count)) ≡ h ∷ drop (f + 1) (handles (productAt l at count))
-turn-told l at count f p q b e = told-turn l at count f p q b ∙ rw e

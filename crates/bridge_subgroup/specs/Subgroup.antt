@@ -5,7 +5,7 @@ use mathlib.Core.List.{List}
 use lib.ListN.{getD}
 use Rattle.egg.specs.Table.{putAt}
 use Rattle.bridge.specs.Bridge.{refusalCode, madeInto}
-use Rattle.bridge_group.specs.Product.{byteOf, handleAt, productAt}
+use Rattle.bridge_list.specs.Product.{byteOf, handleAt, productAt}
 use Rattle.generated.specs.declared.Subgroup.{Subgroup}
 use Rattle.generated.specs.declared.Subgrouped.{Subgrouped}
 use Rattle.subgroup.specs.declared.Within.{Within}

@@ -1,11 +1,9 @@
 // The calls on subgroups as C functions. The overgroup is a product, as in `bridge_group`; a subgroup is 128 numbers in a lent list: the handle of its factor,
 // how many factors are below, over and above, and their handles. A handle that is not wholly in the list is none, which fits no buffer (17); a count that is missing is 0.
-ghost use Prim.Native.Nat.{ℕ, _≤_};
 ghost use mathlib.Core.Path.{_≡_};
-ghost use mathlib.Core.List.{List};
 ghost use lib.ListN.{length, getD};
 ghost use Rattle.bridge.specs.Bridge.{reachedCode, paperInto};
-ghost use Rattle.bridge_group.specs.Product.{byteOf, productOf, productAt};
+ghost use Rattle.bridge_list.specs.Product.{byteOf, productOf, productAt};
 ghost use Rattle.handles.specs.Handles.{handles, seen};
 ghost use Rattle.subgroup.specs.Outline.{outlineOf, Measured};
 ghost use Rattle.generated.specs.Generated.{fromGenerators};
@@ -25,16 +23,16 @@ use subgroup::inner::Outline;
 fn count_at(l: &[u32], at: u32) -> u8
     ensures { λ r. ⌜ r ≡ byteOf (getD (now (l .entry)) at 0) ⌝ }
 {
-    bridge_group::inner::byte_of(egg::inner::get(l, at as usize))
+    bridge_list::inner::byte_of(egg::inner::get(l, at as usize))
 }
 
 fn subgroup_from(l: &[u32]) -> Subgroup
     ensures { λ r. ⌜ r ≡ subgroupFrom (now (l .entry)) ⌝ }
 {
-    let factor = bridge_group::inner::handle_at(l, 0);
-    let below = bridge_group::inner::product_at(l, 8, count_at(l, 5));
-    let over = bridge_group::inner::product_at(l, 48, count_at(l, 6));
-    let above = bridge_group::inner::product_at(l, 88, count_at(l, 7));
+    let factor = bridge_list::inner::handle_at(l, 0);
+    let below = bridge_list::inner::product_at(l, 8, count_at(l, 5));
+    let over = bridge_list::inner::product_at(l, 48, count_at(l, 6));
+    let above = bridge_list::inner::product_at(l, 88, count_at(l, 7));
     Subgroup {
         below,
         factor,
@@ -43,49 +41,18 @@ fn subgroup_from(l: &[u32]) -> Subgroup
     }
 }
 
-// How many handles a product lists.
-fn listed(count: u8) -> u32
-    ensures { λ r. ⌜ ((l : List ℕ) → (at : ℕ) → r ≡ length (handles (productAt l at count))) × (r ≤ 8) ⌝ }
-{
-    if 8 < count { 8 } else { count as u32 }
-}
-
-// What one pass over the handles from place `at` on shows, as `handles::inner::look` of their product, which is not made for it.
-fn look_at(from: &[u32], l: &[u32], at: u32, count: u8) -> Seen
-    requires { ⌜ at ≤ 1000 ⌝ }
-    ensures { λ r. ⌜ r ≡ seen (length (now (from .entry))) (handles (productAt (now (l .entry)) at count)) ⌝ }
-{
-    let c = listed(count);
-    let mut f: u32 = 0;
-    let mut fit = true;
-    let mut elements: u64 = 1;
-    let mut generators: u32 = 0;
-    while f < c {
-        let h = bridge_group::inner::handle_at(l, at + f * 5);
-        fit = subgroup::inner::both(fit, egg::fits(from, h));
-        elements = subgroup::inner::times(elements, h.elements as u64);
-        generators += h.generators as u32;
-        f += 1;
-    }
-    Seen {
-        fit,
-        elements,
-        generators,
-    }
-}
-
 // The outline of `subgroup_from(l)`: the questions need no more of it.
 fn outline_from(from: &[u32], table: &[u32], l: &[u32]) -> Outline
     ensures { λ r. ⌜ (r ≡ outlineOf (length (now (from .entry))) (length (now (table .entry))) (subgroupFrom (now (l .entry)))) × Measured r ⌝ }
 {
-    let factor = bridge_group::inner::handle_at(l, 0);
+    let factor = bridge_list::inner::handle_at(l, 0);
     let fits = egg::fits(table, factor);
     let k = count_at(l, 5);
     let m = count_at(l, 6);
     let n = count_at(l, 7);
-    let below = look_at(from, l, 8, k);
-    let over = look_at(from, l, 48, m);
-    let above = look_at(from, l, 88, n);
+    let below = bridge_list::inner::look_at(from, l, 8, k);
+    let over = bridge_list::inner::look_at(from, l, 48, m);
+    let above = bridge_list::inner::look_at(from, l, 88, n);
     let few = subgroup::inner::few_of(k, m, n);
     subgroup::inner::outline_by(fits, few, factor.elements, below, over, above)
 }
@@ -127,7 +94,7 @@ pub extern "C" fn hg_subgroup(
 )
     ensures { λ x. ⌜ Bridged.holds (now (table .exit)) (now (work .exit)) (now (inn .exit)) (now (outw .exit)) (now (out .exit)) ≡ bridged (fromGenerators (now (from .entry)) (productOf (now (handles .entry)) count) (now (gens .entry)) (now (table .entry)) start (now (work .entry)) (now (inn .entry)) (now (outw .entry)) room) (now (out .entry)) ⌝ }
 {
-    let over = bridge_group::inner::product_of(handles, count);
+    let over = bridge_list::inner::product_of(handles, count);
     let m = subgroup::from_generators(from, over, gens, table, start, work, inn, outw, room);
     write_subgrouped(out, m);
 }
@@ -149,7 +116,7 @@ pub extern "C" fn hg_subgroup_predicate(
 )
     ensures { λ x. ⌜ Bridged.holds (now (table .exit)) (now (work .exit)) (now (inn .exit)) (now (outw .exit)) (now (out .exit)) ≡ bridged (fromPredicate (now (from .entry)) (productOf (now (handles .entry)) count) (now (members .entry)) (now (table .entry)) start (now (work .entry)) (now (inn .entry)) (now (outw .entry)) room) (now (out .entry)) ⌝ }
 {
-    let over = bridge_group::inner::product_of(handles, count);
+    let over = bridge_list::inner::product_of(handles, count);
     let m = predicate::from_predicate(from, over, members, table, start, work, inn, outw, room);
     write_subgrouped(out, m);
 }
@@ -211,7 +178,7 @@ pub extern "C" fn hg_subgroup_left(
 )
     ensures { λ x. ⌜ now (out .exit) ≡ paperInto (leftProduct (length (now (from .entry))) (length (now (table .entry))) (productOf (now (handles .entry)) count) (subgroupFrom (now (sub .entry))) .answer) (now (out .entry)) ⌝ }
 {
-    let g = bridge_group::inner::product_of(handles, count);
+    let g = bridge_list::inner::product_of(handles, count);
     let s = subgroup_from(sub);
     let m = subgroup::product_left(from, table, g, s);
     let v = m.answer;
@@ -230,7 +197,7 @@ pub extern "C" fn hg_subgroup_right(
 )
     ensures { λ x. ⌜ now (out .exit) ≡ paperInto (rightProduct (length (now (from .entry))) (length (now (table .entry))) (subgroupFrom (now (sub .entry))) (productOf (now (handles .entry)) count) .answer) (now (out .entry)) ⌝ }
 {
-    let g = bridge_group::inner::product_of(handles, count);
+    let g = bridge_list::inner::product_of(handles, count);
     let s = subgroup_from(sub);
     let m = subgroup::product_right(from, table, s, g);
     let v = m.answer;

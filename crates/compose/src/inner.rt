@@ -80,7 +80,7 @@ fn shorter(own: u32, len: u32) -> bool
     own < len
 }
 
-fn chosen(first: bool, x: u32, y: u32) -> u32
+pub fn chosen(first: bool, x: u32, y: u32) -> u32
     ensures { λ r. ⌜ r ≡ pick first x y ⌝ }
 {
     if first { x } else { y }

@@ -3,7 +3,7 @@
 use Prim.Native.Nat.{ℕ, _+_, _*_, _≤_, _<_, zero-le}
 use mathlib.Core.Path.{_≡_, refl, sym, ap, _∙_}
 use mathlib.Core.List.{List, [], _∷_, _++_}
-use native.Mathlib.Nat.{mul-assoc, mul-comm, mul-le-mul, mul-zero, zero-mul, one-mul}
+use native.Mathlib.Nat.{mul-assoc, mul-comm, mul-le-mul, zero-mul, one-mul}
 use native.Mathlib.Omega.{arith}
 use Rattle.egg.specs.declared.Factor.{Factor}
 use Rattle.handles.specs.Handles.{handles, elementsOf, capped}
@@ -39,15 +39,6 @@ cap-low n q = rw q (capped-bound n)
 module _ (p q : ℕ) where
   pub times-none-left : p ≡ 0 → 0 ≡ capped (p * q)
   times-none-left e = let z : p * q ≡ 0 = rw e (zero-mul q) in sym (rw z (cap-small zero-le))
-
-  pub times-none-right : q ≡ 0 → 0 ≡ capped (p * q)
-  times-none-right e = let z : p * q ≡ 0 = rw e (mul-zero p) in sym (rw z (cap-small zero-le))
-
-  pub times-large-left : ¬ (q ≡ 0) → 4294967295 < p → 4294967296 ≡ capped (p * q)
-  times-large-left f h =
-      let k : 1 ≤ q = omega arith in
-      let l : 4294967295 < p * q = omega (arith, mul-le-mul h k) in
-      sym (cap-large l)
 
   pub times-large-right : ¬ (p ≡ 0) → 4294967295 < q → 4294967296 ≡ capped (p * q)
   times-large-right f h =

@@ -31,25 +31,15 @@ use generated::Subgrouped;
 use handles::Group;
 use handles::inner::Seen;
 
-// p·q as far as 32 bits can tell.
+// p·q as far as 32 bits can tell, of two numbers that are known so far: as handles', but that the second may be 2^32.
 pub fn times(p: u64, q: u64) -> u64
     requires { ⌜ (p ≤ 4294967296) × (q ≤ 4294967296) ⌝ }
     ensures { λ r. ⌜ r ≡ capped (p * q) ⌝ }
 {
-    if p == 0 {
-        return 0;
+    if q <= 4294967295 {
+        return handles::inner::times(p, q as u32);
     }
-    if q == 0 {
-        return 0;
-    }
-    if 4294967295 < p {
-        return 4294967296;
-    }
-    if 4294967295 < q {
-        return 4294967296;
-    }
-    let r = p * q;
-    if r <= 4294967295 { r } else { 4294967296 }
+    if p == 0 { 0 } else { 4294967296 }
 }
 
 // How many elements a side has that has m between what is below and above.
@@ -104,20 +94,7 @@ fn few_factors(s: Subgroup) -> bool
     let below = s.below;
     let over = s.over;
     let above = s.above;
-    if 8 < below.count {
-        return false;
-    }
-    if 8 < over.count {
-        return false;
-    }
-    if 8 < above.count {
-        return false;
-    }
-    let k = handles::inner::listed(below) + handles::inner::listed(above);
-    if 8 < k + handles::inner::listed(over) {
-        return false;
-    }
-    k < 8
+    few_of(below.count, over.count, above.count)
 }
 
 // The same, and at most 4,294,967,295 elements.
@@ -143,12 +120,6 @@ pub struct Outline {
     pub within: u64,
     pub over: u64,
     pub above: u64,
-}
-
-pub fn both(a: bool, b: bool) -> bool
-    ensures { λ r. ⌜ r ≡ a && b ⌝ }
-{
-    if a { b } else { false }
 }
 
 // Whether both sides have at most 8 factors, by how many are below, over and above.
@@ -182,8 +153,8 @@ pub fn outline_by(
 ) -> Outline
     ensures { λ r. ⌜ r ≡ outlineBy fits few within below over above ⌝ }
 {
-    let high = both(over.fit, above.fit);
-    let fit = both(fits, both(below.fit, high));
+    let high = handles::inner::both(over.fit, above.fit);
+    let fit = handles::inner::both(fits, handles::inner::both(below.fit, high));
     Outline {
         fit,
         few,

@@ -4,7 +4,7 @@ use Rattle.bridge_group.proofs.hg_product.Statement.{statement}
 use Rattle.bridge_group.proofs.hg_product.Tie as tie
 use Rattle.bridge_group.proofs.hg_product.Reads as reads
 use Rattle.bridge_group.proofs.hg_product.Lts as lts
-use Rattle.bridge_group.proofs.inner.product_of.Reads as product-of-reads
+use Rattle.bridge_list.proofs.inner.product_of.Reads as product-of-reads
 use Rattle.handles.proofs.product.Reads as product-reads
 use Rattle.bridge_group.proofs.write_grouped.Reads as write-grouped-reads
 

@@ -4,7 +4,7 @@ use Rattle.bridge_group.proofs.hg_product_compose.Statement.{statement}
 use Rattle.bridge_group.proofs.hg_product_compose.Tie as tie
 use Rattle.bridge_group.proofs.hg_product_compose.Reads as reads
 use Rattle.bridge_group.proofs.hg_product_compose.Lts as lts
-use Rattle.bridge_group.proofs.inner.product_of.Reads as product-of-reads
+use Rattle.bridge_list.proofs.inner.product_of.Reads as product-of-reads
 use Rattle.bridge.proofs.inner.reached_code.Reads as reached-code-reads
 use Rattle.group.proofs.compose.Reads as compose-reads
 

@@ -2,14 +2,6 @@
 use borrow.Author.Needs.{needs}
 use Rattle.bridge_group.proofs.hg_product_generator.Statement.{statement}
 use Rattle.bridge_group.proofs.hg_product_generator.Tie as tie
-use Rattle.bridge_group.proofs.hg_product_generator.Reads as reads
-use Rattle.bridge_group.proofs.hg_product_generator.Lts as lts
-use Rattle.bridge_group.proofs.inner.product_of.Reads as product-of-reads
-use Rattle.bridge.proofs.inner.reached_code.Reads as reached-code-reads
-use Rattle.group.proofs.generator.Reads as generator-reads
-
-product-of-requires : tie.Need-product-of-requires
-product-of-requires c κs = search needs
 
 generator-requires : tie.Need-generator-requires
 generator-requires c κs = search needs
@@ -18,8 +10,7 @@ reached-code-requires : tie.Need-reached-code-requires
 reached-code-requires c κs = search needs
 
 returns : tie.Need-returns
-returns c = rw ((c .reached-code .ensures), (c .before .generator .ensures), (c .before .before .product-of .ensures))
+returns c = rw ((c .reached-code .ensures), (c .before .generator .ensures))
 
 pub hg-product-generator-spec : {M : Type 1} → statement M
-hg-product-generator-spec =
-    tie.close (tie.spec product-of-requires generator-requires reached-code-requires returns)
+hg-product-generator-spec = tie.close (tie.spec generator-requires reached-code-requires returns)

@@ -4,7 +4,7 @@ use Rattle.bridge_group.proofs.hg_product_generators.Statement.{stateme
 use Rattle.bridge_group.proofs.hg_product_generators.Tie as tie
 use Rattle.bridge_group.proofs.hg_product_generators.Reads as reads
 use Rattle.bridge_group.proofs.hg_product_generators.Lts as lts
-use Rattle.bridge_group.proofs.inner.product_of.Reads as product-of-reads
+use Rattle.bridge_list.proofs.inner.product_of.Reads as product-of-reads
 use Rattle.bridge.proofs.inner.counted_code.Reads as counted-code-reads
 use Rattle.group.proofs.generator_count.Reads as generator-count-reads
 

@@ -4,7 +4,7 @@ use Rattle.bridge_group.proofs.hg_product_inject.Statement.{statement}
 use Rattle.bridge_group.proofs.hg_product_inject.Tie as tie
 use Rattle.bridge_group.proofs.hg_product_inject.Reads as reads
 use Rattle.bridge_group.proofs.hg_product_inject.Lts as lts
-use Rattle.bridge_group.proofs.inner.product_of.Reads as product-of-reads
+use Rattle.bridge_list.proofs.inner.product_of.Reads as product-of-reads
 use Rattle.bridge.proofs.inner.reached_code.Reads as reached-code-reads
 use Rattle.group.proofs.inject.Reads as inject-reads
 

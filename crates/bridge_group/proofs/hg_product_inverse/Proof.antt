@@ -2,14 +2,6 @@
 use borrow.Author.Needs.{needs}
 use Rattle.bridge_group.proofs.hg_product_inverse.Statement.{statement}
 use Rattle.bridge_group.proofs.hg_product_inverse.Tie as tie
-use Rattle.bridge_group.proofs.hg_product_inverse.Reads as reads
-use Rattle.bridge_group.proofs.hg_product_inverse.Lts as lts
-use Rattle.bridge_group.proofs.inner.product_of.Reads as product-of-reads
-use Rattle.bridge.proofs.inner.reached_code.Reads as reached-code-reads
-use Rattle.group.proofs.inverse.Reads as inverse-reads
-
-product-of-requires : tie.Need-product-of-requires
-product-of-requires c κs = search needs
 
 inverse-requires : tie.Need-inverse-requires
 inverse-requires c κs = search needs
@@ -18,8 +10,7 @@ reached-code-requires : tie.Need-reached-code-requires
 reached-code-requires c κs = search needs
 
 returns : tie.Need-returns
-returns c = rw ((c .reached-code .ensures), (c .before .inverse .ensures), (c .before .before .product-of .ensures))
+returns c = rw ((c .reached-code .ensures), (c .before .inverse .ensures))
 
 pub hg-product-inverse-spec : {M : Type 1} → statement M
-hg-product-inverse-spec =
-    tie.close (tie.spec product-of-requires inverse-requires reached-code-requires returns)
+hg-product-inverse-spec = tie.close (tie.spec inverse-requires reached-code-requires returns)

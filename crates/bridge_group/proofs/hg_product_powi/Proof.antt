@@ -7,7 +7,7 @@ use Rattle.bridge_group.proofs.hg_product_powi.Statement.{statement}
 use Rattle.bridge_group.proofs.hg_product_powi.Tie as tie
 use Rattle.bridge_group.proofs.hg_product_powi.Reads as reads
 use Rattle.bridge_group.proofs.hg_product_powi.Lts as lts
-use Rattle.bridge_group.proofs.inner.product_of.Reads as product-of-reads
+use Rattle.bridge_list.proofs.inner.product_of.Reads as product-of-reads
 use Rattle.bridge.proofs.inner.reached_code.Reads as reached-code-reads
 use Rattle.group.proofs.powi.Reads as powi-reads
 

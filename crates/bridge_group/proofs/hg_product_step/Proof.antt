@@ -2,14 +2,6 @@
 use borrow.Author.Needs.{needs}
 use Rattle.bridge_group.proofs.hg_product_step.Statement.{statement}
 use Rattle.bridge_group.proofs.hg_product_step.Tie as tie
-use Rattle.bridge_group.proofs.hg_product_step.Reads as reads
-use Rattle.bridge_group.proofs.hg_product_step.Lts as lts
-use Rattle.bridge_group.proofs.inner.product_of.Reads as product-of-reads
-use Rattle.bridge.proofs.inner.reached_code.Reads as reached-code-reads
-use Rattle.group.proofs.step.Reads as step-reads
-
-product-of-requires : tie.Need-product-of-requires
-product-of-requires c κs = search needs
 
 step-requires : tie.Need-step-requires
 step-requires c κs = search needs
@@ -18,8 +10,7 @@ reached-code-requires : tie.Need-reached-code-requires
 reached-code-requires c κs = search needs
 
 returns : tie.Need-returns
-returns c = rw ((c .reached-code .ensures), (c .before .step .ensures), (c .before .before .product-of .ensures))
+returns c = rw ((c .reached-code .ensures), (c .before .step .ensures))
 
 pub hg-product-step-spec : {M : Type 1} → statement M
-hg-product-step-spec =
-    tie.close (tie.spec product-of-requires step-requires reached-code-requires returns)
+hg-product-step-spec = tie.close (tie.spec step-requires reached-code-requires returns)

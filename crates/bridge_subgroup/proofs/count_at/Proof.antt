@@ -4,7 +4,7 @@ use Rattle.bridge_subgroup.proofs.count_at.Statement.{statement}
 use Rattle.bridge_subgroup.proofs.count_at.Tie as tie
 use Rattle.bridge_subgroup.proofs.count_at.Reads as reads
 use Rattle.bridge_subgroup.proofs.count_at.Lts as lts
-use Rattle.bridge_group.proofs.inner.byte_of.Reads as byte-of-reads
+use Rattle.bridge_list.proofs.inner.byte_of.Reads as byte-of-reads
 use Rattle.egg.proofs.inner.get.Reads as get-reads
 
 get-requires : tie.Need-get-requires

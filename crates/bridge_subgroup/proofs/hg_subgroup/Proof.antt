@@ -5,7 +5,7 @@ use Rattle.bridge_subgroup.proofs.hg_subgroup.Statement.{statement}
 use Rattle.bridge_subgroup.proofs.hg_subgroup.Tie as tie
 use Rattle.bridge_subgroup.proofs.hg_subgroup.Reads as reads
 use Rattle.bridge_subgroup.proofs.hg_subgroup.Lts as lts
-use Rattle.bridge_group.proofs.inner.product_of.Reads as product-of-reads
+use Rattle.bridge_list.proofs.inner.product_of.Reads as product-of-reads
 use Rattle.subgroup.proofs.from_generators.Reads as from-generators-reads
 use Rattle.bridge_subgroup.proofs.write_subgrouped.Reads as write-subgrouped-reads
 

@@ -4,7 +4,7 @@ use Rattle.bridge_subgroup.proofs.hg_subgroup_left.Statement.{statement
 use Rattle.bridge_subgroup.proofs.hg_subgroup_left.Tie as tie
 use Rattle.bridge_subgroup.proofs.hg_subgroup_left.Reads as reads
 use Rattle.bridge_subgroup.proofs.hg_subgroup_left.Lts as lts
-use Rattle.bridge_group.proofs.inner.product_of.Reads as product-of-reads
+use Rattle.bridge_list.proofs.inner.product_of.Reads as product-of-reads
 use Rattle.bridge_subgroup.proofs.subgroup_from.Reads as subgroup-from-reads
 use Rattle.subgroup.proofs.product_left.Reads as product-left-reads
 use Rattle.bridge.proofs.inner.write_verdict.Reads as write-verdict-reads

@@ -5,7 +5,7 @@ use Rattle.bridge_subgroup.proofs.hg_subgroup_predicate.Statement.{stat
 use Rattle.bridge_subgroup.proofs.hg_subgroup_predicate.Tie as tie
 use Rattle.bridge_subgroup.proofs.hg_subgroup_predicate.Reads as reads
 use Rattle.bridge_subgroup.proofs.hg_subgroup_predicate.Lts as lts
-use Rattle.bridge_group.proofs.inner.product_of.Reads as product-of-reads
+use Rattle.bridge_list.proofs.inner.product_of.Reads as product-of-reads
 use Rattle.predicate.proofs.from_predicate.Reads as from-predicate-reads
 use Rattle.bridge_subgroup.proofs.write_subgrouped.Reads as write-subgrouped-reads
 

@@ -4,7 +4,7 @@ use Rattle.bridge_subgroup.proofs.hg_subgroup_right.Statement.{statemen
 use Rattle.bridge_subgroup.proofs.hg_subgroup_right.Tie as tie
 use Rattle.bridge_subgroup.proofs.hg_subgroup_right.Reads as reads
 use Rattle.bridge_subgroup.proofs.hg_subgroup_right.Lts as lts
-use Rattle.bridge_group.proofs.inner.product_of.Reads as product-of-reads
+use Rattle.bridge_list.proofs.inner.product_of.Reads as product-of-reads
 use Rattle.bridge_subgroup.proofs.subgroup_from.Reads as subgroup-from-reads
 use Rattle.subgroup.proofs.product_right.Reads as product-right-reads
 use Rattle.bridge.proofs.inner.write_verdict.Reads as write-verdict-reads

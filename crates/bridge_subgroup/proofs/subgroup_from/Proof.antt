@@ -5,8 +5,8 @@ use Rattle.bridge_subgroup.proofs.subgroup_from.Statement.{statement}
 use Rattle.bridge_subgroup.proofs.subgroup_from.Tie as tie
 use Rattle.bridge_subgroup.proofs.subgroup_from.Reads as reads
 use Rattle.bridge_subgroup.proofs.subgroup_from.Lts as lts
-use Rattle.bridge_group.proofs.inner.handle_at.Reads as handle-at-reads
-use Rattle.bridge_group.proofs.inner.product_at.Reads as product-at-reads
+use Rattle.bridge_list.proofs.inner.handle_at.Reads as handle-at-reads
+use Rattle.bridge_list.proofs.inner.product_at.Reads as product-at-reads
 use Rattle.bridge_subgroup.proofs.count_at.Reads as count-at-reads
 
 handle-at-requires : tie.Need-handle-at-requires

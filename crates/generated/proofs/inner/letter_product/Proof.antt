@@ -10,7 +10,6 @@ use Rattle.generated.proofs.inner.letter_product.Lts as lts
 use Rattle.egg.proofs.inner.part.Reads as part-reads
 use Rattle.walks.proofs.inner.previous.Reads as previous-reads
 use Rattle.generated.proofs.inner.factor_product.Reads as factor-product-reads
-use Rattle.generated.proofs.inner.one_step.Reads as one-step-reads
 
 factor-product-requires : tie.Need-factor-product-requires
 factor-product-requires c κs = (c .before .before .pre .0)

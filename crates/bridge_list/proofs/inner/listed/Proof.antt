@@ -1,8 +1,8 @@
 -- By cases on the test.
 use native.Mathlib.Omega.{arith}
-use Rattle.bridge_group.proofs.Looks.{told-many, told-few}
-use Rattle.bridge_subgroup.proofs.listed.Statement.{statement}
-use Rattle.bridge_subgroup.proofs.listed.Tie as tie
+use Rattle.bridge_list.proofs.Looks.{told-many, told-few}
+use Rattle.bridge_list.proofs.inner.listed.Statement.{statement}
+use Rattle.bridge_list.proofs.inner.listed.Tie as tie
 
 returns : tie.Need-returns
 returns c = ((λ l at. told-many l at ((c .before .args .count)) ((c .if1 .taken))), omega arith)

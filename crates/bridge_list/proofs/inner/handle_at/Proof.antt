@@ -1,13 +1,13 @@
 -- A test, then five reads.
-use Rattle.bridge_group.proofs.Laws.{handle-none, handle-from}
+use Rattle.bridge_list.proofs.Handles.{handle-none, handle-from}
 use borrow.Author.Needs.{needs}
-use Rattle.bridge_group.proofs.inner.handle_at.Statement.{statement}
-use Rattle.bridge_group.proofs.inner.handle_at.Tie as tie
-use Rattle.bridge_group.proofs.inner.handle_at.Reads as reads
-use Rattle.bridge_group.proofs.inner.handle_at.Lts as lts
+use Rattle.bridge_list.proofs.inner.handle_at.Statement.{statement}
+use Rattle.bridge_list.proofs.inner.handle_at.Tie as tie
+use Rattle.bridge_list.proofs.inner.handle_at.Reads as reads
+use Rattle.bridge_list.proofs.inner.handle_at.Lts as lts
 use Rattle.bridge.proofs.inner.factor_of.Reads as factor-of-reads
-use Rattle.bridge_group.proofs.inner.byte_of.Reads as byte-of-reads
-use Rattle.bridge_group.proofs.inner.start_of.Reads as start-of-reads
+use Rattle.bridge_list.proofs.inner.byte_of.Reads as byte-of-reads
+use Rattle.bridge_list.proofs.inner.start_of.Reads as start-of-reads
 
 add-if1 : tie.Need-add-if1
 add-if1 c = search needs

@@ -1,11 +1,11 @@
 -- Eight handles.
-use Rattle.bridge_group.specs.Product.{productAt}
+use Rattle.bridge_list.specs.Product.{productAt}
 use borrow.Author.Needs.{needs}
-use Rattle.bridge_group.proofs.inner.product_at.Statement.{statement}
-use Rattle.bridge_group.proofs.inner.product_at.Tie as tie
-use Rattle.bridge_group.proofs.inner.product_at.Reads as reads
-use Rattle.bridge_group.proofs.inner.product_at.Lts as lts
-use Rattle.bridge_group.proofs.inner.handle_at.Reads as handle-at-reads
+use Rattle.bridge_list.proofs.inner.product_at.Statement.{statement}
+use Rattle.bridge_list.proofs.inner.product_at.Tie as tie
+use Rattle.bridge_list.proofs.inner.product_at.Reads as reads
+use Rattle.bridge_list.proofs.inner.product_at.Lts as lts
+use Rattle.bridge_list.proofs.inner.handle_at.Reads as handle-at-reads
 
 handle-at-requires : tie.Need-handle-at-requires
 handle-at-requires c κs = search needs

@@ -1,14 +1,17 @@
 -- The handles of a product that stand in a list, one by one: for a pass over them that makes no product.
 -- Assumes nothing.
 use Prim.Native.Nat.{ℕ, zero, suc, _+_, _*_, _≤_, _<_}
-use mathlib.Core.Path.{_≡_, refl, _∙_}
+use mathlib.Core.Path.{_≡_, refl, ap, _∙_}
+use mathlib.Core.Bool.{false}
 use mathlib.Core.List.{List, _∷_}
 use native.Mathlib.Omega.{arith}
 use lib.ListN.{length, getD, drop}
+use Rattle.egg.specs.declared.Factor.{Factor}
 use Rattle.lending.specs.Lending.{noFactor}
-use Rattle.handles.specs.Handles.{handles}
+use Rattle.handles.specs.Handles.{handles, limited}
+use Rattle.handles.proofs.Admitted.{limited-many}
 use Rattle.handles.proofs.Lists.{listed-many, listed-few, turn-at}
-use Rattle.bridge_group.specs.Product.{handleAt, productAt}
+use Rattle.bridge_list.specs.Product.{handleAt, productAt, productOf}
 
 module _ (l : List ℕ) (at count : ℕ) where
   pub told-many : 8 < count → 8 ≡ length (handles (productAt l at count))
@@ -18,6 +21,14 @@ module _ (l : List ℕ) (at count : ℕ) where
   pub told-few : count ≤ 8 → count ≡ length (handles (productAt l at count))
   unfolding productAt
   told-few h = listed-few (productAt l at count) refl h
+
+  pub few-told : count ≤ 8 → productAt l at count .count ≤ 8
+  unfolding productAt
+  few-told h = h
+
+  pub many-told : 8 < count → limited (productAt l at count) ≡ false
+  unfolding productAt
+  many-told h = limited-many (productAt l at count) h
 
   told-at : (f : ℕ) → f < 8 → getD (productAt l at count .factors) f noFactor ≡ handleAt l (at + f * 5)
   unfolding productAt
@@ -36,3 +47,13 @@ module _ (l : List ℕ) (at count : ℕ) where
   told-turn f p h b =
       let e : f < 8 = omega arith in
       turn-at (productAt l at count) f p h ∙ rw (told-at f e)
+
+-- A turn of the pass over the handles of a product that stand in a list.
+pub turn-told : (l : List ℕ) (at count f : ℕ) {k : ℕ} {h : Factor} → k ≡ length (handles (productAt l at count)) → f < k → k ≤ 8 → h ≡ handleAt l (at + f * 5)
+    → drop f (handles (productAt l at count)) ≡ h ∷ drop (f + 1) (handles (productAt l at count))
+turn-told l at count f p q b e = told-turn l at count f p q b ∙ rw e
+
+-- The same of the list from its start on.
+pub turn-first : (l : List ℕ) (count f : ℕ) {k : ℕ} {h : Factor} → k ≡ length (handles (productOf l count)) → f < k → k ≤ 8 → h ≡ handleAt l (f * 5)
+    → drop f (handles (productOf l count)) ≡ h ∷ drop (f + 1) (handles (productOf l count))
+turn-first l count f p q b e = let z : f * 5 ≡ 0 + f * 5 = omega arith in turn-told l 0 count f p q b (e ∙ ap (handleAt l) z)

@@ -1,10 +1,10 @@
 -- By cases on the test.
 use borrow.Author.Tests.{lt-ltb, le-ltb}
 use borrow.Author.Needs.{needs}
-use Rattle.bridge_group.proofs.inner.byte_of.Statement.{statement}
-use Rattle.bridge_group.proofs.inner.byte_of.Tie as tie
-use Rattle.bridge_group.proofs.inner.byte_of.Reads as reads
-use Rattle.bridge_group.proofs.inner.byte_of.Lts as lts
+use Rattle.bridge_list.proofs.inner.byte_of.Statement.{statement}
+use Rattle.bridge_list.proofs.inner.byte_of.Tie as tie
+use Rattle.bridge_list.proofs.inner.byte_of.Reads as reads
+use Rattle.bridge_list.proofs.inner.byte_of.Lts as lts
 
 cast-result : tie.Need-cast-result
 cast-result c = search needs

@@ -1,0 +1,8 @@
+pub mod Handles
+pub mod Looks
+pub mod OneHandle
+pub mod Passing
+pub mod Choosing
+pub mod Inverting
+pub mod Stepping
+pub mod Answering
