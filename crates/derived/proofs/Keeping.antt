@@ -16,7 +16,7 @@ use Rattle.rows.specs.declared.inner.RelationTableRow.{RelationTableRow}
 use Rattle.rows.specs.declared.inner.SideOfGap.{SideOfGap}
 use Rattle.rows.specs.declared.inner.SideOfGap.the-variants.{Left, Right}
 use Rattle.rows.specs.Rows.{workWidth, genOf, readRow, filled, waits}
-use Rattle.enumeration.specs.Facts.{State, state, belowAt, learns, gives, woken, wakes, wakesAll, updated, settleFrom}
+use Rattle.facts.specs.Facts.{State, state, belowAt, learns, gives, woken, wakes, wakesAll, updated, settleFrom}
 use Rattle.derived.specs.Invariant.{RowOk, Link, FactLink, StateOk}
 use Rattle.derived.proofs.Spots.{row-spot}
 use Rattle.derived.proofs.Rowing.{filled-ok}

@@ -20,7 +20,7 @@ use Rattle.egg.specs.declared.Counted.the-variants as counted
 use Rattle.egg.specs.Table.{pick, putAt, startOf, lengthOf}
 use Rattle.reading.specs.Build.{isNew, setStep, numbered, adds}
 use Rattle.rows.specs.Rows.{workWidth, placeAt, addedRows}
-use Rattle.enumeration.specs.Facts.{state, link, belowAt}
+use Rattle.facts.specs.Facts.{state, link, belowAt}
 use Rattle.enumeration.specs.Run.{discovered, Visit, visit, onAdds, visits, advanced, Outcome, outcome, onVisit, after, runs, first, enumerated}
 use Rattle.enumeration.specs.declared.inner.Run.{Run}
 use Rattle.enumeration.specs.declared.inner.Ran.{Ran}

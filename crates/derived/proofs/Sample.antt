@@ -9,7 +9,7 @@ use Rattle.egg.specs.Table.{putAt, startOf}
 use Rattle.reading.specs.Build.{setStep, setWord, adds}
 use Rattle.egg.specs.Pairs
 use Rattle.rows.specs.Rows
-use Rattle.enumeration.specs.Facts
+use Rattle.facts.specs.Facts
 use Rattle.enumeration.specs.Run.{enumerated, runs, visits, discovered, advanced}
 use Rattle.enumeration.specs.declared.inner.Ran.the-variants as ran
 use Rattle.derived.specs.Recorded.{Limits, Sound}

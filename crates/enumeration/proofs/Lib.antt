@@ -1,4 +1,2 @@
-pub mod FactLaws
-pub mod Carrying
 pub mod RunLaws
 pub mod Calls

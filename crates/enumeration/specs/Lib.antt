@@ -1,4 +1,2 @@
-pub mod Facts
-pub mod Carrying
 pub mod Run
 pub mod Calls

@@ -19,7 +19,7 @@ use Rattle.words.specs.Words as words
 use Rattle.relations.specs.Relations.{turned, doubledRow, pairsRow, relations}
 use Rattle.factor.specs.Relations.{checkAnswer}
 use Rattle.rows.specs.Rows as rows
-use Rattle.enumeration.specs.Facts as facts
+use Rattle.facts.specs.Facts as facts
 use Rattle.enumeration.specs.Run.{enumerated, runs, visits, discovered, advanced}
 use Rattle.enumeration.specs.Calls.{enumeratedIn, enumerates}
 use Rattle.handles.specs.Handles.{limited, admits}

@@ -9,7 +9,7 @@ use Rattle.reading.specs.Build.{setStep, setWord, adds}
 use Rattle.lending.specs.Finish.{finished}
 use Rattle.lending.specs.Lending.{lentRight, within}
 use Rattle.rows.specs.Rows as rows
-use Rattle.enumeration.specs.Facts as facts
+use Rattle.facts.specs.Facts as facts
 use Rattle.enumeration.specs.Run.{enumerated, runs, visits, discovered, advanced}
 use Rattle.enumeration.specs.Calls.{enumeratedIn, enumerates}
 use Rattle.known.specs.Edges.{KnownEdges}

@@ -14,8 +14,6 @@ use egg::GroupElementId;
 use egg::Verdict;
 
 pub mod checking;
-pub mod placing;
-pub mod table;
 
 // Stores v in cell i of the work.
 fn put_work(b: &mut [u8], at: usize, i: usize, v: usize)
@@ -177,7 +175,7 @@ pub fn judge(b: &mut [u8], at: usize, rows: &[u8], n: u8, room: u32) -> u32
     ensures { λ r. ⌜ SomeWork (length (cells (drop at (now (b .entry))))) (λ w. r ≡ judged (at / 4) w (halves (now (rows .entry))) n room) ⌝ }
 {
     cells::inner::clear(&mut b[..at]);
-    match placing::read_rows(&mut b[..at], rows, n, room) {
+    match packed_rows::inner::placing::read_rows(&mut b[..at], rows, n, room) {
         Counted::Refused(why) => why.number,
         Counted::Count(k) => {
             if k < room {

@@ -4,7 +4,7 @@ use Prim.Native.Nat.{ℕ, _-_}
 use mathlib.Core.Path.{_≡_}
 use mathlib.Core.List.{List, _++_}
 use lib.ListN.{length, replicate}
-use Rattle.enumeration.specs.Facts.{State, state}
+use Rattle.facts.specs.Facts.{State, state}
 use Rattle.enumeration.specs.Run.{Visit, visit, Outcome, outcome, enumerated}
 use Rattle.enumeration.specs.declared.inner.Ran.the-variants as ran
 

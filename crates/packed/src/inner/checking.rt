@@ -7,10 +7,10 @@ ghost use Rattle.inverses.specs.Inverses.{invertOf, inversesRight};
 ghost use Rattle.lefts.specs.Lefts.{identityRow, leftOf, goesRow, allGo};
 ghost use Rattle.inverses.specs.Hints.{Follows, Hint, Hints, inverseBy};
 ghost use Rattle.cells.specs.Cells.{cells};
-use super::table;
 use egg::GeneratorId;
 use egg::GroupElementId;
 use egg::Verdict;
+use packed_rows::inner::table;
 
 // 8 in one row: the first generator whose number, from `shift` on, is not known.
 fn missing_row(t: &[u8], n: u8, shift: u8, e: GroupElementId) -> Verdict

@@ -4,7 +4,7 @@ use borrow.Author.Needs.{needs}
 use native.Mathlib.Omega.{arith}
 use lib.ListN.{length}
 use Rattle.enumeration.specs.Run.{advanced, runs}
-use Rattle.enumeration.proofs.FactLaws.{pos}
+use Rattle.facts.proofs.FactLaws.{pos}
 use Rattle.enumeration.proofs.RunLaws.{runs-done, runs-paused, runs-refused, runs-turn, advanced-generator}
 use Rattle.enumeration.proofs.inner.go.Statement.{statement}
 use Rattle.enumeration.proofs.inner.go.Tie as tie

@@ -18,7 +18,7 @@ use Rattle.packed.proofs.inner.judge.Lts as lts
 use Rattle.cells.proofs.inner.clear.Reads as clear-reads
 use Rattle.packed.proofs.inner.check_all.Reads as check-all-reads
 use Rattle.packed.proofs.inner.number.Reads as number-reads
-use Rattle.packed.proofs.inner.placing.read_rows.Reads as read-rows-reads
+use Rattle.packed_rows.proofs.inner.placing.read_rows.Reads as read-rows-reads
 
 slice-relend-prefix-clear : tie.Need-slice-relend-prefix-clear
 slice-relend-prefix-clear c = search needs
