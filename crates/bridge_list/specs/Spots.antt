@@ -1,4 +1,5 @@
--- What one pass over the handles of a product shows: of the factor that has a generator, and of the inverse of an element.
+-- What one pass over the handles of a product shows: of the factor that has a generator, and of the inverse of an element. Document 01: "Calls on handles check
+-- 17 in the handle, then 14, then 15, then 1 to 4, then 17 in what they read", and "First factor is the fastest digit: strides 1, N0, N0·N1..".
 -- Assumes nothing.
 use Prim.Native.Nat.{ℕ, _+_, _≤_, _<_}
 use mathlib.Core.Path.{_≡_}
@@ -16,7 +17,7 @@ use Rattle.bridge_list.specs.declared.inner.passes.Spot.{Spot}
 use Rattle.bridge_list.specs.declared.inner.passes.Gathered.{Gathered}
 use Rattle.bridge_list.specs.Product.{productOf}
 
--- Whether every handle fits, and where they do, how many elements the factors have together.
+-- Every handle fits, and so many elements the factors have together, as far as 32 bits can tell.
 pub record Shown (t : List ℕ) (hs : List Factor) (elements : ℕ) : Type 0 where
   pub all : allFit (length t) hs ≡ true
   pub whole : elements ≡ capped (elementsOf hs)

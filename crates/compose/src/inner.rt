@@ -5,7 +5,7 @@ ghost use mathlib.Core.Bool.{true};
 ghost use Prim.Native.Nat.{_+_, _*_, _-_, _<_, _≤_};
 ghost use lib.ListN.{length, getD};
 ghost use lib.Dec.{ltb};
-ghost use Rattle.egg.specs.Table.{pick, startOf};
+ghost use Rattle.egg.specs.Table.{startOf};
 ghost use Rattle.walks.specs.Walks.{backAlong, composeIn, conjugateIn};
 use egg::GroupElementId;
 use egg::Reached;
@@ -80,12 +80,6 @@ fn shorter(own: u32, len: u32) -> bool
     own < len
 }
 
-pub fn chosen(first: bool, x: u32, y: u32) -> u32
-    ensures { λ r. ⌜ r ≡ pick first x y ⌝ }
-{
-    if first { x } else { y }
-}
-
 // The product of two elements by the numbers in their rows, where each is in range and the walk has few letters; else the
 // count or more, and `compose_with_care` has the answer. The inverse is read and looked at on both ways: so the two join with
 // no branch, which a processor would guess wrong every other time.
@@ -117,12 +111,12 @@ fn product_number(s: &[u32], n: u8, count: u32, a: GroupElementId, b: GroupEleme
         return count;
     }
     let inverted = shorter(own, len);
-    let letters = chosen(inverted, own, other);
+    let letters = egg::inner::chosen(inverted, own, other);
     if 64 < letters {
         return count;
     }
-    let from = chosen(inverted, i, first);
-    let word = chosen(inverted, first, i);
+    let from = egg::inner::chosen(inverted, i, first);
+    let word = egg::inner::chosen(inverted, first, i);
     let x = retrace(
         s,
         n,
@@ -138,7 +132,7 @@ fn product_number(s: &[u32], n: u8, count: u32, a: GroupElementId, b: GroupEleme
     if count <= z {
         return count;
     }
-    chosen(inverted, z, x)
+    egg::inner::chosen(inverted, z, x)
 }
 
 pub fn compose_elements(

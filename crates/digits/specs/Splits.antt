@@ -1,4 +1,5 @@
--- The digits of an element in a lent list, and the element of digits in one.
+-- The digits of an element in a lent list, and the element of digits in one. Document 01: "First factor is the fastest digit", and "Calls on handles check 17 in
+-- the handle, then 14, then 15, then 1 to 4".
 -- Assumes nothing.
 use Prim.Native.Nat.{ℕ}
 use mathlib.Core.List.{List, _++_}
@@ -36,7 +37,7 @@ fewer a b = pick (leb a b) a b
 unfoldable pub digitsRight : List ℕ → List ℕ → Verdict
 digitsRight Ns ds = scan (fewer (length Ns) (length ds)) (digitRight Ns ds) 0
 
--- The element with the digits that the lent list starts with: 17, 14, 15, 4.
+-- The element with the digits that the lent list starts with: 15, then 4.
 unfoldable pub joinTail : Group → List ℕ → Reached
 joinTail g ds =
     pick (limited g)

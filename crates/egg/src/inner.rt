@@ -1,12 +1,12 @@
 // Cells and places, for the layers above. The row of element e starts at e * (2n + 4): n successors, n predecessors,
 // parent, last generator, word length, inverse. A successor or predecessor is stored as its number + 1, and 0 is
 // "not known", so that a row never used is zero. Reads and writes are total: a read past the end is 0, a write there
-// does nothing, so no caller owes a proof of an index.
+// does nothing, so no caller owes a proof of an index; but `read`, for a place that is known to be there.
 ghost use mathlib.Core.Path.{_≡_};
 ghost use mathlib.Core.Bool.{true};
 ghost use Prim.Native.Nat.{_+_, _*_, _<_, _-_};
 ghost use lib.ListN.{length, getD, replicate};
-ghost use Rattle.egg.specs.Table.{putAt, startOf, succAt, predAt, foundOf, lastOf, stepOf, backOf, workOf, Place};
+ghost use Rattle.egg.specs.Table.{pick, putAt, startOf, succAt, predAt, foundOf, lastOf, stepOf, backOf, workOf, Place};
 ghost use Rattle.egg.specs.Pairs.{pairCode, pairCount, ordersRight};
 ghost use Rattle.egg.specs.Scan.{refusedOf};
 ghost use Rattle.egg.specs.Factor.{fitsIn, stretch, refusedReach, readStep};
@@ -36,6 +36,19 @@ pub fn read(s: &[u32], i: usize) -> u32
     ensures { λ r. ⌜ r ≡ getD (now (s .entry)) i 0 ⌝ }
 {
     s[i]
+}
+
+// The one or the other, both worked out: without a branch, which a processor would guess wrong every other time.
+pub fn chosen(first: bool, x: u32, y: u32) -> u32
+    ensures { λ r. ⌜ r ≡ pick first x y ⌝ }
+{
+    if first { x } else { y }
+}
+
+pub fn chosen_long(first: bool, x: u64, y: u64) -> u64
+    ensures { λ r. ⌜ r ≡ pick first x y ⌝ }
+{
+    if first { x } else { y }
 }
 
 // Stores v at i; nothing past the end, and nothing where v has more than 32 bits.

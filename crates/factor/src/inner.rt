@@ -1,4 +1,4 @@
-// The work of the calls, on a factor's own stretch; the layers above use it too.
+// The build from composed rows, in its stretches, and what every question tests first.
 ghost use mathlib.Core.Path.{_≡_};
 ghost use mathlib.Core.Bool.{Bool, true};
 ghost use Prim.Native.Nat.{_+_, _*_, _-_, _<_, _≤_};

@@ -8,7 +8,7 @@ use lib.ListN.{getD}
 use Rattle.egg.specs.Table.{lengthOf}
 use Rattle.walks.specs.Walks.{readBack, composeIn}
 
--- h is 0, or one more than the letter by which every product with b is a step back, but for the first elements that have no letter.
+-- h is 0, or one more than the letter by which a product with b is a step back, but where the first operand has no letter itself.
 pub record OneLetter (s : List ℕ) (n count b h : ℕ) : Type 0 where
   pub small : h ≤ n
   pub leads : 0 < h → (a : ℕ) → 0 < lengthOf s n a → composeIn s n count a b ≡ readBack s n count a (h - 1)

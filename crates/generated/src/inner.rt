@@ -181,7 +181,7 @@ fn factor_product(from: &[u32], f: Factor, a: GroupElementId, b: GroupElementId)
     )
 }
 
-// One more than the letter by which a product with b is a step back; 0 where none is known to be: the word of b has one letter, and so has its inverse's.
+// One more than the letter by which a product with b is a step back, where the word of b has one letter and so has its inverse's; else 0.
 fn letter_of(s: &[u32], n: u8, count: u32, b: GroupElementId) -> u32
     ensures { λ r. ⌜ OneLetter (now (s .entry)) n count (b .0) r ⌝ }
 {

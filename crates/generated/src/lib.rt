@@ -1,4 +1,4 @@
-// The build of a subgroup from generators: the overgroup's products, numbered in order of first appearance. `subgroup` has the calls.
+// subgroup_action.rs: the build of a subgroup from generators: the overgroup's products, numbered in order of first appearance. `subgroup` has the calls.
 use egg::Factor;
 use egg::Verdict;
 use handles::Group;

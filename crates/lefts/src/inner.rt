@@ -100,7 +100,7 @@ fn fill_left(t: &[u32], w: &mut [u32], n: u8, count: u32, s: GeneratorId)
 }
 
 // Whether multiplication on the left commutes with every step from x, where each number that is read is in range: one test
-// each for the two rows, and one for a place. False may only mean that one is not, and `goes_with_care` has the answer.
+// for each of the two rows, and for a place none but of the number that leads into the work. False may only mean that one is not, and `goes_with_care` has the answer.
 fn goes_at_once(t: &[u32], w: &[u32], n: u8, x: GroupElementId) -> bool
     ensures { λ r. ⌜ (r ≡ true → goesRow (now (t .entry)) (now (w .entry)) n (x .0) ≡ Verdict.Fine) ⌝ }
 {
@@ -186,7 +186,7 @@ pub fn check12(t: &[u32], w: &mut [u32], n: u8, count: u32) -> Verdict
     Verdict::Fine
 }
 
-// 11, then 12 on a table whose words and columns are right.
+// 11, then the first parts of 12: that the columns are permutations, and the recorded words lead to their elements.
 pub fn check_steps(t: &[u32], n: u8, count: u32) -> Verdict
     ensures { λ r. ⌜ r ≡ check-steps (now (t .entry)) n count ⌝ }
 {

@@ -1,2 +1,2 @@
-// The reading and the checks of `factor`, `builder` and `checks`, over cells in lent bytes.
+// The checks of `checks`, `inverses` and `lefts` that a reading leaves to be made, over cells in lent bytes.
 pub mod inner;

@@ -3,7 +3,7 @@ ghost use mathlib.Core.Path.{_≡_};
 ghost use Rattle.generated.specs.Lent.{Subgrouping};
 ghost use Rattle.predicate.specs.Predicate.{fromPredicate};
 use egg::Verdict;
-use generated::Subgrouped;
+pub use generated::Subgrouped;
 use handles::Group;
 
 pub mod inner;

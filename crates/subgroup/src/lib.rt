@@ -11,8 +11,8 @@ use egg::GroupElementId;
 use egg::Reached;
 use egg::Refusal;
 use egg::Verdict;
-use generated::Subgroup;
-use generated::Subgrouped;
+pub use generated::Subgroup;
+pub use generated::Subgrouped;
 use handles::Group;
 
 pub mod inner;

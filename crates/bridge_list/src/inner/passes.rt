@@ -1,4 +1,4 @@
-// A step and an inverse in a product by one pass over its handles, which are read from the list as they are wanted; a handle
+// A step, a generator and an inverse in a product by one pass over its handles, which are read from the list as they are wanted; a handle
 // that does not fit ends the pass. No product is made for it, and a step divides once and not from factor to factor.
 ghost use mathlib.Core.Path.{_≡_};
 ghost use Prim.Native.Nat.{_+_, _*_, _-_, _/_, _%_, _<_, _≤_};
@@ -8,19 +8,13 @@ ghost use Rattle.bridge_list.specs.Product.{productOf};
 ghost use Rattle.bridge_list.specs.Spots.{Spotted, Inverted};
 use super::handle_at;
 use super::listed;
-use compose::inner::chosen;
 use egg::GeneratorId;
 use egg::GroupElementId;
 use egg::Reached;
+use egg::inner::chosen;
+use egg::inner::chosen_long;
 use handles::inner::both;
 use handles::inner::times;
-
-// As `chosen`, without a branch, which a processor would guess wrong every other time.
-fn chosen_long(first: bool, x: u64, y: u64) -> u64
-    ensures { λ r. ⌜ r ≡ pick first x y ⌝ }
-{
-    if first { x } else { y }
-}
 
 // What the pass shows for a generator: the factors' numbers together, and of the factor that has it the place, the stride and
 // how many generators come before. Where a handle does not fit, only that.

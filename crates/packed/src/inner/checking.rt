@@ -1,4 +1,4 @@
-// Those checks of `checks` that a reading which ended leaves to be made, over lent bytes.
+// Those of 8 to 12 that a reading which ended leaves to be made, as `checks`, `inverses` and `lefts` make them, over lent bytes.
 ghost use mathlib.Core.Path.{_≡_};
 ghost use mathlib.Core.Bool.{true};
 ghost use lib.ListN.{getD};

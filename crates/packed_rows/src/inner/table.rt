@@ -1,4 +1,4 @@
-// The cells of `egg` and the stores of `builder` over lent bytes, four to a cell: the same definitions, of `cells` of the bytes.
+// The cells of `egg` and the stores of `reading` over lent bytes, four to a cell: the same definitions, of `cells` of the bytes.
 ghost use mathlib.Core.Path.{_≡_};
 ghost use Prim.Native.Nat.{_+_, _*_};
 ghost use lib.ListN.{getD};

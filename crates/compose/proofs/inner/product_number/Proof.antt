@@ -7,7 +7,7 @@ use Rattle.compose.proofs.inner.product_number.Statement.{statement}
 use Rattle.compose.proofs.inner.product_number.Tie as tie
 use Rattle.compose.proofs.inner.product_number.Reads as reads
 use Rattle.compose.proofs.inner.product_number.Lts as lts
-use Rattle.compose.proofs.inner.chosen.Reads as chosen-reads
+use Rattle.egg.proofs.inner.chosen.Reads as chosen-reads
 use Rattle.compose.proofs.inner.recorded.Reads as recorded-reads
 use Rattle.compose.proofs.inner.retrace.Reads as retrace-reads
 use Rattle.compose.proofs.inner.rows_within.Reads as rows-within-reads
