@@ -8,6 +8,7 @@ ghost use Rattle.group.specs.Questions.{countAnswer, generatorsAnswer, generato
 ghost use Rattle.flat.specs.Flat.{flat};
 ghost use Rattle.bridge_list.specs.Product.{productOf};
 ghost use Rattle.bridge_group.specs.Product.{groupedInto};
+use bridge_list::inner::composing;
 use egg::GeneratorId;
 use egg::GroupElementId;
 use handles::Grouped;
@@ -112,8 +113,8 @@ pub extern "C" fn hg_product_compose(
 ) -> u64
     ensures { λ r. ⌜ r ≡ reachedCode (composeAnswer (now (table .entry)) (productOf (now (handles .entry)) count) (record { 0 = a }) (record { 0 = b })) ⌝ }
 {
-    let g = bridge_list::inner::product_of(handles, count);
-    bridge::inner::reached_code(group::compose(table, g, GroupElementId(a), GroupElementId(b)))
+    let r = composing::compose(table, handles, count, GroupElementId(a), GroupElementId(b));
+    bridge::inner::reached_code(r)
 }
 
 #[no_mangle]
@@ -138,8 +139,8 @@ pub extern "C" fn hg_product_conjugate(
 ) -> u64
     ensures { λ r. ⌜ r ≡ reachedCode (conjugateAnswer (now (table .entry)) (productOf (now (handles .entry)) count) (record { 0 = a }) (record { 0 = b })) ⌝ }
 {
-    let g = bridge_list::inner::product_of(handles, count);
-    bridge::inner::reached_code(group::conjugate(table, g, GroupElementId(a), GroupElementId(b)))
+    let r = composing::conjugate(table, handles, count, GroupElementId(a), GroupElementId(b));
+    bridge::inner::reached_code(r)
 }
 
 #[no_mangle]

@@ -37,18 +37,18 @@ module _ (l : List ℕ) (count : ℕ) {t : List ℕ} {n : ℕ} (w : Shown t (han
   same-test : {e : ℕ} → e < 4294967296 → leb n e ≡ leb (elementsOf (handles (productOf l count))) e
   same-test {e} b = ap (λ (z : ℕ). leb z e) (w .whole) ∙ cap-beyond (elementsOf (handles (productOf l count))) e b
 
-  beyond : {e : ℕ} → e < 4294967296 → n ≤ e → elementsOf (handles (productOf l count)) ≤ e
+  pub beyond : {e : ℕ} → e < 4294967296 → n ≤ e → elementsOf (handles (productOf l count)) ≤ e
   beyond {e} b k = leb-true _ _ (sym (same-test b) ∙ le-leb n e k)
 
-  within : {e : ℕ} → e < n → e < elementsOf (handles (productOf l count))
+  pub within : {e : ℕ} → e < n → e < elementsOf (handles (productOf l count))
   within {e} k =
       let m : n ≤ 4294967296 = rw (w .whole) (capped-bound (elementsOf (handles (productOf l count)))) in
       leb-false _ _ (sym (same-test (omega arith)) ∙ lt-leb n e k)
 
-  large : count ≤ 8 → 4294967295 < n → limited (productOf l count) ≡ false
+  pub large : count ≤ 8 → 4294967295 < n → limited (productOf l count) ≡ false
   large c k = sym (limited-elements (productOf l count) (few-told l 0 count c) (w .whole)) ∙ lt-leb _ _ k
 
-  fine : count ≤ 8 → n ≤ 4294967295 → limited (productOf l count) ≡ true
+  pub fine : count ≤ 8 → n ≤ 4294967295 → limited (productOf l count) ≡ true
   fine c k = sym (limited-elements (productOf l count) (few-told l 0 count c) (w .whole)) ∙ le-leb _ _ k
 
   few : count ≤ 8 → n ≤ 4294967295 → elementsOf (handles (productOf l count)) ≤ 4294967295

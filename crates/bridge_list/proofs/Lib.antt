@@ -6,3 +6,5 @@ pub mod Choosing
 pub mod Inverting
 pub mod Stepping
 pub mod Answering
+pub mod Admitting
+pub mod Composing

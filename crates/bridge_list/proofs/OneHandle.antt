@@ -10,9 +10,9 @@ use Rattle.egg.specs.declared.Reached.{Reached}
 use Rattle.egg.specs.Factor as egg
 use Rattle.factor.specs.Questions as factor
 use Rattle.handles.specs.Handles.{handles}
-use Rattle.group.specs.Questions.{stepAnswer, generatorAnswer, inverseAnswer}
+use Rattle.group.specs.Questions.{stepAnswer, generatorAnswer, composeAnswer, inverseAnswer, conjugateAnswer}
 use Rattle.handles.proofs.Lists.{is-alone}
-use Rattle.group.proofs.OneFactor.{one-step, one-generator, one-inverse}
+use Rattle.group.proofs.OneFactor.{one-step, one-generator, one-compose, one-inverse, one-conjugate}
 use Rattle.bridge_list.specs.Product.{handleAt, productAt, productOf}
 
 module _ (t l : List ℕ) (count : ℕ) (c : count ≡ 1) {h : Factor} (q : h ≡ handleAt l 0) where
@@ -30,5 +30,11 @@ module _ (t l : List ℕ) (count : ℕ) (c : count ≡ 1) {h : Factor} (q : h �
   pub generator-alone : (x : GeneratorId) {r : Reached} → r ≡ factor.generatorAnswer t h x → r ≡ generatorAnswer t (productOf l count) x
   generator-alone x p = p ∙ one-generator t (productOf l count) h counted listed x
 
+  pub compose-alone : (a b : GroupElementId) {r : Reached} → r ≡ factor.composeAnswer t h a b → r ≡ composeAnswer t (productOf l count) a b
+  compose-alone a b p = p ∙ one-compose t (productOf l count) h counted listed a b
+
   pub inverse-alone : (a : GroupElementId) {r : Reached} → r ≡ factor.inverseAnswer t h a → r ≡ inverseAnswer t (productOf l count) a
   inverse-alone a p = p ∙ one-inverse t (productOf l count) h counted listed a
+
+  pub conjugate-alone : (a b : GroupElementId) {r : Reached} → r ≡ factor.conjugateAnswer t h a b → r ≡ conjugateAnswer t (productOf l count) a b
+  conjugate-alone a b p = p ∙ one-conjugate t (productOf l count) h counted listed a b

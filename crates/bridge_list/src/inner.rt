@@ -12,6 +12,7 @@ use handles::inner::Seen;
 use handles::inner::both;
 use handles::inner::times;
 
+pub mod composing;
 pub mod passes;
 
 // A number as far as a byte can tell.

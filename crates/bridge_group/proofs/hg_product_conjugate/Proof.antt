@@ -2,14 +2,6 @@
 use borrow.Author.Needs.{needs}
 use Rattle.bridge_group.proofs.hg_product_conjugate.Statement.{statement}
 use Rattle.bridge_group.proofs.hg_product_conjugate.Tie as tie
-use Rattle.bridge_group.proofs.hg_product_conjugate.Reads as reads
-use Rattle.bridge_group.proofs.hg_product_conjugate.Lts as lts
-use Rattle.bridge_list.proofs.inner.product_of.Reads as product-of-reads
-use Rattle.bridge.proofs.inner.reached_code.Reads as reached-code-reads
-use Rattle.group.proofs.conjugate.Reads as conjugate-reads
-
-product-of-requires : tie.Need-product-of-requires
-product-of-requires c κs = search needs
 
 conjugate-requires : tie.Need-conjugate-requires
 conjugate-requires c κs = search needs
@@ -18,8 +10,7 @@ reached-code-requires : tie.Need-reached-code-requires
 reached-code-requires c κs = search needs
 
 returns : tie.Need-returns
-returns c = rw ((c .reached-code .ensures), (c .before .conjugate .ensures), (c .before .before .product-of .ensures))
+returns c = rw ((c .reached-code .ensures), (c .before .conjugate .ensures))
 
 pub hg-product-conjugate-spec : {M : Type 1} → statement M
-hg-product-conjugate-spec =
-    tie.close (tie.spec product-of-requires conjugate-requires reached-code-requires returns)
+hg-product-conjugate-spec = tie.close (tie.spec conjugate-requires reached-code-requires returns)
