@@ -17,6 +17,11 @@ RANGE, FACTORS = "refused 14", "refused 15"
 EXPONENTS = (0, 1, -1, 2, -(2**31), 2**31 - 1)
 
 
+def letters(word):
+    """The first five places of a word: its letters, and from its end on 256 and its length. What is refused has none."""
+    return " ".join((word + [str(256 + len(word))] * 5)[:5])
+
+
 def group(name, factors):
     made = ["clear", *("factor enum " + f for f in factors), "prod"]
     generators, elements = map(int, cases(run(made))[-1][1][0].split()[1:])
@@ -46,6 +51,8 @@ def group(name, factors):
     yield from lines("compose", elements, lambda a, b: "compose %d %d" % (a, b), [RANGE])
     yield from lines("conjugate", elements, lambda a, b: "conjugate %d %d" % (a, b), [RANGE])
     yield from lines("power", len(EXPONENTS), lambda a, b: "powi %d %d" % (a, EXPONENTS[b]), [])
+    for e, word in enumerate([*ask("word %d" % e for e in each), "ok"]):
+        yield "word %d: %s" % (e, letters(word.split()[1:]))
 
 
 def forged():
@@ -54,10 +61,20 @@ def forged():
     for what in ("elements", "generators", "generator", "inverse", "period", "length", "step 0", "compose 0", "conjugate 0"):
         yield "%s: %s" % (what, FACTORS)
     yield "power 0: " + " ".join([FACTORS] * len(EXPONENTS))
+    yield "word 0: " + letters([])
+
+
+def maps():
+    """Both maps of the subgroup of S3 that element 1 generates."""
+    made = ["clear", "factor enum 2 3", "prod", "sub 1"]
+    yield "subgroup"
+    for name, command, count in (("over", "s2o", 2), ("back", "o2s", 6)):
+        answers = cases(run([*made, *("%s %d" % (command, x) for x in range(count))]))[len(made):]
+        yield "%s: %s %s" % (name, " ".join(lines[0] for _, lines in answers), RANGE)
 
 
 def text():
-    parts = (group("product", ["2 3", "1"]), group("alone", ["2 3"]), group("none", []), forged())
+    parts = (group("product", ["2 3", "1"]), group("alone", ["2 3"]), group("none", []), forged(), maps())
     return "".join(line + "\n" for part in parts for line in part)
 
 

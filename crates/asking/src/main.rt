@@ -1,11 +1,14 @@
 // The calls on products as a puzzle author makes them, and their answers as text: of a product of two factors, of one
-// factor alone, of none, and of a product with more factors than there are. What is past a range is asked too.
+// factor alone, of none, and of a product with more factors than there are; and the two maps of a subgroup. What is past a
+// range is asked too.
 use egg::Counted;
 use egg::Factor;
 use egg::GeneratorId;
 use egg::GroupElementId;
 use egg::Reached;
 use handles::Group;
+use subgroup::Subgroup;
+use subgroup::Within;
 
 enum Question {
     Elements,
@@ -18,6 +21,7 @@ enum Question {
     Compose,
     Conjugate,
     Power,
+    Letter,
 }
 
 // Around 0, and where a 32-bit number cannot be negated or made larger.
@@ -40,6 +44,22 @@ fn counted(c: Counted) -> Reached {
     }
 }
 
+// The letter at b of a part; from its end on 256 and its length, which is below 64 here.
+fn letter_at(part: &[u8], b: u8) -> Reached {
+    let k = b as usize;
+    if k < part.len() {
+        return Reached::Element(GroupElementId(part[k] as u32));
+    }
+    Reached::Element(GroupElementId(256 + ((part.len() % 256) as u32)))
+}
+
+// The word by the call that hands back the filled part of a buffer.
+fn letter(table: &[u32], g: Group, e: GroupElementId, b: u8) -> Reached {
+    let mut buffer = [0u8; 64];
+    let part = group::word(table, g, e, &mut buffer);
+    letter_at(part, b)
+}
+
 // A question with one argument or none does not look at a.
 fn ask(table: &[u32], g: Group, what: Question, a: u8, b: u8) -> Reached {
     let e = GroupElementId(a as u32);
@@ -55,6 +75,7 @@ fn ask(table: &[u32], g: Group, what: Question, a: u8, b: u8) -> Reached {
         Question::Compose => group::compose(table, g, e, f),
         Question::Conjugate => group::conjugate(table, g, e, f),
         Question::Power => group::powi(table, g, e, exponent(b)),
+        Question::Letter => letter(table, g, e, b),
     }
 }
 
@@ -198,7 +219,8 @@ fn write_pairs(
         elements,
         elements,
     );
-    write_lines(out, c, b"power", table, g, Question::Power, elements, 6)
+    let d = write_lines(out, c, b"power", table, g, Question::Power, elements, 6);
+    write_lines(out, d, b"word", table, g, Question::Letter, elements, 5)
 }
 
 fn write_group(
@@ -232,13 +254,79 @@ fn write_groups(out: &mut [u8], table: &[u32], s3: Factor, z2: Factor) -> usize 
     write_group(out, c, b"forged\n", table, forged(z2), 1, 1)
 }
 
+// One place of a map of a subgroup; outside of it is 4,294,967,295, as on paper.
+fn carried(
+    from: &[u32],
+    table: &[u32],
+    s: Subgroup,
+    inn: &[u32],
+    outw: &[u32],
+    over: bool,
+    b: u8,
+) -> Reached {
+    let x = GroupElementId(b as u32);
+    if over {
+        return subgroup::to_overgroup(from, table, s, outw, x);
+    }
+    match subgroup::to_subgroup(from, table, s, inn, x) {
+        Within::Element(y) => Reached::Element(y),
+        Within::Outside => Reached::Element(GroupElementId(4294967295)),
+        Within::Refused(why) => Reached::Refused(why),
+    }
+}
+
+fn write_map(
+    out: &mut [u8],
+    at: usize,
+    from: &[u32],
+    table: &[u32],
+    s: Subgroup,
+    inn: &[u32],
+    outw: &[u32],
+    over: bool,
+    count: u8,
+) -> usize {
+    let mut next = word(out, at, b":");
+    let mut b: u8 = 0;
+    while b < count {
+        next = write_answer(out, next, carried(from, table, s, inn, outw, over, b));
+        b += 1;
+    }
+    word(out, next, b"\n")
+}
+
+// The maps of the subgroup that element 1 generates.
+fn write_maps(out: &mut [u8], at: usize, from: &[u32], s3: Factor) -> usize {
+    let mut table = [0u32; 12];
+    let mut work = [0u32; 20];
+    let mut inn = [0u32; 6];
+    let mut outw = [0u32; 2];
+    let made = subgroup::from_generators(
+        from,
+        group::of(s3),
+        &[1],
+        &mut table,
+        0,
+        &mut work,
+        &mut inn,
+        &mut outw,
+        2,
+    );
+    let s = made.subgroup;
+    let a = word(out, at, b"subgroup\nover");
+    let b = write_map(out, a, from, &table, s, &inn, &outw, true, 3);
+    let c = word(out, b, b"back");
+    write_map(out, c, from, &table, s, &inn, &outw, false, 7)
+}
+
 // S3 and the group of two elements, in one table.
 fn write_all(out: &mut [u8]) -> usize {
     let mut table = [0u32; 60];
     let mut work = [0u32; 192];
     let first = enumeration::enumerate(&mut table, 0, &mut work, &[3], 2, 6);
     let second = enumeration::enumerate(&mut table, 48, &mut work, &[], 1, 2);
-    write_groups(out, &table, first.factor, second.factor)
+    let next = write_groups(out, &table, first.factor, second.factor);
+    write_maps(out, next, &table, first.factor)
 }
 
 // Nothing, where the text was longer than its buffer.
