@@ -2,7 +2,10 @@
 # After host/build.sh, which makes the archives. The Rust crate host/hypergroup, offline: its tests and the examples in its documentation, no warning, and the stream example, whose
 # two viewers must end at one state and whose bad images must be refused.
 set -eu
-cd "$(dirname "$0")/../host"
+cd "$(dirname "$0")/.."
+. tools/machine.sh
+to_build
+cd host
 export RUSTFLAGS="-D warnings"
 cargo test --offline --quiet --release --package hypergroup
 out=$(cargo run --offline --quiet --release --package hypergroup --example stream)

@@ -11,11 +11,13 @@ Arguments choose the tables (enumerations, questions, products, ones, subgroups,
 measured."""
 
 import pathlib
+import platform
 import shutil
 import subprocess
 import sys
 
-sys.path.insert(0, str(pathlib.Path(__file__).resolve().parent / "recorded"))
+HERE = pathlib.Path(__file__).resolve().parent
+sys.path.insert(0, str(HERE / "recorded"))
 from beside import OURS
 from replay import cases, run
 
@@ -77,8 +79,7 @@ Print(Length(cosets[1]), " ", least, "\\n");
 def gap(size, orders):
     """GAP's least seconds of three as text, or why there are none."""
     if not shutil.which("gap"):
-        install = "apt-get install -y -qq --no-install-recommends gap-core"
-        subprocess.run(["sh", "-c", "%s || { apt-get update -qq && %s; }" % (install, install)], capture_output=True)
+        subprocess.run([HERE.parent / "tools" / "install.sh", "gap-core"], capture_output=True)
     if not shutil.which("gap"):
         return "not installed"
     n, *listed = orders.split()
@@ -203,6 +204,8 @@ def images():
 
 
 if __name__ == "__main__":
+    if platform.machine() != "x86_64":
+        sys.exit("our archives are for x86-64 and run under an emulator here, so that no time means anything")
     tables = {f.__name__: f for f in (enumerations, questions, products, ones, subgroups, maps, images)}
     for name in sys.argv[1:] or tables:
         print("\n%s\n" % name.capitalize())
