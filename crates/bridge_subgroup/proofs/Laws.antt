@@ -13,9 +13,10 @@ use Rattle.bridge.specs.Bridge.{madeInto}
 use Rattle.generated.specs.declared.Subgrouped.{Subgrouped}
 use Rattle.generated.specs.Lent.{Subgrouping, subgrouping}
 use Rattle.subgroup.specs.declared.inner.Outline.{Outline}
-use Rattle.subgroup.specs.Sides.{fewFactors}
-use Rattle.subgroup.specs.Outline.{outlineOf, outlineBy, fewOf}
-use Rattle.subgroup.proofs.Outlines.{few-counts, outline-is}
+use Rattle.sides.specs.Sides.{fewFactors, fewOf}
+use Rattle.subgroup.specs.Outline.{outlineOf, outlineBy}
+use Rattle.sides.proofs.Few.{few-counts}
+use Rattle.subgroup.proofs.Outlines.{outline-is}
 use Rattle.handles.specs.declared.inner.Seen.{Seen}
 use Rattle.handles.specs.Handles.{handles, seen}
 use Rattle.bridge_list.specs.Product.{byteOf, handleAt, productAt}

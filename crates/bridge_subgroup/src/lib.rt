@@ -8,7 +8,7 @@ ghost use Rattle.handles.specs.Handles.{handles, seen};
 ghost use Rattle.subgroup.specs.Outline.{outlineOf, Measured};
 ghost use Rattle.generated.specs.Generated.{fromGenerators};
 ghost use Rattle.predicate.specs.Predicate.{fromPredicate};
-ghost use Rattle.subgroup.specs.Sides.{leftProduct, rightProduct};
+ghost use Rattle.sides.specs.Sides.{leftProduct, rightProduct};
 ghost use Rattle.subgroup.specs.Questions.{toOverAnswer, toSubAnswer, generatorAnswer};
 ghost use Rattle.bridge_subgroup.specs.Subgroup.{subgroupFrom, withinCode, subgroupedInto, Bridged, bridged};
 use egg::GeneratorId;
@@ -53,7 +53,7 @@ fn outline_from(from: &[u32], table: &[u32], l: &[u32]) -> Outline
     let below = bridge_list::inner::look_at(from, l, 8, k);
     let over = bridge_list::inner::look_at(from, l, 48, m);
     let above = bridge_list::inner::look_at(from, l, 88, n);
-    let few = subgroup::inner::few_of(k, m, n);
+    let few = sides::inner::few_of(k, m, n);
     subgroup::inner::outline_by(fits, few, factor.elements, below, over, above)
 }
 

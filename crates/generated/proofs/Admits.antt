@@ -11,7 +11,7 @@ use lib.Dec.{leb}
 use Rattle.egg.specs.declared.Refusal.{Refusal}
 use Rattle.egg.specs.declared.Verdict.{Verdict}
 use Rattle.egg.specs.declared.Verdict.the-variants.{Fine, Refused}
-use Rattle.egg.specs.Scan.{refusedOf, scan}
+use Rattle.egg.specs.Scan.{refusedOf}
 use Rattle.egg.proofs.Rooms.{and-first, and-second}
 use Rattle.egg.proofs.Scans.{Scanning, scanning, refused-fine}
 use Rattle.lending.specs.Lending.{lentRight}

@@ -1,8 +1,8 @@
 -- A build of a subgroup in parts of its four buffers: one law for each answer of the call above.
 -- Assumes nothing.
 use Prim.Native.Nat.{ℕ, _+_, _-_, _≤_, _<_}
-use mathlib.Core.Path.{_≡_, refl, sym, ap, _∙_}
-use mathlib.Core.Bool.{Bool, true, false}
+use mathlib.Core.Path.{_≡_, refl, ap, _∙_}
+use mathlib.Core.Bool.{true, false}
 use mathlib.Core.List.{List, _++_}
 use borrow.Author.Tests.{lt-ltb, le-ltb}
 use borrow.Rule.Slice.PartMut.{midOf, putMid}
@@ -20,9 +20,10 @@ use Rattle.lending.proofs.Lending.{part-length, part-back, put-front}
 use Rattle.handles.specs.declared.Group.{Group}
 use Rattle.handles.specs.Handles.{handles, elementsOf}
 use Rattle.appearance.specs.Build.{Renumbering, renumbering, renumberIn}
+use Rattle.generated_rows.specs.Rows.{productOf}
 use Rattle.generated.specs.declared.Subgrouped.{Subgrouped}
 use Rattle.generated.specs.Lent.{shown, subgroupOf, Subgrouping, subgrouping, mapsRight, mapsBack}
-use Rattle.generated.specs.Generated.{productOf, generatedInto, ifSubgrouping}
+use Rattle.generated.specs.Generated.{generatedInto, ifSubgrouping}
 use Rattle.generated.proofs.Admits.{maps-inn, maps-outw}
 
 -- What went on in the four parts, when they are back: lent for k generators, and the factor has n.

@@ -5,8 +5,6 @@ use mathlib.Core.List.{List}
 use mathlib.Core.Bool.{Bool, _&&_}
 use lib.ListN.{length, getD, take}
 use lib.Dec.{ltb, leb}
-use Rattle.egg.specs.declared.Factor.{Factor}
-use Rattle.egg.specs.declared.Reached.{Reached}
 use Rattle.egg.specs.declared.Verdict.{Verdict}
 use Rattle.egg.specs.declared.Verdict.the-variants as verdict
 use Rattle.egg.specs.Table.{pick}
@@ -14,13 +12,9 @@ use Rattle.egg.specs.Scan.{refusedOf, andThen, scan}
 use Rattle.lending.specs.Lending.{tableNeed, workNeed, noFactor, refusedMade}
 use Rattle.handles.specs.declared.Group.{Group}
 use Rattle.handles.specs.Handles.{handles, elementsOf, allFit, limited}
-use Rattle.digits.specs.Digits.{composes}
 use Rattle.appearance.specs.Build.{renumberIn}
+use Rattle.generated_rows.specs.Rows.{productOf}
 use Rattle.generated.specs.Lent.{shown, subgroupOf, Subgrouping, subgrouping, mapsRight, mapsBack}
-
--- The step of the generator g: "the overgroup's `compose`" of x with the element of g.
-abbrev pub productOf : List ℕ → List Factor → List ℕ → ℕ → ℕ → Reached
-productOf from hs gens x g = composes from hs x (getD gens g 0)
 
 -- 14 with its "position among these from 0, each entry of a word or list counted".
 abbrev pub entryRight : ℕ → List ℕ → ℕ → Verdict

@@ -1,14 +1,18 @@
 -- The map of the index formulas in code: its numbers are within 32 bits, and one law for each answer.
 -- Assumes nothing.
 use Prim.Native.Nat.{ℕ, _+_, _*_, _/_, _%_, _≤_, _<_}
-use mathlib.Core.Path.{_≡_, refl, sym, ap, _∙_, subst}
+use mathlib.Core.Path.{_≡_, refl, _∙_, subst}
 use mathlib.Core.List.{List}
 use native.Mathlib.Nat.{mul-le-mul}
 use native.Mathlib.Omega.{arith}
 use borrow.Author.Tests.{lt-ltb, le-ltb, eq-eqb, ne-eqb}
 use lib.ListN.{getD}
+use Rattle.egg.specs.declared.Refusal.{Refusal}
+use Rattle.egg.specs.declared.GroupElementId.{GroupElementId}
+use Rattle.egg.specs.declared.Reached.{Reached}
 use Rattle.egg.specs.declared.Reached.the-variants as reached
 use Rattle.egg.specs.Factor.{refusedReach}
+use Rattle.walks.specs.Walks.{onReached}
 use Rattle.products.proofs.RadixLaws.{range-pos, high-small}
 use Rattle.handles.specs.Handles.{handles, elementsOf, capped}
 use Rattle.handles.proofs.Caps.{cap-small}
@@ -16,10 +20,10 @@ use Rattle.appearance.specs.Renumber.{none}
 use Rattle.generated.specs.declared.Subgroup.{Subgroup}
 use Rattle.subgroup.specs.declared.Within.the-variants as within
 use Rattle.subgroup.specs.Indices.{factorIndices, unfactorIndices, withWithin}
-use Rattle.subgroup.specs.Sides.{overSide, subSide}
+use Rattle.sides.specs.Sides.{overSide, subSide}
 use Rattle.subgroup.specs.Questions.{carriedBy, carriedOver, carriedBackBy, carriedBack, refusedWithin}
-use Rattle.subgroup.proofs.Counts.{over-count, sub-count}
-use Rattle.subgroup.proofs.IndexLaws.{unfactor-small, below-small, within-small, above-small}
+use Rattle.sides.proofs.Counts.{over-count, sub-count, first-small, second-small}
+use Rattle.subgroup.proofs.IndexLaws.{unfactor-small, below-small, above-small}
 
 -- An element of B·C·A: none of the three is zero.
 module _ (B C A e : ℕ) (h : e < B * (C * A)) where
@@ -31,23 +35,6 @@ module _ (B C A e : ℕ) (h : e < B * (C * A)) where
 
   pub third-some : 0 < A
   third-some = omega (arith, high-small C A (e / B) (high-small B (C * A) e h))
-
-pub first-small : (B C A : ℕ) {L : ℕ} → 0 < C → 0 < A → B * (C * A) ≤ L → B ≤ L
-first-small B C A hc ha h =
-    let k : 1 * 1 ≤ C * A = mul-le-mul hc ha in
-    let b : B ≤ B = omega arith in
-    let l : 1 ≤ C * A = omega (arith, k) in
-    omega (arith, mul-le-mul b l)
-
-pub second-small : (B C A : ℕ) {L : ℕ} → 0 < B → 0 < A → B * (C * A) ≤ L → C ≤ L
-second-small B C A hb ha h =
-    let c : C ≤ C = omega arith in
-    let k : C * 1 ≤ C * A = mul-le-mul c ha in
-    let l : 1 * (C * A) ≤ B * (C * A) = mul-le-mul hb (le-same (C * A)) in
-    omega (arith, k, l)
-  where
-    le-same : (n : ℕ) → n ≤ n
-    le-same n = omega arith
 
 -- From the subgroup to the overgroup, by the cell w of the map.
 module _ (B M N A e : ℕ) (cut : e < B * (N * A)) (over-small : B * (M * A) ≤ 4294967295) where
@@ -128,3 +115,18 @@ module _ (s : Subgroup) (small : elementsOf (subSide s) ≤ 4294967295) (large :
         let p : capped B ≡ B = over-stride refl in
         let q : capped M ≡ M = over-over refl in
         rw (p, q)
+
+-- The parts of a number within 32 bits are.
+pub inner-small : (q m w b r : ℕ) → 1 ≤ b → (q * m + w) * b + r < 4294967296 → q * m + w < 4294967296
+inner-small q m w b r h k =
+    let l : q * m + w ≤ q * m + w = omega arith in
+    let z : (q * m + w) * 1 ≤ (q * m + w) * b = mul-le-mul l h in
+    let y : (q * m + w) * b < 4294967296 = omega arith in
+    omega (arith, z, y)
+
+-- What goes on from an element.
+pub carries-refused : {r v : Reached} (q : r ≡ v) (F : ℕ → Reached) {w : Refusal} → r ≡ reached.Refused w → r ≡ onReached v F
+carries-refused q F e = rw (← q, e)
+
+pub carries-on : {r v : Reached} (q : r ≡ v) (F : ℕ → Reached) {e : GroupElementId} → r ≡ reached.Element e → F (e .0) ≡ onReached v F
+carries-on q F e = rw (← q, e)

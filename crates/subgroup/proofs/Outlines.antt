@@ -1,13 +1,14 @@
 -- Laws of the outline: one for each answer of the functions on it, and that its answers are those by the handles.
 -- Assumes nothing.
-use Prim.Native.Nat.{ℕ, _+_, _*_, _≤_, _<_}
+use Prim.Native.Nat.{ℕ, _*_, _≤_, _<_}
 use mathlib.Core.Path.{_≡_, refl, sym, ap, _∙_, subst}
 use mathlib.Core.Bool.{Bool, true, false}
 use mathlib.Core.List.{List}
 use borrow.Author.Tests.{le-leb, lt-leb, leb-true, leb-false}
 use lib.ListN.{length}
-use lib.Dec.{leb, ltb}
+use lib.Dec.{leb}
 use Rattle.egg.specs.declared.GroupElementId.{GroupElementId}
+use Rattle.egg.specs.declared.Refusal.{Refusal}
 use Rattle.egg.specs.declared.Verdict.{Verdict}
 use Rattle.egg.specs.declared.Verdict.the-variants.{Fine, Refused}
 use Rattle.egg.specs.declared.Reached.{Reached}
@@ -18,72 +19,17 @@ use Rattle.egg.proofs.Scans.{refused-fine}
 use Rattle.factor.specs.Questions.{ifReach}
 use Rattle.handles.specs.declared.inner.Seen.{Seen}
 use Rattle.handles.specs.Handles.{handles, elementsOf, capped, seen}
-use Rattle.handles.proofs.Lists.{listed-few}
 use Rattle.handles.proofs.Caps.{cap-small, cap-within, capped-bound}
 use Rattle.generated.specs.declared.Subgroup.{Subgroup}
 use Rattle.subgroup.specs.declared.Within.{Within}
+use Rattle.subgroup.specs.declared.Within.the-variants as within
 use Rattle.subgroup.specs.declared.inner.Outline.{Outline}
-use Rattle.subgroup.specs.Sides.{overSide, subSide, fewFactors, sidesLimited, admitsSides}
-use Rattle.subgroup.specs.Questions.{ifWithin, carriedBy, carriedOver, toOverAnswer, toSubAnswer, overCount}
-use Rattle.subgroup.specs.Outline.{outlineOf, outlineBy, fewOf, Measured, overMeasure, subMeasure, outlineLimited, admitsOutline, overByOutline, backByOutline}
-use Rattle.subgroup.proofs.Counts.{cap-right, around-is, over-elements-is, sub-elements-is}
+use Rattle.sides.specs.Sides.{overSide, subSide, fewFactors, sidesLimited, admitsSides, overCount}
+use Rattle.subgroup.specs.Questions.{ifWithin, carriedBy, carriedOver, toOverAnswer, toSubAnswer}
+use Rattle.subgroup.specs.Outline.{outlineOf, outlineBy, Measured, overMeasure, subMeasure, outlineLimited, admitsOutline, overByOutline, backByOutline}
+use Rattle.sides.proofs.Counts.{cap-right, around-is, over-elements-is, sub-elements-is}
 use Rattle.subgroup.proofs.Carries.{carried-is, carried-back-is}
-use Rattle.subgroup.proofs.SideLaws.{fit-law, few-below, few-over, few-above, few-long, few-last, over-within, sub-within, asks, sides-capped}
-
--- At most 8 factors on either side.
-module _ (b o a : ℕ) where
-  pub few-of-below : 8 < b → false ≡ fewOf b o a
-  unfolding fewOf
-  few-of-below h = rw (lt-leb b 8 h)
-
-  module _ (p : b ≤ 8) where
-    pub few-of-over : 8 < o → false ≡ fewOf b o a
-    unfolding fewOf
-    few-of-over h = rw (le-leb b 8 p, lt-leb o 8 h)
-
-    module _ (q : o ≤ 8) where
-      pub few-of-above : 8 < a → false ≡ fewOf b o a
-      unfolding fewOf
-      few-of-above h = rw (le-leb b 8 p, le-leb o 8 q, lt-leb a 8 h)
-
-      module _ (r : a ≤ 8) where
-        pub few-of-long : 8 < b + a + o → false ≡ fewOf b o a
-        unfolding fewOf
-        few-of-long h = rw (le-leb b 8 p, le-leb o 8 q, le-leb a 8 r, lt-leb (b + a + o) 8 h)
-
-        pub few-of-last : b + a + o ≤ 8 → ltb (b + a) 8 ≡ fewOf b o a
-        unfolding fewOf
-        few-of-last h = rw (le-leb b 8 p, le-leb o 8 q, le-leb a 8 r, le-leb (b + a + o) 8 h)
-
-module _ (s : Subgroup) (x : length (s .below .factors) ≡ 8) (y : length (s .over .factors) ≡ 8) (z : length (s .above .factors) ≡ 8) where
-  abbrev b : ℕ
-  b = s .below .count
-
-  abbrev o : ℕ
-  o = s .over .count
-
-  abbrev a : ℕ
-  a = s .above .count
-
-  few-listed : b ≤ 8 → o ≤ 8 → a ≤ 8 → fewOf b o a ≡ fewFactors s
-  few-listed p q r = by (leb (b + a + o) 8) refl where
-    by : (w : Bool) → leb (b + a + o) 8 ≡ w → fewOf b o a ≡ fewFactors s
-    by false e =
-        let h : 8 < b + a + o = leb-false _ _ e in
-        sym (few-of-long b o a p q r h) ∙ few-long s p q r (listed-few (s .below) x p) (listed-few (s .above) z r) (listed-few (s .over) y q) h
-    by true e =
-        let h : b + a + o ≤ 8 = leb-true _ _ e in
-        sym (few-of-last b o a p q r h) ∙ few-last s p q r (listed-few (s .below) x p) (listed-few (s .above) z r) (listed-few (s .over) y q) h
-
-  -- The counts tell it where each group lists eight handles.
-  pub few-counts : fewOf b o a ≡ fewFactors s
-  few-counts = by (leb b 8) (leb o 8) (leb a 8) refl refl refl where
-    by : (u v w : Bool) → leb b 8 ≡ u → leb o 8 ≡ v → leb a 8 ≡ w → fewOf b o a ≡ fewFactors s
-    by false v w p q r = sym (few-of-below b o a (leb-false _ _ p)) ∙ few-below s (leb-false _ _ p)
-    by true false w p q r = sym (few-of-over b o a (leb-true _ _ p) (leb-false _ _ q)) ∙ few-over s (leb-true _ _ p) (leb-false _ _ q)
-    by true true false p q r =
-        sym (few-of-above b o a (leb-true _ _ p) (leb-true _ _ q) (leb-false _ _ r)) ∙ few-above s (leb-true _ _ p) (leb-true _ _ q) (leb-false _ _ r)
-    by true true true p q r = few-listed (leb-true _ _ p) (leb-true _ _ q) (leb-true _ _ r)
+use Rattle.sides.proofs.SideLaws.{fit-law, over-within, sub-within, asks, sides-capped}
 
 -- 15.
 module _ (o : Outline) where
@@ -188,6 +134,13 @@ reach-same (Refused r) p f = rw p
 within-same : (w : Verdict) {v : Verdict} {x y : Within} → v ≡ w → (w ≡ Fine → x ≡ y) → ifWithin v x ≡ ifWithin w y
 within-same Fine p f = rw (p, f refl)
 within-same (Refused r) p f = rw p
+
+module _ {v w : Verdict} (q : v ≡ w) where
+  pub within-refused : {r : Refusal} (x : Within) → v ≡ Refused r → within.Refused r ≡ ifWithin w x
+  within-refused x e = rw (← q, e)
+
+  pub within-fine : (x : Within) → v ≡ Fine → x ≡ ifWithin w x
+  within-fine x e = rw (← q, e)
 
 module _ (from table : ℕ) (s : Subgroup) where
   over-measure-is : overMeasure (outlineOf from table s) ≡ capped (elementsOf (overSide s))

@@ -1,4 +1,3 @@
 pub mod Indices
-pub mod Sides
 pub mod Questions
 pub mod Outline

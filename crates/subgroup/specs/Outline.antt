@@ -1,10 +1,10 @@
 -- The questions by the outline of a subgroup: what its handles show together, and no handle.
 -- Assumes nothing.
-use Prim.Native.Nat.{ℕ, _+_, _*_, _≤_}
+use Prim.Native.Nat.{ℕ, _*_, _≤_}
 use mathlib.Core.List.{List}
 use mathlib.Core.Bool.{Bool, _&&_}
 use lib.ListN.{length}
-use lib.Dec.{leb, ltb}
+use lib.Dec.{leb}
 use Rattle.egg.specs.declared.Verdict.{Verdict}
 use Rattle.egg.specs.declared.Verdict.the-variants as verdict
 use Rattle.egg.specs.declared.Reached.{Reached}
@@ -16,8 +16,8 @@ use Rattle.handles.specs.Handles.{handles, elementsOf, capped}
 use Rattle.generated.specs.declared.Subgroup.{Subgroup}
 use Rattle.subgroup.specs.declared.Within.{Within}
 use Rattle.subgroup.specs.declared.inner.Outline.{Outline}
-use Rattle.subgroup.specs.Sides.{sidesFit, fewFactors}
-use Rattle.subgroup.specs.Questions.{strideOf, overCount, carriedBy, carriedBackBy, ifWithin}
+use Rattle.sides.specs.Sides.{sidesFit, fewFactors, strideOf, overCount}
+use Rattle.subgroup.specs.Questions.{carriedBy, carriedBackBy, ifWithin}
 
 -- The outline of a subgroup, and of what was seen of its parts.
 abbrev pub outlineOf : ℕ → ℕ → Subgroup → Outline
@@ -39,11 +39,6 @@ outlineBy fits few within below over above = record {
   over = over .elements;
   above = above .elements;
 }
-
--- At most 8 factors on either side, by how many are below, over and above.
-unfoldable pub fewOf : ℕ → ℕ → ℕ → Bool
-fewOf below over above =
-    leb below 8 && (leb over 8 && (leb above 8 && (leb (below + above + over) 8 && ltb (below + above) 8)))
 
 -- Its numbers are as far as 32 bits can tell.
 pub record Measured (o : Outline) : Type 0 where

@@ -3,7 +3,7 @@
 ghost use mathlib.Core.Path.{_≡_};
 ghost use Rattle.generated.specs.Lent.{Subgrouping};
 ghost use Rattle.generated.specs.Generated.{fromGenerators};
-ghost use Rattle.subgroup.specs.Sides.{leftProduct, rightProduct};
+ghost use Rattle.sides.specs.Sides.{leftProduct, rightProduct};
 ghost use Rattle.subgroup.specs.Questions.{toOverAnswer, toSubAnswer, generatorAnswer};
 ghost use lib.ListN.{length};
 use egg::GeneratorId;
@@ -59,26 +59,26 @@ pub fn from_generators(
 pub fn product_left(from: &[u32], table: &[u32], g: Group, s: Subgroup) -> Subgrouped
     ensures { λ r. ⌜ r ≡ leftProduct (length (now (from .entry))) (length (now (table .entry))) g s ⌝ }
 {
-    if !inner::sides_fit(from, table, s) {
-        return inner::refused_sides(17);
+    if !sides::inner::sides_fit(from, table, s) {
+        return sides::inner::refused_sides(17);
     }
     if !handles::inner::all_fit(from, g) {
-        return inner::refused_sides(17);
+        return sides::inner::refused_sides(17);
     }
-    inner::left_of(g, s)
+    sides::inner::left_of(g, s)
 }
 
 // The subgroup of overgroup · g that is subgroup · g.
 pub fn product_right(from: &[u32], table: &[u32], s: Subgroup, g: Group) -> Subgrouped
     ensures { λ r. ⌜ r ≡ rightProduct (length (now (from .entry))) (length (now (table .entry))) s g ⌝ }
 {
-    if !inner::sides_fit(from, table, s) {
-        return inner::refused_sides(17);
+    if !sides::inner::sides_fit(from, table, s) {
+        return sides::inner::refused_sides(17);
     }
     if !handles::inner::all_fit(from, g) {
-        return inner::refused_sides(17);
+        return sides::inner::refused_sides(17);
     }
-    inner::right_of(s, g)
+    sides::inner::right_of(s, g)
 }
 
 // The element of the overgroup that the subgroup's e is.
@@ -113,7 +113,7 @@ pub fn generator(from: &[u32], table: &[u32], s: Subgroup, outw: &[u32], g: Gene
 {
     let factor = s.factor;
     let n = factor.elements as u64;
-    let k = inner::sub_generators(s) as u64;
+    let k = sides::inner::sub_generators(s) as u64;
     let o = inner::outlined(from, table, s);
     match inner::admit(o, outw.len(), n, g.0 as u32, k) {
         Verdict::Refused(why) => Reached::Refused(why),

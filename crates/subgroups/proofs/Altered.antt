@@ -24,7 +24,8 @@ use Rattle.renumbering.proofs.Partial.{total, total-answering, partial-build}
 use Rattle.renumbering.proofs.Builds.{builtOf, renumber-built, renumber-filled, refused-maps}
 use Rattle.generated.specs.declared.Subgroup.{Subgroup}
 use Rattle.generated.specs.Lent.{subgrouping, mapsBack}
-use Rattle.generated.specs.Generated.{productOf, fromGenerators}
+use Rattle.generated_rows.specs.Rows.{productOf}
+use Rattle.generated.specs.Generated.{fromGenerators}
 use Rattle.subgroups.specs.Generates.{Started}
 use Rattle.subgroups.specs.Altered.{stepsRead, MapsAfter, filled, zeros, BySteps, Stopped, Regardless}
 use Rattle.subgroups.proofs.Called as called

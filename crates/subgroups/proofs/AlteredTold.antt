@@ -27,7 +27,7 @@ use Rattle.renumbering.proofs.Partial.{total, total-answering, partial-build}
 use Rattle.renumbering.proofs.Builds.{builtOf, renumber-built}
 use Rattle.generated.specs.declared.Subgroup.{Subgroup}
 use Rattle.generated.specs.Lent.{subgrouping}
-use Rattle.generated.specs.Generated.{productOf}
+use Rattle.generated_rows.specs.Rows.{productOf}
 use Rattle.predicate.specs.Predicate.{Picked, picked, isNew, chooses, againIn, predicateIn, fromPredicate}
 use Rattle.predicate.specs.Predicate as predicate
 use Rattle.subgroups.specs.Tells.{Predicated}

@@ -41,7 +41,8 @@ use Rattle.renumbering.proofs.FirstRow.{generators-are}
 use Rattle.renumbering.proofs.Builds.{builtOf, renumber-built}
 use Rattle.renumbering.proofs.SubgroupBuilds.{subgroup-9, subgroup-11}
 use Rattle.generated.specs.Lent.{shown, mapsRight, mapsBack}
-use Rattle.generated.specs.Generated.{productOf, entryRight, entriesRight, smallEnough, admitsGenerators, fromGenerators}
+use Rattle.generated_rows.specs.Rows.{productOf}
+use Rattle.generated.specs.Generated.{entryRight, entriesRight, smallEnough, admitsGenerators, fromGenerators}
 use Rattle.generated.proofs.Admits.{small-limited, small-elements, maps-lent, maps-inn, maps-outw}
 use Rattle.subgroups.specs.Generates.{Started}
 use Rattle.subgroups.specs.Answers.{subgroupPaper, Elements, Small, Enough, Generating, GeneratorsPaper, no-handle, no-element, too-large, many, short, stops, identity, repeated, made}

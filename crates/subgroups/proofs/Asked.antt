@@ -27,12 +27,12 @@ use Rattle.generated.specs.declared.Subgroup.{Subgroup}
 use Rattle.generated.specs.declared.Subgrouped.{Subgrouped}
 use Rattle.subgroup.specs.declared.Within.the-variants as within
 use Rattle.subgroup.specs.Indices.{overOf, subOf}
-use Rattle.subgroup.specs.Sides.{overSide, subSide, sidesFit, fewFactors, sidesLimited, admitsSides, leftOf, rightOf, refusedSubgroup, ifLimited, joinable, multiplied, leftProduct, rightProduct}
-use Rattle.subgroup.specs.Questions.{withinPaper, refusedWithin, strideOf, carriedOver, carriedBack, toOverAnswer, toSubAnswer}
-use Rattle.subgroup.proofs.Counts.{over-count, sub-count}
+use Rattle.sides.specs.Sides.{overSide, subSide, sidesFit, fewFactors, sidesLimited, admitsSides, leftOf, rightOf, refusedSubgroup, ifLimited, joinable, multiplied, leftProduct, rightProduct, strideOf}
+use Rattle.subgroup.specs.Questions.{withinPaper, refusedWithin, carriedOver, carriedBack, toOverAnswer, toSubAnswer}
+use Rattle.sides.proofs.Counts.{over-count, sub-count, second-small}
 use Rattle.subgroup.proofs.IndexLaws.{within-small}
-use Rattle.subgroup.proofs.Carries.{first-some, second-some, third-some, second-small}
-use Rattle.subgroup.proofs.SideLaws.{fit-law, sides-fine, over-within, sub-within}
+use Rattle.subgroup.proofs.Carries.{first-some, second-some, third-some}
+use Rattle.sides.proofs.SideLaws.{fit-law, sides-fine, over-within, sub-within}
 use Rattle.subgroups.specs.Carried.{Carried}
 use Rattle.subgroups.specs.Asked.{Known, MapAnswers}
 use Rattle.subgroups.proofs.Carrying.{carried-product}

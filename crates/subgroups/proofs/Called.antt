@@ -47,7 +47,8 @@ use Rattle.renumbering.proofs.SubgroupBuilds.{subgroup-exactly}
 use Rattle.generated.specs.declared.Subgroup.{Subgroup}
 use Rattle.generated.specs.declared.Subgrouped.{Subgrouped}
 use Rattle.generated.specs.Lent.{shown, subgroupOf, Subgrouping, subgrouping, mapsRight, mapsBack}
-use Rattle.generated.specs.Generated.{productOf, entryRight, entriesRight, smallEnough, admitsGenerators, generatedInto, fromGenerators}
+use Rattle.generated_rows.specs.Rows.{productOf}
+use Rattle.generated.specs.Generated.{entryRight, entriesRight, smallEnough, admitsGenerators, generatedInto, fromGenerators}
 use Rattle.generated.proofs.Admits.{generators-fine, admitted, small-elements, maps-lent, maps-inn, maps-outw}
 use Rattle.subgroups.specs.Carried.{Carried, Homomorphic}
 use Rattle.subgroups.specs.Made.{SubgroupMade}

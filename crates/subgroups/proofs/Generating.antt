@@ -15,10 +15,11 @@ use Rattle.handles.specs.Handles.{handles, elementsOf, generatorsOf, groupOf, c
 use Rattle.handles.proofs.Caps.{cap-small}
 use Rattle.generated.specs.declared.Subgroup.{Subgroup}
 use Rattle.subgroup.specs.Indices.{overOf}
-use Rattle.subgroup.specs.Sides.{subSide, admitsSides}
-use Rattle.subgroup.specs.Questions.{carriedOver, scaled, sideGenerator, generatorAnswer}
-use Rattle.subgroup.proofs.SideLaws.{sides-fine}
-use Rattle.subgroup.proofs.Generators.{generator-within}
+use Rattle.sides.specs.Sides.{subSide, admitsSides}
+use Rattle.subgroup.specs.Questions.{carriedOver, generatorAnswer}
+use Rattle.sides.specs.Generators.{scaled, sideGenerator}
+use Rattle.sides.proofs.SideLaws.{sides-fine}
+use Rattle.sides.proofs.Generators.{generator-within}
 use Rattle.subgroups.specs.Generates.{Holds}
 use Rattle.subgroups.specs.Asked.{Known}
 use Rattle.subgroups.proofs.Asked.{over-cell}

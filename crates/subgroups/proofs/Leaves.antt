@@ -40,7 +40,8 @@ use Rattle.renumbering.proofs.Numberings.{refused-5-or-6}
 use Rattle.renumbering.proofs.Builds.{builtOf}
 use Rattle.generated.specs.declared.Subgroup.{Subgroup}
 use Rattle.generated.specs.Lent.{shown, subgrouping, mapsRight}
-use Rattle.generated.specs.Generated.{productOf, entryRight, entriesRight, smallEnough, admitsGenerators, fromGenerators}
+use Rattle.generated_rows.specs.Rows.{productOf}
+use Rattle.generated.specs.Generated.{entryRight, entriesRight, smallEnough, admitsGenerators, fromGenerators}
 use Rattle.generated.proofs.Admits.{generators-fine, admitted}
 use Rattle.predicate.specs.Predicate.{admitsOver, fromPredicate}
 use Rattle.predicate.proofs.Choices.{over-fine, over-admitted}

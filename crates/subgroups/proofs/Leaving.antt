@@ -36,7 +36,8 @@ use Rattle.appearance.specs.Build.{renumbering, finishedMapped, renumberIn}
 use Rattle.renumbering.proofs.Builds.{builtOf, settled-built, refused-maps}
 use Rattle.generated.specs.declared.Subgroup.{Subgroup}
 use Rattle.generated.specs.Lent.{subgrouping, mapsRight}
-use Rattle.generated.specs.Generated.{productOf, fromGenerators}
+use Rattle.generated_rows.specs.Rows.{productOf}
+use Rattle.generated.specs.Generated.{fromGenerators}
 use Rattle.generated.proofs.Admits.{maps-lent, maps-inn, maps-outw}
 use Rattle.subgroups.specs.Generates.{Started}
 use Rattle.subgroups.specs.Leaves.{mapsFor}

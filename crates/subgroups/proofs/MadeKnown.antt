@@ -14,9 +14,9 @@ use Rattle.handles.specs.declared.Group.{Group}
 use Rattle.handles.specs.Handles.{handles, elementsOf, groupOf}
 use Rattle.handles.proofs.Admitted.{few-factors}
 use Rattle.generated.specs.declared.Subgroup.{Subgroup}
-use Rattle.subgroup.specs.Sides.{fewFactors, sidesLimited}
+use Rattle.sides.specs.Sides.{fewFactors, sidesLimited}
 use Rattle.generated.proofs.Admits.{small-limited, small-elements}
-use Rattle.subgroup.proofs.SideLaws.{fit-law}
+use Rattle.sides.proofs.SideLaws.{fit-law}
 use Rattle.subgroups.specs.Altered.{Regardless}
 use Rattle.subgroups.specs.Asked.{Known}
 

@@ -25,8 +25,9 @@ use Rattle.generated.specs.declared.Subgroup.{Subgroup}
 use Rattle.generated.specs.declared.Subgrouped.{Subgrouped}
 use Rattle.subgroup.specs.declared.Within.{Within}
 use Rattle.subgroup.specs.declared.Within.the-variants as within
-use Rattle.subgroup.specs.Sides.{sidesFit, sidesLimited, admitsSides, leftOf, rightOf, ifLimited, joinable, multiplied, leftProduct, rightProduct}
-use Rattle.subgroup.specs.Questions.{ifWithin, strideOf, overCount, carriedOver, carriedBack, sideGenerator, toOverAnswer, toSubAnswer, generatorAnswer}
+use Rattle.sides.specs.Sides.{sidesFit, sidesLimited, admitsSides, leftOf, rightOf, ifLimited, joinable, multiplied, leftProduct, rightProduct, strideOf, overCount}
+use Rattle.subgroup.specs.Questions.{ifWithin, carriedOver, carriedBack, toOverAnswer, toSubAnswer, generatorAnswer}
+use Rattle.sides.specs.Generators.{sideGenerator}
 use Rattle.subgroups.specs.Refuses.{WithinIn, SubgroupRefuses}
 
 abbrev asked : List ℕ

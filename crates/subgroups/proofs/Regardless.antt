@@ -43,7 +43,8 @@ use Rattle.renumbering.proofs.Partial.{ranged-inside, total, total-answering, p
 use Rattle.renumbering.proofs.Builds.{builtOf, renumber-built, renumber-holds, renumber-work, renumber-filled, renumber-maps}
 use Rattle.generated.specs.declared.Subgroup.{Subgroup}
 use Rattle.generated.specs.Lent.{mapsRight}
-use Rattle.generated.specs.Generated.{productOf, smallEnough}
+use Rattle.generated_rows.specs.Rows.{productOf}
+use Rattle.generated.specs.Generated.{smallEnough}
 use Rattle.generated.proofs.Admits.{small-elements, maps-lent, maps-inn, maps-outw}
 use Rattle.subgroups.specs.Altered.{stepsRead, Regardless}
 use Rattle.subgroups.proofs.Narrow.{narrow}

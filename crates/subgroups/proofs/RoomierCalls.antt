@@ -32,7 +32,8 @@ use Rattle.renumbering.proofs.Builds.{builtOf, renumber-built, renumber-filled}
 use Rattle.renumbering.proofs.RoomierMaps.{inward-same, outward-same}
 use Rattle.generated.specs.declared.Subgroup.{Subgroup}
 use Rattle.generated.specs.Lent.{Subgrouping, subgrouping, mapsBack}
-use Rattle.generated.specs.Generated.{productOf, fromGenerators}
+use Rattle.generated_rows.specs.Rows.{productOf}
+use Rattle.generated.specs.Generated.{fromGenerators}
 use Rattle.subgroups.specs.Generates.{Started, RoomierGenerates}
 use Rattle.subgroups.proofs.Called as called
 use Rattle.subgroups.proofs.ToldLeaving.{accepted-lengths}

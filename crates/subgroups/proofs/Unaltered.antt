@@ -29,10 +29,12 @@ use Rattle.groups.specs.Products.{parts, direct}
 use Rattle.groups.specs.Unaltered.{AllUnaltered, none, more}
 use Rattle.appearance.specs.Renumber as appear
 use Rattle.generated.specs.declared.Subgroup.{Subgroup}
-use Rattle.subgroup.specs.Sides.{overSide, subSide, sidesFit, admitsSides, leftProduct, rightProduct}
-use Rattle.subgroup.specs.Questions.{carriedOver, carriedBack, toOverAnswer, toSubAnswer, sideGenerator, generatorAnswer}
-use Rattle.generated.specs.Generated.{productOf, admitsGenerators, generatedInto, fromGenerators}
-use Rattle.subgroup.proofs.SideLaws.{fit-law}
+use Rattle.sides.specs.Sides.{overSide, subSide, sidesFit, admitsSides, leftProduct, rightProduct}
+use Rattle.subgroup.specs.Questions.{carriedOver, carriedBack, toOverAnswer, toSubAnswer, generatorAnswer}
+use Rattle.sides.specs.Generators.{sideGenerator}
+use Rattle.generated_rows.specs.Rows.{productOf}
+use Rattle.generated.specs.Generated.{admitsGenerators, generatedInto, fromGenerators}
+use Rattle.sides.proofs.SideLaws.{fit-law}
 use Rattle.predicate.specs.Predicate.{admitsOver, toldInto, fromPredicate}
 use Rattle.subgroups.specs.Generates.{Holds}
 use Rattle.subgroups.specs.Asked.{Known}

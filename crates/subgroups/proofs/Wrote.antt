@@ -29,8 +29,9 @@ use Rattle.appearance.specs.Build.{Renumbering, renumbering, renumberIn}
 use Rattle.generated.specs.declared.Subgroup.{Subgroup}
 use Rattle.generated.specs.declared.Subgrouped.{Subgrouped}
 use Rattle.generated.specs.Lent.{subgrouping, mapsBack}
-use Rattle.generated.specs.Generated.{productOf, fromGenerators}
-use Rattle.subgroup.specs.Sides.{sidesFit}
+use Rattle.generated_rows.specs.Rows.{productOf}
+use Rattle.generated.specs.Generated.{fromGenerators}
+use Rattle.sides.specs.Sides.{sidesFit}
 use Rattle.predicate.specs.Predicate.{Picked, picked, predicateIn, toldBack, fromPredicate}
 use Rattle.subgroups.specs.Leaves.{mapsFor, generatorsAfter, predicateAfter, AllWrote}
 use Rattle.subgroups.proofs.Called as called

@@ -25,7 +25,8 @@ use Rattle.renumbering.specs.Source.{outOf}
 use Rattle.renumbering.specs.Maps.{Filled}
 use Rattle.generated.specs.declared.Subgroup.{Subgroup}
 use Rattle.generated.specs.Lent.{subgroupOf, Subgrouping, subgrouping, mapsBack}
-use Rattle.generated.specs.Generated.{productOf, smallEnough}
+use Rattle.generated_rows.specs.Rows.{productOf}
+use Rattle.generated.specs.Generated.{smallEnough}
 use Rattle.subgroups.specs.Carried.{Carried}
 use Rattle.subgroups.specs.Leaves.{mapsFor, AllWrote}
 

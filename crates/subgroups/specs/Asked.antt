@@ -9,8 +9,8 @@ use Rattle.answers.specs.Accepted.{reach}
 use Rattle.handles.specs.Handles.{elementsOf}
 use Rattle.generated.specs.declared.Subgroup.{Subgroup}
 use Rattle.subgroup.specs.Indices.{overOf, subOf}
-use Rattle.subgroup.specs.Sides.{overSide, subSide, sidesFit, sidesLimited}
-use Rattle.subgroup.specs.Questions.{withinPaper, strideOf, overCount, toOverAnswer, toSubAnswer}
+use Rattle.sides.specs.Sides.{overSide, subSide, sidesFit, sidesLimited, strideOf, overCount}
+use Rattle.subgroup.specs.Questions.{withinPaper, toOverAnswer, toSubAnswer}
 use Rattle.subgroups.specs.Carried.{Carried}
 
 -- The handles fit, both sides are within the limits, and the two maps are those of the subgroup's own factor.

@@ -15,7 +15,7 @@ use Rattle.handles.specs.declared.Group.{Group}
 use Rattle.generated.specs.declared.Subgroup.{Subgroup}
 use Rattle.subgroup.specs.declared.Within.{Within}
 use Rattle.subgroup.specs.declared.Within.the-variants as within
-use Rattle.subgroup.specs.Sides.{leftProduct, rightProduct}
+use Rattle.sides.specs.Sides.{leftProduct, rightProduct}
 use Rattle.subgroup.specs.Questions.{toOverAnswer, toSubAnswer, generatorAnswer}
 
 -- If it is refused, then by one of these numbers. "Not in the subgroup" is an answer.

@@ -12,8 +12,8 @@ use Rattle.egg.specs.Factor.{stretch}
 use Rattle.handles.specs.declared.Group.{Group}
 use Rattle.handles.specs.Handles.{handles, allFit}
 use Rattle.generated.specs.declared.Subgroup.{Subgroup}
-use Rattle.subgroup.specs.Sides.{sidesFit, leftProduct, rightProduct}
-use Rattle.subgroup.specs.Questions.{overCount, toOverAnswer, toSubAnswer}
+use Rattle.sides.specs.Sides.{sidesFit, leftProduct, rightProduct, overCount}
+use Rattle.subgroup.specs.Questions.{toOverAnswer, toSubAnswer}
 use Rattle.subgroups.specs.Asked.{Known}
 
 -- What the maps' questions about a subgroup s need, the same in the marked buffers as in the others: the handles fit, and the needed part of each map holds the

@@ -1,7 +1,6 @@
 -- A scan, entry by entry; the limit is known as far as 32 bits can tell.
-use Prim.Native.Nat.{ℕ, _-_, _<_}
+use Prim.Native.Nat.{ℕ, _-_}
 use mathlib.Core.Path.{_≡_, _∙_}
-use native.Mathlib.Omega.{arith}
 use lib.ListN.{length}
 use Rattle.handles.specs.Handles.{handles, elementsOf, capped}
 use Rattle.egg.proofs.Scans.{Scanning, stops, goes-on, ends}

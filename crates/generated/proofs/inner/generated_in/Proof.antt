@@ -1,7 +1,7 @@
 -- The steps of the build, put together by `renumber-in`.
-use lib.ListN.{length, getD}
+use lib.ListN.{length}
 use Rattle.handles.specs.Handles.{handles}
-use Rattle.generated.specs.Generated.{productOf}
+use Rattle.generated_rows.specs.Rows.{productOf}
 use Rattle.appearance.proofs.BuildLaws.{renumber-in}
 use borrow.Author.Needs.{needs}
 use Rattle.generated.proofs.inner.generated_in.Statement.{statement}

@@ -3,8 +3,7 @@ use Prim.Native.Nat.{ℕ}
 use mathlib.Core.Path.{ap, _∙_}
 use lib.ListN.{length}
 use Rattle.subgroup.specs.Outline.{admitsOutline, backByOutline}
-use Rattle.subgroup.proofs.Outlines.{back-goes}
-use Rattle.subgroup.proofs.SideLaws.{within-refused, within-fine}
+use Rattle.subgroup.proofs.Outlines.{back-goes, within-refused, within-fine}
 use borrow.Author.Needs.{needs}
 use Rattle.subgroup.proofs.inner.back_by.Statement.{statement}
 use Rattle.subgroup.proofs.inner.back_by.Tie as tie

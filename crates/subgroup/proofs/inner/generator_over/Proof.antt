@@ -2,7 +2,8 @@
 use mathlib.Core.Path.{_∙_}
 use lib.ListN.{length}
 use Rattle.subgroup.specs.Questions.{carriedOver}
-use Rattle.subgroup.proofs.Generators.{generator-element, carries-refused, carries-on}
+use Rattle.sides.proofs.Generators.{generator-element}
+use Rattle.subgroup.proofs.Carries.{carries-refused, carries-on}
 use Rattle.subgroup.proofs.Outlines.{side-goes, carried-told}
 use borrow.Author.Needs.{needs}
 use Rattle.subgroup.proofs.inner.generator_over.Statement.{statement}

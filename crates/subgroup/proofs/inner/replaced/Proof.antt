@@ -1,7 +1,7 @@
 -- The sum without the last two steps is below the whole, which fits.
 use Prim.Native.Nat.{_/_, _%_}
 use native.Mathlib.Omega.{arith}
-use Rattle.subgroup.proofs.Counts.{inner-small}
+use Rattle.subgroup.proofs.Carries.{inner-small}
 use borrow.Author.Needs.{needs}
 use Rattle.subgroup.proofs.inner.replaced.Statement.{statement}
 use Rattle.subgroup.proofs.inner.replaced.Tie as tie

@@ -1,0 +1,3 @@
+pub mod OneFactor
+pub mod LetterLaws
+pub mod Keeps

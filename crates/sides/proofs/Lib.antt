@@ -1,0 +1,4 @@
+pub mod Counts
+pub mod SideLaws
+pub mod Few
+pub mod Generators
