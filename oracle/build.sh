@@ -6,6 +6,6 @@ set -eu
 cd "$(dirname "$0")"
 
 ../tools/install.sh librust-itertools-dev librust-smallvec-dev
-command -v cargo >/dev/null 2>&1 || ../tools/install.sh cargo
+command -v cargo >/dev/null 2>&1 || ../tools/install.sh cargo-web
 ./setup.sh
 cargo build --release --offline --quiet

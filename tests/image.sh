@@ -5,6 +5,7 @@ set -eu
 cd "$(dirname "$0")/.."
 . tools/machine.sh
 to_build
+command -v g++ >/dev/null 2>&1 || tools/install.sh g++
 python3 tools/header.py --check
 strict="-Wall -Wextra -Wpedantic -Werror"
 $CC -std=c99 $strict -fsyntax-only -x c host/hypergroup.h

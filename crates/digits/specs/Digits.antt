@@ -1,4 +1,4 @@
--- Questions that are answered factor by factor. The first digit is the fastest: an element is x + N·y, where x is an element of the first factor, which has
+-- Questions that are answered factor by factor. Document 01: "First factor is the fastest digit: strides 1, N0, N0·N1.." So an element is x + N·y, where x is an element of the first factor, which has
 -- N, and y one of the product of the others.
 -- Assumes nothing.
 use Prim.Native.Nat.{ℕ, _+_, _*_, _-_, _/_, _%_}

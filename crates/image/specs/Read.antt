@@ -11,7 +11,7 @@ use Rattle.cells.specs.Cells.{halves}
 use Rattle.image.specs.Image.{generatorsOf, elementsOf, headNumber}
 use Rattle.image_rows.specs.Read.{imageIn}
 
--- The place of a bad head: "1: more than 8 generators: the count"; 16 has none.
+-- The place of a bad head: of 1, "more than 8 generators", it is "the count"; 16 has none.
 abbrev pub headPlace : List ℕ → ℕ
 headPlace l = pick (eqb (headNumber l) 1) (generatorsOf l) 0
 

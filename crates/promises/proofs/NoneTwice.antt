@@ -221,7 +221,7 @@ module _ (o : List ℕ) (n room lt lw : ℕ) (L : run.Limits n o room lt lw) (ri
       (λ e he. sym (word-same (F .run .table .words) K e he))
 
   -- A finished run is accepted exactly when no two of the words that it records, and no two generators, are equal under the relations: so 9 to 13 come after a
-  -- finished run just if an element was made twice.
+  -- finished run just if an element was made twice, or two generators are equal.
   pub finished-exactly : ((t : List ℕ) × (w : List ℕ) × (enumeratedIn lt lw o n room ≡ built (Count N) t w)) ↔ NoneTwice n N (order-of o) (run.words n T)
   finished-exactly =
       let agree : (e : ℕ) → e < N → run.words n T e ≡ F .run .word e = λ e he. word-same (F .run .table .words) (kept-same {N = N}) e he in (

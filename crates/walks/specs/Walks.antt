@@ -44,7 +44,8 @@ inverseIn s n count a = pick (leb count (inverseOf s n a)) (refusedReach 17 0) (
 
 -- "`compose` walks the word of the second from the first": forward along the word of the second, or back along the word of its inverse where that is no
 -- longer; or, where the first's word is shorter than the second's, back along that from the inverse of the second, to the inverse of the product. On an
--- accepted factor all three lead to the same element. An inverse beyond the elements is 17, and so is a length over 4,096.
+-- accepted factor all three lead to the same element. An inverse beyond the elements is 17, and so is a length of the second over 4,096; the other lengths are
+-- only compared with that.
 unfoldable pub composeIn : List ℕ → ℕ → ℕ → ℕ → ℕ → Reached
 composeIn s n count a b =
     pick (ltb 4096 (lengthOf s n b)) (refusedReach 17 0)

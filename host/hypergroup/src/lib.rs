@@ -2,8 +2,9 @@
 //!
 //! A live viewer of a match gets each turn as a generator; a viewer who is behind gets one element, the product of the turns missed.
 //! Both land on one state exactly when the table of moves is a group's. Whatever this crate hands out has been checked by a library
-//! in which every function is proved to meet its contract: a table is accepted exactly when some group has it, and everything else
-//! comes back as a [`Refusal`] with its number, its places and a sentence.
+//! in which every function is proved to meet its contract: a table is accepted exactly when it is numbered in order of first
+//! appearance, no recorded word passes 4,096 generators, and some group has it as its right steps; everything else comes back as a
+//! [`Refusal`] with its number, its places and a sentence.
 //!
 //! | | |
 //! |---|---|
