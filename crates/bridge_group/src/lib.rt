@@ -8,7 +8,8 @@ ghost use Rattle.group.specs.Questions.{countAnswer, generatorsAnswer, generato
 ghost use Rattle.flat.specs.Flat.{flat};
 ghost use Rattle.bridge_list.specs.Product.{productOf};
 ghost use Rattle.bridge_group.specs.Product.{groupedInto};
-use bridge_list::inner::composing;
+use bridge_digits::inner::compose;
+use bridge_digits::inner::conjugate;
 use egg::GeneratorId;
 use egg::GroupElementId;
 use handles::Grouped;
@@ -60,7 +61,7 @@ pub extern "C" fn hg_product_generators(table: &[u32], handles: &[u32], count: u
 pub extern "C" fn hg_product_generator(table: &[u32], handles: &[u32], count: u8, x: u8) -> u64
     ensures { λ r. ⌜ r ≡ reachedCode (generatorAnswer (now (table .entry)) (productOf (now (handles .entry)) count) (record { 0 = x })) ⌝ }
 {
-    bridge::inner::reached_code(bridge_list::inner::passes::generator(
+    bridge::inner::reached_code(bridge_steps::inner::generator(
         table,
         handles,
         count,
@@ -72,7 +73,7 @@ pub extern "C" fn hg_product_generator(table: &[u32], handles: &[u32], count: u8
 pub extern "C" fn hg_product_step(table: &[u32], handles: &[u32], count: u8, e: u32, x: u8) -> u64
     ensures { λ r. ⌜ r ≡ reachedCode (stepAnswer (now (table .entry)) (productOf (now (handles .entry)) count) (record { 0 = e }) (record { 0 = x })) ⌝ }
 {
-    bridge::inner::reached_code(bridge_list::inner::passes::step(
+    bridge::inner::reached_code(bridge_steps::inner::step(
         table,
         handles,
         count,
@@ -113,7 +114,7 @@ pub extern "C" fn hg_product_compose(
 ) -> u64
     ensures { λ r. ⌜ r ≡ reachedCode (composeAnswer (now (table .entry)) (productOf (now (handles .entry)) count) (record { 0 = a }) (record { 0 = b })) ⌝ }
 {
-    let r = composing::compose(table, handles, count, GroupElementId(a), GroupElementId(b));
+    let r = compose(table, handles, count, GroupElementId(a), GroupElementId(b));
     bridge::inner::reached_code(r)
 }
 
@@ -121,7 +122,7 @@ pub extern "C" fn hg_product_compose(
 pub extern "C" fn hg_product_inverse(table: &[u32], handles: &[u32], count: u8, a: u32) -> u64
     ensures { λ r. ⌜ r ≡ reachedCode (inverseAnswer (now (table .entry)) (productOf (now (handles .entry)) count) (record { 0 = a })) ⌝ }
 {
-    bridge::inner::reached_code(bridge_list::inner::passes::inverse(
+    bridge::inner::reached_code(bridge_steps::inner::inverse(
         table,
         handles,
         count,
@@ -139,7 +140,7 @@ pub extern "C" fn hg_product_conjugate(
 ) -> u64
     ensures { λ r. ⌜ r ≡ reachedCode (conjugateAnswer (now (table .entry)) (productOf (now (handles .entry)) count) (record { 0 = a }) (record { 0 = b })) ⌝ }
 {
-    let r = composing::conjugate(table, handles, count, GroupElementId(a), GroupElementId(b));
+    let r = conjugate(table, handles, count, GroupElementId(a), GroupElementId(b));
     bridge::inner::reached_code(r)
 }
 

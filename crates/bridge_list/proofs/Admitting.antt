@@ -1,52 +1,37 @@
--- Laws of the verdict on two elements, by what one look at the handles showed: one for each answer.
+-- What a pass over the listed handles showed decides as `admits` of their product does.
 -- Assumes nothing.
-use Prim.Native.Nat.{ℕ, _≤_, _<_}
-use mathlib.Core.Path.{_≡_, ap, _∙_}
-use mathlib.Core.Bool.{true, false, not}
+use Prim.Native.Nat.{ℕ, _<_}
+use mathlib.Core.Path.{_≡_, refl, ap}
+use mathlib.Core.Bool.{true}
 use mathlib.Core.List.{List}
-use borrow.Author.Tests.{not-true, not-false}
-use lib.ListN.{length}
+use lib.Dec.{leb}
 use Rattle.egg.specs.declared.Verdict.{Verdict}
-use Rattle.egg.specs.declared.Verdict.the-variants.{Fine}
-use Rattle.egg.specs.Scan.{refusedOf}
 use Rattle.handles.specs.declared.inner.Seen.{Seen}
-use Rattle.handles.specs.Handles.{handles, seen}
-use Rattle.group.specs.Questions.{twoElements}
-use Rattle.handles.proofs.Admitted.{admits-handle, admits-first, admits-second, admits-large, admits-fine, seen-fit}
-use Rattle.bridge_list.specs.Product.{productOf}
-use Rattle.bridge_list.specs.Spots.{Shown}
-use Rattle.bridge_list.proofs.Looks.{many-told}
-use Rattle.bridge_list.proofs.Answering.{beyond, within, large, fine}
+use Rattle.handles.specs.declared.inner.Limit.{Limit}
+use Rattle.handles.specs.declared.inner.Limit.the-variants.{Elements, Generators, Number}
+use Rattle.handles.specs.Handles.{handles, elementsOf, generatorsOf, limitSeen, admits, admitsSeen, Looked}
+use Rattle.handles.proofs.Admitted.{elements-seen, admits-seen}
+use Rattle.bridge_list.specs.Product.{productAt, productOf}
 
-module _ (t l : List ℕ) (count a b : ℕ) {s : Seen} (w : s ≡ seen (length t) (handles (productOf l count))) where
-  pub two-handle : not (s .fit) ≡ true → {v : Verdict} → v ≡ refusedOf 17 0 0 0 → v ≡ twoElements (length t) (productOf l count) a b
-  two-handle f q = q ∙ admits-handle (length t) (productOf l count) a _ b _ (seen-fit (length t) (productOf l count) w (not-true _ f))
+module _ {len : ℕ} (l : List ℕ) (count : ℕ) {s : Seen} (w : Looked len (handles (productOf l count)) s) {v : Verdict} where
+  listed-admits : (a : ℕ) (la : Limit) (m b : ℕ) (lb : Limit) (n : ℕ) → v ≡ admitsSeen s count a la b lb → (s .fit ≡ true → leb (limitSeen s la) a ≡ leb m a)
+      → (s .fit ≡ true → leb (limitSeen s lb) b ≡ leb n b) → v ≡ admits len (productOf l count) a m b n
+  unfolding productAt
+  listed-admits a la m b lb n q x y = admits-seen (productOf l count) w a la m b lb n q x y
 
-  module _ (f : not (s .fit) ≡ false) where
-    shown : Shown t (handles (productOf l count)) (s .elements)
-    shown = record {
-      all = seen-fit (length t) (productOf l count) w (not-false _ f);
-      whole = ap (λ (x : Seen). x .elements) w;
-    }
+  pub two-elements : {a b : ℕ} → a < 4294967296 → b < 4294967296 → v ≡ admitsSeen s count a Elements b Elements
+      → v ≡ admits len (productOf l count) a (elementsOf (handles (productOf l count))) b (elementsOf (handles (productOf l count)))
+  two-elements {a} {b} h k q =
+      listed-admits a Elements _ b Elements _ q (elements-seen (productOf l count) w h) (elements-seen (productOf l count) w k)
 
-    pub two-first : a < 4294967296 → s .elements ≤ a → {v : Verdict} → v ≡ refusedOf 14 0 0 0 → v ≡ twoElements (length t) (productOf l count) a b
-    two-first m h q = q ∙ admits-first (length t) (productOf l count) a _ b _ (shown .all) (beyond l count shown m h)
+  pub one-element : {a : ℕ} → a < 4294967296 → v ≡ admitsSeen s count a Elements 0 (Number 1)
+      → v ≡ admits len (productOf l count) a (elementsOf (handles (productOf l count))) 0 1
+  one-element {a} h q = listed-admits a Elements _ 0 (Number 1) 1 q (elements-seen (productOf l count) w h) (λ f. refl)
 
-    module _ (h : a < s .elements) where
-      pub two-second : b < 4294967296 → s .elements ≤ b → {v : Verdict} → v ≡ refusedOf 14 1 0 0 → v ≡ twoElements (length t) (productOf l count) a b
-      two-second m k q =
-          q ∙ admits-second (length t) (productOf l count) a _ b _ (shown .all) (within l count shown h) (beyond l count shown m k)
+  module _ (g : s .fit ≡ true → s .generators ≡ generatorsOf (handles (productOf l count))) (x : ℕ) where
+    pub element-letter : {a : ℕ} → a < 4294967296 → v ≡ admitsSeen s count a Elements x Generators
+        → v ≡ admits len (productOf l count) a (elementsOf (handles (productOf l count))) x (generatorsOf (handles (productOf l count)))
+    element-letter {a} h q = listed-admits a Elements _ x Generators _ q (elements-seen (productOf l count) w h) (λ f. ap (λ (z : ℕ). leb z x) (g f))
 
-      module _ (k : b < s .elements) where
-        pub two-many : 8 < count → {v : Verdict} → v ≡ refusedOf 15 0 0 0 → v ≡ twoElements (length t) (productOf l count) a b
-        two-many c q =
-            q ∙ admits-large (length t) (productOf l count) a _ b _ (shown .all) (within l count shown h) (within l count shown k) (many-told l 0 count c)
-
-        module _ (c : count ≤ 8) where
-          pub two-large : 4294967295 < s .elements → {v : Verdict} → v ≡ refusedOf 15 0 0 0 → v ≡ twoElements (length t) (productOf l count) a b
-          two-large m q =
-              q ∙ admits-large (length t) (productOf l count) a _ b _ (shown .all) (within l count shown h) (within l count shown k) (large l count shown c m)
-
-          pub two-fine : s .elements ≤ 4294967295 → Fine ≡ twoElements (length t) (productOf l count) a b
-          two-fine m =
-              admits-fine (length t) (productOf l count) a _ b _ (shown .all) (within l count shown h) (within l count shown k) (fine l count shown c m)
+    pub one-letter : v ≡ admitsSeen s count x Generators 0 (Number 1) → v ≡ admits len (productOf l count) x (generatorsOf (handles (productOf l count))) 0 1
+    one-letter q = listed-admits x Generators _ 0 (Number 1) 1 q (λ f. ap (λ (z : ℕ). leb z x) (g f)) (λ f. refl)

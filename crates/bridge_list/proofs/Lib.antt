@@ -1,10 +1,4 @@
 pub mod Handles
 pub mod Looks
-pub mod OneHandle
-pub mod Passing
-pub mod Choosing
-pub mod Inverting
-pub mod Stepping
-pub mod Answering
 pub mod Admitting
-pub mod Composing
+pub mod OneHandle

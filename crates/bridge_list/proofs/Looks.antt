@@ -2,14 +2,14 @@
 -- Assumes nothing.
 use Prim.Native.Nat.{ℕ, zero, suc, _+_, _*_, _≤_, _<_}
 use mathlib.Core.Path.{_≡_, refl, ap, _∙_}
-use mathlib.Core.Bool.{false}
-use mathlib.Core.List.{List, _∷_}
+use mathlib.Core.Bool.{true}
+use mathlib.Core.List.{List, [], _∷_}
 use native.Mathlib.Omega.{arith}
 use lib.ListN.{length, getD, drop}
 use Rattle.egg.specs.declared.Factor.{Factor}
 use Rattle.lending.specs.Lending.{noFactor}
 use Rattle.handles.specs.Handles.{handles, limited}
-use Rattle.handles.proofs.Admitted.{limited-many}
+use Rattle.handles.proofs.Admitted.{few-factors}
 use Rattle.handles.proofs.Lists.{listed-many, listed-few, turn-at}
 use Rattle.bridge_list.specs.Product.{handleAt, productAt, productOf}
 
@@ -22,13 +22,9 @@ module _ (l : List ℕ) (at count : ℕ) where
   unfolding productAt
   told-few h = listed-few (productAt l at count) refl h
 
-  pub few-told : count ≤ 8 → productAt l at count .count ≤ 8
+  pub told-within : limited (productAt l at count) ≡ true → count ≤ 8
   unfolding productAt
-  few-told h = h
-
-  pub many-told : 8 < count → limited (productAt l at count) ≡ false
-  unfolding productAt
-  many-told h = limited-many (productAt l at count) h
+  told-within h = few-factors (productAt l at count) h
 
   told-at : (f : ℕ) → f < 8 → getD (productAt l at count .factors) f noFactor ≡ handleAt l (at + f * 5)
   unfolding productAt
@@ -57,3 +53,10 @@ turn-told l at count f p q b e = told-turn l at count f p q b ∙ rw e
 pub turn-first : (l : List ℕ) (count f : ℕ) {k : ℕ} {h : Factor} → k ≡ length (handles (productOf l count)) → f < k → k ≤ 8 → h ≡ handleAt l (f * 5)
     → drop f (handles (productOf l count)) ≡ h ∷ drop (f + 1) (handles (productOf l count))
 turn-first l count f p q b e = let z : f * 5 ≡ 0 + f * 5 = omega arith in turn-told l 0 count f p q b (e ∙ ap (handleAt l) z)
+
+-- What stands at a place of the list.
+pub placed : (hs : List Factor) (f : ℕ) {h : Factor} {rest : List Factor} → drop f hs ≡ h ∷ rest → (f < length hs) × (h ≡ getD hs f noFactor)
+placed [] zero d = absurd (let z : _≡_ {A = ℕ} 0 1 = cc in omega arith)
+placed [] (suc f) d = absurd (let z : _≡_ {A = ℕ} 0 1 = cc in omega arith)
+placed (x ∷ hs) zero d = (omega arith, cc)
+placed (x ∷ hs) (suc f) d = let (p, q) = placed hs f d in (omega arith, q)

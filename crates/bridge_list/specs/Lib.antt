@@ -1,2 +1,1 @@
 pub mod Product
-pub mod Spots

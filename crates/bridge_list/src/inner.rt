@@ -1,19 +1,15 @@
 // Products from lists of numbers.
 ghost use mathlib.Core.Path.{_≡_};
-ghost use mathlib.Core.Bool.{_&&_};
 ghost use mathlib.Core.List.{List};
 ghost use Prim.Native.Nat.{ℕ, _+_, _*_, _≤_};
 ghost use lib.ListN.{length};
-ghost use Rattle.handles.specs.Handles.{handles, seen, capped};
+ghost use Rattle.handles.specs.Handles.{handles, seen};
 ghost use Rattle.bridge_list.specs.Product.{byteOf, handleAt, productAt, productOf};
 use egg::Factor;
 use handles::Group;
 use handles::inner::Seen;
 use handles::inner::both;
 use handles::inner::times;
-
-pub mod composing;
-pub mod passes;
 
 // A number as far as a byte can tell.
 pub fn byte_of(x: u32) -> u8

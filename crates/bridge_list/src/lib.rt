@@ -1,3 +1,3 @@
-// Products that stand in a lent list, five numbers a handle: read from it, and asked by passes over it. What the crates of C
-// functions on products and subgroups share.
+// Products that stand in a lent list, five numbers a handle, read from it: what the crates of C functions on products and
+// subgroups share.
 pub mod inner;

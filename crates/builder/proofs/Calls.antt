@@ -25,7 +25,7 @@ use Rattle.egg.specs.Scan.{refusedOf}
 use Rattle.egg.proofs.Scans.{andThen-fine}
 use Rattle.egg.specs.Table.{lengthOf}
 use Rattle.egg.specs.Factor.{hasRoom, fitsIn, stretch, refusedReach}
-use Rattle.egg.proofs.Rooms.{has, room-enough, limited}
+use Rattle.egg.proofs.Rooms.{room-enough}
 use Rattle.builder.specs.declared.Builder.{Builder}
 use Rattle.builder.specs.declared.Begun.{Begun}
 use Rattle.builder.specs.declared.Grown.{Grown}
@@ -126,10 +126,6 @@ module _ (s : List ℕ) (f : Factor) (e : GroupElementId) (g : GeneratorId) {lon
         → leaving (record { answer = reached.Element y; builder = builderOf (f .start) (f .room) (f .generators) (f .elements + 1) }) s₁ ≡ grown s f e g
     unfolding grown
     grow-new p = rw (← o, h, ← a .0, ← a .1, p)
-
--- A factor whose handle fits has few elements.
-pub few-elements : (len : ℕ) (f : Factor) → fitsIn len f ≡ true → f .elements ≤ 65535
-few-elements len f h = omega (arith, room-enough len f h, limited len (f .start) (f .room) (f .generators) (has len f h))
 
 module _ (t : List ℕ) (b : Builder) (e : GroupElementId) (g : GeneratorId) {v : Verdict} where
   module _ (q : v ≡ placed (length t) (b .0) e g) where

@@ -24,7 +24,8 @@ use Rattle.egg.specs.Table.{pick, parentOf, lastOf, lengthOf}
 use Rattle.egg.specs.Scan.{refusedOf}
 use Rattle.egg.specs.Factor as egg
 use Rattle.egg.specs.Factor.{fitsIn, stretch, readStep}
-use Rattle.egg.proofs.Rooms.{some, room-enough, has, limited as room-limited}
+use Rattle.egg.proofs.Rooms.{some}
+use Rattle.lending.proofs.Fits.{fits-small}
 use Rattle.lending.specs.Lending.{noFactor}
 use Rattle.factor.specs.Questions as factor
 use Rattle.factor.specs.Questions.{ifReach, ifCount}
@@ -134,8 +135,7 @@ module _ (len : ℕ) (g : Group) (h : Factor) (c : g .count ≡ 1) (q : handles 
   within : fitsIn len h ≡ true → limited g ≡ true
   unfolding limited
   within f =
-      let r : h .room ≤ 65535 = room-limited len (h .start) (h .room) (h .generators) (has len h f) in
-      let e : h .elements ≤ 4294967295 = omega (arith, room-enough len h f) in
+      let e : h .elements ≤ 4294967295 = omega (arith, fits-small len h f .1) in
       rw (whole, c) (le-leb _ _ e)
 
   -- The verdict on two arguments: 17 in the handle, then 14 for either.

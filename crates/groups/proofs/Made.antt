@@ -12,7 +12,8 @@ use lib.Dec.{leb}
 use Rattle.egg.specs.declared.Factor.{Factor}
 use Rattle.egg.specs.declared.Verdict.the-variants.{Fine}
 use Rattle.egg.specs.Scan.{refusedOf}
-use Rattle.egg.proofs.Rooms.{and-first, and-second, has, room-enough, limited}
+use Rattle.egg.proofs.Rooms.{and-first, and-second}
+use Rattle.lending.proofs.Fits.{fits-small}
 use Rattle.answers.specs.Accepted.{Accepted}
 use Rattle.handles.specs.declared.Group.{Group}
 use Rattle.handles.specs.Handles as hs
@@ -34,8 +35,7 @@ trivial-accepted t = grouped t [] none (omega arith) (omega arith)
 
 pub one-accepted : {t : List ℕ} {f : Factor} → Accepted t f → AcceptedProduct t (groupOf (f ∷ []))
 one-accepted {t} {f} A =
-    let r : f .room ≤ 65535 = limited (length t) (f .start) (f .room) (f .generators) (has (length t) f (A .fits)) in
-    grouped t (f ∷ []) (more A none) (omega arith) (omega (arith, room-enough (length t) f (A .fits), mul-one (f .elements)))
+    grouped t (f ∷ []) (more A none) (omega arith) (omega (arith, fits-small (length t) f (A .fits) .1, mul-one (f .elements)))
 
 all-both : {t : List ℕ} {xs ys : List Factor} → AllAccepted t xs → AllAccepted t ys → AllAccepted t (xs ++ ys)
 all-both none Bs = Bs

@@ -2,7 +2,7 @@
 -- Assumes nothing.
 use Prim.Native.Nat.{ℕ, _%_, _≤_, _<_}
 use mathlib.Core.Path.{_≡_, refl, sym, ap, _∙_}
-use mathlib.Core.Bool.{Bool, true, false}
+use mathlib.Core.Bool.{Bool, true, false, _&&_}
 use mathlib.Core.List.{List}
 use native.Mathlib.Omega.{arith}
 use borrow.Author.Tests.{le-leb, lt-leb, leb-true, leb-false}
@@ -17,7 +17,7 @@ use Rattle.egg.specs.declared.Factor.{Factor}
 use Rattle.handles.specs.declared.inner.Seen.{Seen}
 use Rattle.handles.specs.declared.inner.Limit.{Limit}
 use Rattle.handles.specs.declared.inner.Limit.the-variants.{Elements, Generators, Number}
-use Rattle.handles.specs.Handles.{handles, elementsOf, allFit, capped, seen, limitOf, limitSeen, limited, admits}
+use Rattle.handles.specs.Handles.{handles, elementsOf, allFit, capped, seen, limitOf, limitSeen, limited, inOrder, admits, admitsSeen, Looked}
 use Rattle.handles.proofs.Caps.{cap-beyond, cap-within, cap-small}
 
 module _ (g : Group) where
@@ -89,20 +89,34 @@ module _ (len : ℕ) (g : Group) (a la b lb : ℕ) where
   ready q e = let G : Goes len g a la b lb = goes-on q e in (G .fits, few-elements g (G .within))
 
 -- A limit as far as 32 bits can tell does as well.
-module _ (len : ℕ) (hs : List Factor) {s : Seen} (q : s ≡ seen len hs) {a : ℕ} (h : a < 4294967296) where
-  same-limit : (l : Limit) → leb (limitSeen s l) a ≡ leb (limitOf hs l) a
-  same-limit Elements = rw q (cap-beyond (elementsOf hs) a h)
-  same-limit Generators = rw q
-  same-limit (Number k) = refl
+pub same-limit : (len : ℕ) (hs : List Factor) {s : Seen} → s ≡ seen len hs → {a : ℕ} → a < 4294967296 → (l : Limit) → leb (limitSeen s l) a ≡ leb (limitOf hs l) a
+same-limit len hs q {a} h Elements = rw q (cap-beyond (elementsOf hs) a h)
+same-limit len hs q h Generators = rw q
+same-limit len hs q h (Number k) = refl
 
-  module _ (l : Limit) {r : ℕ} (p : r ≡ limitSeen s l) where
-    pub limit-met : r ≤ a → limitOf hs l ≤ a
-    limit-met k = leb-true _ _ (sym (same-limit l) ∙ ap (λ (x : ℕ). leb x a) (sym p) ∙ le-leb r a k)
+pub looked : (len : ℕ) (hs : List Factor) {s : Seen} → s ≡ seen len hs → Looked len hs s
+looked len hs q = record { fits = ap (λ (x : Seen). x .fit) q; whole = λ f. ap (λ (x : Seen). x .elements) q }
 
-    pub limit-kept : a < r → a < limitOf hs l
-    limit-kept k = leb-false _ _ (sym (same-limit l) ∙ ap (λ (x : ℕ). leb x a) (sym p) ∙ lt-leb r a k)
+-- What was seen decides as the handles do, and where one does not fit that alone decides.
+same-order : (f : Bool) {fits x first y second z within : Bool} → f ≡ fits → (f ≡ true → x ≡ first) → (f ≡ true → y ≡ second) → (f ≡ true → z ≡ within)
+    → inOrder f x y z ≡ inOrder fits first second within
+same-order true p q r o = rw (← p, q refl, r refl, o refl)
+same-order false p q r o = rw (← p)
 
--- What was seen decides 17 and 15.
+module _ {len : ℕ} (g : Group) {s : Seen} (w : Looked len (handles g) s) where
+  pub elements-seen : {a : ℕ} → a < 4294967296 → s .fit ≡ true → leb (s .elements) a ≡ leb (elementsOf (handles g)) a
+  elements-seen {a} h f = ap (λ (x : ℕ). leb x a) (w .whole f) ∙ cap-beyond (elementsOf (handles g)) a h
+
+  within-seen : s .fit ≡ true → leb (g .count) 8 && leb (s .elements) 4294967295 ≡ limited g
+  unfolding limited
+  within-seen f = ap (λ (x : Bool). leb (g .count) 8 && x) (cap-within (elementsOf (handles g)) (w .whole f))
+
+  pub admits-seen : (a : ℕ) (la : Limit) (m b : ℕ) (lb : Limit) (n : ℕ) {v : Verdict} → v ≡ admitsSeen s (g .count) a la b lb → (s .fit ≡ true → leb (limitSeen s la) a ≡ leb m a)
+      → (s .fit ≡ true → leb (limitSeen s lb) b ≡ leb n b) → v ≡ admits len g a m b n
+  unfolding admits admitsSeen
+  admits-seen a la m b lb n q x y = q ∙ same-order (s .fit) (w .fits) x y within-seen
+
+-- 17 and 15 by what was seen.
 module _ (len : ℕ) (g : Group) {s : Seen} (q : s ≡ seen len (handles g)) where
   pub seen-fit : {b : Bool} → s .fit ≡ b → allFit len (handles g) ≡ b
   seen-fit e = ap (λ (x : Seen). x .fit) (sym q) ∙ e

@@ -10,7 +10,8 @@ use lib.ListN.{length, getD, take, drop, length-map, List·getD-eq-default}
 use lib.Seq.{length-take-le, take-all, drop-cons, getD-take}
 use Rattle.egg.specs.declared.Factor.{Factor}
 use Rattle.egg.specs.Factor.{fitsIn}
-use Rattle.egg.proofs.Rooms.{and-first, and-second, some, room-enough, has, limited}
+use Rattle.egg.proofs.Rooms.{and-first, and-second, some}
+use Rattle.lending.proofs.Fits.{fits-small}
 use Rattle.lending.specs.Lending.{noFactor}
 use Rattle.products.specs.Radix.{count}
 use Rattle.handles.specs.declared.Group.{Group}
@@ -104,7 +105,4 @@ module _ (g : Group) (f : ℕ) {k : ℕ} (p : k ≡ length (handles g)) (l : f <
     some-there = some len (getD (g .factors) f noFactor) fits-there
 
     pub few-there : getD (g .factors) f noFactor .elements ≤ 65535
-    few-there =
-        let h : Factor = getD (g .factors) f noFactor in
-        let r : h .room ≤ 65535 = limited len (h .start) (h .room) (h .generators) (has len h fits-there) in
-        omega (arith, room-enough len h fits-there)
+    few-there = fits-small len (getD (g .factors) f noFactor) fits-there .1

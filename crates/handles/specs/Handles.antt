@@ -1,6 +1,7 @@
 -- The handles of a product, what they have together, and the refusals that come before any reading.
 -- Assumes nothing.
 use Prim.Native.Nat.{ℕ, _+_, _-_}
+use mathlib.Core.Path.{_≡_}
 use mathlib.Core.List.{List, [], _∷_, _++_}
 use mathlib.Core.Bool.{Bool, true, _&&_}
 use lib.ListN.{length, take, replicate}
@@ -64,15 +65,28 @@ limitSeen s (Number k) = k
 unfoldable pub limited : Group → Bool
 limited g = leb (g .count) 8 && leb (elementsOf (handles g)) 4294967295
 
--- "Calls on handles check 17 in the handle, then 14, then 15": two arguments a and b, which have to be below la and lb, in their order. A call with fewer
--- takes 0, below 1.
-unfoldable pub admits : ℕ → Group → ℕ → ℕ → ℕ → ℕ → Verdict
-admits len g a la b lb =
-    pick (allFit len (handles g))
-    (pick (leb la a) (refusedOf 14 0 0 0)
-    (pick (leb lb b) (refusedOf 14 1 0 0)
-    (pick (limited g) verdict.Fine (refusedOf 15 0 0 0))))
+-- "Calls on handles check 17 in the handle, then 14, then 15": whether the handles fit, whether the first and the second argument are too large, and whether
+-- the product is within its limits.
+abbrev pub inOrder : Bool → Bool → Bool → Bool → Verdict
+inOrder fit first second within =
+    pick fit
+    (pick first (refusedOf 14 0 0 0)
+    (pick second (refusedOf 14 1 0 0)
+    (pick within verdict.Fine (refusedOf 15 0 0 0))))
     (refusedOf 17 0 0 0)
+
+-- Two arguments a and b, which have to be below la and lb, in their order. A call with fewer takes 0, below 1.
+unfoldable pub admits : ℕ → Group → ℕ → ℕ → ℕ → ℕ → Verdict
+admits len g a la b lb = inOrder (allFit len (handles g)) (leb la a) (leb lb b) (limited g)
+
+-- The same by what was seen of the handles, and how many are told.
+unfoldable pub admitsSeen : Seen → ℕ → ℕ → Limit → ℕ → Limit → Verdict
+admitsSeen s told a la b lb = inOrder (s .fit) (leb (limitSeen s la) a) (leb (limitSeen s lb) b) (leb told 8 && leb (s .elements) 4294967295)
+
+-- What a pass has to show of the handles for these tests: "17 in the handle" is the first, so that a pass may end at one that does not fit.
+pub record Looked (len : ℕ) (hs : List Factor) (s : Seen) : Type 0 where
+  pub fits : s .fit ≡ allFit len hs
+  pub whole : s .fit ≡ true → s .elements ≡ capped (elementsOf hs)
 
 -- The product of the factors in a list; the places of the eight that are not used hold no factor.
 abbrev pub groupOf : List Factor → Group

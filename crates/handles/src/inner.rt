@@ -6,7 +6,7 @@ ghost use Prim.Native.Nat.{_+_, _*_, _≤_};
 ghost use lib.ListN.{length, getD};
 ghost use Rattle.egg.specs.Scan.{refusedOf};
 ghost use Rattle.lending.specs.Lending.{noFactor};
-ghost use Rattle.handles.specs.Handles.{handles, sizes, elementsOf, generatorsOf, allFit, capped, seen, limitOf, limitSeen, limited, admits, groupOf, noGroup};
+ghost use Rattle.handles.specs.Handles.{handles, sizes, elementsOf, generatorsOf, allFit, capped, seen, limitOf, limitSeen, limited, admits, admitsSeen, groupOf, noGroup};
 ghost use Rattle.handles.specs.Alone.{Alone};
 use super::Group;
 use super::Grouped;
@@ -165,11 +165,10 @@ fn limit_of(s: Seen, l: Limit) -> u64
     }
 }
 
-// 17 in the handles, 14 for two arguments and their limits, 15.
-pub fn admit(table: &[u32], g: Group, a: u32, la: Limit, b: u32, lb: Limit) -> Verdict
-    ensures { λ r. ⌜ r ≡ admits (length (now (table .entry))) g a (limitOf (handles g) la) b (limitOf (handles g) lb) ⌝ }
+// 17 by what was seen of the handles, 14 for two arguments and their limits, 15.
+pub fn admit_seen(s: Seen, count: u8, a: u32, la: Limit, b: u32, lb: Limit) -> Verdict
+    ensures { λ r. ⌜ r ≡ admitsSeen s count a la b lb ⌝ }
 {
-    let s = look(table, g);
     if !s.fit {
         return egg::inner::refused(17, 0, 0, 0);
     }
@@ -179,13 +178,20 @@ pub fn admit(table: &[u32], g: Group, a: u32, la: Limit, b: u32, lb: Limit) -> V
     if limit_of(s, lb) <= (b as u64) {
         return egg::inner::refused(14, 1, 0, 0);
     }
-    if 8 < g.count {
+    if 8 < count {
         return egg::inner::refused(15, 0, 0, 0);
     }
     if 4294967295 < s.elements {
         return egg::inner::refused(15, 0, 0, 0);
     }
     Verdict::Fine
+}
+
+pub fn admit(table: &[u32], g: Group, a: u32, la: Limit, b: u32, lb: Limit) -> Verdict
+    ensures { λ r. ⌜ r ≡ admits (length (now (table .entry))) g a (limitOf (handles g) la) b (limitOf (handles g) lb) ⌝ }
+{
+    let s = look(table, g);
+    admit_seen(s, g.count, a, la, b, lb)
 }
 
 pub fn refused_grouped(number: u32) -> Grouped

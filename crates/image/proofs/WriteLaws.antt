@@ -16,19 +16,12 @@ use Rattle.egg.specs.declared.Counted.{Counted}
 use Rattle.egg.specs.declared.Counted.the-variants.{Count, Refused}
 use Rattle.egg.specs.Table.{stepOf}
 use Rattle.egg.specs.Factor.{fitsIn, stretch}
-use Rattle.egg.proofs.Rooms.{has, few, limited, room-enough}
 use Rattle.image_rows.specs.Written.{allKnown, imageSize, putRows, putHead}
 use Rattle.image.specs.Written.{writeCount, imageBy, writtenImage}
 use Rattle.image_rows.proofs.Bytes.{put-image}
 
 pub size-small : {n count : ℕ} → n ≤ 8 → count ≤ 65535 → 2 * n * count ≤ 1048560
 size-small {n} h k = let p : 2 * n ≤ 16 = omega arith in omega (arith, mul-le-mul p k)
-
--- The handle's numbers are small.
-pub fits-small : (len : ℕ) (f : Factor) → fitsIn len f ≡ true → (f .generators ≤ 8) × (f .elements ≤ 65535)
-fits-small len f h =
-    let r = has len f h in
-    (few len (f .start) (f .room) (f .generators) r, omega (arith, limited len (f .start) (f .room) (f .generators) r, room-enough len f h))
 
 -- One law for each answer.
 module _ (t : List ℕ) (f : Factor) (out : List ℕ) where

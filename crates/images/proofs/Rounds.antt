@@ -14,8 +14,9 @@ use Rattle.egg.specs.declared.Verdict.the-variants as verdict
 use Rattle.egg.specs.declared.Counted.the-variants.{Count}
 use Rattle.egg.specs.Factor.{stretch, countedPaper}
 use Rattle.egg.proofs.Scans.{scan-fine}
-use Rattle.egg.proofs.Rooms.{few, limited, room-enough, has, some}
+use Rattle.egg.proofs.Rooms.{some}
 use Rattle.lending.specs.Lending.{lentRight, making}
+use Rattle.lending.proofs.Fits.{fits-small}
 use Rattle.cells.specs.Cells.{halves}
 use Rattle.theory.specs.Table.{Table}
 use Rattle.theory.specs.Words.{Word, empty, letter, walk}
@@ -48,13 +49,13 @@ walk-same {step′ = step′} T same {e} he (letter {g = g} {w = w} hg ws) =
 
 module _ {t : List ℕ} {f : Factor} (A : Accepted t f) where
   pub few-generators : f .generators ≤ 8
-  few-generators = few (length t) (f .start) (f .room) (f .generators) (has (length t) f (A .fits))
+  few-generators = fits-small (length t) f (A .fits) .0
 
   some-elements : 1 ≤ f .elements
   some-elements = some (length t) f (A .fits)
 
   few-elements : f .elements ≤ 65535
-  few-elements = omega (arith, limited (length t) (f .start) (f .room) (f .generators) (has (length t) f (A .fits)), room-enough (length t) f (A .fits))
+  few-elements = fits-small (length t) f (A .fits) .1
 
   -- Every stored step of an accepted factor can be read.
   all-known : allKnown (stretch t f) (f .generators) (f .elements) ≡ verdict.Fine

@@ -111,9 +111,6 @@ module _ {op : ℕ → ℕ → ℕ} {byte : ℕ → ℕ} {x : ℕ} {gens : List 
     seen y h k (yes l) = moved y (C .complete l k)
     seen y h k (no l) = inl (length gens, omega (arith, more-length gens x), new gens x refl ∙ omega arith)
 
-true-false : true ≡ false → ⊥
-true-false h = false-true (sym h)
-
 pub pick-ends : (P : Picked → Type 0) (b d : Bool) {A B C : Picked} → (b ≡ true → d ≡ true → P A) → (b ≡ true → d ≡ false → P C) → (b ≡ false → P B)
     → P (pick b (pick d A C) B)
 pick-ends P true true a c b = a refl refl
@@ -135,7 +132,7 @@ module _ {op : ℕ → ℕ → ℕ} {byte : ℕ → ℕ} {M L : ℕ} {again : Li
       by (no z) (no k) = inr (K .inside l k)
       by (no z) (yes k) =
           let t : isNew inn byte x ≡ true = rw (eq-eqb (getD inn x 0) appear.none k, ne-eqb (byte x) 0 z) in
-          let u : true ≡ false = sym t ∙ h in absurd (true-false u)
+          absurd (false-true (sym h ∙ t))
 
   pub knowing : {x : ℕ} {gens : List ℕ} → Chosen op byte x gens → x ≤ M → {w₀ : List ℕ} → length w₀ ≡ L → {c : ℕ} {t w inn outw : List ℕ}
       → again gens w₀ ≡ renumbering (built (Count c) t w) inn outw → Knows op M L gens inn w

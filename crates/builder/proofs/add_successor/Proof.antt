@@ -1,7 +1,8 @@
 -- One law for each verdict of `place`; what `grow` leaves in the stretch stands in the table.
 use lib.ListN.{length}
 use Rattle.egg.proofs.Rooms.{has}
-use Rattle.builder.proofs.Calls.{place-fits, few-elements, grows-refused, grows-new}
+use Rattle.lending.proofs.Fits.{fits-small}
+use Rattle.builder.proofs.Calls.{place-fits, grows-refused, grows-new}
 use borrow.Author.Needs.{needs}
 use Rattle.builder.proofs.add_successor.Statement.{statement}
 use Rattle.builder.proofs.add_successor.Tie as tie
@@ -35,7 +36,7 @@ part-grow-end c = search needs
 grow-requires : tie.Need-grow-requires
 grow-requires c κs =
     let a = c .before .before .before .before .before .before .before .before .args in
-    few-elements (length (a .table .now)) (a .b .0) (place-fits (length (a .table .now)) (a .b .0) (a .e) (a .g) (c .before .before .before .before .place .ensures) (c .before .before .enum-told .given .1))
+    fits-small (length (a .table .now)) (a .b .0) (place-fits (length (a .table .now)) (a .b .0) (a .e) (a .g) (c .before .before .before .before .place .ensures) (c .before .before .enum-told .given .1)) .1
 
 same-length : tie.Need-same-length
 same-length c = search needs

@@ -3,7 +3,8 @@ use mathlib.Core.Path.{sym, _∙_}
 use native.Mathlib.Omega.{arith}
 use borrow.Author.Tests.{not-true, not-false}
 use lib.ListN.{length}
-use Rattle.image.proofs.WriteLaws.{fits-small, write-handle, write-short, write-unknown, write-done}
+use Rattle.lending.proofs.Fits.{fits-small}
+use Rattle.image.proofs.WriteLaws.{write-handle, write-short, write-unknown, write-done}
 use borrow.Author.Needs.{needs}
 use Rattle.image.proofs.write.Statement.{statement}
 use Rattle.image.proofs.write.Tie as tie

@@ -1,0 +1,2 @@
+// Two elements of a product that stands in a lent list, composed and conjugated.
+pub mod inner;

@@ -1,0 +1,235 @@
+// A step, a generator and an inverse in a product by one pass over its handles, which are read from the list as they are wanted; a handle
+// that does not fit ends the pass. No product is made for it, and a step divides once and not from factor to factor.
+ghost use mathlib.Core.Path.{_≡_};
+ghost use Prim.Native.Nat.{_+_, _*_, _-_, _/_, _%_, _<_, _≤_};
+ghost use Rattle.group.specs.Questions.{stepAnswer, generatorAnswer, inverseAnswer};
+ghost use Rattle.bridge_list.specs.Product.{productOf};
+ghost use Rattle.bridge_steps.specs.Spots.{Spotted, Inverted};
+use bridge_list::inner::handle_at;
+use bridge_list::inner::listed;
+use egg::GeneratorId;
+use egg::GroupElementId;
+use egg::Reached;
+use egg::Verdict;
+use egg::inner::chosen;
+use egg::inner::chosen_long;
+use handles::inner::Limit;
+use handles::inner::Seen;
+use handles::inner::admit_seen;
+use handles::inner::both;
+use handles::inner::times;
+
+// What the pass shows for a generator: of the handles together, and of the factor that has it the place, the stride and
+// how many generators come before. Where a handle does not fit, only that.
+pub struct Spot {
+    pub seen: Seen,
+    pub at: u32,
+    pub stride: u64,
+    pub before: u32,
+}
+
+// The last factor that no more than x generators come before: that has x, also where factors have no generators.
+fn find(table: &[u32], l: &[u32], count: u8, x: u32) -> Spot
+    ensures { λ r. ⌜ Spotted (now (table .entry)) (now (l .entry)) count x r ⌝ }
+{
+    let c = listed(count);
+    let mut f: u32 = 0;
+    let mut elements: u64 = 1;
+    let mut generators: u32 = 0;
+    let mut at: u32 = 0;
+    let mut stride: u64 = 1;
+    let mut before: u32 = 0;
+    while f < c {
+        let h = handle_at(l, f * 5);
+        if !egg::fits(table, h) {
+            let seen = Seen {
+                fit: false,
+                elements,
+                generators,
+            };
+            return Spot {
+                seen,
+                at,
+                stride,
+                before,
+            };
+        }
+        let here = generators <= x;
+        let next = times(elements, h.elements);
+        at = chosen(here, f, at);
+        stride = chosen_long(here, elements, stride);
+        before = chosen(here, generators, before);
+        elements = next;
+        generators += h.generators as u32;
+        f += 1;
+    }
+    let seen = Seen {
+        fit: true,
+        elements,
+        generators,
+    };
+    Spot {
+        seen,
+        at,
+        stride,
+        before,
+    }
+}
+
+// The digit with the stride s, of n.
+fn digit(e: u32, s: u32, n: u32) -> u32
+    requires { ⌜ (0 < s) × (0 < n) ⌝ }
+    ensures { λ r. ⌜ r ≡ e / s % n ⌝ }
+{
+    e / s % n
+}
+
+// e with y in the place of the digit d.
+fn replaced(e: u32, d: u32, y: u32, s: u32) -> u32
+    requires { ⌜ (d * s ≤ e) × (e - d * s + y * s < 4294967296) ⌝ }
+    ensures { λ r. ⌜ r ≡ e - d * s + y * s ⌝ }
+{
+    e - d * s + y * s
+}
+
+pub fn step(table: &[u32], l: &[u32], count: u8, e: GroupElementId, x: GeneratorId) -> Reached
+    ensures { λ r. ⌜ r ≡ stepAnswer (now (table .entry)) (productOf (now (l .entry)) count) e x ⌝ }
+{
+    if count == 1 {
+        return egg::step(table, handle_at(l, 0), e, x);
+    }
+    let whole = e.0;
+    let letter = x.0;
+    let p = find(table, l, count, letter as u32);
+    if let Verdict::Refused(why) = admit_seen(
+        p.seen,
+        count,
+        whole,
+        Limit::Elements,
+        letter as u32,
+        Limit::Generators,
+    ) {
+        return Reached::Refused(why);
+    }
+    let h = handle_at(l, p.at * 5);
+    let s = p.stride as u32;
+    let d = digit(whole, s, h.elements);
+    let own = (letter as u32) - p.before;
+    let r = egg::inner::next(
+        egg::inner::part(table, h),
+        h.generators,
+        h.elements,
+        GroupElementId(d),
+        GeneratorId(own as u8),
+    );
+    let Reached::Element(y) = r else {
+        return r;
+    };
+    Reached::Element(GroupElementId(replaced(whole, d, y.0, s)))
+}
+
+// The step from the identity, where the generator is the only argument.
+pub fn generator(table: &[u32], l: &[u32], count: u8, x: GeneratorId) -> Reached
+    ensures { λ r. ⌜ r ≡ generatorAnswer (now (table .entry)) (productOf (now (l .entry)) count) x ⌝ }
+{
+    if count == 1 {
+        return factor::generator(table, handle_at(l, 0), x);
+    }
+    let letter = x.0;
+    let p = find(table, l, count, letter as u32);
+    if let Verdict::Refused(why) = admit_seen(
+        p.seen,
+        count,
+        letter as u32,
+        Limit::Generators,
+        0,
+        Limit::Number(1),
+    ) {
+        return Reached::Refused(why);
+    }
+    let h = handle_at(l, p.at * 5);
+    let s = p.stride as u32;
+    let own = (letter as u32) - p.before;
+    let r = egg::inner::next(
+        egg::inner::part(table, h),
+        h.generators,
+        h.elements,
+        GroupElementId(0),
+        GeneratorId(own as u8),
+    );
+    let Reached::Element(y) = r else {
+        return r;
+    };
+    Reached::Element(GroupElementId(y.0 * s))
+}
+
+// What the pass shows for an inverse: of the handles together all but their generators, whether each digit's inverse is in
+// range, and their sum, each times its stride. Where a handle does not fit, only that.
+pub struct Inverses {
+    pub seen: Seen,
+    pub right: bool,
+    pub sum: u64,
+}
+
+fn invert_digits(table: &[u32], l: &[u32], count: u8, a: u32) -> Inverses
+    ensures { λ r. ⌜ Inverted (now (table .entry)) (now (l .entry)) count a r ⌝ }
+{
+    let c = listed(count);
+    let mut f: u32 = 0;
+    let mut elements: u64 = 1;
+    let mut right = true;
+    let mut sum: u64 = 0;
+    let mut x = a;
+    while f < c {
+        let h = handle_at(l, f * 5);
+        if !egg::fits(table, h) {
+            let seen = Seen {
+                fit: false,
+                elements,
+                generators: 0,
+            };
+            return Inverses { seen, right, sum };
+        }
+        let n = h.elements;
+        let i = egg::inner::get(
+            egg::inner::part(table, h),
+            egg::inner::inverse_at(h.generators, GroupElementId(x % n)),
+        );
+        let known = i < n;
+        right = both(right, known);
+        sum += elements * (chosen(known, i, 0) as u64);
+        elements = times(elements, n);
+        x /= n;
+        f += 1;
+    }
+    let seen = Seen {
+        fit: true,
+        elements,
+        generators: 0,
+    };
+    Inverses { seen, right, sum }
+}
+
+pub fn inverse(table: &[u32], l: &[u32], count: u8, a: GroupElementId) -> Reached
+    ensures { λ r. ⌜ r ≡ inverseAnswer (now (table .entry)) (productOf (now (l .entry)) count) a ⌝ }
+{
+    if count == 1 {
+        return factor::inverse(table, handle_at(l, 0), a);
+    }
+    let whole = a.0;
+    let p = invert_digits(table, l, count, whole);
+    if let Verdict::Refused(why) = admit_seen(
+        p.seen,
+        count,
+        whole,
+        Limit::Elements,
+        0,
+        Limit::Number(1),
+    ) {
+        return Reached::Refused(why);
+    }
+    if !p.right {
+        return egg::inner::refuse(17, 0);
+    }
+    Reached::Element(GroupElementId(p.sum as u32))
+}
