@@ -29,7 +29,7 @@ use Rattle.bridge_list.specs.Product.{handleAt, productOf}
 use Rattle.bridge_list.proofs.Looks.{told-few, told-within, turn-first, placed}
 use Rattle.bridge_list.proofs.Admitting.{one-element, element-letter, one-letter}
 use Rattle.bridge_steps.specs.declared.inner.Spot.{Spot}
-use Rattle.bridge_steps.specs.declared.inner.Inverses.{Inverses}
+use Rattle.bridge_steps.specs.declared.inner.DigitInverses.{DigitInverses}
 use Rattle.bridge_steps.specs.Spots.{Located, Spotted, Inverted}
 use Rattle.bridge_steps.proofs.Stepping.{Ready, ready-at}
 
@@ -122,7 +122,7 @@ module _ {t l : List ℕ} {count x : ℕ} {p : Spot} (w : Spotted t l count x p)
         usable w G (G .first) 0 (positive (length t) (handles (productOf l count)) (G .fits))
 
 -- The inverse.
-module _ {t l : List ℕ} {count a : ℕ} {p : Inverses} (w : Inverted t l count a p) (b : a < 4294967296) {v : Verdict}
+module _ {t l : List ℕ} {count a : ℕ} {p : DigitInverses} (w : Inverted t l count a p) (b : a < 4294967296) {v : Verdict}
     (q : v ≡ admitsSeen (p .seen) count a Elements 0 (Number 1))
   where
     inverse-verdict : v ≡ admits (length t) (productOf l count) a (elementsOf (handles (productOf l count))) 0 1

@@ -1,6 +1,6 @@
 -- Laws of the pass that finds the factor that has a generator.
 -- Assumes nothing.
-use Prim.Native.Nat.{ℕ, zero, suc, _+_, _*_, _-_, _≤_, _<_}
+use Prim.Native.Nat.{ℕ, zero, suc, _+_, _*_, _≤_, _<_}
 use mathlib.Core.Path.{_≡_, refl, sym, _∙_}
 use mathlib.Core.Bool.{Bool, true, false}
 use mathlib.Core.List.{List, [], _∷_}
@@ -13,7 +13,6 @@ use Rattle.egg.specs.Table.{pick}
 use Rattle.egg.specs.Factor.{fitsIn}
 use Rattle.egg.proofs.Rooms.{false-true}
 use Rattle.lending.specs.Lending.{noFactor}
-use Rattle.products.specs.Radix.{count, stride}
 use Rattle.handles.specs.Handles.{handles, generatorsOf}
 use Rattle.handles.proofs.Caps.{cap-small}
 use Rattle.bridge_list.specs.Product.{productOf}

@@ -14,7 +14,7 @@ use Rattle.products.specs.Radix.{stride}
 use Rattle.handles.specs.Handles.{handles, sizes, elementsOf, generatorsOf, capped, Looked}
 use Rattle.digits.specs.Digits.{inverts}
 use Rattle.bridge_steps.specs.declared.inner.Spot.{Spot}
-use Rattle.bridge_steps.specs.declared.inner.Inverses.{Inverses}
+use Rattle.bridge_steps.specs.declared.inner.DigitInverses.{DigitInverses}
 use Rattle.bridge_list.specs.Product.{productOf}
 
 -- A place that at most x generators come before, with its stride and how many they are; and its factor has the generator x, where x is one of so many.
@@ -32,7 +32,7 @@ pub record Spotted (t l : List ℕ) (count x : ℕ) (p : Spot) : Type 0 where
   pub located : p .seen .fit ≡ true → Located (handles (productOf l count)) x (p .seen .generators) (p .at) (p .stride) (p .before)
 
 -- The inverse of a, where the product has numbers of 32 bits: 17 where one of its digits is out of range.
-pub record Inverted (t l : List ℕ) (count a : ℕ) (p : Inverses) : Type 0 where
+pub record Inverted (t l : List ℕ) (count a : ℕ) (p : DigitInverses) : Type 0 where
   pub looked : Looked (length t) (handles (productOf l count)) (p .seen)
   pub lost : p .seen .fit ≡ true → elementsOf (handles (productOf l count)) ≤ 4294967295 → p .right ≡ false → refusedReach 17 0 ≡ inverts t (handles (productOf l count)) a
   pub small : p .seen .fit ≡ true → elementsOf (handles (productOf l count)) ≤ 4294967295 → p .right ≡ true → p .sum < 4294967296

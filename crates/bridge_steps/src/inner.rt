@@ -165,13 +165,13 @@ pub fn generator(table: &[u32], l: &[u32], count: u8, x: GeneratorId) -> Reached
 
 // What the pass shows for an inverse: of the handles together all but their generators, whether each digit's inverse is in
 // range, and their sum, each times its stride. Where a handle does not fit, only that.
-pub struct Inverses {
+pub struct DigitInverses {
     pub seen: Seen,
     pub right: bool,
     pub sum: u64,
 }
 
-fn invert_digits(table: &[u32], l: &[u32], count: u8, a: u32) -> Inverses
+fn invert_digits(table: &[u32], l: &[u32], count: u8, a: u32) -> DigitInverses
     ensures { λ r. ⌜ Inverted (now (table .entry)) (now (l .entry)) count a r ⌝ }
 {
     let c = listed(count);
@@ -188,7 +188,7 @@ fn invert_digits(table: &[u32], l: &[u32], count: u8, a: u32) -> Inverses
                 elements,
                 generators: 0,
             };
-            return Inverses { seen, right, sum };
+            return DigitInverses { seen, right, sum };
         }
         let n = h.elements;
         let i = egg::inner::get(
@@ -207,7 +207,7 @@ fn invert_digits(table: &[u32], l: &[u32], count: u8, a: u32) -> Inverses
         elements,
         generators: 0,
     };
-    Inverses { seen, right, sum }
+    DigitInverses { seen, right, sum }
 }
 
 pub fn inverse(table: &[u32], l: &[u32], count: u8, a: GroupElementId) -> Reached
