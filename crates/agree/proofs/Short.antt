@@ -12,7 +12,7 @@ use lib.ListN.{length, getD, replicate}
 use Rattle.egg.specs.declared.Verdict.{Verdict}
 use Rattle.egg.specs.declared.Verdict.the-variants.{Fine, Refused}
 use Rattle.egg.specs.declared.Counted.the-variants as counted
-use Rattle.egg.specs.Table.{pick, startOf, parentOf, lastOf, lengthOf, stepOf}
+use Rattle.egg.specs.Table.{pick, startOf}
 use Rattle.egg.specs.Scan.{andThen}
 use Rattle.egg.proofs.Scans.{Says}
 use Rattle.checks.specs.Checks.{missing, check8, ranges, wrong, check-table, counted as arrived, countsRight, verdictOf, thenChecked, withTable, check-rest, check-group}
@@ -20,17 +20,17 @@ use Rattle.inverses.specs.Inverses.{fillInverses, inversesRight}
 use Rattle.lefts.specs.Lefts.{identityRow, spelled, check-steps, Lefts, left, leftVerdict, thenLeft, lefts}
 use Rattle.reading.specs.Reading.{Placed, placed, readAll}
 use Rattle.factor.specs.Composed.{composedAt}
-use Rattle.theory.specs.Table.{Table, Columns}
+use Rattle.theory.specs.Table.{Table}
 use Rattle.theory.specs.Words.{Parents, Recorded}
 use Rattle.theory.specs.Regular.{Check}
 use Rattle.theory.proofs.Counting.{numbered-table}
 use Rattle.theory.proofs.FirstPlaces.{first-parents}
 use Rattle.meaning.specs.Stored.{Stored}
-use Rattle.meaning.proofs.Tests.{missing-fine, spelled-fine, counts-fine}
-use Rattle.meaning.proofs.Inverses.{fill-kept, stored-kept, step-is, back-is, grown}
+use Rattle.meaning.proofs.Tests.{missing-fine, counts-fine}
+use Rattle.meaning.proofs.Inverses.{fill-kept, stored-kept}
 use Rattle.meaning.proofs.Lefts.{lefts-sound, lefts-complete}
 use Rattle.meaning.proofs.Arrivals.{arrivals-right, counted-length}
-use Rattle.meaning.proofs.Complete.{in-range}
+use Rattle.meaning.proofs.Complete.{in-range, words-right}
 use Rattle.meaning.proofs.Refused.{Twelve, lefts-late}
 use Rattle.numbering.specs.Read.{Read}
 use Rattle.numbering.proofs.Readings.{accepted-read, read-readable}
@@ -59,21 +59,6 @@ module _ {n N : ℕ} {step back : ℕ → ℕ → ℕ} {parent last : ℕ → �
         by Fine (Refused s) p q a b = sym (check-lefts w′ room′ (lefts-check w room p)) ∙ q
         by (Refused r) Fine p q a b = sym p ∙ check-lefts w room (lefts-check w′ room′ q)
         by (Refused r) (Refused s) p q a b = ap Refused (a .of r refl ∙ sym (b .of s refl))
-
-module _ {n N : ℕ} {step back : ℕ → ℕ → ℕ} {parent last : ℕ → ℕ} {word : ℕ → List ℕ} {t : List ℕ}
-    (S : Stored t n N step back parent last word) (T : Table n N step) (P : Parents n N step parent last) (R : Recorded N parent last word)
-    (C : Columns n N step back) where
-  -- The recorded words lead to their elements.
-  words-right : spelled t n N ≡ Fine
-  words-right = spelled-fine t n N .1 (λ e he. (
-    λ g hg. rw (back-is S he hg) (step-is S (C .closed he hg) hg ∙ C .step-back he hg),
-    (λ z. rw z (S .lengths (T .origin) ∙ ap length (R .start)), λ pos. links-right e pos he),
-  )) where
-    links-right : (e : ℕ) → 0 < e → e < N → (stepOf t n (parentOf t n e) (lastOf t n e) ≡ e) × (lengthOf t n e ≡ lengthOf t n (parentOf t n e) + 1)
-    links-right e pos he =
-        let m : parent e < N = omega (arith, P .earlier pos he) in
-        rw (S .parents pos he, S .letters pos he)
-        (step-is S m (P .generator pos he) ∙ P .arrives pos he, omega (arith, S .lengths he, S .lengths m, grown T P R C pos he))
 
 -- Two chains of checks, the short one and the whole one: where the tests that only the whole one has are fine, they give the same.
 table-verdict : (f : List ℕ) (z : Lefts) → leftVerdict z ≡ verdictOf (withTable f z)

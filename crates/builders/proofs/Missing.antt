@@ -3,24 +3,21 @@
 -- Assumes nothing.
 use Prim.Native.Nat.{ℕ, suc, _+_, _*_, _-_, _≤_, _<_}
 use mathlib.Core.Path.{_≡_, refl, sym, ap, _∙_}
-use mathlib.Core.Logic.{_⊎_, inl, inr, ⊎-elim}
-use mathlib.Core.Bool.{Bool, true, false}
+use mathlib.Core.Logic.{_⊎_, ⊎-elim}
 use mathlib.Core.List.{List}
 use native.Mathlib.Nat.{mul-le-mul-right, eq-zero-or-pos}
 use native.Mathlib.Decide.{ℕ-discrete, decLt}
 use native.Mathlib.Omega.{arith}
 use borrow.Author.Tests.{lt-ltb, le-ltb}
-use lib.Dec.{ltb}
-use lib.ListN.{length, getD, set, replicate, length-replicate}
-use lib.Seq.{getD-set-same, getD-set-other, set-out}
+use lib.ListN.{length, getD, replicate, length-replicate}
 use Rattle.egg.specs.declared.Refusal.{Refusal}
-use Rattle.egg.specs.Table.{pick, startOf, putAt, lengthOf}
-use Rattle.egg.proofs.Cells.{put-length}
+use Rattle.egg.specs.Table.{startOf, lengthOf}
 use Rattle.reading.specs.Build.{setStep, setWord}
 use Rattle.reading.specs.Reading.{readPlace, readAll}
 use Rattle.rereading.specs.Own.{ownPlace, ownAll}
 use Rattle.rereading.proofs.Owning.{own-missing, own-outside, own-read}
-use Rattle.numbering.proofs.Stores.{cell, stepped, worded, step-length, step-keeps, step-predecessor, word-length, word-keeps}
+use Rattle.meaning.proofs.AnyWork.{AlikeAt, put-alike}
+use Rattle.numbering.proofs.Stores.{cell, stepped, worded, step-length, step-keeps, step-predecessor, predecessor-or-kept, word-length, word-keeps}
 use Rattle.numbering.proofs.State.{place-skip, place-old}
 use Rattle.numbering.proofs.Runs.{zeros}
 use Rattle.builders.specs.Own.{ownNumber, ownRefusal}
@@ -41,34 +38,17 @@ abbrev pub OwnRefusal : ℕ → ℕ → Refusal → Refusal → List ℕ → Lis
 OwnRefusal N size s r t t′ = (s ≡ ownRefusal N r) × (length t ≡ size)
 
 -- The same store in both.
-set-alike : (w w′ : List ℕ) (p v i : ℕ) → length w ≡ length w′ → getD w i 0 ≡ getD w′ i 0 → getD (set w p v) i 0 ≡ getD (set w′ p v) i 0
-set-alike w w′ p v i long here = go (ℕ-discrete i p) (decLt p (length w)) where
-  go : Dec (i ≡ p) → Dec (p < length w) → getD (set w p v) i 0 ≡ getD (set w′ p v) i 0
-  go (yes e) (yes l) = rw e (getD-set-same w p v 0 l ∙ sym (getD-set-same w′ p v 0 (omega arith)))
-  go (yes e) (no l) = rw (set-out w p v (omega arith), set-out w′ p v (omega arith)) here
-  go (no d) l = getD-set-other w p i v 0 d ∙ here ∙ sym (getD-set-other w′ p i v 0 d)
-
-put-alike : (w w′ : List ℕ) (p v i : ℕ) → length w ≡ length w′ → getD w i 0 ≡ getD w′ i 0 → getD (putAt w p v) i 0 ≡ getD (putAt w′ p v) i 0
-unfolding putAt
-put-alike w w′ p v i long here = by (ltb v 4294967296) where
-  by : (b : Bool) → getD (pick b (set w p v) w) i 0 ≡ getD (pick b (set w′ p v) w′) i 0
-  by true = set-alike w w′ p v i long here
-  by false = here
-
 module _ (t t′ : List ℕ) (long : length t ≡ length t′) (i : ℕ) (here : getD t i 0 ≡ getD t′ i 0) where
+  alike : AlikeAt i t t′
+  alike = record { there = λ h. omega arith; back = λ h. omega arith; here = here }
+
   step-alike : (n x g v : ℕ) → getD (stepped t n x g v) i 0 ≡ getD (stepped t′ n x g v) i 0
   unfolding setStep
-  step-alike n x g v =
-      put-alike _ _ _ (x + 1) i (put-length t _ (v + 1) ∙ long ∙ sym (put-length t′ _ (v + 1))) (put-alike t t′ _ (v + 1) i long here)
+  step-alike n x g v = put-alike (put-alike alike _ (v + 1)) _ (x + 1) .here
 
   word-alike : (n c x g l : ℕ) → getD (worded t n c x g l) i 0 ≡ getD (worded t′ n c x g l) i 0
   unfolding setWord
-  word-alike n c x g l =
-      let a = startOf n c + 2 * n in
-      let l₁ : length (putAt t a x) ≡ length (putAt t′ a x) = put-length t a x ∙ long ∙ sym (put-length t′ a x) in
-      let l₂ : length (putAt (putAt t a x) (a + 1) g) ≡ length (putAt (putAt t′ a x) (a + 1) g) =
-      put-length (putAt t a x) (a + 1) g ∙ l₁ ∙ sym (put-length (putAt t′ a x) (a + 1) g) in
-      put-alike _ _ (a + 2) l i l₂ (put-alike _ _ (a + 1) g i l₁ (put-alike t t′ a x i long here))
+  word-alike n c x g l = put-alike (put-alike (put-alike alike _ x) _ g) _ l .here
 
 module _ {own : ℕ → ℕ → ℕ} {n size : ℕ} where
   -- A step that is stored in both.
@@ -77,24 +57,11 @@ module _ {own : ℕ → ℕ → ℕ} {n size : ℕ} where
     apart : {e h : ℕ} → own e h ≡ 0 → e ≡ x → h ≡ g → ⊥
     apart z p q = omega (arith, rw (p, q) at z)
 
-    -- A predecessor's cell is the one that is stored, or as it was.
-    here-or-kept : (r h : ℕ) → h < n
-        → ((r ≡ v) × (h ≡ g) × (cell (stepped t n x g v) n r (n + h) ≡ suc x)) ⊎ (cell (stepped t n x g v) n r (n + h) ≡ cell t n r (n + h))
-    here-or-kept r h hh = go (ℕ-discrete r v) (ℕ-discrete h g) where
-      kept : (r ≡ v → n + h ≡ n + g → ⊥) → cell (stepped t n x g v) n r (n + h) ≡ cell t n r (n + h)
-      kept d = step-keeps t n x g v hg r (n + h) (omega arith) (λ p q. omega arith) d
-
-      go : Dec (r ≡ v) → Dec (h ≡ g)
-          → ((r ≡ v) × (h ≡ g) × (cell (stepped t n x g v) n r (n + h) ≡ suc x)) ⊎ (cell (stepped t n x g v) n r (n + h) ≡ cell t n r (n + h))
-      go (yes p) (yes q) = inl (p, q, rw (p, q) (step-predecessor t n x g v hg hx hv fits small))
-      go (yes p) (no d) = inr (kept (λ a b. d (omega arith)))
-      go (no d) q = inr (kept (λ a b. d a))
-
     next-back : {r h e : ℕ} → h < n → cell (stepped t n x g v) n r (n + h) ≡ suc e → (e < c) × (own e h ≡ suc r)
     next-back {r} {h} {e} hh q = ⊎-elim
         (λ p. let i : e ≡ x = omega (arith, p .2, q) in (omega arith, rw (i, p .0, p .1) is))
         (λ k. B .back hh (sym k ∙ q))
-        (here-or-kept r h hh)
+        (predecessor-or-kept t n x g v hg hx hv fits small r h hh)
 
     next-arrived : {e h r : ℕ} → h < n → own e h ≡ suc r → (cell (stepped t n x g v) n e h ≡ 0 → ⊥) → cell (stepped t n x g v) n r (n + h) ≡ 0 → ⊥
     next-arrived {e} {h} {r} hh o there none = go (ℕ-discrete e x) (ℕ-discrete h g) where
@@ -102,7 +69,7 @@ module _ {own : ℕ → ℕ → ℕ} {n size : ℕ} where
       before d = ⊎-elim
           (λ p. omega (arith, p .2, none))
           (λ k. B .arrived hh o (λ z. there (step-keeps t n x g v hg e h (omega arith) d (λ p q. omega arith) ∙ z)) (sym k ∙ none))
-          (here-or-kept r h hh)
+          (predecessor-or-kept t n x g v hg hx hv fits small r h hh)
 
       go : Dec (e ≡ x) → Dec (h ≡ g) → ⊥
       go (yes p) (yes q) =

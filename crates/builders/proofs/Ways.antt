@@ -18,24 +18,25 @@ use Rattle.egg.specs.Factor.{fitsIn, stretch}
 use Rattle.egg.proofs.Rooms.{some, room-enough}
 use Rattle.reading.specs.Build.{numbered}
 use Rattle.reading.specs.Reading.{placed}
-use Rattle.checks.specs.Checks.{Checked, checked, check8, check-group}
+use Rattle.checks.specs.Checks.{checked, check8, check-group}
 use Rattle.builder.specs.declared.Builder.{Builder}
-use Rattle.lending.specs.Finish.{Built, built, zeroed, settledBy}
+use Rattle.lending.specs.Finish.{Built, built, zeroed}
+use Rattle.lending.proofs.Finishing.{refused-counted}
 use Rattle.lending.specs.Lending.{tableNeed, workNeed, within, noFactor, making, lentBack}
 use Rattle.rereading.specs.Own.{ownAll, ownIn}
 use Rattle.builder.specs.Calls.{builds}
 use Rattle.factor.specs.Composed.{composedAt, composed}
-use Rattle.theory.specs.Numbering.{start, Numbered}
+use Rattle.theory.specs.Numbering.{Numbered}
 use Rattle.theory.proofs.Reading.{numbered-once}
 use Rattle.theory.proofs.RuleLaws.{numbered-agree}
 use Rattle.meaning.specs.Numbers.{member, lateNumbers}
-use Rattle.meaning.proofs.Accepted.{checks-kept}
-use Rattle.meaning.proofs.Lengths.{checks-work}
 use Rattle.meaning.proofs.Numbers.{each-in, full-numbers, checks-number}
 use Rattle.numbering.specs.Read.{Readable, Refuses}
 use Rattle.numbering.proofs.Readings.{accepted-read}
 use Rattle.promises.proofs.Lent.{by-build, by-refused}
 use Rattle.promises.proofs.Passing.{read-ranges}
+use Rattle.promises.proofs.Twelve.{check-refused}
+use Rattle.promises.proofs.Zeros.{settled-zeros}
 use Rattle.builders.specs.Own.{ownAt, ownNumber, ownRefusal, ownRows, Filled}
 use Rattle.builders.specs.Refusals.{Lacks}
 use Rattle.builders.proofs.Composed.{own-is-read, least, limit, stretch-long, builds-is, own-rows-at, build-own-rows}
@@ -104,17 +105,8 @@ module _ (t : List ℕ) (b : Builder) (w : List ℕ) (fits : fitsIn (length t) (
         let R = accepted-read (ownNumber N own) n room (tableNeed n room) (least t b w fits enough) (omega (arith, lo, hi)) (limit t b w fits enough) (le-refl (tableNeed n room)) (sym z ∙ all) in
         checks-number lateNumbers refl t₁ (zeroed W) n N (full-numbers t₁ n N fine (read-ranges R)) q
 
-  -- A refused build is the one, a counted one the other.
-  both : {r : Refusal} {c : ℕ} {s s′ v v′ : List ℕ} {B : Built} → B ≡ built (Refused r) s v → B ≡ built (Count c) s′ v′ → ⊥
-  both {r} {c} p q = let z : _≡_ {A = ℕ} 0 1 = cc in omega arith
-
   one : {r r′ : Refusal} {s s′ v v′ : List ℕ} {B : Built} → B ≡ built (Refused r) s v → B ≡ built (Refused r′) s′ v′ → r ≡ r′
   one p q = cc
-
-  settled : {r : Refusal} {s v : List ℕ} (k : Checked) → settledBy N k ≡ built (Refused r) s v
-      → (t₁ : List ℕ) × (w₁ : List ℕ) × (k ≡ checked (verdict.Refused r) t₁ w₁)
-  settled {r} {s} {v} (checked verdict.Fine t₁ w₁) q = absurd (both {s = s} {v = v} q refl)
-  settled {r} (checked (verdict.Refused x) t₁ w₁) q = let e : x ≡ r = cc in (t₁, w₁, cc)
 
   -- The call, from the build in its stretches.
   pub refused-call : {r : Refusal} {s v : List ℕ} → ownIn (stretch t f) W n room N ≡ built (Refused r) s v → RefusedBy t b w r
@@ -122,7 +114,7 @@ module _ (t : List ℕ) (b : Builder) (w : List ℕ) (fits : fitsIn (length t) (
       (noFactor, within t (f .start) (f .start + tableNeed n room) s, within w 0 (workNeed n room) v, builds-is t b w fits enough ∙ ap (lentBack t (f .start) w n room) q)
 
   refused-in : {r : Refusal} → RefusedBy t b w r → (s : List ℕ) × (v : List ℕ) × (ownIn (stretch t f) W n room N ≡ built (Refused r) s v)
-  refused-in a = by-refused t (f .start) w n room (ownIn (stretch t f) W n room N) (sym (builds-is t b w fits enough) ∙ a .3)
+  refused-in a = let z = by-refused t (f .start) w n room (ownIn (stretch t f) W n room N) (sym (builds-is t b w fits enough) ∙ a .3) in (z .0, z .1, z .2)
 
   -- Where the call is accepted, it is `from_composed` on the builder's rows.
   pub accepted-composed : {x : Factor} {t′ w′ : List ℕ} → builds t b w ≡ making (record { answer = verdict.Fine; factor = x }) t′ w′
@@ -130,9 +122,9 @@ module _ (t : List ℕ) (b : Builder) (w : List ℕ) (fits : fitsIn (length t) (
   accepted-composed {x} {t′} {w′} q = by came (by-build t (f .start) w n room (ownIn (stretch t f) W n room N) (sym (builds-is t b w fits enough) ∙ q) .3 .0) where
     by : {M : ℕ} {s v : List ℕ} → Came → ownIn (stretch t f) W n room N ≡ built (Count M) s v
         → Filled t f × Numbered n N (composedAt (ownRows t f) n) × (builds t b w ≡ composed t (f .start) w (ownRows t f) n room)
-    by (stopped r F e) z = absurd (both e z)
-    by (nowhere a c e) z = absurd (both e z)
-    by (lacking c r R L e) z = absurd (both e z)
+    by (stopped r F e) z = absurd (refused-counted (sym e ∙ z))
+    by (nowhere a c e) z = absurd (refused-counted (sym e ∙ z))
+    by (lacking c r R L e) z = absurd (refused-counted (sym e ∙ z))
     by (whole t₁ all O fine e) z = (filled t₁ O fine, rows-numbered t₁ O fine, is-composed t₁ O fine)
 
   pub stop-number : {r : Refusal} → Refuses (ownNumber N own) n room r → member (ownRefusal N r .number) (6 ∷ 7 ∷ 17 ∷ []) ≡ true
@@ -159,7 +151,7 @@ module _ (t : List ℕ) (b : Builder) (w : List ℕ) (fits : fitsIn (length t) (
     by (nowhere p q e) = inr (inl (p, q, one z e))
     by (lacking c x R L e) = inr (inr (inl (c, R, subst (λ (y : Refusal). Lacks own n N c y) (one e z) L)))
     by (whole t₁ all O fine e) =
-        let k = settled (check-group t₁ (zeroed W) n N) (sym e ∙ z) in
+        let k = check-refused N (check-group t₁ (zeroed W) n N) (sym e ∙ z) in
         inr (inr (inr (filled t₁ O fine, late-number t₁ O fine all (k .2), rows-numbered t₁ O fine, is-composed t₁ O fine)))
 
   -- By which numbers.
@@ -189,11 +181,8 @@ module _ (t : List ℕ) (b : Builder) (w : List ℕ) (fits : fitsIn (length t) (
     by (nowhere p q e) = plain e
     by (lacking c x R L e) = plain e
     by (whole t₁ all O fine e) =
-        let k = settled (check-group t₁ (zeroed W) n N) (sym e ∙ z) in
-        let p = the-same (e ∙ ap (settledBy N) (k .2)) in (
-          p .0 ∙ ap (λ (x : ℕ). replicate x 0) (checks-kept t₁ (zeroed W) n N (k .2) .size ∙ O .beside .whole),
-          p .1 ∙ ap (λ (x : ℕ). replicate x 0) (checks-work t₁ (zeroed W) n N (k .2) ∙ length-replicate (length W) 0 ∙ work-long),
-        )
+        let p = settled-zeros N (check-group t₁ (zeroed W) n N) t₁ (zeroed W) n refl (sym e ∙ z) in
+        (p .0 ∙ ap (λ (x : ℕ). replicate x 0) (O .beside .whole), p .1 ∙ ap (λ (x : ℕ). replicate x 0) (length-replicate (length W) 0 ∙ work-long))
 
   pub build-zeros : {r : Refusal} {x : Factor} {t′ w′ : List ℕ} → builds t b w ≡ making (record { answer = verdict.Refused r; factor = x }) t′ w′
       → (t′ ≡ within t (b .0 .start) (b .0 .start + tableNeed (b .0 .generators) (b .0 .room)) (replicate (tableNeed (b .0 .generators) (b .0 .room)) 0))

@@ -88,7 +88,7 @@ halves-length [] = omega arith
 halves-length (a ∷ []) = omega arith
 halves-length (a ∷ b ∷ r) = omega (arith, halves-length r)
 
-two : (i : ℕ) → 2 * suc i ≡ suc (suc (2 * i))
+pub two : (i : ℕ) → 2 * suc i ≡ suc (suc (2 * i))
 two i = omega arith
 
 two-and : (i k : ℕ) → suc (suc (2 * i)) + k ≡ suc (suc (2 * i + k))

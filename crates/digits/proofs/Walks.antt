@@ -122,7 +122,7 @@ below-pick : {N : ℕ} {x y : Reached} (t : Bool) → (t ≡ true → Below N x)
 below-pick true p q = p refl
 below-pick false p q = q refl
 
-pub below-on : {N : ℕ} {f : ℕ → Reached} (r : Reached) → Below N r → ((x : ℕ) → x < N → Below N (f x)) → Below N (onReached r f)
+pub below-on : {N M : ℕ} {f : ℕ → Reached} (r : Reached) → Below N r → ((x : ℕ) → x < N → Below M (f x)) → Below M (onReached r f)
 below-on (Element e) b h = h (e .0) (inside-of b)
 below-on (Refused r) b h = refusal
 
@@ -285,10 +285,6 @@ steps-below t (h ∷ hs) e x l =
     let M : ℕ = elementsOf hs in
     let k : e / N < M = high-small N M e l in
     below-pick (ltb x (h .generators))
-    (λ p. then-below (readStep (stretch t h) (h .generators) N (e % N) x) (step-below (stretch t h) (h .generators) N (e % N) x) (λ y b. element (joined-small b (e / N) k)))
-    (λ p. then-below (stepIn t hs (e / N) (x - h .generators)) (steps-below t hs (e / N) (x - h .generators) k)
+    (λ p. below-on (readStep (stretch t h) (h .generators) N (e % N) x) (step-below (stretch t h) (h .generators) N (e % N) x) (λ y b. element (joined-small b (e / N) k)))
+    (λ p. below-on (stepIn t hs (e / N) (x - h .generators)) (steps-below t hs (e / N) (x - h .generators) k)
     (λ y b. element (joined-small (mod-lt e (range-pos N M e l)) y b)))
-  where
-    then-below : {N M : ℕ} {f : ℕ → Reached} (r : Reached) → Below N r → ((y : ℕ) → y < N → Below M (f y)) → Below M (onReached r f)
-    then-below (Element y) b g = g (y .0) (inside-of b)
-    then-below (Refused r) b g = refusal

@@ -15,7 +15,7 @@ use Rattle.egg.specs.Factor.{stretch}
 use Rattle.words.proofs.Words.{never-both, write-fits}
 use Rattle.factor.specs.Questions.{admits, ifCount, writeAnswer, filledBy}
 
-counted-by : (v : Verdict) {x : Counted} {k : ℕ} → ifCount v x ≡ counted.Count k → x ≡ counted.Count k
+pub counted-by : (v : Verdict) {x : Counted} {k : ℕ} → ifCount v x ≡ counted.Count k → x ≡ counted.Count k
 counted-by verdict.Fine h = h
 counted-by (verdict.Refused r) h = absurd (never-both refl h)
 

@@ -1,7 +1,7 @@
 -- Laws of the call that joins digits, one for each answer; and a word that the call wrote had room.
 -- Assumes nothing.
 use Prim.Native.Nat.{ℕ, _≤_}
-use mathlib.Core.Path.{_≡_, refl, sym, _∙_}
+use mathlib.Core.Path.{_≡_, sym, _∙_}
 use mathlib.Core.Bool.{true, false}
 use mathlib.Core.List.{List}
 use lib.ListN.{length}
@@ -10,16 +10,16 @@ use Rattle.egg.specs.declared.GroupElementId.{GroupElementId}
 use Rattle.egg.specs.declared.Verdict.{Verdict}
 use Rattle.egg.specs.declared.Verdict.the-variants as verdict
 use Rattle.egg.specs.declared.Counted.{Counted}
-use Rattle.egg.specs.declared.Counted.the-variants.{Count, Refused}
+use Rattle.egg.specs.declared.Counted.the-variants.{Count}
 use Rattle.egg.specs.declared.Reached.{Reached}
 use Rattle.egg.specs.declared.Reached.the-variants as reached
 use Rattle.egg.specs.Factor.{refusedReach}
-use Rattle.factor.specs.Questions.{ifCount}
 use Rattle.handles.specs.declared.Group.{Group}
 use Rattle.handles.specs.Handles.{handles, sizes, elementsOf, allFit, admits}
 use Rattle.digits.specs.Splits.{digitsRight, joinTail}
 use Rattle.spelling.specs.Words.{lengths, readables, writes}
-use Rattle.spelling.proofs.Spelling.{never, by-fits}
+use Rattle.factor.proofs.Questions.{counted-by}
+use Rattle.spelling.proofs.Spelling.{by-fits}
 use Rattle.group.specs.Questions.{joinAnswer, writeAnswer}
 
 module _ (t : List ℕ) (g : Group) (ds : List ℕ) where
@@ -35,10 +35,6 @@ module _ (t : List ℕ) (g : Group) (ds : List ℕ) where
     pub join-good : v ≡ verdict.Fine → {x : Reached} → x ≡ joinTail g ds → x ≡ joinAnswer t g ds
     unfolding joinAnswer
     join-good e p = p ∙ rw (h, ← q, e)
-
-counted-by : (v : Verdict) {x : Counted} {k : ℕ} → ifCount v x ≡ Count k → x ≡ Count k
-counted-by verdict.Fine h = h
-counted-by (verdict.Refused r) h = absurd (never refl h)
 
 pub answer-fits : (t : List ℕ) (g : Group) (e : GroupElementId) (size : ℕ) {v : Counted} {k : ℕ} → v ≡ writeAnswer t g e size → v ≡ Count k → k ≤ size
 unfolding writeAnswer writes

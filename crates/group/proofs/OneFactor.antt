@@ -11,7 +11,6 @@ use lib.IntN.{ℤ, pos, negsuc}
 use lib.ListN.{length, set}
 use lib.Dec.{eqb, leb, ltb}
 use Rattle.egg.specs.declared.Factor.{Factor}
-use Rattle.egg.specs.declared.Refusal.{Refusal}
 use Rattle.egg.specs.declared.GroupElementId.{GroupElementId}
 use Rattle.egg.specs.declared.GeneratorId.{GeneratorId}
 use Rattle.egg.specs.declared.Verdict.{Verdict}
@@ -26,11 +25,11 @@ use Rattle.egg.specs.Factor as egg
 use Rattle.egg.specs.Factor.{fitsIn, stretch, readStep}
 use Rattle.egg.proofs.Rooms.{some}
 use Rattle.lending.proofs.Fits.{fits-small}
-use Rattle.lending.specs.Lending.{noFactor}
 use Rattle.factor.specs.Questions as factor
 use Rattle.factor.specs.Questions.{ifReach, ifCount}
 use Rattle.walks.specs.Walks.{onReached, composeIn, inverseIn, generatorIn}
 use Rattle.words.specs.Words.{readable, spell, lengthIn, writeIn, writtenBy}
+use Rattle.words.proofs.Words.{never-both}
 use Rattle.handles.specs.declared.Group.{Group}
 use Rattle.digits.specs.declared.inner.Asked.{Asked}
 use Rattle.digits.specs.declared.inner.Asked.the-variants.{Compose, Inverse, Conjugate}
@@ -47,9 +46,6 @@ use Rattle.digits.proofs.Walks.{Below, element, below-on, digit-below}
 reach-alike : (v : Verdict) {x y : Reached} → (v ≡ verdict.Fine → x ≡ y) → ifReach v x ≡ ifReach v y
 reach-alike verdict.Fine k = k refl
 reach-alike (verdict.Refused r) k = refl
-
-never : {r : Refusal} {k : ℕ} → counted.Refused r ≡ counted.Count k → ⊥
-never u = let z : _≡_ {A = ℕ} 0 1 = cc in omega arith
 
 count-alike : (v : Verdict) {x y : Counted} → (v ≡ verdict.Fine → x ≡ y) → ifCount v x ≡ ifCount v y
 count-alike verdict.Fine k = k refl
@@ -284,10 +280,10 @@ module _ (t : List ℕ) (g : Group) (h : Factor) (c : g .count ≡ 1) (q : handl
           (pick y (counted.Refused (record { number = 4; a = 0; b = 0; c = 0 }))
           (pick z (counted.Count (lengthOf (stretch t h) (h .generators) e)) (counted.Refused (record { number = 17; a = 0; b = 0; c = 0 })))) ≡ counted.Count k
           → k ≡ lengthOf (stretch t h) (h .generators) e
-      by true y z u = absurd (never u)
-      by false true z u = absurd (never u)
+      by true y z u = absurd (never-both refl u)
+      by false true z u = absurd (never-both refl u)
       by false false true u = cc
-      by false false false u = absurd (never u)
+      by false false false u = absurd (never-both refl u)
 
   pub one-written : (e : GroupElementId) (out : List ℕ) → factor.written t h e out ≡ written t g e out
   unfolding factor.written factor.writeAnswer written

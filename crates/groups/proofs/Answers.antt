@@ -16,8 +16,8 @@ use Rattle.egg.proofs.Scans.{scan-fine}
 use Rattle.theory.specs.Table.{generator}
 use Rattle.theory.specs.Group.{integer-power, Period}
 use Rattle.answers.specs.Accepted.{reach}
-use Rattle.products.specs.Radix.{count, split, inject}
-use Rattle.products.proofs.RadixLaws.{join-split, split-digits, split-length, digit-small, project-is}
+use Rattle.products.specs.Radix.{split, inject}
+use Rattle.products.proofs.RadixLaws.{join-split, split-digits, split-length, digits-below, project-is}
 use Rattle.products.proofs.ProductLaws.{product-group}
 use Rattle.products.proofs.WordLaws.{product-worded, product-only}
 use Rattle.handles.specs.declared.Group.{Group}
@@ -45,7 +45,7 @@ digits-fine : (hs : List Factor) (e : ℕ) → e < elementsOf hs → digitsRight
 unfolding digitsRight
 digits-fine hs e he =
     (scan-fine (fewer (length (sizes hs)) (length (split (sizes hs) e))) (digitRight (sizes hs) (split (sizes hs) e))) .1
-    (λ j h. digit-good (sizes hs) (split (sizes hs) e) j refl refl (digit-small (split-digits (sizes hs) e he) j))
+    (λ j h. digit-good (sizes hs) (split (sizes hs) e) j refl refl (digits-below (split-digits (sizes hs) e he) j))
 
 module _ {t : List ℕ} {g : Group} (A : AcceptedProduct t g) where
   short : length (handles g) ≤ 8

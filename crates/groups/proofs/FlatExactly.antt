@@ -8,10 +8,7 @@ use mathlib.Core.Logic.{_↔_}
 use mathlib.Core.Bool.{true}
 use mathlib.Core.List.{List}
 use native.Mathlib.Nat.{le-refl}
-use native.Mathlib.Omega.{arith}
-use borrow.Author.Tests.{leb-true}
 use lib.ListN.{length, take, replicate}
-use lib.Seq.{length-take-le}
 use Rattle.egg.specs.declared.Refusal.{Refusal}
 use Rattle.egg.specs.declared.Factor.{Factor}
 use Rattle.egg.specs.declared.Verdict.the-variants as verdict
@@ -21,8 +18,8 @@ use Rattle.egg.proofs.Rooms.{positive, limited}
 use Rattle.reading.specs.Reading.{Placed, placed, readAll}
 use Rattle.lending.specs.Finish.{Built, built, zeroed, finished, finishedPlaced}
 use Rattle.lending.specs.Lending.{tableNeed, workNeed, lentRight, noFactor, within, making, lentBack}
-use Rattle.lending.proofs.Lending.{lent-table, lent-enough}
-use Rattle.theory.specs.Numbering.{Numbered, IdentityRow, Distinct}
+use Rattle.lending.proofs.Lending.{lent-table}
+use Rattle.theory.specs.Numbering.{Numbered}
 use Rattle.theory.specs.AnyGroup.{SomeGroup}
 use Rattle.theory.proofs.AnyCarrier.{any-carrier}
 use Rattle.theory.proofs.IdentityRows.{identity-row-distinct}
@@ -32,11 +29,11 @@ use Rattle.numbering.specs.Read.{Readable, Refuses}
 use Rattle.numbering.proofs.Readings.{accepts-exactly, refuses-exactly}
 use Rattle.answers.specs.Accepted.{Accepted}
 use Rattle.promises.specs.Composed.{Taken}
-use Rattle.promises.proofs.Lent.{by-build, by-refused, refused-making}
+use Rattle.promises.proofs.Lent.{taken-enough, by-build, by-refused, refused-making}
 use Rattle.promises.proofs.Built.{built-holds, taken-built}
 use Rattle.promises.proofs.Stops.{stops-built}
 use Rattle.products.specs.Product as theory
-use Rattle.products.specs.Product.{Part, Each, Worded, Generated}
+use Rattle.products.specs.Product.{Each, Worded, Generated}
 use Rattle.products.proofs.WordLaws.{product-worded}
 use Rattle.products.proofs.Generating.{product-generated}
 use Rattle.handles.specs.declared.Group.{Group}
@@ -120,8 +117,7 @@ module _ {from : List ℕ} {g : Group} (A : AcceptedProduct from g) (table : Lis
     hi = limited (length table) start room n has
 
     pub work-lent : room * (6 * n * n + 4 * n) ≤ length (take (workNeed n room) work)
-    work-lent =
-        rw (length-take-le (workNeed n room) work (leb-true _ _ (lent-enough (length table) start (length work) room n lent))) (le-refl (workNeed n room))
+    work-lent = taken-enough table start work n room lent
 
     flattened : Flattens (direct from g) room
         → (f : Factor) × (t : List ℕ) × (w : List ℕ) × (flat from g table start work room ≡ making (record { answer = verdict.Fine; factor = f }) t w)

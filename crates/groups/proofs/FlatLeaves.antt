@@ -3,15 +3,13 @@
 -- Assumes nothing.
 use Prim.Native.Nat.{ℕ, zero, suc, _+_, _*_, _-_, _/_, _%_, _≤_, _<_}
 use mathlib.Core.Path.{_≡_, refl, sym, ap, _∙_, subst}
-use mathlib.Core.Logic.{_⊎_, inl, inr}
-use mathlib.Core.Bool.{Bool, true, false, _&&_}
+use mathlib.Core.Bool.{Bool, true, false}
 use mathlib.Core.List.{List, [], _∷_}
 use native.Mathlib.Nat.{le-refl}
 use native.Mathlib.Omega.{arith}
-use borrow.Author.Tests.{ltb-true, ltb-false, leb-true}
+use borrow.Author.Tests.{ltb-true, ltb-false}
 use lib.ListN.{length, getD, take, replicate, length-replicate}
 use lib.Dec.{eqb, ltb}
-use lib.Seq.{length-take-le}
 use Rattle.egg.specs.declared.Refusal.{Refusal}
 use Rattle.egg.specs.declared.Factor.{Factor}
 use Rattle.egg.specs.declared.Verdict.{Verdict}
@@ -24,12 +22,13 @@ use Rattle.egg.specs.Table.{pick, startOf}
 use Rattle.egg.specs.Factor.{stretch, readStep, hasRoom}
 use Rattle.egg.proofs.Rooms.{positive, limited, false-true}
 use Rattle.reading.specs.Reading.{Placed, placed, thenPlaced, readPlace, readRow, readFrom, readAll}
-use Rattle.lending.specs.Finish.{Built, built, zeroed, finished, finishedPlaced}
+use Rattle.lending.specs.Finish.{built, zeroed, finished, finishedPlaced}
 use Rattle.lending.specs.Lending.{tableNeed, workNeed, lentRight, noFactor, refusedMade, Making, making, lentBack}
-use Rattle.lending.proofs.Lending.{lent-table, lent-enough}
+use Rattle.lending.proofs.Lending.{lent-table}
 use Rattle.walks.specs.Walks.{onReached}
-use Rattle.meaning.specs.Numbers.{member, In}
+use Rattle.meaning.specs.Numbers.{In}
 use Rattle.promises.specs.Leaves.{Leaves, lentFor}
+use Rattle.promises.proofs.Lent.{work-taken}
 use Rattle.promises.proofs.ReadLengths.{placedTable, place-length, row-length}
 use Rattle.promises.proofs.Zeros.{Zeros, zeros-widen, read-zeros}
 use Rattle.promises.proofs.Leaves.{early, late, leaves-early, leaves-late}
@@ -177,10 +176,8 @@ module _ (from : List ℕ) (g : Group) (table : List ℕ) (start : ℕ) (work : 
   built-leaves R e =
       let B = late table start work n room (flatIn (tableNeed n room) (take (workNeed n room) work) from (handles g) n room) e in
       let has : hasRoom (length table) start room n ≡ true = lent-table (length table) start (length work) room n (R .lent) in
-      let long : length (take (workNeed n room) work) ≡ workNeed n room =
-      length-take-le (workNeed n room) work (leb-true _ _ (lent-enough (length table) start (length work) room n (R .lent))) in
       leaves-late table start work n room flatBefore R (R .lent) B
-      (subst (λ (k : ℕ). Zeros r flatAfter (tableNeed n room) k (B .stretch-table) (B .stretch-work)) long
+      (subst (λ (k : ℕ). Zeros r flatAfter (tableNeed n room) k (B .stretch-table) (B .stretch-work)) (work-taken table start work n room (R .lent))
       (flat-zeros from (handles g) room (tableNeed n room) (take (workNeed n room) work) (R .generators) (positive (length table) start room n has)
       (limited (length table) start room n has) (le-refl (tableNeed n room)) (B .is)))
 

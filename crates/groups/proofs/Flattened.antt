@@ -15,6 +15,7 @@ use Rattle.egg.specs.declared.Counted.the-variants.{Count, Refused}
 use Rattle.lending.specs.Finish.{finishedPlaced}
 use Rattle.lending.specs.Lending.{tableNeed, workNeed, lentRight, lentBack}
 use Rattle.reading.specs.Reading.{Placed, placed, thenPlaced, readPlace, readRow, readFrom, readAll}
+use Rattle.reading.proofs.Readings.{then-same}
 use Rattle.factor.specs.Composed.{composedAt, composedIn, composed}
 use Rattle.products.specs.Product.{product}
 use Rattle.products.proofs.RadixLaws.{low, high}
@@ -44,9 +45,9 @@ row-at step n room e g he hg =
     let l : e * n + g < room * n = omega (arith, mul-le-mul-right n k) in
     listed-at (room * n) (λ i. step (i / n) (i % n)) (e * n + g) l ∙ rw (q, low hg e, high hg e)
 
-then-same : {M : ℕ} (p : Placed) {f f′ : ℕ → List ℕ → Placed} → Counts M p → ((c : ℕ) (t : List ℕ) → c ≤ M → f c t ≡ f′ c t) → thenPlaced p f ≡ thenPlaced p f′
-then-same (placed (Count k) t) (counts h) q = q k t h
-then-same (placed (Refused r) t) refuses q = refl
+then-within : {M : ℕ} (p : Placed) {f f′ : ℕ → List ℕ → Placed} → Counts M p → ((c : ℕ) (t : List ℕ) → c ≤ M → f c t ≡ f′ c t) → thenPlaced p f ≡ thenPlaced p f′
+then-within (placed (Count k) t) (counts h) q = q k t h
+then-within (placed (Refused r) t) refuses q = refl
 
 -- Reading by the product's own answers is reading from any source that has its steps.
 module _ (from : List ℕ) {hs : List Factor} (As : AllAccepted from hs) (n room : ℕ) (gens : n ≡ product (parts from hs) .generators)
@@ -60,11 +61,7 @@ module _ (from : List ℕ) {hs : List Factor} (As : AllAccepted from hs) (n room
         let hg : g < n = omega arith in
         let hx : g < product (parts from hs) .generators = subst (λ (m : ℕ). g < m) gens hg in
         rw (steps-are from As e g he hx, is e g hr hg)
-        (then-row (readPlace t n room count e g (product (parts from hs) .step e g)) (λ c l. row-same k e (g + 1) c l he hr (omega arith)))
-      where
-        then-row : (p : Placed) {f f′ : ℕ → List ℕ → Placed} → ((c : ℕ) (t : List ℕ) → f c t ≡ f′ c t) → thenPlaced p f ≡ thenPlaced p f′
-        then-row (placed (Count c) l) q = q c l
-        then-row (placed (Refused r) l) q = refl
+        (then-same (readPlace t n room count e g (product (parts from hs) .step e g)) (λ c l. row-same k e (g + 1) c l he hr (omega arith)))
 
     rows-same : (k e count : ℕ) (t : List ℕ) → e + k ≤ room → count ≤ product (parts from hs) .elements
         → rowsBy k (stepIn from hs) n room e count t ≡ readFrom k src n room e count t
@@ -82,7 +79,7 @@ module _ (from : List ℕ) {hs : List Factor} (As : AllAccepted from hs) (n room
             let hm : e < elementsOf hs = subst (λ (m : ℕ). e < m) (parts-elements from hs) he in
             let hd : count ≤ elementsOf hs = subst (λ (m : ℕ). count ≤ m) (parts-elements from hs) hc in
             rw (q, ← row-same n e 0 count t he (omega arith) (omega arith))
-            (then-same (rowBy n (stepIn from hs) n room e 0 count t)
+            (then-within (rowBy n (stepIn from hs) n room e 0 count t)
             (row-counts {M = elementsOf hs} (stepIn from hs) n room e (λ x. steps-below from hs e x hm) n 0 count t hd)
             (λ c l h. i c l (subst (λ (m : ℕ). c ≤ m) (sym (parts-elements from hs)) h)))
 

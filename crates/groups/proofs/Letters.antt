@@ -4,10 +4,11 @@ use Prim.Native.Nat.{ℕ, zero, suc, _+_, _*_, _-_, _/_, _%_, _≤_, _<_}
 use mathlib.Core.Path.{_≡_, refl, sym, ap, _∙_}
 use mathlib.Core.Bool.{true}
 use mathlib.Core.List.{List, [], _∷_, _++_, append-assoc}
-use native.Mathlib.Nat.{mod-eq-of-lt, add-assoc}
+use native.Mathlib.Nat.{mod-eq-of-lt}
 use native.Mathlib.Omega.{arith}
 use borrow.Author.Tests.{le-ltb}
-use lib.ListN.{length, drop, set, length-set}
+use lib.ListN.{length, drop, set, length-set, length-append, length-drop}
+use lib.Seq.{drop-drop}
 use Rattle.egg.specs.declared.Factor.{Factor}
 use Rattle.egg.specs.declared.Counted.the-variants.{Count}
 use Rattle.egg.specs.Table.{parentOf, lastOf, lengthOf}
@@ -21,44 +22,10 @@ use Rattle.words.proofs.Words.{drop-set-here}
 use Rattle.answers.proofs.Letters.{word-readable, length-in}
 use Rattle.products.specs.Product.{product, shift}
 use Rattle.products.proofs.RadixLaws.{low-small, high-small}
+use Rattle.products.proofs.WordLaws.{shift-length, shift-shift, shift-append, shift-zero}
 use Rattle.handles.specs.Handles.{generatorsOf}
 use Rattle.spelling.specs.Words.{lengths, readables, spellFrom, spells, writes}
 use Rattle.groups.specs.Products.{parts, AllAccepted, none, more}
-
-append-length : (u v : List ℕ) → length (u ++ v) ≡ length u + length v
-append-length [] v = omega arith
-append-length (x ∷ u) v = omega (arith, append-length u v)
-
-shift-length : (o : ℕ) (w : List ℕ) → length (shift o w) ≡ length w
-shift-length o [] = refl
-shift-length o (g ∷ w) = ap suc (shift-length o w)
-
-shift-append : (o : ℕ) (u v : List ℕ) → shift o (u ++ v) ≡ shift o u ++ shift o v
-shift-append o [] v = refl
-shift-append o (g ∷ u) v = ap (λ (l : List ℕ). (o + g) ∷ l) (shift-append o u v)
-
-shift-shift : (o n : ℕ) (w : List ℕ) → shift o (shift n w) ≡ shift (o + n) w
-shift-shift o n [] = refl
-shift-shift o n (g ∷ w) = rw (shift-shift o n w, add-assoc)
-
-shift-none : (w : List ℕ) → shift 0 w ≡ w
-shift-none [] = refl
-shift-none (g ∷ w) = let z : 0 + g ≡ g = omega arith in rw (z, shift-none w)
-
-append-none : (w : List ℕ) → w ++ [] ≡ w
-append-none [] = refl
-append-none (g ∷ w) = ap (λ (l : List ℕ). g ∷ l) (append-none w)
-
-drop-drop : (i j : ℕ) (l : List ℕ) → drop j (drop i l) ≡ drop (i + j) l
-drop-drop zero j l = let z : 0 + j ≡ j = omega arith in rw z
-drop-drop (suc i) zero [] = let z : suc i + 0 ≡ suc i = omega arith in rw z
-drop-drop (suc i) (suc j) [] = let z : suc i + suc j ≡ suc (i + suc j) = omega arith in rw z
-drop-drop (suc i) j (x ∷ l) = let z : suc i + j ≡ suc (i + j) = omega arith in rw z (drop-drop i j l)
-
-drop-length : (i : ℕ) (l : List ℕ) → i ≤ length l → i + length (drop i l) ≡ length l
-drop-length zero l h = omega arith
-drop-length (suc i) [] h = absurd (omega arith)
-drop-length (suc i) (x ∷ l) h = let k : i ≤ length l = omega arith in omega (arith, drop-length i l k)
 
 -- A word is written behind what stands there, whatever that is.
 set-behind : (xs ys : List ℕ) (k v : ℕ) → set (xs ++ ys) (length xs + k) v ≡ xs ++ set ys k v
@@ -98,7 +65,7 @@ module _ (t : List ℕ) where
       let N : ℕ = h .elements in
       let M : ℕ = product (parts t hs) .elements in
       rw (length-in (A .sound) (low-small N M e he), lengths-are As (e / N) (high-small N M e he))
-      (ap Count (sym (append-length (factorWord t h (e % N)) (shift (h .generators) (product (parts t hs) .word (e / N)))
+      (ap Count (sym (length-append (factorWord t h (e % N)) (shift (h .generators) (product (parts t hs) .word (e / N)))
       ∙ ap (λ (k : ℕ). length (factorWord t h (e % N)) + k) (shift-length (h .generators) (product (parts t hs) .word (e / N))))))
 
   pub readables-are : {hs : List Factor} → AllAccepted t hs → (e : ℕ) → e < product (parts t hs) .elements → readables t hs e ≡ true
@@ -124,13 +91,13 @@ module _ (t : List ℕ) where
       let v : List ℕ = product (parts t hs) .word (e / N) in
       let q : k ≡ length u = A .sound .stored .lengths l in
       let all : length (u ++ shift (h .generators) v) ≡ length u + length v =
-      append-length u (shift (h .generators) v) ∙ ap (λ (n : ℕ). length u + n) (shift-length (h .generators) v) in
+      length-append u (shift (h .generators) v) ∙ ap (λ (n : ℕ). length u + n) (shift-length (h .generators) v) in
       let fit : k ≤ length ys = omega (arith, q, all, room) in
-      let rest : length v ≤ length (drop k ys) = omega (arith, q, all, room, drop-length k ys fit) in
+      let rest : length v ≤ length (drop k ys) = omega (arith, q, all, room, length-drop k ys) in
       let first : spellFrom k (stretch t h) (h .generators) (e % N) (length xs) o (xs ++ ys) ≡ (xs ++ shift o u) ++ drop k ys =
       behind k (stretch t h) (h .generators) (e % N) o xs ys
       ∙ ap (λ (z : List ℕ). xs ++ z) (spelled (A .sound) o (omega arith) k ys l q fit) ∙ sym (append-assoc xs (shift o u) (drop k ys)) in
-      let at : length xs + k ≡ length (xs ++ shift o u) = sym (append-length xs (shift o u) ∙ ap (λ (n : ℕ). length xs + n) (shift-length o u ∙ sym q)) in
+      let at : length xs + k ≡ length (xs ++ shift o u) = sym (length-append xs (shift o u) ∙ ap (λ (n : ℕ). length xs + n) (shift-length o u ∙ sym q)) in
       ap (λ (z : List ℕ). spells t hs (e / N) (length xs + k) (o + h .generators) z) first
       ∙ ap (λ (z : ℕ). spells t hs (e / N) z (o + h .generators) ((xs ++ shift o u) ++ drop k ys)) at
       ∙ spells-are As (e / N) (o + h .generators) (xs ++ shift o u) (drop k ys) (high-small N M e he) (omega arith) rest
@@ -139,7 +106,7 @@ module _ (t : List ℕ) where
       (sym (append-assoc (shift o u) (shift (o + h .generators) v) (drop (length v) (drop k ys)))
       ∙ ap (λ (z : List ℕ). z ++ drop (length v) (drop k ys)) (sym (shift-append o u (shift (h .generators) v) ∙ ap (λ (z : List ℕ). shift o u ++ z) (shift-shift o (h .generators) v)))
       ∙ ap (λ (z : List ℕ). shift o (u ++ shift (h .generators) v) ++ z)
-      (drop-drop k (length v) ys ∙ ap (λ (n : ℕ). drop n ys) (ap (λ (n : ℕ). n + length v) q ∙ sym all)))
+      (drop-drop (length v) k ys ∙ ap (λ (n : ℕ). drop n ys) (ap (λ (n : ℕ). n + length v) q ∙ sym all)))
 
   few-generators : {hs : List Factor} → AllAccepted t hs → generatorsOf hs ≤ 8 * length hs
   few-generators none = omega arith
@@ -156,4 +123,4 @@ module _ (t : List ℕ) where
         → spells t hs e 0 0 out ≡ product (parts t hs) .word e ++ drop (length (product (parts t hs) .word e)) out
     leaves-are out room =
         spells-are As e 0 [] out he (omega (arith, few-generators As)) room
-        ∙ ap (λ (w : List ℕ). w ++ drop (length (product (parts t hs) .word e)) out) (shift-none (product (parts t hs) .word e))
+        ∙ ap (λ (w : List ℕ). w ++ drop (length (product (parts t hs) .word e)) out) (shift-zero (product (parts t hs) .word e))

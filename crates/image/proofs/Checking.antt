@@ -28,8 +28,9 @@ room-left n count =
     let p : 4 + 4 * (2 * n + 4) ≤ 32 * n * n + 100 = omega (arith, self-square n) in
     omega (arith, mul-le-mul (le-refl count) p)
 
-work-enough : (n count : ℕ) → 0 < n → count ≤ length (replicate {A = ℕ} (workNeed n count) 0)
-work-enough n count pos =
+-- A work of zeros, as long as is needed, has a number for each element.
+pub zeros-long : (n count : ℕ) → 0 < n → count ≤ length (replicate {A = ℕ} (workNeed n count) 0)
+zeros-long n count pos =
     let p : 1 ≤ 6 * n * n + 4 * n = omega arith in
     rw (length-replicate {A = ℕ} (workNeed n count) 0) (omega (arith, mul-le-mul (le-refl count) p))
 
@@ -80,7 +81,7 @@ module _ (l w : List ℕ) {h : ℕ} (qh : h ≡ headNumber l) where
           let few : n ≤ 8 = rw qn (right .few) in
           let some : 1 ≤ count = rw qc (right .some) in
           let b = judged-is-built (halves (midOf 8 (length l - 8) l)) n count (at / 4) (j .work) (replicate (workNeed n count) 0)
-          few some (omega arith) (rw table-cells (le-refl (tableNeed n count))) (λ _. rw (j .as-long) cells-left) (λ pos. work-enough n count pos) in
+          few some (omega arith) (rw table-cells (le-refl (tableNeed n count))) (λ _. rw (j .as-long) cells-left) (λ pos. zeros-long n count pos) in
           simp (eq-eqb _ _ e, le-ltb _ _ f) (j .holds ∙ b ∙ rw (table-cells, rows-are, qn, qc))
 
       pub whole-work : (p q : List ℕ) → length p ≡ length (take need w) → q ≡ replicate (length (take need (p ++ drop need w))) 0

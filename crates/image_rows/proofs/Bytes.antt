@@ -6,6 +6,7 @@ use mathlib.Core.List.{List, [], _∷_, _++_, append-assoc}
 use native.Mathlib.Omega.{arith}
 use lib.ListN.{length, drop, set, length-append, length-drop}
 use lib.Seq.{set-at, drop-drop}
+use Rattle.cells.proofs.Laws.{two}
 use Rattle.image_rows.specs.Written.{rowOf, rowsOf, spelled, imageSize, headBytes, imageOf, putHalf, putRow, putRows, putHead}
 
 -- The head.
@@ -30,9 +31,6 @@ half-put pre a b r at v h =
     ap (λ (l : List ℕ). set l (at + 1) (v % 256)) (one ∙ sym (append-assoc pre (v / 256 % 256 ∷ []) (b ∷ r)))
     ∙ set-at (pre ++ v / 256 % 256 ∷ []) b r (v % 256) (at + 1) k
     ∙ append-assoc pre (v / 256 % 256 ∷ []) (v % 256 ∷ r) ∙ sym (append-assoc pre (v / 256 % 256 ∷ v % 256 ∷ []) r)
-
-two : (k : ℕ) → 2 * suc k ≡ suc (suc (2 * k))
-two k = omega arith
 
 pub put-row : (k : ℕ) (src : ℕ → ℕ → ℕ) (n e g : ℕ) (pre rest : List ℕ) → length pre ≡ 8 + 2 * (e * n + g) → 2 * k ≤ length rest
     → putRow k src n e g (pre ++ rest) ≡ pre ++ (spelled (rowOf k src e g) ++ drop (2 * k) rest)

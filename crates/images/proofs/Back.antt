@@ -1,12 +1,12 @@
 -- Reading an image is `from_composed` on its successors with room N, but for a bad head and for 16 where fewer than N are reached; so the check's number is
 -- the reading's, and what is promised of composed rows holds of an image.
 -- Assumes nothing.
-use Prim.Native.Nat.{ℕ, _+_, _*_, _≤_, _<_}
+use Prim.Native.Nat.{ℕ, _+_, _*_, _≤_}
 use mathlib.Core.Path.{_≡_, refl, sym, ap, _∙_, subst}
 use mathlib.Core.Logic.{_↔_, _⊎_, inl, inr}
 use mathlib.Core.Bool.{Bool, true, false}
 use mathlib.Core.List.{List}
-use native.Mathlib.Nat.{mul-le-mul, le-refl}
+use native.Mathlib.Nat.{le-refl}
 use native.Mathlib.Omega.{arith}
 use borrow.Author.Tests.{eq-eqb, ne-eqb, eqb-true, eqb-false, le-ltb, le-leb, ltb-false}
 use lib.Dec.{ltb, eqb}
@@ -30,6 +30,7 @@ use Rattle.agree.proofs.Composed.{fewer, madeNumber, built-is-composed}
 use Rattle.image.specs.Image.{generatorsOf, elementsOf, headNumber, bytesNeed, imageNumber}
 use Rattle.image_rows.specs.Read.{allPlaced, imageIn}
 use Rattle.image.specs.Read.{headPlace, readImage}
+use Rattle.image.proofs.Checking.{zeros-long}
 use Rattle.promises.specs.Composed.{Taken, Given}
 use Rattle.promises.specs.Papers.{madePaper}
 use Rattle.promises.proofs.Built.{checked-holds, taken-checked}
@@ -119,12 +120,6 @@ module _ (l table : List ℕ) (start : ℕ) (work : List ℕ) where
         → madeNumber (readImage l table start work) ≡ 16
     unfolding imageIn
     fewer-read lent e = ap madeNumber (lent-read lent) ∙ fewer-number table start work n N (take (workNeed n N) work) reading e
-
--- The work of zeros is long enough.
-zeros-long : (n count : ℕ) → 0 < n → count ≤ length (replicate {A = ℕ} (workNeed n count) 0)
-zeros-long n count pos =
-    let p : 1 ≤ 6 * n * n + 4 * n = omega arith in
-    rw (length-replicate {A = ℕ} (workNeed n count) 0) (omega (arith, mul-le-mul (le-refl count) p))
 
 -- The number of an answer is that of its paper.
 paper-number : (m : Making) → madeNumber m ≡ madePaper m .number

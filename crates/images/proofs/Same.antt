@@ -11,10 +11,11 @@ use lib.Dec.{ltb}
 use lib.ListN.{length, getD, drop, replicate}
 use Rattle.egg.specs.declared.Factor.{Factor}
 use Rattle.egg.specs.declared.Verdict.the-variants as verdict
-use Rattle.egg.specs.declared.Counted.the-variants.{Count, Refused}
+use Rattle.egg.specs.declared.Counted.the-variants.{Count}
 use Rattle.egg.specs.Table.{pick}
 use Rattle.lending.specs.Lending.{tableNeed, lentRight, making}
 use Rattle.reading.specs.Reading.{Placed, placed, thenPlaced, readPlace, readRow, readFrom, readAll}
+use Rattle.reading.proofs.Readings.{then-same}
 use Rattle.factor.specs.Composed.{composedAt, composedIn, composed}
 use Rattle.cells.specs.Cells.{halves}
 use Rattle.theory.proofs.Reading.{numbered-once}
@@ -31,18 +32,13 @@ use Rattle.images.proofs.Back.{group-composed}
 use Rattle.images.proofs.Rounds.{few-generators, written-group, image-elements, image-generators, image-rows}
 
 -- Only the rows within the room are read.
-then-same : (p : Placed) (f f′ : ℕ → List ℕ → Placed) → ((c : ℕ) (t : List ℕ) → f c t ≡ f′ c t) → thenPlaced p f ≡ thenPlaced p f′
-then-same (placed (Count c) t) f f′ h = h c t
-then-same (placed (Refused r) t) f f′ h = refl
-
 module _ (src src′ : ℕ → ℕ → ℕ) (n room : ℕ) (same : (e g : ℕ) → e < room → g < n → src e g ≡ src′ e g) where
   row-reads : (k e g c : ℕ) (t : List ℕ) → e < room → g + k ≤ n → readRow k src n room e g c t ≡ readRow k src′ n room e g c t
   unfolding readRow
   row-reads zero e g c t he hg = refl
   row-reads (suc k) e g c t he hg =
       rw (same e g he (omega arith))
-      (then-same (readPlace t n room c e g (src′ e g)) (λ c t. readRow k src n room e (g + 1) c t) (λ c t. readRow k src′ n room e (g + 1) c t)
-      (λ c t. row-reads k e (g + 1) c t he (omega arith)))
+      (then-same (readPlace t n room c e g (src′ e g)) (λ c t. row-reads k e (g + 1) c t he (omega arith)))
 
   rows-read : (k e c : ℕ) (t : List ℕ) → e + k ≤ room → readFrom k src n room e c t ≡ readFrom k src′ n room e c t
   unfolding readFrom
@@ -50,8 +46,7 @@ module _ (src src′ : ℕ → ℕ → ℕ) (n room : ℕ) (same : (e g : ℕ) �
   rows-read (suc k) e c t h =
       ap (λ (p : Placed). pick (ltb e c) p (placed (Count c) t))
       (ap (λ (p : Placed). thenPlaced p (λ c t. readFrom k src n room (e + 1) c t)) (row-reads n e 0 c t (omega arith) (omega arith))
-      ∙ then-same (readRow n src′ n room e 0 c t) (λ c t. readFrom k src n room (e + 1) c t) (λ c t. readFrom k src′ n room (e + 1) c t)
-      (λ c t. rows-read k (e + 1) c t (omega arith)))
+      ∙ then-same (readRow n src′ n room e 0 c t) (λ c t. rows-read k (e + 1) c t (omega arith)))
 
   pub read-same : (t : List ℕ) → readAll src n room t ≡ readAll src′ n room t
   read-same t = rows-read room 0 1 t (omega arith)

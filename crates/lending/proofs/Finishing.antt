@@ -1,15 +1,33 @@
 -- One law for each way in which a build ends.
 -- Assumes nothing.
 use Prim.Native.Nat.{ℕ}
-use mathlib.Core.Path.{_≡_}
+use mathlib.Core.Path.{_≡_, refl, ap, _∙_}
 use mathlib.Core.List.{List}
+use native.Mathlib.Omega.{arith}
 use Rattle.egg.specs.declared.Refusal.{Refusal}
 use Rattle.egg.specs.declared.Verdict.{Verdict}
 use Rattle.egg.specs.declared.Verdict.the-variants as verdict
 use Rattle.egg.specs.declared.Counted.{Counted}
 use Rattle.egg.specs.declared.Counted.the-variants.{Count, Refused}
-use Rattle.checks.specs.Checks.{Checked, check-group}
-use Rattle.lending.specs.Finish.{built, zeroed, finished}
+use Rattle.checks.specs.Checks.{Checked, checked, check-group}
+use Rattle.lending.specs.Finish.{Built, built, zeroed, settledBy, finished}
+
+-- A refused build is not a counted one.
+pub refused-counted : {r : Refusal} {N : ℕ} {t t′ w w′ : List ℕ} → built (Refused r) t w ≡ built (Count N) t′ w′ → ⊥
+refused-counted h = let z : _≡_ {A = ℕ} 0 1 = cc in omega arith
+
+-- The same with another list for the work.
+abbrev pub builtWith : List ℕ → Built → Built
+builtWith v (built c t w) = built c t v
+
+-- The end of a build goes by the verdict and the table; of the work only the length shows.
+pub settled-like : (N : ℕ) {v v′ : Verdict} {t t′ : List ℕ} (w w′ : List ℕ) → v ≡ v′ → t ≡ t′
+    → settledBy N (checked v t w) ≡ builtWith (zeroed w) (settledBy N (checked v′ t′ w′))
+settled-like N {v} {v′} {t} {t′} w w′ p q =
+    ap (λ (x : List ℕ). settledBy N (checked v x w)) q ∙ ap (λ (u : Verdict). settledBy N (checked u t′ w)) p ∙ by v′ where
+      by : (u : Verdict) → settledBy N (checked u t′ w) ≡ builtWith (zeroed w) (settledBy N (checked u t′ w′))
+      by verdict.Fine = refl
+      by (verdict.Refused r) = refl
 
 module _ {read : Counted} (n : ℕ) (t w : List ℕ) where
   pub finish-refused : {why : Refusal} {t₁ w₁ : List ℕ} → read ≡ Refused why → t₁ ≡ zeroed t → w₁ ≡ zeroed w

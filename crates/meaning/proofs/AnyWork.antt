@@ -32,29 +32,45 @@ record Same (N c : ℕ) (w w′ : List ℕ) : Type 0 where
   back : (i : ℕ) → i < N → i < length w′ → i < length w
   agree : (i : ℕ) → i < c → getD w i 0 ≡ getD w′ i 0
 
-module _ {N c : ℕ} {w w′ : List ℕ} (S : Same N c w w′) where
-  -- The same store in both.
-  set-alike : (p v i : ℕ) → i < c → getD (set w p v) i 0 ≡ getD (set w′ p v) i 0
-  set-alike p v i h = go (ℕ-discrete i p) (decLt p (length w)) where
-    go : Dec (i ≡ p) → Dec (p < length w) → getD (set w p v) i 0 ≡ getD (set w′ p v) i 0
-    go (yes e) (yes l) = rw e (getD-set-same w p v 0 l ∙ sym (getD-set-same w′ p v 0 (S .there p (omega (arith, S .few)) l)))
-    go (yes e) (no l) =
-        let out : (p < length w′) → ⊥ = λ k. l (S .back p (omega (arith, S .few)) k) in
-        rw (set-out w p v (omega arith), set-out w′ p v (omega arith)) (S .agree i h)
-    go (no d) l = getD-set-other w p i v 0 d ∙ S .agree i h ∙ sym (getD-set-other w′ p i v 0 d)
+-- Two lists that have the place i, or both not, with the same number there; and so they are after the same store.
+pub record AlikeAt (i : ℕ) (w w′ : List ℕ) : Type 0 where
+  pub there : i < length w → i < length w′
+  pub back : i < length w′ → i < length w
+  pub here : getD w i 0 ≡ getD w′ i 0
 
-  put-alike : (p v i : ℕ) → i < c → getD (putAt w p v) i 0 ≡ getD (putAt w′ p v) i 0
+module _ {i : ℕ} {w w′ : List ℕ} (A : AlikeAt i w w′) (p v : ℕ) where
+  set-alike : getD (set w p v) i 0 ≡ getD (set w′ p v) i 0
+  set-alike = go (ℕ-discrete i p) (decLt p (length w)) where
+    go : Dec (i ≡ p) → Dec (p < length w) → getD (set w p v) i 0 ≡ getD (set w′ p v) i 0
+    go (yes e) (yes l) = rw e (getD-set-same w p v 0 l ∙ sym (getD-set-same w′ p v 0 (rw e at (A .there (rw e l)))))
+    go (yes e) (no l) =
+        let out : (p < length w′) → ⊥ = λ k. l (rw e at (A .back (rw e k))) in
+        rw (set-out w p v (omega arith), set-out w′ p v (omega arith)) (A .here)
+    go (no d) l = getD-set-other w p i v 0 d ∙ A .here ∙ sym (getD-set-other w′ p i v 0 d)
+
+  put-here : getD (putAt w p v) i 0 ≡ getD (putAt w′ p v) i 0
   unfolding putAt
-  put-alike p v i h = by (ltb v 4294967296) where
+  put-here = by (ltb v 4294967296) where
     by : (b : Bool) → getD (pick b (set w p v) w) i 0 ≡ getD (pick b (set w′ p v) w′) i 0
-    by true = set-alike p v i h
-    by false = S .agree i h
+    by true = set-alike
+    by false = A .here
+
+  pub put-alike : AlikeAt i (putAt w p v) (putAt w′ p v)
+  put-alike = record {
+    there = λ h. rw (put-length w′ p v) (A .there (rw (put-length w p v) at h));
+    back = λ h. rw (put-length w p v) (A .back (rw (put-length w′ p v) at h));
+    here = put-here;
+  }
+
+module _ {N c : ℕ} {w w′ : List ℕ} (S : Same N c w w′) where
+  alike : (i : ℕ) → i < c → AlikeAt i w w′
+  alike i h = record { there = S .there i (omega (arith, S .few)); back = S .back i (omega (arith, S .few)); here = S .agree i h }
 
   -- A store whose numbers are the same where it matters.
   put-agree : (p v v′ i : ℕ) → i < c → (i ≡ p → v ≡ v′) → getD (putAt w p v) i 0 ≡ getD (putAt w′ p v′) i 0
   put-agree p v v′ i h same = go (ℕ-discrete i p) where
     go : Dec (i ≡ p) → getD (putAt w p v) i 0 ≡ getD (putAt w′ p v′) i 0
-    go (yes e) = put-alike p v i h ∙ ap (λ (x : ℕ). getD (putAt w′ p x) i 0) (same e)
+    go (yes e) = put-alike (alike i h) p v .here ∙ ap (λ (x : ℕ). getD (putAt w′ p x) i 0) (same e)
     go (no d) = put-other w p v d ∙ S .agree i h ∙ sym (put-other w′ p v′ d)
 
 -- A store keeps the places.

@@ -11,16 +11,16 @@ use Rattle.egg.specs.declared.Verdict.the-variants.{Fine}
 use Rattle.egg.specs.Table.{startOf, parentOf, lastOf, lengthOf, inverseOf, stepOf}
 use Rattle.checks.specs.Checks.{check8, ranges, wrong, counted, checked, check-rest, check-group}
 use Rattle.inverses.specs.Inverses.{fillInverses, inversesRight}
-use Rattle.lefts.specs.Lefts.{check-steps}
+use Rattle.lefts.specs.Lefts.{spelled, check-steps}
 use Rattle.theory.specs.Table.{Table, Columns}
 use Rattle.theory.specs.Words.{Parents, Recorded}
 use Rattle.theory.specs.Group.{RightRegular}
 use Rattle.theory.specs.Regular.{inverse}
 use Rattle.theory.proofs.Complete.{no-fixed-point, only-identity, complete, inverse-involution}
-use Rattle.theory.proofs.Recording.{recorded-spelled}
+use Rattle.theory.proofs.Recording.{recorded-spelled, length-grow}
 use Rattle.meaning.specs.Stored.{Stored}
 use Rattle.meaning.proofs.Tests.{check8-fine, table-fine, steps-fine, ranges-fine, wrong-fine, counts-fine, inverses-fine, identity-fine, spelled-fine}
-use Rattle.meaning.proofs.Inverses.{fill-kept, stored-kept, step-is, back-is, inverse-small, grown, fill-inverse}
+use Rattle.meaning.proofs.Inverses.{fill-kept, stored-kept, step-is, back-is, inverse-small, fill-inverse}
 use Rattle.meaning.proofs.Lefts.{lefts-complete}
 use Rattle.meaning.proofs.Arrivals.{counted-length, arrivals-right}
 
@@ -51,19 +51,20 @@ module _ {n N : ℕ} {step back : ℕ → ℕ → ℕ} {parent last : ℕ → �
         omega arith,
   ))
 
-  right-steps : ((g : ℕ) → g < n → step 0 g ≡ suc g) → check-steps t n N ≡ Fine
-  right-steps first = steps-fine t n N .1 (
-    identity-fine t n N .1 (λ g hg. omega (arith, step-is S (T .origin) hg, first g hg)),
-    spelled-fine t n N .1 (λ e he. (
-      λ g hg. rw (back-is S he hg) (step-is S (C .closed he hg) hg ∙ C .step-back he hg),
-      (λ z. rw z (S .lengths (T .origin) ∙ ap length (R .start)), λ pos. links-right e pos he),
-    )),
-  ) where
+  -- The recorded words lead to their elements.
+  pub words-right : spelled t n N ≡ Fine
+  words-right = spelled-fine t n N .1 (λ e he. (
+    λ g hg. rw (back-is S he hg) (step-is S (C .closed he hg) hg ∙ C .step-back he hg),
+    (λ z. rw z (S .lengths (T .origin) ∙ ap length (R .start)), λ pos. links-right e pos he),
+  )) where
     links-right : (e : ℕ) → 0 < e → e < N → (stepOf t n (parentOf t n e) (lastOf t n e) ≡ e) × (lengthOf t n e ≡ lengthOf t n (parentOf t n e) + 1)
     links-right e pos he =
         let m : parent e < N = omega (arith, P .earlier pos he) in
         rw (S .parents pos he, S .letters pos he)
-        (step-is S m (P .generator pos he) ∙ P .arrives pos he, omega (arith, S .lengths he, S .lengths m, grown T P R C pos he))
+        (step-is S m (P .generator pos he) ∙ P .arrives pos he, omega (arith, S .lengths he, S .lengths m, length-grow R pos he))
+
+  right-steps : ((g : ℕ) → g < n → step 0 g ≡ suc g) → check-steps t n N ≡ Fine
+  right-steps first = steps-fine t n N .1 (identity-fine t n N .1 (λ g hg. omega (arith, step-is S (T .origin) hg, first g hg)), words-right)
 
 module _ {n N : ℕ} {step back : ℕ → ℕ → ℕ} {parent last : ℕ → ℕ} {word : ℕ → List ℕ} {t : List ℕ}
     (few : n ≤ 8) (small : N ≤ 65535) (room : N * (2 * n + 4) ≤ length t) (S : Stored t n N step back parent last word)

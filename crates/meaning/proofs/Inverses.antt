@@ -4,14 +4,14 @@ use Prim.Native.Nat.{ℕ, zero, suc, _+_, _*_, _-_, _≤_, _<_}
 use mathlib.Core.Path.{_≡_, refl, sym, ap, _∙_}
 use mathlib.Core.List.{List, [], _∷_, _++_}
 use native.Mathlib.Omega.{arith}
-use lib.ListN.{length, getD, length-append}
+use lib.ListN.{length, getD}
 use Rattle.egg.specs.Table.{putAt, startOf, lengthOf, inverseOf, stepOf, backOf}
 use Rattle.inverses.specs.Inverses.{invertFrom, invertOf, fillInverses}
 use Rattle.theory.specs.Table.{Table, Columns}
 use Rattle.theory.specs.Words.{Parents, Recorded, retrace}
 use Rattle.theory.specs.Regular.{inverse}
 use Rattle.theory.proofs.Walking.{retrace-closed}
-use Rattle.theory.proofs.Recording.{recorded-spelled}
+use Rattle.theory.proofs.Recording.{recorded-spelled, length-grow}
 use Rattle.meaning.specs.Stored.{Stored, Kept}
 use Rattle.egg.proofs.Cells.{put-same, put-other, put-length, cell-inside, other-cell, other-row}
 use Rattle.egg.proofs.Scans.{here-or-later}
@@ -83,22 +83,19 @@ module _ {n N : ℕ} {step back : ℕ → ℕ → ℕ} {parent last : ℕ → �
   back-is S he hg = omega (arith, S .predecessor he hg)
 
   module _ (T : Table n N step) (P : Parents n N step parent last) (R : Recorded N parent last word) (C : Columns n N step back) where
-    pub grown : {e : ℕ} → 0 < e → e < N → length (word e) ≡ suc (length (word (parent e)))
-    grown {e} p he = omega (arith, ap length (R .grow p he), length-append (word (parent e)) (last e ∷ []))
-
     -- Going from parent to parent, through the predecessors.
     invert-is : {t : List ℕ} → Stored t n N step back parent last word → (k e x : ℕ) → e < N → x < N → k ≡ length (word e)
         → invertFrom k t n e x ≡ retrace back x (word e)
     unfolding invertFrom
     invert-is S zero zero x he hx q = rw (R .start)
     invert-is S (suc k) zero x he hx q = absurd (omega (arith, ap length (R .start)))
-    invert-is S zero (suc e) x he hx q = let p : 0 < suc e = omega arith in absurd (omega (arith, grown p he))
+    invert-is S zero (suc e) x he hx q = let p : 0 < suc e = omega arith in absurd (omega (arith, length-grow R p he))
     invert-is S (suc k) (suc e) x he hx q =
         let p : 0 < suc e = omega arith in
         let h : last (suc e) < n = P .generator p he in
         let m : parent (suc e) < N = omega (arith, P .earlier p he) in
         rw (S .parents p he, S .letters p he, back-is S hx h, R .grow p he, retrace-append)
-        (invert-is S k (parent (suc e)) (back x (last (suc e))) m (C .closed hx h) (omega (arith, grown p he)))
+        (invert-is S k (parent (suc e)) (back x (last (suc e))) m (C .closed hx h) (omega (arith, length-grow R p he)))
 
     pub inverse-small : {e : ℕ} → e < N → inverse back word e < N
     inverse-small he = retrace-closed C (T .origin) (recorded-spelled P R .over he)

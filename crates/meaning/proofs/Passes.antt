@@ -1,9 +1,10 @@
 -- A test that is refused is not passed: what each test of numbers shows where it is fine.
 -- Assumes nothing.
-use Prim.Native.Nat.{ℕ, _≤_, _<_}
-use mathlib.Core.Path.{_≡_, refl}
-use mathlib.Core.Logic.{_↔_}
+use Prim.Native.Nat.{ℕ, zero, suc, _+_, _≤_, _<_}
+use mathlib.Core.Path.{_≡_, refl, ap, _∙_}
+use mathlib.Core.Logic.{_↔_, _⊎_, inl, inr}
 use mathlib.Core.Bool.{Bool, true, false}
+use native.Mathlib.Nat.{eq-or-lt-of-le}
 use native.Mathlib.Omega.{arith}
 use borrow.Author.Tests.{eqb-true, eqb-false, ltb-true, ltb-false, leb-true, leb-false}
 use lib.Dec.{eqb, ltb, leb}
@@ -11,6 +12,7 @@ use Rattle.egg.specs.declared.Refusal.{Refusal}
 use Rattle.egg.specs.declared.Verdict.{Verdict}
 use Rattle.egg.specs.declared.Verdict.the-variants.{Fine, Refused}
 use Rattle.egg.specs.Table.{pick}
+use Rattle.egg.specs.Scan.{andThen, scan}
 use Rattle.egg.proofs.Scans.{refused-fine}
 
 -- One test and what comes after it: the test holds, or fails, and the rest is fine.
@@ -62,3 +64,13 @@ first-or e u v = by (eqb e 0) refl where
 
 pub unless-first : (e : ℕ) (v : Verdict) → pick (eqb e 0) Fine v ≡ Fine ↔ (0 < e → v ≡ Fine)
 unless-first e v = (λ h. first-or e Fine v .0 h .1, λ h. first-or e Fine v .1 (λ _. refl, h))
+
+-- A scan stops at the first place that refuses.
+pub scan-stops : (k : ℕ) (f : ℕ → Verdict) (i j : ℕ) {r : Refusal} → i ≤ j → j < i + k → f j ≡ Refused r → ((l : ℕ) → i ≤ l → l < j → f l ≡ Fine)
+    → scan k f i ≡ Refused r
+unfolding scan
+scan-stops zero f i j a b h before = absurd (omega arith)
+scan-stops (suc k) f i j {r} a b h before = go (eq-or-lt-of-le a) (λ l. scan-stops k f (i + 1) j (omega arith) (omega arith) h (λ m p q. before m (omega arith) q)) where
+  go : (i ≡ j) ⊎ (i < j) → (i < j → scan k f (i + 1) ≡ Refused r) → andThen (f i) (scan k f (i + 1)) ≡ Refused r
+  go (inl q) rest = rw (ap f q ∙ h)
+  go (inr l) rest = rw (before i (omega arith) l) (rest l)

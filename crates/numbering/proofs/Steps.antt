@@ -2,14 +2,13 @@
 -- Assumes nothing.
 use Prim.Native.Nat.{ℕ, suc, _+_, _*_, _≤_, _<_}
 use mathlib.Core.Path.{_≡_, sym, _∙_}
-use mathlib.Core.Logic.{_⊎_, inl, inr, ⊎-elim}
+use mathlib.Core.Logic.{_⊎_, ⊎-elim}
 use mathlib.Core.List.{List}
-use native.Mathlib.Decide.{ℕ-discrete}
 use native.Mathlib.Omega.{arith}
 use lib.ListN.{length}
 use Rattle.theory.specs.Appearance.{Ahead, row, column}
 use Rattle.theory.proofs.Places.{ahead-column, ahead-row}
-use Rattle.numbering.proofs.Stores.{cell, stepped, step-keeps, step-successor, step-predecessor}
+use Rattle.numbering.proofs.Stores.{cell, stepped, step-keeps, step-successor, step-predecessor, predecessor-or-kept}
 
 pub record Steps (src : ℕ → ℕ → ℕ) (n x g c : ℕ) (t : List ℕ) : Type 0 where
   pub successor : {y h : ℕ} → h < n → Ahead y h x g → cell t n y h ≡ suc (src y h)
@@ -48,24 +47,11 @@ module _ {src : ℕ → ℕ → ℕ} {n : ℕ} where
         (λ b. step-keeps t n x g v hg y h (omega arith) (ahead-apart b) (λ p q. omega arith) ∙ S .successor hh b)
         (ahead-column a)
 
-    -- A predecessor's cell is the one that is stored, or as it was.
-    here-or-kept : (r h : ℕ) → h < n
-        → ((r ≡ v) × (h ≡ g) × (cell (stepped t n x g v) n r (n + h) ≡ suc x)) ⊎ (cell (stepped t n x g v) n r (n + h) ≡ cell t n r (n + h))
-    here-or-kept r h hh = go (ℕ-discrete r v) (ℕ-discrete h g) where
-      kept : (r ≡ v → n + h ≡ n + g → ⊥) → cell (stepped t n x g v) n r (n + h) ≡ cell t n r (n + h)
-      kept d = step-keeps t n x g v hg r (n + h) (omega arith) (λ p q. omega arith) d
-
-      go : Dec (r ≡ v) → Dec (h ≡ g)
-          → ((r ≡ v) × (h ≡ g) × (cell (stepped t n x g v) n r (n + h) ≡ suc x)) ⊎ (cell (stepped t n x g v) n r (n + h) ≡ cell t n r (n + h))
-      go (yes p) (yes q) = inl (p, q, rw (p, q) (step-predecessor t n x g v hg hx hv fits small))
-      go (yes p) (no d) = inr (kept (λ a b. d (omega arith)))
-      go (no d) q = inr (kept (λ a b. d a))
-
     next-predecessor : {r h e : ℕ} → h < n → cell (stepped t n x g v) n r (n + h) ≡ suc e → (e < c) × (src e h ≡ r)
     next-predecessor {r} {h} {e} hh q = ⊎-elim
         (λ p. let i : e ≡ x = omega (arith, p .2, q) in (omega arith, rw (i, p .0, p .1) is))
         (λ k. S .predecessor hh (sym k ∙ q))
-        (here-or-kept r h hh)
+        (predecessor-or-kept t n x g v hg hx hv fits small r h hh)
 
     next-arrived : {y h : ℕ} → h < n → Ahead y h x (suc g) → ¬ (cell (stepped t n x g v) n (src y h) (n + h) ≡ 0)
     next-arrived {y} {h} hh a q = ⊎-elim
@@ -74,7 +60,7 @@ module _ {src : ℕ → ℕ → ℕ} {n : ℕ} where
         (λ e. omega (arith, rw (e .0, e .1, is) at q, step-predecessor t n x g v hg hx hv fits small))
         (λ b. S .arrived hh b (sym k ∙ q))
         (ahead-column a))
-        (here-or-kept (src y h) h hh)
+        (predecessor-or-kept t n x g v hg hx hv fits small (src y h) h hh)
 
     pub steps-next : Steps src n x (suc g) c (stepped t n x g v)
     steps-next = record { successor = next-successor; predecessor = next-predecessor; arrived = next-arrived }

@@ -3,7 +3,9 @@
 -- Assumes nothing.
 use Prim.Native.Nat.{ℕ, suc, _+_, _*_, _≤_, _<_}
 use mathlib.Core.Path.{_≡_, _∙_}
+use mathlib.Core.Logic.{_⊎_, inl, inr}
 use mathlib.Core.List.{List}
+use native.Mathlib.Decide.{ℕ-discrete}
 use native.Mathlib.Omega.{arith}
 use lib.ListN.{length, getD}
 use Rattle.egg.specs.Table.{startOf, putAt}
@@ -57,6 +59,19 @@ module _ (t : List ℕ) (n x g v : ℕ) (hg : g < n) where
         let p : startOf n v + (n + g) ≡ startOf n v + n + g = omega arith in
         let l = put-length t (startOf n x + g) (v + 1) in
         rw p (put-same _ (startOf n v + n + g) (x + 1) (omega (arith, predecessor-in)) (omega arith) ∙ omega arith)
+
+    -- A predecessor's cell is the one that is stored, or as it was.
+    pub predecessor-or-kept : (r h : ℕ) → h < n
+        → ((r ≡ v) × (h ≡ g) × (cell (stepped t n x g v) n r (n + h) ≡ suc x)) ⊎ (cell (stepped t n x g v) n r (n + h) ≡ cell t n r (n + h))
+    predecessor-or-kept r h hh = go (ℕ-discrete r v) (ℕ-discrete h g) where
+      kept : (r ≡ v → n + h ≡ n + g → ⊥) → cell (stepped t n x g v) n r (n + h) ≡ cell t n r (n + h)
+      kept d = step-keeps r (n + h) (omega arith) (λ p q. omega arith) d
+
+      go : Dec (r ≡ v) → Dec (h ≡ g)
+          → ((r ≡ v) × (h ≡ g) × (cell (stepped t n x g v) n r (n + h) ≡ suc x)) ⊎ (cell (stepped t n x g v) n r (n + h) ≡ cell t n r (n + h))
+      go (yes p) (yes q) = inl (p, q, rw (p, q) step-predecessor)
+      go (yes p) (no d) = inr (kept (λ a b. d (omega arith)))
+      go (no d) q = inr (kept (λ a b. d a))
 
     pub step-beyond : (i : ℕ) → c * (2 * n + 4) ≤ i → getD (stepped t n x g v) i 0 ≡ getD t i 0
     unfolding setStep

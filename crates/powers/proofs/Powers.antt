@@ -20,6 +20,7 @@ use Rattle.egg.specs.Factor.{stretch}
 use Rattle.walks.specs.Walks.{onReached, composeIn}
 use Rattle.products.specs.Radix.{stride}
 use Rattle.products.specs.Divisors.{euclid, gcd, lcm}
+use Rattle.words.proofs.Words.{never-both, same-count}
 use Rattle.products.proofs.DivisorLaws.{gcd-left, lcm-left, lcm-right, lcm-least, lcm-positive}
 use Rattle.handles.specs.Handles.{sizes}
 use Rattle.powers.specs.Powers.{oddToo, halves, periodFrom, periodOf, periods}
@@ -171,20 +172,14 @@ module _ {op : ℕ → ℕ → Reached} {N a left x k : ℕ} (w : Turning op N a
       }
 
 -- A period that was answered is one of 1 .. N.
-never : {v : Counted} {r : Refusal} {k : ℕ} → v ≡ counted.Refused r → v ≡ counted.Count k → ⊥
-never q e = let z : _≡_ {A = ℕ} 0 1 = cc in omega arith
-
-same-count : {k m : ℕ} → counted.Count k ≡ counted.Count m → k ≡ m
-same-count q = cc
-
 period-in-range : (left : ℕ) (op : ℕ → ℕ → Reached) (a x k m : ℕ) → periodFrom left op a x k ≡ counted.Count m → (k ≤ m) × (m < k + left)
 unfolding periodFrom
-period-in-range zero op a x k m h = absurd (never refl h)
+period-in-range zero op a x k m h = absurd (never-both refl h)
 period-in-range (suc left) op a x k m h = by (λ y. period-in-range left op a y (k + 1) m) (eqb x 0) (op x a) refl refl where
   by : ((y : ℕ) → periodFrom left op a y (k + 1) ≡ counted.Count m → (k + 1 ≤ m) × (m < k + 1 + left))
       → (b : Bool) (r : Reached) → eqb x 0 ≡ b → op x a ≡ r → (k ≤ m) × (m < k + suc left)
   by i true r p q = let z : counted.Count k ≡ counted.Count m = (rw p at h) in let e : k ≡ m = same-count z in (omega arith, omega arith)
-  by i false (Refused w) p q = absurd (never refl (rw (p, q) at h))
+  by i false (Refused w) p q = absurd (never-both refl (rw (p, q) at h))
   by i false (Element y) p q =
       let (u, v) = i (y .0) (rw (p, q) at h) in
       (omega arith, omega arith)

@@ -1,7 +1,7 @@
 -- The builds of a predicate in the front of the work. A build by numbering takes no more elements than there is room, so that a work as long as the room serves as well as a longer one: both give the same
 -- answer, table and maps, and each work is zero at the end. So all builds may be lent the front, if the whole is cleared once.
 -- Assumes nothing.
-use Prim.Native.Nat.{ℕ, zero, suc, _+_, _*_, _≤_, _<_}
+use Prim.Native.Nat.{ℕ, zero, suc, _+_, _*_, _≤_}
 use mathlib.Core.Path.{_≡_, refl, sym, ap, _∙_}
 use mathlib.Core.Bool.{Bool, true, false}
 use mathlib.Core.List.{List, [], _∷_, _++_}
@@ -12,11 +12,8 @@ use lib.Dec.{eqb, ltb, leb}
 use borrow.Author.Tests.{leb-true}
 use Rattle.egg.specs.declared.Reached.{Reached}
 use Rattle.egg.specs.declared.Reached.the-variants as reached
-use Rattle.egg.specs.declared.Verdict.{Verdict}
-use Rattle.egg.specs.declared.Verdict.the-variants as verdict
-use Rattle.egg.specs.declared.Counted.{Counted}
 use Rattle.egg.specs.declared.Counted.the-variants.{Count, Refused}
-use Rattle.egg.specs.Table.{pick, putAt, workOf}
+use Rattle.egg.specs.Table.{pick, workOf}
 use Rattle.egg.specs.Factor.{hasRoom}
 use Rattle.egg.proofs.Rooms.{and-first, and-second}
 use Rattle.reading.specs.Build.{adds}
@@ -25,6 +22,7 @@ use Rattle.reading.proofs.Readings.{added-within}
 use Rattle.checks.specs.Checks.{Checked, checked, check-group}
 use Rattle.lending.specs.Finish.{Built, built, zeroed, settledBy, finished}
 use Rattle.lending.specs.Lending.{workNeed, lentRight}
+use Rattle.lending.proofs.Finishing.{builtWith, settled-like}
 use Rattle.lending.proofs.Lending.{lent-table, lent-enough}
 use Rattle.meaning.proofs.Lengths.{checks-work}
 use Rattle.appearance.specs.Renumber.{none, Mapped, mapped, thenMapped, onNew, mapPlace, mapFrom, mapRow, mapRows, mapAll}
@@ -77,22 +75,13 @@ module _ (room : ℕ) where
         (λ c t′ inn′ outw′ l. rows-within k (e + 1) c t′ inn′ outw′ l)) h
 
 -- The same with another list for the work.
-abbrev builtWith : List ℕ → Built → Built
-builtWith v (built c t w) = built c t v
-
 abbrev pub withWork : List ℕ → Renumbering → Renumbering
 withWork v (renumbering (built c t w) inn outw) = renumbering (built c t v) inn outw
 
 module _ (n : ℕ) (t w w′ : List ℕ) where
   settled-with : (N : ℕ) (c c′ : Checked) → check-group t w n N ≡ c → Like c c′ → settledBy N c ≡ builtWith (zeroed w) (settledBy N c′)
   settled-with N (checked v t₁ w₁) (checked v′ t₂ w₂) q L =
-      ap (λ (u : Verdict). settledBy N (checked u t₁ w₁)) (L .0) ∙ ap (λ (x : List ℕ). settledBy N (checked v′ x w₁)) (L .1) ∙ by v′ where
-        long : length w₁ ≡ length w
-        long = checks-work t w n N q
-
-        by : (u : Verdict) → settledBy N (checked u t₂ w₁) ≡ builtWith (zeroed w) (settledBy N (checked u t₂ w₂))
-        by verdict.Fine = ap (λ (k : ℕ). built (Count N) t₂ (replicate k 0)) long
-        by (verdict.Refused r) = ap (λ (k : ℕ). built (Refused r) (zeroed t₂) (replicate k 0)) long
+      settled-like N w₁ w₂ (L .0) (L .1) ∙ ap (λ (k : ℕ). builtWith (replicate k 0) (settledBy N (checked v′ t₂ w₂))) (checks-work t w n N q)
 
   finished-with : (N : ℕ) → N ≤ length w → N ≤ length w′ → finished (Count N) n t w ≡ builtWith (zeroed w) (finished (Count N) n t w′)
   unfolding finished

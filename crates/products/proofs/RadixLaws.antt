@@ -58,10 +58,10 @@ pub split-length : (Ns : List ℕ) (e : ℕ) → length (split Ns e) ≡ length 
 split-length [] e = refl
 split-length (N ∷ Ns) e = ap suc (split-length Ns (e / N))
 
-pub digit-small : {Ns ds : List ℕ} → Digits Ns ds → (f : ℕ) → getD ds f 0 < getD Ns f 1
-digit-small none f = omega arith
-digit-small (more h t) zero = h
-digit-small (more h t) (suc f) = digit-small t f
+pub digits-below : {Ns ds : List ℕ} → Digits Ns ds → (f : ℕ) → getD ds f 0 < getD Ns f 1
+digits-below none f = omega arith
+digits-below (more h t) zero = h
+digits-below (more h t) (suc f) = digits-below t f
 
 pub digits-set : {Ns ds : List ℕ} → Digits Ns ds → (f x : ℕ) → x < getD Ns f 1 → Digits Ns (set ds f x)
 digits-set none f x k = none
@@ -75,7 +75,7 @@ project-is (N ∷ Ns) zero e = rw div-one
 project-is (N ∷ Ns) (suc f) e = rw (← div-div-eq-div-mul) (project-is Ns f (e / N))
 
 pub project-small : (Ns : List ℕ) (f e : ℕ) → e < count Ns → project Ns f e < getD Ns f 1
-project-small Ns f e h = rw (project-is Ns f e) (digit-small (split-digits Ns e h) f)
+project-small Ns f e h = rw (project-is Ns f e) (digits-below (split-digits Ns e h) f)
 
 pub project-join : {Ns ds : List ℕ} → Digits Ns ds → (f : ℕ) → project Ns f (join Ns ds) ≡ getD ds f 0
 project-join {Ns} {ds} t f = project-is Ns f (join Ns ds) ∙ ap (λ l. getD l f 0) (split-join t)

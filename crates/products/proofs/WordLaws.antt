@@ -121,7 +121,7 @@ product-only ws G′ R′ ha hb =
     let W = product-worded ws in
     unique (W .spelled) G′ R′ (W .stepped .group .laws) (W .stepped .steps) ha hb
 
-shift-length : (n : ℕ) (w : List ℕ) → length (shift n w) ≡ length w
+pub shift-length : (n : ℕ) (w : List ℕ) → length (shift n w) ≡ length w
 shift-length n [] = refl
 shift-length n (g ∷ w) = ap suc (shift-length n w)
 
@@ -156,15 +156,15 @@ pub product-shortest : {ps : List Part} → Each Shortest ps → Shortest (produ
 product-shortest ss = product-has trivial-shortest pair-shortest ss
 
 -- The word of an element of a product is the concatenation of its digits' words, each by its offset.
-shift-shift : (o n : ℕ) (w : List ℕ) → shift o (shift n w) ≡ shift (o + n) w
+pub shift-shift : (o n : ℕ) (w : List ℕ) → shift o (shift n w) ≡ shift (o + n) w
 shift-shift o n [] = refl
 shift-shift o n (g ∷ w) = ap₂ {C = List ℕ} (λ h r. h ∷ r) (sym (add-assoc o n g)) (shift-shift o n w)
 
-shift-append : (o : ℕ) (u v : List ℕ) → shift o (u ++ v) ≡ shift o u ++ shift o v
+pub shift-append : (o : ℕ) (u v : List ℕ) → shift o (u ++ v) ≡ shift o u ++ shift o v
 shift-append o [] v = refl
 shift-append o (g ∷ u) v = ap (λ r. (o + g) ∷ r) (shift-append o u v)
 
-shift-zero : (w : List ℕ) → shift 0 w ≡ w
+pub shift-zero : (w : List ℕ) → shift 0 w ≡ w
 shift-zero [] = refl
 shift-zero (g ∷ w) = ap₂ {C = List ℕ} (λ h r. h ∷ r) (zero-add g) (shift-zero w)
 

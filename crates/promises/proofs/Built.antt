@@ -1,31 +1,30 @@
 -- A build from the numbers of a source in its stretches: accepted exactly when the rows are taken, and then the table holds them.
 -- Assumes nothing.
-use Prim.Native.Nat.{ℕ, zero, suc, _+_, _*_, _≤_, _<_}
-use mathlib.Core.Path.{_≡_, refl, sym, ap, _∙_, subst}
+use Prim.Native.Nat.{ℕ, suc, _+_, _*_, _≤_, _<_}
+use mathlib.Core.Path.{_≡_, sym, ap, _∙_, subst}
 use mathlib.Core.List.{List}
 use native.Mathlib.Nat.{mul-le-mul, le-refl}
 use native.Mathlib.Omega.{arith}
-use lib.ListN.{length, getD, replicate}
+use lib.ListN.{length, replicate}
 use Rattle.egg.specs.declared.Verdict.the-variants as verdict
 use Rattle.egg.specs.declared.Counted.the-variants.{Count, Refused}
-use Rattle.egg.specs.Table.{startOf, parentOf, lastOf, stepOf}
+use Rattle.egg.specs.Table.{startOf, stepOf}
 use Rattle.checks.specs.Checks.{Checked, checked, check-group}
 use Rattle.lending.specs.Finish.{built, zeroed, settledBy, finished, finishedPlaced}
+use Rattle.lending.proofs.Finishing.{refused-counted}
 use Rattle.reading.specs.Reading.{Placed, placed, readAll}
-use Rattle.theory.specs.Table.{Columns}
 use Rattle.theory.proofs.AnyCarrier.{any-carrier}
 use Rattle.theory.proofs.Counting.{numbered-table}
 use Rattle.theory.proofs.FirstPlaces.{first-parents}
 use Rattle.theory.proofs.Recording.{word-of-recorded}
 use Rattle.theory.proofs.Complete.{columns}
-use Rattle.meaning.specs.Stored.{Stored, wordOf}
 use Rattle.meaning.proofs.Accepted.{checks-sound, checks-kept, sound-regular}
 use Rattle.meaning.proofs.Ruling.{ruled-kept}
 use Rattle.meaning.proofs.Complete.{checks-complete}
 use Rattle.meaning.proofs.Lengths.{checks-work}
 use Rattle.meaning.proofs.Refused.{regular-same}
 use Rattle.numbering.specs.Read.{Read}
-use Rattle.numbering.proofs.Readings.{accepted-read, readable-accepted, read-words, read-letters, read-readable, read-steps, read-rule, read-appearance}
+use Rattle.numbering.proofs.Readings.{accepted-read, readable-accepted, read-words, read-readable, read-steps, read-rule, read-appearance}
 use Rattle.numbering.proofs.Storing.{read-stored}
 use Rattle.promises.specs.Composed.{Taken, Holding}
 
@@ -39,9 +38,7 @@ pub record Passed (p : Placed) (n N : ℕ) (w t w₁ : List ℕ) : Type 0 where
 
 pub by-check : {c N : ℕ} {t w₁ : List ℕ} (k : Checked) → settledBy c k ≡ built (Count N) t w₁ → (c ≡ N) × ((w₂ : List ℕ) × ((k ≡ checked verdict.Fine t w₂) × (w₁ ≡ zeroed w₂)))
 by-check (checked verdict.Fine t₁ w₂) q = (cc, (w₂, (cc, cc)))
-by-check {N = N} {t} {w₁} (checked (verdict.Refused r) t₁ w₂) q = absurd (never q) where
-  never : built (Refused r) (zeroed t₁) (zeroed w₂) ≡ built (Count N) t w₁ → ⊥
-  never h = let z : _≡_ {A = ℕ} 0 1 = cc in omega arith
+by-check (checked (verdict.Refused r) t₁ w₂) q = absurd (refused-counted q)
 
 pub passed : (p : Placed) (n : ℕ) (w : List ℕ) {N : ℕ} {t w₁ : List ℕ} → finishedPlaced p n w ≡ built (Count N) t w₁ → Passed p n N w t w₁
 unfolding finished
@@ -54,9 +51,7 @@ passed (placed (Count c) t₀) n w {N} {t} q =
       checks = subst (λ (k : ℕ). check-group t₀ w n k ≡ checked verdict.Fine t (b .1 .0)) (b .0) (b .1 .1 .0);
       wiped = b .1 .1 .1;
     }
-passed (placed (Refused r) t₀) n w {N} {t} {w₁} q = absurd (never q) where
-  never : built (Refused r) (zeroed t₀) (zeroed w) ≡ built (Count N) t w₁ → ⊥
-  never h = let z : _≡_ {A = ℕ} 0 1 = cc in omega arith
+passed (placed (Refused r) t₀) n w q = absurd (refused-counted q)
 
 pub passes : {p : Placed} (n : ℕ) {N : ℕ} (w : List ℕ) {t₀ t w₁ : List ℕ} → p ≡ placed (Count N) t₀ → check-group t₀ w n N ≡ checked verdict.Fine t w₁
     → finishedPlaced p n w ≡ built (Count N) t (zeroed w₁)

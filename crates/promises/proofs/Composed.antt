@@ -9,7 +9,6 @@ use native.Mathlib.Nat.{le-refl}
 use borrow.Author.Tests.{le-leb, le-ltb, leb-true, ltb-false}
 use lib.Dec.{leb, ltb}
 use lib.ListN.{length, take, replicate}
-use lib.Seq.{length-take-le}
 use Rattle.egg.specs.declared.Refusal.{Refusal}
 use Rattle.egg.specs.declared.Factor.{Factor}
 use Rattle.egg.specs.declared.Verdict.the-variants as verdict
@@ -19,10 +18,10 @@ use Rattle.egg.specs.Factor.{hasRoom, stretch}
 use Rattle.egg.proofs.Rooms.{and-first, and-second, positive, limited}
 use Rattle.lending.specs.Finish.{Built}
 use Rattle.lending.specs.Lending.{tableNeed, workNeed, lentRight, within, noFactor, making, lentBack, refusedMade, Making}
-use Rattle.lending.proofs.Lending.{lent-table, lent-enough}
+use Rattle.lending.proofs.Lending.{lent-table}
 use Rattle.factor.specs.Composed.{composedAt, composedIn, composed}
 use Rattle.promises.specs.Composed.{RowsRight, Taken, Groupless, Holding, Given}
-use Rattle.promises.proofs.Lent.{refused-making, handle, lentTable, by-build, by-refused, stretch-part, fits-still}
+use Rattle.promises.proofs.Lent.{refused-making, handle, work-taken, taken-enough, lentTable, by-build, by-refused, stretch-part, fits-still}
 use Rattle.promises.proofs.Built.{built-holds, built-work, taken-built}
 use Rattle.promises.proofs.Twelve.{built-12, groupless-built}
 
@@ -69,11 +68,8 @@ module _ (table : List ℕ) (start : ℕ) (work rows : List ℕ) (n room : ℕ) 
   pub hi : room ≤ 65535
   hi = limited (length table) start room n has-room
 
-  work-taken : length (take (workNeed n room) work) ≡ workNeed n room
-  work-taken = length-take-le (workNeed n room) work (leb-true _ _ (lent-enough (length table) start (length work) room n lent))
-
   pub work-lent : room * (6 * n * n + 4 * n) ≤ length (take (workNeed n room) work)
-  work-lent = rw work-taken (le-refl (workNeed n room))
+  work-lent = taken-enough table start work n room lent
 
   module _ {N : ℕ} {s : List ℕ} (H : Holding (composedAt rows n) n room (tableNeed n room) N s) where
     part : stretch (lentTable table start n room s) (handle start n room N) ≡ s
@@ -108,7 +104,7 @@ module _ (table : List ℕ) (start : ℕ) (work rows : List ℕ) (n room : ℕ) 
       let b = by-build table start work n room build (sym composed-is-build ∙ q) in
       let H = built-holds (composedAt rows n) n room (tableNeed n room) (take (workNeed n room) work) hn lo hi (le-refl (tableNeed n room)) work-lent (b .3 .0) in
       let z = built-work (composedAt rows n) n room (tableNeed n room) (take (workNeed n room) work) hn lo hi (le-refl (tableNeed n room)) work-lent (b .3 .0) in
-      given-at (b .3 .1 .0) (b .3 .1 .1 .0) (b .3 .1 .1 .1) (given H (z ∙ ap (λ (k : ℕ). replicate k 0) work-taken))
+      given-at (b .3 .1 .0) (b .3 .1 .1 .0) (b .3 .1 .1 .1) (given H (z ∙ ap (λ (k : ℕ). replicate k 0) (work-taken table start work n room lent)))
 
   -- Accepted exactly when: "a table within 01's limits and the given room is accepted exactly when some group has it as its right steps under the
   -- numbering rule".

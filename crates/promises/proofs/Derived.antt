@@ -14,6 +14,7 @@ use Rattle.egg.specs.Table.{startOf, stepOf}
 use Rattle.egg.specs.Pairs.{ordersRight}
 use Rattle.checks.specs.Checks.{checked, check-group}
 use Rattle.lending.specs.Finish.{Built, built, zeroed, finished}
+use Rattle.lending.proofs.Finishing.{refused-counted}
 use Rattle.relations.specs.Relations.{relationsRow, relations}
 use Rattle.enumeration.specs.declared.inner.Ran.{Ran}
 use Rattle.enumeration.specs.declared.inner.Ran.the-variants as ran
@@ -57,12 +58,8 @@ by-relations n o (built (Count c) s v) {N} {t} {w} q = by (relationsRow s n c o 
       let a : c ≡ N = cc in
       let b : s ≡ t = cc in
       (e, subst (λ (x : List ℕ). relationsRow x n N o 0 ≡ verdict.Fine) b (subst (λ (x : ℕ). relationsRow s n x o 0 ≡ verdict.Fine) a h))
-  by (verdict.Refused r) h e = absurd (never e) where
-    never : built (Refused r) (zeroed s) v ≡ built (Count N) t w → ⊥
-    never x = let z : _≡_ {A = ℕ} 0 1 = cc in omega arith
-by-relations n o (built (Refused r) s v) {N} {t} {w} q = absurd (never q) where
-  never : built (Refused r) s v ≡ built (Count N) t w → ⊥
-  never x = let z : _≡_ {A = ℕ} 0 1 = cc in omega arith
+  by (verdict.Refused r) h e = absurd (refused-counted e)
+by-relations n o (built (Refused r) s v) q = absurd (refused-counted q)
 
 by-count : (c : Counted) (n : ℕ) (s v : List ℕ) {N : ℕ} {t w : List ℕ} → finished c n s v ≡ built (Count N) t w
     → (c ≡ Count N) × ((w₂ : List ℕ) × ((check-group s v n N ≡ checked verdict.Fine t w₂) × (w ≡ zeroed w₂)))
@@ -70,9 +67,7 @@ unfolding finished
 by-count (Count c) n s v {N} {t} q =
     let b = by-check (check-group s v n c) q in
     (ap Count (b .0), (b .1 .0, (subst (λ (k : ℕ). check-group s v n k ≡ checked verdict.Fine t (b .1 .0)) (b .0) (b .1 .1 .0), b .1 .1 .1)))
-by-count (Refused r) n s v {N} {t} {w} q = absurd (never q) where
-  never : built (Refused r) (zeroed s) (zeroed v) ≡ built (Count N) t w → ⊥
-  never x = let z : _≡_ {A = ℕ} 0 1 = cc in omega arith
+by-count (Refused r) n s v q = absurd (refused-counted q)
 
 module _ (o : List ℕ) (n room lt lw : ℕ) (L : run.Limits n o room lt lw) (right : ordersRight o n ≡ verdict.Fine) where
   -- Rows from N on are zero, so every number from there on is.

@@ -10,7 +10,6 @@ use native.Mathlib.Omega.{arith}
 use borrow.Author.Tests.{le-leb, leb-true, ltb-true, ltb-false}
 use lib.Dec.{leb, ltb}
 use lib.ListN.{length, take}
-use lib.Seq.{length-take-le}
 use Rattle.egg.specs.declared.Refusal.{Refusal}
 use Rattle.egg.specs.declared.Factor.{Factor}
 use Rattle.egg.specs.declared.Made.{Made}
@@ -32,7 +31,7 @@ use Rattle.meaning.proofs.Numbers.{each-in, orders-number}
 use Rattle.promises.specs.Composed.{RowsRight}
 use Rattle.promises.specs.Enumerated.{OrdersRight}
 use Rattle.promises.specs.Leaves.{Leaves, untouched, zeros, lentFor, composedNumbers, enumerationNumbers}
-use Rattle.promises.proofs.Lent.{refused-making}
+use Rattle.promises.proofs.Lent.{refused-making, work-taken}
 use Rattle.promises.proofs.Enumerated.{limits}
 use Rattle.promises.proofs.Zeros.{Zeros, read-zeros, enumerated-zeros}
 
@@ -141,9 +140,7 @@ module _ (table : List ℕ) (start : ℕ) (work rows : List ℕ) (n room : ℕ) 
   unfolding composedIn
   rows-zeros R B =
       let has : hasRoom (length table) start room n ≡ true = lent-table (length table) start (length work) room n (R .lent) in
-      let long : length (take (workNeed n room) work) ≡ workNeed n room =
-      length-take-le (workNeed n room) work (leb-true _ _ (lent-enough (length table) start (length work) room n (R .lent))) in
-      subst (λ (k : ℕ). Zeros r composedNumbers (tableNeed n room) k (B .stretch-table) (B .stretch-work)) long
+      subst (λ (k : ℕ). Zeros r composedNumbers (tableNeed n room) k (B .stretch-table) (B .stretch-work)) (work-taken table start work n room (R .lent))
       (read-zeros (composedAt rows n) n room (tableNeed n room) (take (workNeed n room) work) (R .generators) (positive (length table) start room n has)
       (limited (length table) start room n has) (le-refl (tableNeed n room)) (B .is))
 

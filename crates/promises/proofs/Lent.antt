@@ -1,13 +1,13 @@
 -- What a call lends and gets back: a stretch of the table buffer and one of the work. What holds of the build in its stretches holds of the call.
 -- Assumes nothing.
-use Prim.Native.Nat.{ℕ, _+_, _-_, _≤_, _<_}
+use Prim.Native.Nat.{ℕ, _+_, _*_, _-_, _≤_, _<_}
 use mathlib.Core.Path.{_≡_, refl, sym, ap, _∙_}
 use mathlib.Core.Logic.{_⊎_, inl, inr}
 use mathlib.Core.Bool.{true}
 use mathlib.Core.List.{List, _++_}
-use native.Mathlib.Nat.{min-le-left}
+use native.Mathlib.Nat.{min-le-left, le-refl}
 use native.Mathlib.Omega.{arith}
-use borrow.Author.Tests.{le-leb}
+use borrow.Author.Tests.{le-leb, leb-true}
 use lib.ListN.{length, getD, take, drop, length-append, length-take, length-drop, List·getD-append}
 use lib.Seq.{length-take-le, take-at, drop-at, getD-take, getD-drop, getD-append-add, ext-getD}
 use Rattle.egg.specs.declared.Refusal.{Refusal}
@@ -18,7 +18,8 @@ use Rattle.egg.specs.declared.Counted.the-variants.{Count, Refused}
 use Rattle.egg.specs.Factor.{hasRoom, fitsIn, stretch}
 use Rattle.egg.proofs.Rooms.{within-length}
 use Rattle.lending.specs.Finish.{Built, built}
-use Rattle.lending.specs.Lending.{tableNeed, workNeed, within, noFactor, madeOf, making, lentBack}
+use Rattle.lending.specs.Lending.{tableNeed, workNeed, lentRight, within, noFactor, madeOf, making, lentBack}
+use Rattle.lending.proofs.Lending.{lent-enough}
 
 -- Past the end of the first list.
 append-past : (p q : List ℕ) (k j : ℕ) → length p ≡ k → getD (p ++ q) (k + j) 0 ≡ getD q j 0
@@ -83,6 +84,14 @@ handle start n room N = record { start = start; room = room; generators = n; ele
 abbrev pub lentTable : List ℕ → ℕ → ℕ → ℕ → List ℕ → List ℕ
 lentTable table start n room s = within table start (start + tableNeed n room) s
 
+-- The part of the work that is lent is as long as is needed.
+module _ (table : List ℕ) (start : ℕ) (work : List ℕ) (n room : ℕ) (lent : lentRight (length table) start (length work) room n ≡ true) where
+  pub work-taken : length (take (workNeed n room) work) ≡ workNeed n room
+  work-taken = length-take-le (workNeed n room) work (leb-true _ _ (lent-enough (length table) start (length work) room n lent))
+
+  pub taken-enough : room * (6 * n * n + 4 * n) ≤ length (take (workNeed n room) work)
+  taken-enough = rw work-taken (le-refl (workNeed n room))
+
 module _ (table : List ℕ) (start n room : ℕ) (has : hasRoom (length table) start room n ≡ true) (s : List ℕ) (size : length s ≡ tableNeed n room) (N : ℕ) where
   end-fits : start + tableNeed n room ≤ length table
   end-fits = within-length (length table) start room n has
@@ -122,10 +131,11 @@ module _ (table : List ℕ) (start : ℕ) (work : List ℕ) (n room : ℕ) where
   -- And a refused call whose stretches were lent is a refused build.
   pub by-refused : (b : Built) {r : Refusal} {f : Factor} {t w : List ℕ}
       → lentBack table start work n room b ≡ making (record { answer = verdict.Refused r; factor = f }) t w
-      → (s : List ℕ) × (v : List ℕ) × (b ≡ built (Refused r) s v)
+      → (s : List ℕ) × (v : List ℕ) × (b ≡ built (Refused r) s v) × (f ≡ noFactor)
+      × (t ≡ within table start (start + tableNeed n room) s) × (w ≡ within work 0 (workNeed n room) v)
   by-refused (built (Count N) s v) q = absurd (refused-making (sym q))
   by-refused (built (Refused s) t₁ v) {r} {f} q =
       let m : _≡_ {A = Made} (record { answer = verdict.Refused s; factor = noFactor }) (record { answer = verdict.Refused r; factor = f }) = cc in
       let a : verdict.Refused s ≡ verdict.Refused r = ap (λ (x : Made). x .answer) m in
       let e : s ≡ r = cc in
-      (t₁, v, ap (λ (x : Refusal). built (Refused x) t₁ v) e)
+      (t₁, v, ap (λ (x : Refusal). built (Refused x) t₁ v) e, sym (ap (λ (x : Made). x .factor) m), cc, cc)

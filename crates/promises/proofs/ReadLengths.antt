@@ -66,7 +66,7 @@ row-length (suc k) src n room e g count t =
     then-length (length t) (readPlace t n room count e g (src e g)) _ (place-length t n room count e g (src e g))
     (λ c t′ h. row-length k src n room e (g + 1) c t′ ∙ h)
 
-from-length : (k : ℕ) (src : ℕ → ℕ → ℕ) (n room e count : ℕ) (t : List ℕ) → length (placedTable (readFrom k src n room e count t)) ≡ length t
+pub from-length : (k : ℕ) (src : ℕ → ℕ → ℕ) (n room e count : ℕ) (t : List ℕ) → length (placedTable (readFrom k src n room e count t)) ≡ length t
 unfolding readFrom
 from-length zero src n room e count t = refl
 from-length (suc k) src n room e count t = by (ltb e count)

@@ -1,33 +1,30 @@
 -- A build from the numbers of a source in its stretches: refused by 12 exactly when reading and 8 to 11 pass and no group has these right steps.
 -- Assumes nothing.
-use Prim.Native.Nat.{ℕ, _+_, _*_, _≤_, _<_}
-use mathlib.Core.Path.{_≡_, refl, sym, ap, _∙_, subst}
+use Prim.Native.Nat.{ℕ, _+_, _*_, _≤_}
+use mathlib.Core.Path.{_≡_, refl, sym, ap, subst}
 use mathlib.Core.Logic.{_↔_, _⊎_, inl, inr}
-use mathlib.Core.List.{List, [], _∷_, _++_}
+use mathlib.Core.List.{List, []}
 use native.Mathlib.Omega.{arith}
-use lib.ListN.{length, getD, replicate}
+use lib.ListN.{length, replicate}
 use Rattle.egg.specs.declared.Refusal.{Refusal}
 use Rattle.egg.specs.declared.Verdict.the-variants as verdict
 use Rattle.egg.specs.declared.Counted.the-variants.{Count, Refused}
-use Rattle.egg.specs.Table.{startOf, parentOf, lastOf, backOf}
+use Rattle.egg.specs.Table.{backOf}
 use Rattle.checks.specs.Checks.{Checked, checked, check-group}
 use Rattle.lending.specs.Finish.{built, zeroed, settledBy, finished, finishedPlaced}
+use Rattle.lending.proofs.Finishing.{refused-counted}
 use Rattle.reading.specs.Reading.{Placed, placed, readAll}
 use Rattle.theory.specs.Table.{Columns}
-use Rattle.theory.specs.Words.{Recorded}
 use Rattle.theory.specs.Appearance.{recorded}
 use Rattle.theory.specs.Group.{RightRegular}
 use Rattle.theory.proofs.AnyCarrier.{any-carrier}
-use Rattle.theory.proofs.ColumnLaws.{columns-by-back}
 use Rattle.theory.proofs.Counting.{numbered-table}
 use Rattle.theory.proofs.FirstPlaces.{first-parents}
-use Rattle.theory.proofs.Recording.{word-of-recorded}
-use Rattle.meaning.specs.Stored.{Stored}
 use Rattle.meaning.specs.Until12.{Until12}
 use Rattle.meaning.proofs.Tests.{table-fine, check8-fine}
 use Rattle.meaning.proofs.Refused.{before-12, places-12, refused-12}
 use Rattle.numbering.specs.Read.{Read}
-use Rattle.numbering.proofs.Readings.{accepted-read, refused-read, refused-number, readable-accepted, read-words, read-letters, read-readable}
+use Rattle.numbering.proofs.Readings.{accepted-read, refused-read, refused-number, readable-accepted, read-readable}
 use Rattle.promises.specs.Composed.{Groupless}
 use Rattle.numbering.proofs.Storing.{read-recorded, words-stored, read-columns}
 use Rattle.promises.proofs.Built.{work-enough, rows-fit}
@@ -37,11 +34,9 @@ abbrev pub CheckRefused : Placed → ℕ → List ℕ → Refusal → Type 0
 CheckRefused p n w r =
     (N : ℕ) × (t₀ : List ℕ) × (t₁ : List ℕ) × (w₁ : List ℕ) × (p ≡ placed (Count N) t₀) × (check-group t₀ w n N ≡ checked (verdict.Refused r) t₁ w₁)
 
-check-refused : (c : ℕ) {r : Refusal} {t w₁ : List ℕ} (k : Checked) → settledBy c k ≡ built (Refused r) t w₁
+pub check-refused : (c : ℕ) {r : Refusal} {t w₁ : List ℕ} (k : Checked) → settledBy c k ≡ built (Refused r) t w₁
     → (t₁ : List ℕ) × (w₂ : List ℕ) × (k ≡ checked (verdict.Refused r) t₁ w₂)
-check-refused c {r} {t} {w₁} (checked verdict.Fine t₁ w₂) q = absurd (never q) where
-  never : built (Count c) t₁ (zeroed w₂) ≡ built (Refused r) t w₁ → ⊥
-  never h = let z : _≡_ {A = ℕ} 0 1 = cc in omega arith
+check-refused c (checked verdict.Fine t₁ w₂) q = absurd (refused-counted (sym q))
 check-refused c {r} (checked (verdict.Refused s) t₁ w₂) q = let e : s ≡ r = cc in (t₁, w₂, cc)
 
 pub build-refused : (p : Placed) (n : ℕ) (w : List ℕ) {r : Refusal} {t w₁ : List ℕ} → finishedPlaced p n w ≡ built (Refused r) t w₁
@@ -54,6 +49,11 @@ pub refused-build : {p : Placed} (n : ℕ) {N : ℕ} (w : List ℕ) {r : Refusal
     → check-group t₀ w n N ≡ checked (verdict.Refused r) t₁ w₁ → finishedPlaced p n w ≡ built (Refused r) (zeroed t₁) (zeroed w₁)
 unfolding finished
 refused-build n w a b = rw (a, b)
+
+pub refused-reading : {p : Placed} (n : ℕ) (w : List ℕ) {r : Refusal} {t₀ : List ℕ} → p ≡ placed (Refused r) t₀
+    → finishedPlaced p n w ≡ built (Refused r) (zeroed t₀) (zeroed w)
+unfolding finished
+refused-reading n w a = rw a
 
 -- Reading refuses by another number.
 reading-earlier : {k : ℕ} → (k ≡ 7) ⊎ ((k ≡ 5) ⊎ (k ≡ 6)) → k ≡ 12 → ⊥

@@ -11,11 +11,13 @@ use lib.ListN.{length, replicate, length-replicate}
 use Rattle.egg.specs.declared.Refusal.{Refusal}
 use Rattle.egg.specs.declared.Verdict.{Verdict}
 use Rattle.egg.specs.declared.Verdict.the-variants as verdict
+use Rattle.egg.specs.declared.Counted.{Counted}
 use Rattle.egg.specs.declared.Counted.the-variants.{Count, Refused}
 use Rattle.egg.specs.Pairs.{ordersRight}
 use Rattle.egg.proofs.Scans.{Says}
 use Rattle.checks.specs.Checks.{check-table, Checked, checked, check-group}
 use Rattle.lending.specs.Finish.{built, zeroed, settledBy, finished, finishedPlaced}
+use Rattle.lending.proofs.Finishing.{refused-counted}
 use Rattle.reading.specs.Reading.{Placed, placed, readAll}
 use Rattle.relations.specs.Relations.{relationsRow}
 use Rattle.enumeration.specs.declared.inner.Ran.{Ran}
@@ -44,21 +46,29 @@ pub record Zeros (r : Refusal) (l : List ℕ) (lt lw : ℕ) (t w : List ℕ) : T
   pub table : t ≡ replicate lt 0
   pub work : w ≡ replicate lw 0
 
+-- Whatever is refused at the end of a build, both lists are zero then.
+pub settled-zeros : (c : ℕ) (k : Checked) (t₀ w₀ : List ℕ) (n : ℕ) → check-group t₀ w₀ n c ≡ k → {r : Refusal} {t w : List ℕ} → settledBy c k ≡ built (Refused r) t w
+    → (t ≡ replicate (length t₀) 0) × (w ≡ replicate (length w₀) 0)
+settled-zeros c (checked verdict.Fine t₁ w₁) t₀ w₀ n h q = absurd (refused-counted (sym q))
+settled-zeros c (checked (verdict.Refused s) t₁ w₁) t₀ w₀ n h {r} {t} {w} q =
+    let a : t ≡ zeroed t₁ = cc in
+    let b : w ≡ zeroed w₁ = cc in
+    (a ∙ ap (λ (k : ℕ). replicate k 0) (checks-kept t₀ w₀ n c h .size), b ∙ ap (λ (k : ℕ). replicate k 0) (checks-work t₀ w₀ n c h))
+
+pub finished-zeros : (c : Counted) (n : ℕ) (t₀ w₀ : List ℕ) {r : Refusal} {t w : List ℕ} → finished c n t₀ w₀ ≡ built (Refused r) t w
+    → (t ≡ replicate (length t₀) 0) × (w ≡ replicate (length w₀) 0)
+unfolding finished
+finished-zeros (Count c) n t₀ w₀ q = settled-zeros c (check-group t₀ w₀ n c) t₀ w₀ n refl q
+finished-zeros (Refused s) n t₀ w₀ {r} {t} {w} q = (cc, cc)
+
 pub check-zeros : (l : List ℕ) → every (λ x. member x l) lateNumbers ≡ true → (t₀ w₀ : List ℕ) (n c : ℕ) → Says (In l) (check-table t₀ n c)
     → (k : Checked) → check-group t₀ w₀ n c ≡ k → {r : Refusal} {t w : List ℕ} → settledBy c k ≡ built (Refused r) t w
     → Zeros r l (length t₀) (length w₀) t w
-check-zeros l late t₀ w₀ n c says (checked verdict.Fine t₁ w₂) h {r} {t} {w} q = absurd (never q) where
-  never : built (Count c) t₁ (zeroed w₂) ≡ built (Refused r) t w → ⊥
-  never h = let z : _≡_ {A = ℕ} 0 1 = cc in omega arith
-check-zeros l late t₀ w₀ n c says (checked (verdict.Refused s) t₁ w₂) h {r} {t} {w} q =
+check-zeros l late t₀ w₀ n c says (checked verdict.Fine t₁ w₂) h q = absurd (refused-counted (sym q))
+check-zeros l late t₀ w₀ n c says (checked (verdict.Refused s) t₁ w₂) h {r} q =
     let e : s ≡ r = cc in
-    let a : t ≡ zeroed t₁ = cc in
-    let b : w ≡ zeroed w₂ = cc in
-    record {
-      number = rw e at (checks-number l late t₀ w₀ n c says h);
-      table = a ∙ ap (λ (k : ℕ). replicate k 0) (checks-kept t₀ w₀ n c h .size);
-      work = b ∙ ap (λ (k : ℕ). replicate k 0) (checks-work t₀ w₀ n c h);
-    }
+    let z = settled-zeros c (checked (verdict.Refused s) t₁ w₂) t₀ w₀ n h q in
+    record { number = rw e at (checks-number l late t₀ w₀ n c says h); table = z .0; work = z .1 }
 
 pub zeros-widen : {r : Refusal} {l : List ℕ} (m : List ℕ) {lt lw : ℕ} {t w : List ℕ} → every (λ x. member x m) l ≡ true → Zeros r l lt lw t w → Zeros r m lt lw t w
 zeros-widen {r} {l} m h Z = record { number = each-in (λ x. member x m) (r .number) l h (Z .number); table = Z .table; work = Z .work }
@@ -116,9 +126,7 @@ module _ (o : List ℕ) (n room lt lw : ℕ) (L : run.Limits n o room lt lw) (ri
 
     related-by : {t₁ w₂ : List ℕ} → check-group T W n N ≡ checked verdict.Fine t₁ w₂ → (v : Verdict) → relationsRow t₁ n N o 0 ≡ v → {r : Refusal} {t w : List ℕ}
         → withWork (zeroed w₂) (relatingBy v N t₁) ≡ built (Refused r) t w → Zeros r (13 ∷ lateNumbers) (length T) (length W) t w
-    related-by {t₁} {w₂} c verdict.Fine e {r} {t} {w} q = absurd (never q) where
-      never : built (Count N) t₁ (zeroed w₂) ≡ built (Refused r) t w → ⊥
-      never h = let z : _≡_ {A = ℕ} 0 1 = cc in omega arith
+    related-by c verdict.Fine e q = absurd (refused-counted (sym q))
     related-by {t₁} {w₂} c (verdict.Refused s) e {r} {t} {w} q =
         let i : s ≡ r = cc in
         let a : t ≡ zeroed t₁ = cc in

@@ -16,7 +16,12 @@ use Rattle.egg.specs.declared.Counted.{Counted}
 use Rattle.egg.specs.declared.Counted.the-variants.{Count, Refused}
 use Rattle.reading.specs.Build.{setStep, numbered, adds}
 use Rattle.reading.proofs.Laws.{adds-full, parts}
-use Rattle.reading.specs.Reading.{placed, readPlace, readRow, readFrom}
+use Rattle.reading.specs.Reading.{Placed, placed, thenPlaced, readPlace, readRow, readFrom}
+
+-- What goes on alike comes to the same.
+pub then-same : (p : Placed) {f f′ : ℕ → List ℕ → Placed} → ((c : ℕ) (t : List ℕ) → f c t ≡ f′ c t) → thenPlaced p f ≡ thenPlaced p f′
+then-same (placed (Count c) t) h = h c t
+then-same (placed (Refused r) t) h = refl
 
 -- An element is added only within the room.
 pub added-within : (t : List ℕ) (n room count : ℕ) (e : GroupElementId) (g : GeneratorId) {a : Reached} {x : GroupElementId}

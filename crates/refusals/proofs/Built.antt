@@ -6,13 +6,13 @@ use mathlib.Core.Path.{_≡_, refl, sym, _∙_}
 use mathlib.Core.Logic.{_↔_, _⊎_, inl, inr, ⊎-elim}
 use mathlib.Core.List.{List}
 use native.Mathlib.Nat.{le-refl}
-use native.Mathlib.Omega.{arith}
 use lib.ListN.{length, replicate, length-replicate}
 use Rattle.egg.specs.declared.Refusal.{Refusal}
 use Rattle.egg.specs.declared.Verdict.the-variants as verdict
 use Rattle.egg.specs.declared.Counted.the-variants.{Count, Refused}
 use Rattle.checks.specs.Checks.{checked, check-group}
 use Rattle.lending.specs.Finish.{Built, built, zeroed, finished, finishedPlaced}
+use Rattle.lending.proofs.Finishing.{refused-counted}
 use Rattle.reading.specs.Build.{numbered}
 use Rattle.reading.specs.Reading.{placed, readAll}
 use Rattle.numbering.specs.Read.{Readable}
@@ -85,9 +85,6 @@ module _ (src : ℕ → ℕ → ℕ) (n room size : ℕ) (w : List ℕ) (few : n
 same-built : {r s : Refusal} {t t₁ v v₁ : List ℕ} → built (Refused r) t v ≡ built (Refused s) t₁ v₁ → r ≡ s
 same-built h = cc
 
-counted-refused : {N : ℕ} {r : Refusal} {t t₁ v v₁ : List ℕ} → built (Count N) t v ≡ built (Refused r) t₁ v₁ → ⊥
-counted-refused h = let z : _≡_ {A = ℕ} 0 1 = cc in omega arith
-
 module _ (src : ℕ → ℕ → ℕ) (n room : ℕ) (few : n ≤ 8) (lo : 1 ≤ room) (hi : room ≤ 65535) where
   abbrev size : ℕ
   size = room * (2 * n + 4)
@@ -108,7 +105,7 @@ module _ (src : ℕ → ℕ → ℕ) (n room : ℕ) (few : n ≤ 8) (lo : 1 ≤ 
   taken-no-fault G F =
       let a = taken-built src n room size w few lo hi (le-refl size) work G in
       let b = fault-built src n room size w few lo hi (le-refl size) work F in
-      counted-refused (sym (a .2) ∙ b .2)
+      refused-counted (sym (b .2) ∙ a .2)
 
   pub taken-or-fault : ((N : ℕ) × Taken src n room N) ⊎ ((r : Refusal) × Fault src n room r)
   taken-or-fault = built-either src n room size w few lo hi (le-refl size) work (finishedPlaced (readAll src n room (replicate size 0)) n w) refl

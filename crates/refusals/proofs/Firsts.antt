@@ -1,16 +1,16 @@
 -- A scan whose places are decided refuses just at the first place that fails.
 -- Assumes nothing.
-use Prim.Native.Nat.{ℕ, zero, suc, _+_, _≤_, _<_}
-use mathlib.Core.Path.{_≡_, refl, sym, ap, _∙_}
+use Prim.Native.Nat.{ℕ, _<_}
+use mathlib.Core.Path.{_≡_, refl, sym, _∙_}
 use mathlib.Core.Logic.{_⊎_, inl, inr}
 use native.Mathlib.Omega.{arith}
-use native.Mathlib.Nat.{eq-or-lt-of-le}
 use Rattle.egg.specs.declared.Refusal.{Refusal}
 use Rattle.egg.specs.declared.Verdict.{Verdict}
 use Rattle.egg.specs.declared.Verdict.the-variants.{Fine, Refused}
-use Rattle.egg.specs.Scan.{andThen, scan}
+use Rattle.egg.specs.Scan.{scan}
 use Rattle.egg.proofs.Scans.{refused-fine, scan-fine, scan-first}
 use Rattle.theory.specs.Appearance.{Ahead, row, column}
+use Rattle.meaning.proofs.Passes.{scan-stops}
 use Rattle.refusals.specs.Firsts.{FirstOf, FirstPlace}
 
 -- What a test decides: it refuses by r just where P holds.
@@ -34,15 +34,6 @@ module _ {P : Type 0} {r : Refusal} {v : Verdict} where
   passes (inl (p, q)) h = absurd (h p)
   passes (inr (n, q)) h = q
 
--- A scan comes to its first refusal.
-scan-to : (k : ℕ) (f : ℕ → Verdict) (i j : ℕ) {r : Refusal} → i ≤ j → j < i + k → f j ≡ Refused r → ((l : ℕ) → i ≤ l → l < j → f l ≡ Fine) → scan k f i ≡ Refused r
-unfolding scan
-scan-to zero f i j a b q fine = absurd (omega arith)
-scan-to (suc k) f i j {r} a b q fine = go (eq-or-lt-of-le a) (λ l. scan-to k f (i + 1) j (omega arith) (omega arith) q (λ m c d. fine m (omega arith) d)) where
-  go : (i ≡ j) ⊎ (i < j) → (i < j → scan k f (i + 1) ≡ Refused r) → andThen (f i) (scan k f (i + 1)) ≡ Refused r
-  go (inl e) later = let h : f i ≡ Refused r = ap f e ∙ q in rw h
-  go (inr l) later = rw (fine i (omega arith) l) (later l)
-
 module _ {k : ℕ} {f : ℕ → Verdict} {P : ℕ → Type 0} {at : ℕ → Refusal} (d : (i : ℕ) → i < k → Decides (P i) (at i) (f i)) where
   pub first-found : {r : Refusal} → scan k f 0 ≡ Refused r → (i : ℕ) × FirstOf k P i × (r ≡ at i)
   first-found h =
@@ -53,7 +44,7 @@ module _ {k : ℕ} {f : ℕ → Verdict} {P : ℕ → Type 0} {at : ℕ → Refu
 
   pub first-refused : {i : ℕ} → FirstOf k P i → scan k f 0 ≡ Refused (at i)
   first-refused {i} F =
-      scan-to k f 0 i (omega arith) (omega (arith, F .inside)) (refuses (d i (F .inside)) (F .here))
+      scan-stops k f 0 i (omega arith) (omega (arith, F .inside)) (refuses (d i (F .inside)) (F .here))
       (λ l a b. passes (d l (omega (arith, F .inside))) (F .before b))
 
   -- Nothing is refused just where nothing fails.
@@ -82,7 +73,7 @@ module _ {n N : ℕ} {f : ℕ → ℕ → Verdict} {P : ℕ → ℕ → Type 0} 
 
   pub place-refused : {e g : ℕ} → FirstPlace n N P e g → scan N (λ e. scan n (λ g. f e g) 0) 0 ≡ Refused (at e g)
   place-refused {e} {g} F =
-      scan-to N (λ e. scan n (λ g. f e g) 0) 0 e (omega arith) (omega (arith, F .row))
+      scan-stops N (λ e. scan n (λ g. f e g) 0) 0 e (omega arith) (omega (arith, F .row))
       (first-refused {k = n} {f = λ g. f e g} {P = λ g. P e g} {at = λ g. at e g} (λ h hh. d e h (F .row) hh)
       (record { inside = F .column; here = F .here; before = λ {j} m. F .before (F .row) (omega (arith, F .column)) (column refl m) }))
       (λ x a b. let l : x < N = omega (arith, F .row) in scan-fine n (λ g. f x g) .1 (λ h hh. passes (d x h l hh) (F .before l hh (row b))))

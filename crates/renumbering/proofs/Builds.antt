@@ -4,13 +4,13 @@ use Prim.Native.Nat.{ℕ, _+_, _*_, _≤_}
 use mathlib.Core.Path.{_≡_, refl, sym, _∙_, ap, subst}
 use mathlib.Core.Logic.{_↔_}
 use mathlib.Core.List.{List}
-use native.Mathlib.Omega.{arith}
 use lib.ListN.{length, replicate}
 use Rattle.egg.specs.declared.Refusal.{Refusal}
 use Rattle.egg.specs.declared.Reached.{Reached}
 use Rattle.egg.specs.declared.Counted.the-variants.{Count, Refused}
 use Rattle.egg.specs.Table.{stepOf}
 use Rattle.lending.specs.Finish.{Built, built, zeroed, finishedPlaced}
+use Rattle.lending.proofs.Finishing.{refused-counted}
 use Rattle.reading.specs.Reading.{readAll}
 use Rattle.promises.specs.Composed.{Taken, Holding}
 use Rattle.promises.proofs.Built.{passed, built-holds, built-work, taken-built}
@@ -32,18 +32,22 @@ settled-built (built (Refused r) t w) inn outw = refl
 finished-built : (m : Mapped) (n : ℕ) (w : List ℕ) → builtOf (finishedMapped m n w) ≡ finishedPlaced (placedOf m) n w
 finished-built (mapped p inn outw) n w = settled-built (finishedPlaced p n w) inn outw
 
-count-not-refused : {c : ℕ} {r : Refusal} {t t′ w w′ : List ℕ} → built (Refused r) t w ≡ built (Count c) t′ w′ → ⊥
-count-not-refused h = let z : _≡_ {A = ℕ} 0 1 = cc in omega arith
+-- Refused builds that are equal are refused alike, and a refused one is not an accepted one.
+pub same-refusal : {r r′ : Refusal} {t t′ w w′ i i′ o o′ : List ℕ} → renumbering (built (Refused r) t w) i o ≡ renumbering (built (Refused r′) t′ w′) i′ o′ → r ≡ r′
+same-refusal h = cc
+
+pub not-refused : {r : Refusal} {c : ℕ} {t t′ w w′ i i′ o o′ : List ℕ} → renumbering (built (Refused r) t w) i o ≡ renumbering (built (Count c) t′ w′) i′ o′ → ⊥
+not-refused h = refused-counted (ap builtOf h)
 
 -- The maps of an accepted build are those of its numbering; those of a refused one are zero.
 pub settled-count : (b : Built) (inn outw : List ℕ) {c : ℕ} {t w i o : List ℕ} → settledMaps b inn outw ≡ renumbering (built (Count c) t w) i o
     → (b ≡ built (Count c) t w) × ((inn ≡ i) × (outw ≡ o))
 settled-count (built (Count k) t₁ w₁) inn outw q = (cc, (cc, cc))
-settled-count (built (Refused r) t₁ w₁) inn outw q = absurd (count-not-refused (ap builtOf q))
+settled-count (built (Refused r) t₁ w₁) inn outw q = absurd (not-refused q)
 
 settled-refused : (b : Built) (inn outw : List ℕ) {r : Refusal} {t w i o : List ℕ} → settledMaps b inn outw ≡ renumbering (built (Refused r) t w) i o
     → (zeroed inn ≡ i) × (zeroed outw ≡ o)
-settled-refused (built (Count k) t₁ w₁) inn outw q = absurd (count-not-refused (sym (ap builtOf q)))
+settled-refused (built (Count k) t₁ w₁) inn outw q = absurd (not-refused (sym q))
 settled-refused (built (Refused s) t₁ w₁) inn outw q = (cc, cc)
 
 -- "Once it has started, any refusal .. leaves .. subgroup maps, zero", whatever the source says.

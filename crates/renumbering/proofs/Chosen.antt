@@ -2,14 +2,14 @@
 -- the identity, so that 9 and 11 are never given. And what they generate, if they are taken from a subgroup and leave none of it out.
 -- Assumes nothing.
 use Prim.Native.Nat.{ℕ, _<_, _≤_}
-use mathlib.Core.Path.{_≡_, sym, subst}
+use mathlib.Core.Path.{_≡_, subst}
 use mathlib.Core.Logic.{_↔_}
-use native.Mathlib.Decide.{decLt}
 use native.Mathlib.Omega.{arith}
 use Rattle.theory.specs.Group.{GroupOn}
 use Rattle.renumbering.specs.Orbit.{Orbit, origin, onward}
 use Rattle.renumbering.specs.Subgroup.{rightBy, Subgroup, Proper}
 use Rattle.renumbering.proofs.Subgroups.{orbit-generated}
+use Rattle.renumbering.proofs.FirstRow.{sooner-apart}
 
 -- More generators reach more.
 pub orbit-more : {n m : ℕ} {out : ℕ → ℕ → ℕ} {x₀ x : ℕ} → n ≤ m → Orbit n out x₀ x → Orbit m out x₀ x
@@ -21,16 +21,11 @@ module _ {M : ℕ} {op : ℕ → ℕ → ℕ} {inv : ℕ → ℕ} (G : GroupOn M
   pub chosen-proper : ((g : ℕ) → g < n → ¬ Orbit g (rightBy op gen) 0 (gen g)) → Proper n gen
   chosen-proper outside = record {
     moves = λ {g} hg q. outside g hg (rw q origin);
-    apart = λ {g} {h} hg hh q. by g h hg hh q (decLt g h) (decLt h g);
+    apart = λ hg hh q. sooner-apart sooner hg hh q;
   } where
-    sooner : (g h : ℕ) → g < h → h < n → gen g ≡ gen h → ⊥
+    sooner : (g h : ℕ) → g < h → h < n → ¬ (gen g ≡ gen h)
     sooner g h l hh q =
         outside h hh (subst (Orbit h (rightBy op gen) 0) q (orbit-generated G {n = h} {gen = gen} (λ i m. gens i (omega arith)) .generators l))
-
-    by : (g h : ℕ) → g < n → h < n → gen g ≡ gen h → Dec (g < h) → Dec (h < g) → g ≡ h
-    by g h hg hh q (yes l) d = absurd (sooner g h l hh q)
-    by g h hg hh q (no f) (yes l) = absurd (sooner h g l hg (sym q))
-    by g h hg hh q (no f) (no f′) = omega arith
 
   -- Taken from a subgroup, with none of it left out, they generate it.
   pub chosen-all : {K : ℕ → Type 0} {x : ℕ} → Subgroup M op inv K → ((g : ℕ) → g < n → K (gen g))

@@ -7,7 +7,7 @@ use mathlib.Core.List.{List}
 use native.Mathlib.Decide.{decLt}
 use native.Mathlib.Omega.{arith}
 use borrow.Author.Tests.{lt-ltb, le-ltb}
-use lib.ListN.{getD, replicate, length-replicate, getD-replicate, List·getD-eq-default}
+use lib.ListN.{getD, replicate, length-replicate, getD-replicate}
 use Rattle.egg.specs.declared.Reached.{Reached}
 use Rattle.egg.specs.declared.Reached.the-variants as reached
 use Rattle.egg.specs.declared.Counted.the-variants.{Count, Refused}
@@ -29,6 +29,7 @@ use Rattle.renumbering.specs.Source.{Answering}
 use Rattle.renumbering.specs.Maps.{Filled}
 use Rattle.renumbering.proofs.Order.{number-is, step-outside}
 use Rattle.appearance.proofs.PlaceLaws.{map-known, map-refused, map-new}
+use Rattle.numbering.proofs.Runs.{zeros}
 
 -- A numbering came to the same as a reading; after a count B holds of the maps.
 abbrev pub Agree : (ℕ → List ℕ → List ℕ → Type 0) → Placed → Mapped → Type 0
@@ -191,12 +192,6 @@ module _ {n M : ℕ} {out : ℕ → ℕ → ℕ} {x₀ N : ℕ} {elt : ℕ → �
 
     nothing-there : (size v i : ℕ) → i < size → getD (replicate {A = ℕ} size v) i 0 ≡ v
     nothing-there size v i h = getD-replicate size i v 0 h
-
-    zeros : (size i : ℕ) → getD (replicate {A = ℕ} size 0) i 0 ≡ 0
-    zeros size i = go (decLt i size) where
-      go : Dec (i < size) → getD (replicate {A = ℕ} size 0) i 0 ≡ 0
-      go (yes h) = getD-replicate size i 0 0 h
-      go (no h) = List·getD-eq-default (replicate size 0) 0 (omega (arith, length-replicate {A = ℕ} size 0))
 
     at-first : {e : ℕ} → e < 1 → elt e ≡ x₀
     at-first {e} h = let q : e ≡ 0 = omega arith in ap elt q ∙ A .first

@@ -9,8 +9,9 @@ use borrow.Author.Tests.{eq-eqb, ne-eqb}
 use lib.Dec.{eqb, eqb→eq}
 use Rattle.egg.specs.Table.{pick}
 use Rattle.theory.specs.Numbering.{Known, start, old, new, next-row}
-use Rattle.theory.specs.Appearance.{Ahead, row, column}
+use Rattle.theory.specs.Appearance.{Ahead}
 use Rattle.theory.proofs.BoundedTests.{below-suc, eq→eqb, least-holds, least-none, least-at-most}
+use Rattle.theory.proofs.RuleLaws.{ahead-above}
 use Rattle.theory.proofs.Counting.{row-known, read-known, known-same, numbered-table}
 use Rattle.theory.proofs.Pigeonhole.{pigeonhole}
 use Rattle.renumbering.specs.Orbit.{Orbit, origin, onward, Inside, numberOf, numberedStep, Appearing}
@@ -55,10 +56,6 @@ record Stage (n M : ℕ) (out : ℕ → ℕ → ℕ) (x₀ e g : ℕ) : Type 0 w
   below : {i : ℕ} → i < count → elt i < M
   once : {i j : ℕ} → i < count → j < count → elt i ≡ elt j → i ≡ j
   reached : {i : ℕ} → i < count → Orbit n out x₀ (elt i)
-
-ahead-above : {x g y h : ℕ} → Ahead x g y h → x ≤ y
-ahead-above (row p) = omega arith
-ahead-above (column p q) = omega arith
 
 module _ {n M : ℕ} {out : ℕ → ℕ → ℕ} {x₀ : ℕ} (I : Inside n M out x₀) where
   module _ {e g : ℕ} (S : Stage n M out x₀ e g) (hg : g < n) where

@@ -1,20 +1,16 @@
 -- A group's right steps, read from numbers in order of first appearance: which of them the checks refuse. Only 9, for a generator that is the identity, and
 -- 11, for one that is as an earlier one; 8, 10, 12 and 17 never.
 -- Assumes nothing.
-use Prim.Native.Nat.{ℕ, zero, suc, _+_, _*_, _<_, _≤_}
-use mathlib.Core.Path.{_≡_, sym, _∙_, ap}
-use mathlib.Core.Logic.{_⊎_, inl, inr}
+use Prim.Native.Nat.{ℕ, suc, _+_, _*_, _<_, _≤_}
+use mathlib.Core.Path.{_≡_, sym, _∙_}
 use mathlib.Core.List.{List}
-use native.Mathlib.Nat.{eq-or-lt-of-le}
 use native.Mathlib.Numerals.{add-one}
 use native.Mathlib.Omega.{arith}
 use borrow.Author.Tests.{eq-eqb, ne-eqb}
 use lib.ListN.{length}
-use Rattle.egg.specs.declared.Refusal.{Refusal}
-use Rattle.egg.specs.declared.Verdict.{Verdict}
-use Rattle.egg.specs.declared.Verdict.the-variants.{Fine, Refused}
+use Rattle.egg.specs.declared.Verdict.the-variants.{Fine}
 use Rattle.egg.specs.Table.{stepOf, parentOf, lastOf}
-use Rattle.egg.specs.Scan.{refusedOf, andThen, scan}
+use Rattle.egg.specs.Scan.{refusedOf}
 use Rattle.checks.specs.Checks.{wrong, wrongRow, check-table, check8, ranges, counted, checked, check-rest, check-group}
 use Rattle.inverses.specs.Inverses.{fillInverses}
 use Rattle.lefts.specs.Lefts.{identityRow, check-steps}
@@ -27,22 +23,13 @@ use Rattle.theory.proofs.Recording.{word-of-recorded, recorded-spelled}
 use Rattle.theory.proofs.Complete.{columns, no-fixed-point, only-identity, inverse-involution}
 use Rattle.meaning.specs.Stored.{Stored, wordOf}
 use Rattle.meaning.proofs.Inverses.{fill-kept, stored-kept, step-is}
+use Rattle.meaning.proofs.Passes.{scan-stops}
 use Rattle.meaning.proofs.Tests.{table-fine, wrong-fine, counts-fine}
 use Rattle.meaning.proofs.Arrivals.{arrivals-right}
 use Rattle.meaning.proofs.Complete.{present, in-range, inverses-exactly}
 use Rattle.numbering.specs.Read.{Read}
 use Rattle.numbering.proofs.Readings.{read-words, read-readable}
 use Rattle.numbering.proofs.Storing.{read-stored}
-
--- A scan stops at the first place that refuses.
-pub scan-stops : (k : ℕ) (f : ℕ → Verdict) (i j : ℕ) {r : Refusal} → i ≤ j → j < i + k → f j ≡ Refused r → ((l : ℕ) → i ≤ l → l < j → f l ≡ Fine)
-    → scan k f i ≡ Refused r
-unfolding scan
-scan-stops zero f i j a b h before = absurd (omega arith)
-scan-stops (suc k) f i j {r} a b h before = go (eq-or-lt-of-le a) (λ l. scan-stops k f (i + 1) j (omega arith) (omega arith) h (λ m p q. before m (omega arith) q)) where
-  go : (i ≡ j) ⊎ (i < j) → (i < j → scan k f (i + 1) ≡ Refused r) → andThen (f i) (scan k f (i + 1)) ≡ Refused r
-  go (inl q) rest = rw (ap f q ∙ h)
-  go (inr l) rest = rw (before i (omega arith) l) (rest l)
 
 module _ {src : ℕ → ℕ → ℕ} {n room size N : ℕ} {t : List ℕ} (R : Read src n room size N t) (G : RightRegular n N src)
     (few : n ≤ 8) (hi : room ≤ 65535) (inside : N * (2 * n + 4) ≤ length t) (w : List ℕ) (work : 0 < n → N ≤ length w) where

@@ -5,7 +5,6 @@ use Prim.Native.Nat.{ℕ, suc, _+_, _*_, _<_, _≤_}
 use mathlib.Core.Path.{_≡_, refl, sym, _∙_, ap, subst}
 use mathlib.Core.Logic.{_↔_, _⊎_, inl, inr}
 use mathlib.Core.List.{List}
-use native.Mathlib.Decide.{decLt}
 use native.Mathlib.Omega.{arith}
 use lib.ListN.{length, replicate}
 use Rattle.egg.specs.declared.Refusal.{Refusal}
@@ -14,15 +13,17 @@ use Rattle.egg.specs.declared.Verdict.the-variants as verdict
 use Rattle.egg.specs.declared.Counted.the-variants.{Count, Refused}
 use Rattle.checks.specs.Checks.{checked, check-group}
 use Rattle.reading.specs.Build.{numbered}
-use Rattle.lending.specs.Finish.{Built, built, zeroed, finished, finishedPlaced}
+use Rattle.lending.specs.Finish.{Built, built, zeroed}
 use Rattle.reading.specs.Reading.{Placed, placed, readAll}
 use Rattle.theory.specs.Group.{GroupOn, RightRegular}
 use Rattle.theory.specs.Appearance.{recorded}
 use Rattle.theory.proofs.Reading.{numbered-once}
 use Rattle.theory.proofs.AnyCarrier.{any-carrier}
+use Rattle.theory.proofs.IdentityRows.{row-so-far}
 use Rattle.numbering.specs.Read.{Read, Readable, Refuses}
 use Rattle.numbering.proofs.Readings.{accepted-read, refused-read, readable-accepted, read-readable}
 use Rattle.promises.proofs.Built.{work-enough, rows-fit}
+use Rattle.promises.proofs.Twelve.{refused-build, refused-reading}
 use Rattle.renumbering.specs.Orbit.{numberOf, numberedStep, Appearing}
 use Rattle.renumbering.specs.Source.{Answering}
 use Rattle.renumbering.specs.Maps.{Renumbered}
@@ -31,19 +32,9 @@ use Rattle.renumbering.specs.Subgroup.{rightBy, Proper, FirstIdentity, F
 use Rattle.renumbering.proofs.Order.{origin-below, step-below}
 use Rattle.renumbering.proofs.Numberings.{appearing-renumbered}
 use Rattle.renumbering.proofs.Subgroups.{right-inside, numbers-regular, generator-outside, identity-row-proper}
-use Rattle.renumbering.proofs.Builds.{builtOf, renumber-built, renumber-exactly}
+use Rattle.renumbering.proofs.Builds.{builtOf, same-refusal, not-refused, renumber-built, renumber-exactly}
 use Rattle.renumbering.proofs.Refusals.{check-9, check-11}
-use Rattle.renumbering.proofs.FirstRow.{row-so-far, generators-are}
-
-refused-build : {p : Placed} (n : ℕ) {N : ℕ} (w : List ℕ) {r : Refusal} {t₀ t₁ w₁ : List ℕ} → p ≡ placed (Count N) t₀
-    → check-group t₀ w n N ≡ checked (verdict.Refused r) t₁ w₁ → finishedPlaced p n w ≡ built (Refused r) (zeroed t₁) (zeroed w₁)
-unfolding finished
-refused-build n w a b = rw (a, b)
-
-refused-reading : {p : Placed} (n : ℕ) (w : List ℕ) {r : Refusal} {t₀ : List ℕ} → p ≡ placed (Refused r) t₀
-    → finishedPlaced p n w ≡ built (Refused r) (zeroed t₀) (zeroed w)
-unfolding finished
-refused-reading n w a = rw a
+use Rattle.renumbering.proofs.FirstRow.{sooner-apart, generators-are}
 
 -- The maps of whatever was built.
 with-maps : (m : Renumbering) {b : Built} → builtOf m ≡ b → (inn : List ℕ) × (outw : List ℕ) × (m ≡ renumbering b inn outw)
@@ -130,24 +121,11 @@ module _ {M : ℕ} {op : ℕ → ℕ → ℕ} {inv : ℕ → ℕ} (G : GroupOn M
       subgroup-11 {g} F =
           let so-far : (h : ℕ) → h < g → src 0 h ≡ suc h = row-so-far n src g (omega (arith, F .place))
           (λ h l q. F .moves (omega (arith, F .place)) (zero-identity (omega (arith, F .place)) q))
-          (λ h i a b q. apart h i a b (number-same (omega (arith, F .place)) (omega (arith, F .place)) q)) (A .by-rule) in
+          (λ h i a b q. sooner-apart (λ h i l b. F .before l b) a b (number-same (omega (arith, F .place)) (omega (arith, F .place)) q)) (A .by-rule) in
           refused (check-11 is-read subgroup-regular few hi inside w enough (F .place) (λ h hh q. F .moves hh (zero-identity hh q))
           (λ q. omega (arith, F .sooner, so-far (F .earlier) (F .sooner), same-number (omega (arith, F .sooner, F .place)) (F .place) (F .same))) so-far)
-        where
-          apart : (h i : ℕ) → h < g → i < g → gen h ≡ gen i → h ≡ i
-          apart h i a b q = go (decLt h i) (decLt i h) where
-            go : Dec (h < i) → Dec (i < h) → h ≡ i
-            go (yes l) d = absurd (F .before l b q)
-            go (no f) (yes l) = absurd (F .before l a (sym q))
-            go (no f) (no f′) = omega arith
 
     -- And these are all refusals: 5 or 6 as the numbering meets it, or, where that ends, 9 or 11.
-    same-refusal : {r r′ : Refusal} {t t′ w₁ w₂ i i′ o o′ : List ℕ} → renumbering (built (Refused r) t w₁) i o ≡ renumbering (built (Refused r′) t′ w₂) i′ o′ → r ≡ r′
-    same-refusal h = cc
-
-    not-accepted : {r : Refusal} {c : ℕ} {t t′ w₁ w₂ i i′ o o′ : List ℕ} → renumbering (built (Refused r) t w₁) i o ≡ renumbering (built (Count c) t′ w₂) i′ o′ → ⊥
-    not-accepted h = let z : _≡_ {A = ℕ} 0 1 = cc in omega arith
-
     pub subgroup-refused : {r : Refusal} {t w₁ inn outw : List ℕ} → renumberIn size w source n room M K 0 ≡ renumbering (built (Refused r) t w₁) inn outw
         → Refuses (numberedStep N elt (rightBy op gen)) n room r
         ⊎ (((g : ℕ) × FirstIdentity n gen g × (r ≡ numbered 9 0 g 0)) ⊎ ((g : ℕ) × FirstRepeat n gen g × (r ≡ numbered 11 g 0 0)))
@@ -157,7 +135,7 @@ module _ {M : ℕ} {op : ℕ → ℕ → ℕ} {inv : ℕ → ℕ} (G : GroupOn M
           → Refuses src n room r ⊎ (((g : ℕ) × FirstIdentity n gen g × (r ≡ numbered 9 0 g 0)) ⊎ ((g : ℕ) × FirstRepeat n gen g × (r ≡ numbered 11 g 0 0)))
       by L (inl (g, F)) = let b = subgroup-9 (L .within) (λ e h. L .short h) F in inr (inl (g, F, same-refusal (sym q ∙ b .4)))
       by L (inr (inl (g, F))) = let b = subgroup-11 (L .within) (λ e h. L .short h) F in inr (inr (g, F, same-refusal (sym q ∙ b .4)))
-      by L (inr (inr P)) = let b = subgroup-exactly .1 (L .within, (λ e h. L .short h, P)) in absurd (not-accepted (sym q ∙ b .4))
+      by L (inr (inr P)) = let b = subgroup-exactly .1 (L .within, (λ e h. L .short h, P)) in absurd (not-refused (sym q ∙ b .4))
 
       go : (p : Placed) → readAll src n room (replicate size 0) ≡ p
           → Refuses src n room r ⊎ (((g : ℕ) × FirstIdentity n gen g × (r ≡ numbered 9 0 g 0)) ⊎ ((g : ℕ) × FirstRepeat n gen g × (r ≡ numbered 11 g 0 0)))

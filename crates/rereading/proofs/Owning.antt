@@ -2,11 +2,10 @@
 -- rows ends; and that it reads no number but those of the elements' rows.
 -- Assumes nothing.
 use Prim.Native.Nat.{ℕ, zero, suc, _+_, _*_, _-_, _≤_, _<_}
-use mathlib.Core.Path.{_≡_, refl, sym, ap, _∙_}
-use mathlib.Core.Bool.{Bool, true, false}
+use mathlib.Core.Path.{_≡_, refl, ap, _∙_}
 use mathlib.Core.List.{List}
 use native.Mathlib.Omega.{arith}
-use borrow.Author.Tests.{eq-eqb, ne-eqb, lt-ltb, le-ltb, le-leb, lt-leb, ltb-true}
+use borrow.Author.Tests.{eq-eqb, ne-eqb, lt-ltb, le-ltb, le-leb, lt-leb}
 use lib.Dec.{ltb}
 use lib.ListN.{length}
 use Rattle.egg.specs.declared.Refusal.{Refusal}
@@ -18,6 +17,7 @@ use Rattle.egg.specs.Table.{pick}
 use Rattle.checks.specs.Checks.{check8}
 use Rattle.reading.specs.Build.{numbered}
 use Rattle.reading.specs.Reading.{Placed, placed, thenPlaced, readPlace}
+use Rattle.reading.proofs.Readings.{then-same}
 use Rattle.lending.specs.Finish.{built, zeroed, finished, finishedPlaced}
 use Rattle.rereading.specs.Own.{storedAt, copyAt, copied, ownPlace, ownRow, ownFrom, ownAll, allReached, reachesAll, ownIn}
 use Rattle.rereading.proofs.Copying.{copied-at}
@@ -93,17 +93,13 @@ module _ (t : List ℕ) (n elements : ℕ) {read : Counted} where
         reached-fine p = rw q (simp (lt-leb _ _ h, ne-eqb n 0 z) (rw (← s, p)))
 
 -- Two sources that agree on the rows that may be read are read alike.
-then-same : (p : Placed) (f f′ : ℕ → List ℕ → Placed) → ((c : ℕ) (t : List ℕ) → f c t ≡ f′ c t) → thenPlaced p f ≡ thenPlaced p f′
-then-same (placed (Count c) t) f f′ h = h c t
-then-same (placed (Refused r) t) f f′ h = refl
-
 module _ (own own′ : ℕ → ℕ → ℕ) (n room elements : ℕ) where
   row-agrees : (e : ℕ) → ((g : ℕ) → g < n → own e g ≡ own′ e g) → (k g count : ℕ) (t : List ℕ) → g + k ≡ n
       → ownRow k own n room elements e g count t ≡ ownRow k own′ n room elements e g count t
   unfolding ownRow
   row-agrees e same zero g count t q = refl
   row-agrees e same (suc k) g count t q =
-      rw (same g (omega arith)) (then-same (ownPlace t n room elements count e g (own′ e g)) _ _ (λ c l. row-agrees e same k (g + 1) c l (omega arith)))
+      rw (same g (omega arith)) (then-same (ownPlace t n room elements count e g (own′ e g)) (λ c l. row-agrees e same k (g + 1) c l (omega arith)))
 
   pub own-agrees : ((e g : ℕ) → e < elements → g < n → own e g ≡ own′ e g) → (k e count : ℕ) (t : List ℕ) → e + k ≡ elements
       → ownFrom k own n room elements e count t ≡ ownFrom k own′ n room elements e count t
@@ -112,7 +108,7 @@ module _ (own own′ : ℕ → ℕ → ℕ) (n room elements : ℕ) where
   own-agrees same (suc k) e count t q =
       ap (λ (p : Placed). pick (ltb e count) p (placed (Count count) t))
       (ap (λ (p : Placed). thenPlaced p (λ c l. ownFrom k own n room elements (e + 1) c l)) (row-agrees e (λ g h. same e g (omega arith) h) n 0 count t (omega arith))
-      ∙ then-same (ownRow n own′ n room elements e 0 count t) _ _ (λ c l. own-agrees same k (e + 1) c l (omega arith)))
+      ∙ then-same (ownRow n own′ n room elements e 0 count t) (λ c l. own-agrees same k (e + 1) c l (omega arith)))
 
 -- The whole build: what is read from the copy is what stood in the stretch.
 pub own-built : (s w : List ℕ) (n room elements : ℕ) → elements * n ≤ length w → {w₁ t₁ t₂ t₃ w₃ : List ℕ} {read whole c : Counted}

@@ -16,22 +16,15 @@ use Rattle.egg.specs.declared.Counted.the-variants.{Count, Refused}
 use Rattle.egg.specs.Table.{pick, parentOf, lastOf, lengthOf}
 use Rattle.egg.specs.Factor.{stretch}
 use Rattle.words.specs.Words.{readable, lengthIn}
-use Rattle.factor.specs.Questions.{ifCount}
+use Rattle.words.proofs.Words.{never-both, same-count}
 use Rattle.handles.specs.Counts.{onCounted}
 use Rattle.spelling.specs.Words.{lengths, readables, spellFrom, spells, writesBy, writes, leaves}
-use Rattle.handles.specs.Handles.{handles, elementsOf, admits}
-
-pub never : {v : Counted} {r : Refusal} {k : ℕ} → v ≡ Refused r → v ≡ Count k → ⊥
-never q e = let z : _≡_ {A = ℕ} 0 1 = cc in omega arith
-
-same-count : {k m : ℕ} → Count k ≡ Count m → k ≡ m
-same-count q = cc
 
 pub length-small : (s : List ℕ) (n e : ℕ) {v : Counted} {k : ℕ} → v ≡ lengthIn s n e → v ≡ Count k → k ≤ 4096
 unfolding lengthIn
 length-small s n e {v} {k} q h = by (ltb 4096 (lengthOf s n e)) refl (sym q ∙ h) where
   by : (b : Bool) → ltb 4096 (lengthOf s n e) ≡ b → pick (ltb 4096 (lengthOf s n e)) (Refused (record { number = 17; a = 0; b = 0; c = 0 })) (Count (lengthOf s n e)) ≡ Count k → k ≤ 4096
-  by true p z = absurd (never refl (rw p at z))
+  by true p z = absurd (never-both refl (rw p at z))
   by false p z = let d : lengthOf s n e ≡ k = same-count (rw p at z) in omega (arith, ltb-false 4096 (lengthOf s n e) p, d)
 
 -- Adding up lengths.
@@ -177,9 +170,9 @@ wrote t hs e out q p h = rw q (p, h)
 
 -- A word that was written had room.
 pub by-fits : (v : Counted) (b : Bool) (size : ℕ) {k : ℕ} → writesBy v b size ≡ Count k → k ≤ size
-by-fits (Refused r) b size h = absurd (never refl h)
+by-fits (Refused r) b size h = absurd (never-both refl h)
 by-fits (Count m) b size {k} h = by (ltb size m) b refl h where
   by : (c d : Bool) → ltb size m ≡ c → writesBy (Count m) d size ≡ Count k → k ≤ size
-  by true d p z = absurd (never refl (rw p at z))
-  by false false p z = absurd (never refl (rw p at z))
+  by true d p z = absurd (never-both refl (rw p at z))
+  by false false p z = absurd (never-both refl (rw p at z))
   by false true p z = let q : m ≡ k = same-count (rw p at z) in omega (arith, ltb-false size m p, q)

@@ -33,7 +33,8 @@ use Rattle.predicate.specs.Predicate as predicate
 use Rattle.subgroups.specs.Tells.{Predicated}
 use Rattle.subgroups.specs.Altered.{Regardless, ToldStops, ninth, stopped, by-steps}
 use Rattle.subgroups.proofs.Choosing.{more-length, pick-ends}
-use Rattle.subgroups.proofs.Telling.{eight-rows, eight-work, same-gens, same-build, not-refused, same-refusal}
+use Rattle.renumbering.proofs.Builds.{same-refusal, not-refused}
+use Rattle.subgroups.proofs.Telling.{eight-rows, eight-work, same-gens, same-build}
 use Rattle.subgroups.proofs.ToldLeaving.{accepted-lengths}
 use Rattle.subgroups.proofs.ToldCalls as told
 use Rattle.subgroups.proofs.Regardless.{composes-17, steps-inside, regardless, regardless-at}

@@ -4,19 +4,17 @@ use Prim.Native.Nat.{ℕ, _+_, _*_, _≤_, _<_, zero-le}
 use mathlib.Core.Path.{_≡_, refl, sym, ap, _∙_, subst}
 use mathlib.Core.Logic.{_↔_}
 use mathlib.Core.Bool.{Bool, true, false}
-use mathlib.Core.List.{List, [], _++_}
+use mathlib.Core.List.{List, []}
 use native.Mathlib.Nat.{le-refl}
 use native.Mathlib.Omega.{arith}
-use borrow.Author.Tests.{lt-ltb, le-ltb, ltb-true, ltb-false, leb-true, leb-false}
+use borrow.Author.Tests.{lt-ltb, le-ltb, ltb-true, ltb-false, leb-false}
 use lib.Dec.{leb, ltb}
 use lib.ListN.{length, getD, take, drop, replicate, List·getD-append, length-append, length-drop}
-use lib.Seq.{length-take-le, take-at}
-use Rattle.egg.specs.declared.Factor.{Factor}
+use lib.Seq.{take-at}
 use Rattle.egg.specs.declared.Refusal.{Refusal}
 use Rattle.egg.specs.declared.Reached.{Reached}
 use Rattle.egg.specs.declared.Verdict.{Verdict}
 use Rattle.egg.specs.declared.Verdict.the-variants.{Fine, Refused}
-use Rattle.egg.specs.declared.Counted.{Counted}
 use Rattle.egg.specs.declared.Counted.the-variants as counted
 use Rattle.egg.specs.Table.{pick, stepOf}
 use Rattle.egg.specs.Scan.{refusedOf}
@@ -24,18 +22,16 @@ use Rattle.egg.specs.Factor.{hasRoom, stretch}
 use Rattle.egg.proofs.Rooms.{positive, limited}
 use Rattle.egg.proofs.Scans.{scan-each, refused-fine}
 use Rattle.reading.specs.Build.{numbered}
-use Rattle.lending.specs.Finish.{Built, built}
+use Rattle.lending.specs.Finish.{built}
 use Rattle.lending.specs.Lending.{tableNeed, workNeed, lentRight, within, noFactor, refusedMade, madeOf}
-use Rattle.lending.proofs.Lending.{lent-table, lent-enough}
+use Rattle.lending.proofs.Lending.{lent-table}
 use Rattle.theory.specs.Group.{GroupOn}
 use Rattle.theory.proofs.Reading.{numbered-once}
 use Rattle.meaning.proofs.Accepted.{sound-group}
-use Rattle.promises.proofs.Lent.{handle, lentTable, stretch-part, fits-still}
-use Rattle.products.specs.Product.{product}
+use Rattle.promises.proofs.Lent.{work-taken, taken-enough, handle, lentTable, stretch-part, fits-still}
 use Rattle.handles.specs.declared.Group.{Group}
 use Rattle.handles.specs.Handles.{handles, elementsOf, groupOf}
-use Rattle.groups.specs.Products.{parts, AllAccepted, direct}
-use Rattle.groups.proofs.Parts.{parts-elements}
+use Rattle.groups.specs.Products.{AllAccepted, direct}
 use Rattle.appearance.specs.Renumber as appear
 use Rattle.appearance.specs.Build.{Renumbering, renumbering, renumberIn}
 use Rattle.renumbering.specs.Orbit.{Appearing}
@@ -46,9 +42,9 @@ use Rattle.renumbering.proofs.Builds.{renumber-holds}
 use Rattle.renumbering.proofs.SubgroupBuilds.{subgroup-exactly}
 use Rattle.generated.specs.declared.Subgroup.{Subgroup}
 use Rattle.generated.specs.declared.Subgrouped.{Subgrouped}
-use Rattle.generated.specs.Lent.{shown, subgroupOf, Subgrouping, subgrouping, mapsRight, mapsBack}
+use Rattle.generated.specs.Lent.{shown, subgroupOf, subgrouping, mapsRight, mapsBack}
 use Rattle.generated_rows.specs.Rows.{productOf}
-use Rattle.generated.specs.Generated.{entryRight, entriesRight, smallEnough, admitsGenerators, generatedInto, fromGenerators}
+use Rattle.generated.specs.Generated.{entryRight, entriesRight, admitsGenerators, generatedInto, fromGenerators}
 use Rattle.generated.proofs.Admits.{generators-fine, admitted, small-elements, maps-lent, maps-inn, maps-outw}
 use Rattle.subgroups.specs.Carried.{Carried, Homomorphic}
 use Rattle.subgroups.specs.Made.{SubgroupMade}
@@ -248,10 +244,10 @@ module _ (from : List ℕ) (over : Group) (gens table : List ℕ) (start : ℕ) 
     hi = limited (length table) start room n has
 
     pub work-long : length (take (workNeed n room) work) ≡ workNeed n room
-    work-long = length-take-le (workNeed n room) work (leb-true _ _ (lent-enough (length table) start (length work) room n lent))
+    work-long = work-taken table start work n room lent
 
     pub work-fits : room * (6 * n * n + 4 * n) ≤ length (take (workNeed n room) work)
-    work-fits = rw work-long (le-refl (workNeed n room))
+    work-fits = taken-enough table start work n room lent
 
   -- What has started, over accepted factors.
   module _ (S : Started from over gens table start work inn outw room) (As : AllAccepted from (handles over)) where
@@ -265,7 +261,7 @@ module _ (from : List ℕ) (over : Group) (gens table : List ℕ) (start : ℕ) 
     source = productOf from (handles over) gens
 
     pub G : GroupOn M op inv
-    G = subst (λ (k : ℕ). GroupOn k op inv) (parts-elements from (handles over)) (product-overgroup from As)
+    G = product-overgroup from As
 
     entry-below : (x : ℕ) (i : ℕ) → pick (leb M x) (refusedOf 14 (shown i) 0 0) Fine ≡ Fine → x < M
     entry-below x i = by (leb M x) refl where
@@ -277,11 +273,8 @@ module _ (from : List ℕ) (over : Group) (gens table : List ℕ) (start : ℕ) 
     unfolding entriesRight
     gens-below g h = entry-below (gen g) g (scan-each n (entryRight M gens) 0 (S .entries) g zero-le (omega arith))
 
-    inside : {x : ℕ} → x < M → x < product (parts from (handles over)) .elements
-    inside h = rw (parts-elements from (handles over)) h
-
     pub answering : Answering n M (rightBy op gen) source
-    answering = record { answers = λ {x} {g} hx hg. product-answers from As x (gen g) (inside hx) (inside (gens-below g hg)) }
+    answering = record { answers = λ {x} {g} hx hg. product-answers from As x (gen g) hx (gens-below g hg) }
 
     abbrev build : Renumbering
     build = renumberIn (tableNeed n room) (take (workNeed n room) work) source n room M room 0

@@ -15,11 +15,12 @@ use borrow.Author.Tests.{ltb-true}
 use Rattle.egg.specs.declared.Counted.the-variants.{Count, Refused}
 use Rattle.lending.specs.Finish.{built}
 use Rattle.appearance.specs.Build.{Renumbering, renumbering}
+use Rattle.renumbering.proofs.Builds.{not-refused}
 use Rattle.renumbering.proofs.Chosen.{orbit-more}
 use Rattle.predicate.specs.Predicate.{Picked, picked, isNew, chooses}
 use Rattle.subgroups.specs.Predicate.{Reach, Chosen, Faithful, Ends, accepted, refused, too-many}
 use Rattle.subgroups.proofs.Choosing.{orbit-as, more-length, pick-ends, new-member, new-outside, not-new, knowing, chosen-same, chosen-more, nothing-chosen, chooses-ends}
-use Rattle.subgroups.proofs.Telling.{not-refused, ends-accepted}
+use Rattle.subgroups.proofs.Telling.{ends-accepted}
 use Rattle.subgroups.proofs.Roomier.{Counts, Accepts}
 
 -- The chosen below x are the first of those that are chosen in the end.

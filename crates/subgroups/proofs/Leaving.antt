@@ -14,21 +14,18 @@ use Rattle.egg.specs.declared.GeneratorId.{GeneratorId}
 use Rattle.egg.specs.declared.Reached.{Reached}
 use Rattle.egg.specs.declared.Reached.the-variants as reached
 use Rattle.egg.specs.declared.Verdict.the-variants as verdict
-use Rattle.egg.specs.declared.Counted.{Counted}
 use Rattle.egg.specs.declared.Counted.the-variants.{Count, Refused}
 use Rattle.egg.specs.Table.{pick, putAt}
 use Rattle.egg.proofs.Rooms.{within-length}
-use Rattle.checks.specs.Checks.{Checked, checked, check-group}
 use Rattle.reading.specs.Build.{setStep, adds}
 use Rattle.reading.specs.Reading.{placed}
-use Rattle.lending.specs.Finish.{built, zeroed, settledBy, finished}
+use Rattle.lending.specs.Finish.{built, finished}
 use Rattle.lending.specs.Lending.{tableNeed, workNeed, within}
 use Rattle.lending.proofs.Lending.{lent-table, lent-enough}
-use Rattle.meaning.proofs.Lengths.{checks-work}
 use Rattle.derived.proofs.Marking.{set-length}
 use Rattle.promises.specs.Leaves.{Cleared, AllCleared}
 use Rattle.promises.proofs.ReadLengths.{adds-length}
-use Rattle.meaning.proofs.Accepted.{checks-kept}
+use Rattle.promises.proofs.Zeros.{finished-zeros}
 use Rattle.handles.specs.declared.Group.{Group}
 use Rattle.handles.specs.Handles.{handles, elementsOf}
 use Rattle.appearance.specs.Renumber.{none, Mapped, mapped, thenMapped, onNew, mapPlace, mapFrom, mapRow, mapRows, mapAll}
@@ -98,22 +95,6 @@ rows-long (suc k) source n room e count t inn outw =
     (λ c t′ inn′ outw′ h. rows-long k source n room (e + 1) c t′ inn′ outw′ ∙ h)) refl
 
 -- A refused build leaves zeros in both stretches.
-settled-zero : (c : ℕ) (k : Checked) (t₀ w₀ : List ℕ) (n : ℕ) → check-group t₀ w₀ n c ≡ k → {r : Refusal} {t w : List ℕ} → settledBy c k ≡ built (Refused r) t w
-    → (t ≡ replicate (length t₀) 0) × (w ≡ replicate (length w₀) 0)
-settled-zero c (checked verdict.Fine t₁ w₁) t₀ w₀ n h {r} {t} {w} q = absurd (never q) where
-  never : built (Count c) t₁ (zeroed w₁) ≡ built (Refused r) t w → ⊥
-  never z = let x : _≡_ {A = ℕ} 0 1 = cc in omega arith
-settled-zero c (checked (verdict.Refused s) t₁ w₁) t₀ w₀ n h {r} {t} {w} q =
-    let a : t ≡ zeroed t₁ = cc in
-    let b : w ≡ zeroed w₁ = cc in
-    (a ∙ ap (λ (k : ℕ). replicate k 0) (checks-kept t₀ w₀ n c h .size), b ∙ ap (λ (k : ℕ). replicate k 0) (checks-work t₀ w₀ n c h))
-
-finished-zero : (c : Counted) (n : ℕ) (t₀ w₀ : List ℕ) {r : Refusal} {t w : List ℕ} → finished c n t₀ w₀ ≡ built (Refused r) t w
-    → (t ≡ replicate (length t₀) 0) × (w ≡ replicate (length w₀) 0)
-unfolding finished
-finished-zero (Count c) n t₀ w₀ q = settled-zero c (check-group t₀ w₀ n c) t₀ w₀ n refl q
-finished-zero (Refused s) n t₀ w₀ {r} {t} {w} q = (cc, cc)
-
 pub refused-stretches : (size : ℕ) (w₀ : List ℕ) (source : ℕ → ℕ → Reached) (n room M K x₀ : ℕ) {r : Refusal} {t w inn outw : List ℕ}
     → renumberIn size w₀ source n room M K x₀ ≡ renumbering (built (Refused r) t w) inn outw → (t ≡ replicate size 0) × (w ≡ replicate (length w₀) 0)
 unfolding renumberIn
@@ -124,7 +105,7 @@ refused-stretches size w₀ source n room M K x₀ {r} {t} {w} {inn} {outw} q =
     go : (m : Mapped) → length (tableIn m) ≡ size → finishedMapped m n w₀ ≡ renumbering (built (Refused r) t w) inn outw
         → (t ≡ replicate size 0) × (w ≡ replicate (length w₀) 0)
     go (mapped (placed c t₀) i o) h z =
-        let F = finished-zero c n t₀ w₀ (sym (settled-built (finished c n t₀ w₀) i o) ∙ ap builtOf z) in
+        let F = finished-zeros c n t₀ w₀ (sym (settled-built (finished c n t₀ w₀) i o) ∙ ap builtOf z) in
         (F .0 ∙ ap (λ (k : ℕ). replicate k 0) h, F .1)
 
 -- The four stretches, as they are put back, are zero, and they are in their buffers.

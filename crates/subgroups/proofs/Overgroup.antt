@@ -1,27 +1,26 @@
 -- The overgroup as a product of accepted factors: its `compose` answers the product's operation. And what an accepted build by generators gives there.
 -- Assumes nothing.
 use Prim.Native.Nat.{ℕ, _+_, _*_, _<_, _≤_}
-use mathlib.Core.Path.{_≡_, refl, sym, _∙_, ap}
+use mathlib.Core.Path.{_≡_, subst}
 use mathlib.Core.Logic.{_↔_}
 use mathlib.Core.List.{List}
 use native.Mathlib.Omega.{arith}
-use lib.ListN.{length, getD, replicate}
+use lib.ListN.{length, getD}
 use Rattle.egg.specs.declared.Factor.{Factor}
 use Rattle.egg.specs.declared.Reached.{Reached}
 use Rattle.egg.specs.declared.Reached.the-variants as reached
 use Rattle.egg.specs.declared.Counted.the-variants.{Count}
-use Rattle.egg.specs.Table.{stepOf}
 use Rattle.lending.specs.Finish.{built}
 use Rattle.theory.specs.Group.{GroupOn}
-use Rattle.products.specs.Product.{Part, product, IsGroup}
+use Rattle.products.specs.Product.{product}
 use Rattle.products.proofs.ProductLaws.{product-group}
 use Rattle.digits.specs.declared.inner.Asked.the-variants.{Compose}
 use Rattle.digits.specs.Digits.{digitOf, digitwise}
+use Rattle.handles.specs.Handles.{elementsOf}
 use Rattle.groups.specs.Products.{parts, AllAccepted}
-use Rattle.groups.proofs.Parts.{all-groups, composes-are}
+use Rattle.groups.proofs.Parts.{parts-elements, all-groups, composes-are}
 use Rattle.appearance.specs.Renumber as appear
 use Rattle.appearance.specs.Build.{renumbering, renumberIn}
-use Rattle.renumbering.specs.Orbit.{Orbit}
 use Rattle.renumbering.specs.Source.{Answering}
 use Rattle.renumbering.specs.Subgroup.{rightBy, Generated}
 use Rattle.renumbering.proofs.Order.{appearing}
@@ -31,12 +30,12 @@ use Rattle.subgroups.specs.Made.{SubgroupMade}
 use Rattle.subgroups.proofs.Given.{held-carried, held-homomorphic}
 
 module _ (t : List ℕ) {hs : List Factor} (As : AllAccepted t hs) where
-  pub product-answers : (y x : ℕ) → y < product (parts t hs) .elements → x < product (parts t hs) .elements
+  pub product-answers : (y x : ℕ) → y < elementsOf hs → x < elementsOf hs
       → digitwise (digitOf Compose t) hs y x ≡ reached.Element (record { 0 = product (parts t hs) .op y x })
-  product-answers y x hy hx = composes-are t As y x hy hx
+  product-answers y x hy hx = composes-are t As y x (rw (parts-elements t hs) hy) (rw (parts-elements t hs) hx)
 
-  pub product-overgroup : GroupOn (product (parts t hs) .elements) (product (parts t hs) .op) (product (parts t hs) .inv)
-  product-overgroup = product-group (all-groups t As) .laws
+  pub product-overgroup : GroupOn (elementsOf hs) (product (parts t hs) .op) (product (parts t hs) .inv)
+  product-overgroup = subst (λ (k : ℕ). GroupOn k (product (parts t hs) .op) (product (parts t hs) .inv)) (parts-elements t hs) (product-group (all-groups t As) .laws)
 
 pub generated-as : {n M : ℕ} {op : ℕ → ℕ → ℕ} {inv gen : ℕ → ℕ} {H K : ℕ → Type 0} → ((x : ℕ) → H x ↔ K x) → Generated n M op inv gen H → Generated n M op inv gen K
 generated-as {H = H} {K} same S = record {

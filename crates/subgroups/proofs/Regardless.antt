@@ -31,16 +31,15 @@ use Rattle.handles.specs.declared.Group.{Group}
 use Rattle.digits.specs.declared.inner.Asked.the-variants.{Compose}
 use Rattle.handles.specs.Handles.{handles, elementsOf, allFit, groupOf}
 use Rattle.digits.specs.Digits.{digitOf, digitwise, composes}
-use Rattle.walks.specs.Walks.{onReached}
 use Rattle.handles.proofs.Lists.{positive}
-use Rattle.digits.proofs.Walks.{Below, element, refusal, below-element, digit-below}
+use Rattle.digits.proofs.Walks.{Below, element, below-element, below-on, digit-below}
 use Rattle.appearance.specs.Build.{renumbering, renumberIn}
 use Rattle.renumbering.specs.Orbit.{Inside, numberedStep, Appearing}
 use Rattle.renumbering.specs.Source.{Answering}
 use Rattle.renumbering.specs.Maps.{Filled}
 use Rattle.renumbering.proofs.Order.{appearing}
 use Rattle.renumbering.proofs.Partial.{ranged-inside, total, total-answering, partial-build}
-use Rattle.renumbering.proofs.Builds.{builtOf, renumber-built, renumber-holds, renumber-work, renumber-filled, renumber-maps}
+use Rattle.renumbering.proofs.Builds.{builtOf, not-refused, renumber-built, renumber-holds, renumber-work, renumber-filled, renumber-maps}
 use Rattle.generated.specs.declared.Subgroup.{Subgroup}
 use Rattle.generated.specs.Lent.{mapsRight}
 use Rattle.generated_rows.specs.Rows.{productOf}
@@ -53,18 +52,14 @@ use Rattle.subgroups.proofs.Given.{held-carried}
 use Rattle.subgroups.proofs.Called.{front-cell, front-part, front-long, carried-as}
 
 -- A product in whatever buffer is an element of the overgroup, or is refused by 17.
-then-below : {N M : ℕ} {f : ℕ → Reached} (r : Reached) → Below N r → ((y : ℕ) → y < N → Below M (f y)) → Below M (onReached r f)
-then-below (reached.Element y) b g = g (y .0) (below-element b refl refl)
-then-below (reached.Refused r) b g = refusal
-
 composes-below : (t : List ℕ) (hs : List Factor) (a b : ℕ) → a < elementsOf hs → Below (elementsOf hs) (composes t hs a b)
 unfolding digitwise
 composes-below t [] a b l = let z : 0 < elementsOf [] = omega arith in element {e = record { 0 = 0 }} z
 composes-below t (h ∷ hs) a b l =
     let N : ℕ = h .elements in
     let M : ℕ = elementsOf hs in
-    then-below (digitOf Compose t h (a % N) (b % N)) (digit-below Compose t h (a % N) (b % N) (mod-lt a (range-pos N M a l)))
-    (λ x hx. then-below (digitwise (digitOf Compose t) hs (a / N) (b / N)) (composes-below t hs (a / N) (b / N) (high-small N M a l))
+    below-on (digitOf Compose t h (a % N) (b % N)) (digit-below Compose t h (a % N) (b % N) (mod-lt a (range-pos N M a l)))
+    (λ x hx. below-on (digitwise (digitOf Compose t) hs (a / N) (b / N)) (composes-below t hs (a / N) (b / N) (high-small N M a l))
     (λ y hy. element (joined-small hx y hy)))
 
 pub composes-17 : (t : List ℕ) (hs : List Factor) (a b : ℕ) → ReachedIn (17 ∷ []) (composes t hs a b)
@@ -85,16 +80,12 @@ pub accepted-total : (size : ℕ) (w : List ℕ) (source : ℕ → ℕ → Reach
     → renumberIn size w source n room M K x₀ ≡ renumbering (built (counted.Count c) t w₁) i o
     → renumberIn size w (total source x₀) n room M K x₀ ≡ renumbering (built (counted.Count c) t w₁) i o
 accepted-total size w source n room M K x₀ {c} {t} {w₁} {i} {o} q = go (partial-build size w source n room M K x₀) where
-  never : {r : Refusal} {c : ℕ} {t t′ w w′ i i′ o o′ : List ℕ}
-      → renumbering (built (counted.Refused r) t w) i o ≡ renumbering (built (counted.Count c) t′ w′) i′ o′ → ⊥
-  never h = let z : _≡_ {A = ℕ} 0 1 = cc in omega arith
-
   go : (renumberIn size w source n room M K x₀ ≡ renumberIn size w (total source x₀) n room M K x₀)
       ⊎ ((r : Refusal) × (x : ℕ) × (g : ℕ) × (t : List ℕ) × (i : List ℕ) × (o : List ℕ) × (source x g ≡ reached.Refused r)
       × (renumberIn size w source n room M K x₀ ≡ renumbering (built (counted.Refused r) (zeroed t) (zeroed w)) (zeroed i) (zeroed o)))
       → renumberIn size w (total source x₀) n room M K x₀ ≡ renumbering (built (counted.Count c) t w₁) i o
   go (inl e) = sym e ∙ q
-  go (inr (r, x, g, t, i, o, z, e)) = absurd (never (sym e ∙ q))
+  go (inr (r, x, g, t, i, o, z, e)) = absurd (not-refused (sym e ∙ q))
 
 -- A front that was written, put back.
 front-wrote : (l : List ℕ) (k : ℕ) → k ≤ length l → (p : List ℕ) → length p ≡ k → Wrote (record { entry = l; start = 0; need = k; exit = within l 0 k p })

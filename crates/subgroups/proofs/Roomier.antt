@@ -4,7 +4,6 @@ use Prim.Native.Nat.{ℕ, zero, suc, _+_, _<_, _≤_}
 use mathlib.Core.Path.{_≡_, refl, sym, _∙_, ap, subst}
 use mathlib.Core.Logic.{inl, inr}
 use mathlib.Core.List.{List, [], _∷_, _++_}
-use native.Mathlib.Nat.{add-zero}
 use native.Mathlib.Decide.{ℕ-discrete, decLt}
 use native.Mathlib.Omega.{arith}
 use lib.ListN.{length, getD}
@@ -14,9 +13,10 @@ use Rattle.lending.specs.Finish.{built}
 use Rattle.appearance.specs.Renumber as appear
 use Rattle.appearance.specs.Build.{Renumbering, renumbering}
 use Rattle.predicate.specs.Predicate.{Picked, picked, ninth, chooses}
-use Rattle.subgroups.specs.Predicate.{Reach, Chosen, Knows, Faithful}
+use Rattle.subgroups.specs.Predicate.{Chosen, Knows, Faithful}
 use Rattle.subgroups.proofs.Choosing.{chosen-same, chosen-more}
-use Rattle.subgroups.proofs.Telling.{same-gens, same-build, not-refused}
+use Rattle.renumbering.proofs.Builds.{not-refused}
+use Rattle.subgroups.proofs.Telling.{same-gens, same-build}
 use Rattle.subgroups.proofs.Loop.{choose-end, choose-stop, choose-known, choose-no-member, choose-next, choose-ninth}
 
 pub record Counts (r : Renumbering) : Type 0 where

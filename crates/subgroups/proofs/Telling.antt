@@ -1,29 +1,27 @@
 -- The predicate form over a group: how it ends, by the group's own words.
 -- Assumes nothing.
-use Prim.Native.Nat.{ℕ, zero, suc, _+_, _*_, _<_, _≤_}
-use mathlib.Core.Path.{_≡_, refl, sym, _∙_, ap, subst}
+use Prim.Native.Nat.{ℕ, _+_, _*_, _<_, _≤_}
+use mathlib.Core.Path.{_≡_, sym, _∙_, ap, subst}
 use mathlib.Core.Logic.{_↔_, _⊎_, inl, inr}
-use mathlib.Core.List.{List, [], _∷_, _++_}
-use native.Mathlib.Nat.{mul-le-mul, le-refl, le-trans, mul-assoc}
+use mathlib.Core.List.{List, []}
+use native.Mathlib.Nat.{mul-le-mul, le-refl, le-trans}
 use native.Mathlib.Decide.{decLt}
 use native.Mathlib.Omega.{arith}
 use lib.ListN.{length, getD, replicate, length-replicate}
-use Rattle.egg.specs.declared.Refusal.{Refusal}
 use Rattle.egg.specs.declared.Reached.{Reached}
 use Rattle.egg.specs.declared.Reached.the-variants as reached
-use Rattle.egg.specs.declared.Counted.the-variants.{Count, Refused}
+use Rattle.egg.specs.declared.Counted.the-variants.{Count}
 use Rattle.egg.specs.Table.{stepOf}
 use Rattle.lending.specs.Finish.{built}
 use Rattle.theory.specs.Group.{GroupOn}
 use Rattle.appearance.specs.Renumber as appear
-use Rattle.appearance.specs.Build.{Renumbering, renumbering, renumberIn}
-use Rattle.renumbering.specs.Orbit.{Orbit, Inside}
+use Rattle.appearance.specs.Build.{Renumbering, renumbering}
 use Rattle.renumbering.specs.Source.{Answering}
 use Rattle.renumbering.specs.Maps.{Held}
-use Rattle.renumbering.specs.Subgroup.{rightBy, Subgroup, Generated, Proper}
+use Rattle.renumbering.specs.Subgroup.{rightBy, Subgroup, Proper}
 use Rattle.renumbering.proofs.Order.{appearing}
 use Rattle.renumbering.proofs.Subgroups.{right-inside, orbit-generated}
-use Rattle.renumbering.proofs.Builds.{renumber-work, renumber-maps}
+use Rattle.renumbering.proofs.Builds.{not-refused, renumber-work, renumber-maps}
 use Rattle.renumbering.proofs.Chosen.{chosen-proper, chosen-all, orbit-more}
 use Rattle.predicate.specs.Predicate.{Picked, picked, againIn, predicateIn}
 use Rattle.subgroups.specs.Predicate.{Reach, Chosen, Knows, Faithful, Ends, accepted, refused, too-many}
@@ -82,14 +80,6 @@ same-gens h = cc
 
 pub same-build : {gs gens : List ℕ} {r r′ : Renumbering} → picked gs r ≡ picked gens r′ → r ≡ r′
 same-build h = cc
-
-pub not-refused : {f : Refusal} {c : ℕ} {t t₁ w w₁ i inn o outw : List ℕ}
-    → renumbering (built (Refused f) t₁ w₁) i o ≡ renumbering (built (Count c) t w) inn outw → ⊥
-not-refused h = let z : _≡_ {A = ℕ} 0 1 = cc in omega arith
-
-pub same-refusal : {f f′ : Refusal} {t t₁ w w₁ i inn o outw : List ℕ}
-    → renumbering (built (Refused f) t₁ w₁) i o ≡ renumbering (built (Refused f′) t w) inn outw → f ≡ f′
-same-refusal h = cc
 
 module _ {op : ℕ → ℕ → ℕ} {byte : ℕ → ℕ} {M L : ℕ} {again : List ℕ → List ℕ → Renumbering} {gens : List ℕ} where
   pub ends-accepted : {p : Picked} {c : ℕ} {t w inn outw : List ℕ} → Ends op byte M L again p → p ≡ picked gens (renumbering (built (Count c) t w) inn outw)

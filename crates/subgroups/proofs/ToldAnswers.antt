@@ -23,8 +23,7 @@ use Rattle.egg.specs.declared.Counted.the-variants.{Count, Refused}
 use Rattle.egg.specs.Factor.{Paper, verdictPaper}
 use Rattle.egg.proofs.Rooms.{false-true, and-first, and-second}
 use Rattle.reading.specs.Build.{numbered}
-use Rattle.reading.specs.Reading.{Placed, placed}
-use Rattle.lending.specs.Finish.{built, zeroed, finished, finishedPlaced}
+use Rattle.lending.specs.Finish.{built}
 use Rattle.lending.specs.Lending.{tableNeed, workNeed}
 use Rattle.theory.specs.Group.{GroupOn}
 use Rattle.meaning.specs.Numbers.{In}
@@ -37,11 +36,12 @@ use Rattle.groups.specs.Products.{AllAccepted, direct}
 use Rattle.appearance.specs.Build.{Renumbering, renumbering}
 use Rattle.renumbering.specs.Orbit.{numberedStep}
 use Rattle.renumbering.specs.Subgroup.{rightBy, FirstIdentity, FirstRepeat, Proper}
+use Rattle.promises.proofs.Twelve.{refused-reading}
 use Rattle.renumbering.proofs.Order.{appearing}
 use Rattle.renumbering.proofs.Subgroups.{right-inside}
 use Rattle.renumbering.proofs.Numberings.{refused-5-or-6}
 use Rattle.renumbering.proofs.Chosen.{chosen-proper, orbit-more}
-use Rattle.renumbering.proofs.Builds.{builtOf, renumber-built}
+use Rattle.renumbering.proofs.Builds.{builtOf, same-refusal, not-refused, renumber-built}
 use Rattle.renumbering.proofs.SubgroupBuilds.{subgroup-refused}
 use Rattle.generated.specs.Lent.{mapsRight}
 use Rattle.generated.specs.Generated.{smallEnough}
@@ -51,7 +51,7 @@ use Rattle.subgroups.specs.Tellable.{Buildable, Tellable}
 use Rattle.subgroups.specs.Tells.{Predicated}
 use Rattle.subgroups.specs.Answers.{subgroupPaper, Small}
 use Rattle.subgroups.specs.ToldAnswers.{Stopping, Way, told, stops, ninth, Bytes, PredicatePaper, no-handle, too-large, short, chosen}
-use Rattle.subgroups.proofs.Telling.{eight-rows, eight-work, answering, again-faithful, predicate-ends, not-refused, same-refusal}
+use Rattle.subgroups.proofs.Telling.{eight-rows, eight-work, answering, again-faithful, predicate-ends}
 use Rattle.subgroups.proofs.Firsts.{first-chosen, each-of, each-before}
 use Rattle.subgroups.proofs.ToldExactly.{asks, suffices}
 use Rattle.subgroups.proofs.ToldCalls as told-calls
@@ -68,10 +68,6 @@ pickedVerdict (picked gens (renumbering (built c t w) i o)) = countedVerdict c
 with-maps : (m : Renumbering) {r : Refusal} {t w : List ℕ} → builtOf m ≡ built (Refused r) t w
     → (t : List ℕ) × (w : List ℕ) × (i : List ℕ) × (o : List ℕ) × (m ≡ renumbering (built (Refused r) t w) i o)
 with-maps (renumbering b i o) {r} {t} {w} q = (t, w, i, o, ap (λ b. renumbering b i o) q)
-
-refused-placed : {p : Placed} (n : ℕ) (w : List ℕ) {r : Refusal} {t : List ℕ} → p ≡ placed (Refused r) t → finishedPlaced p n w ≡ built (Refused r) (zeroed t) (zeroed w)
-unfolding finished
-refused-placed n w q = rw q
 
 five-or-six : {n : ℕ} {r : Refusal} → (e : ℕ) × (g : ℕ) × (g < n) × ((r ≡ numbered 5 e g 0) ⊎ (r ≡ numbered 6 e g 0)) → In (5 ∷ 6 ∷ []) r
 five-or-six (e, g, h, inl q) = rw q
@@ -124,7 +120,7 @@ module _ {M : ℕ} {op : ℕ → ℕ → ℕ} {inv : ℕ → ℕ} (G : GroupOn M
           with-maps (againIn size source room M K gens w)
           (renumber-built (S .appearing) (right-inside G below) small (λ y g. source y (getD gens g 0))
           (answering G small source answers room K lo hi lent size L fits work gens (C .few) below) room K lo hi lent size w (C .few)
-          (eight-rows (length gens) room size (C .few) fits) enough ∙ refused-placed (length gens) w (P .1))
+          (eight-rows (length gens) room size (C .few) fits) enough ∙ refused-reading (length gens) w (P .1))
 
     -- So no list that can be built stops, and none stops in two ways.
     abbrev some-work : List ℕ

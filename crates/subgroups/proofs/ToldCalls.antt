@@ -10,8 +10,6 @@ use native.Mathlib.Omega.{arith}
 use borrow.Author.Tests.{le-leb, leb-true}
 use lib.Dec.{leb}
 use lib.ListN.{length, getD, take}
-use lib.Seq.{length-take-le}
-use Rattle.egg.specs.declared.Factor.{Factor}
 use Rattle.egg.specs.declared.Refusal.{Refusal}
 use Rattle.egg.specs.declared.Reached.the-variants as reached
 use Rattle.egg.specs.declared.Verdict.{Verdict}
@@ -20,25 +18,21 @@ use Rattle.egg.specs.declared.Counted.the-variants as counted
 use Rattle.egg.specs.Table.{stepOf}
 use Rattle.egg.specs.Factor.{hasRoom, stretch}
 use Rattle.egg.proofs.Rooms.{positive, limited, and-first, and-second}
-use Rattle.egg.proofs.Scans.{refused-fine}
 use Rattle.reading.specs.Build.{numbered}
 use Rattle.lending.specs.Finish.{built}
 use Rattle.lending.specs.Lending.{tableNeed, workNeed, lentRight, within, noFactor, refusedMade, madeOf}
-use Rattle.lending.proofs.Lending.{lent-table, lent-enough}
+use Rattle.lending.proofs.Lending.{lent-table}
 use Rattle.theory.specs.Group.{GroupOn}
-use Rattle.promises.proofs.Lent.{handle}
-use Rattle.products.specs.Product.{product}
+use Rattle.promises.proofs.Lent.{work-taken, taken-enough, handle}
 use Rattle.handles.specs.declared.Group.{Group}
 use Rattle.handles.specs.Handles.{handles, elementsOf, groupOf}
 use Rattle.digits.specs.Digits.{composes}
-use Rattle.groups.specs.Products.{parts, AllAccepted, direct}
-use Rattle.groups.proofs.Parts.{parts-elements}
+use Rattle.groups.specs.Products.{AllAccepted, direct}
 use Rattle.appearance.specs.Renumber as appear
-use Rattle.appearance.specs.Build.{Renumbering, renumbering}
+use Rattle.appearance.specs.Build.{renumbering}
 use Rattle.generated.specs.declared.Subgroup.{Subgroup}
 use Rattle.generated.specs.declared.Subgrouped.{Subgrouped}
-use Rattle.generated.specs.Lent.{subgroupOf, Subgrouping, subgrouping, mapsRight, mapsBack}
-use Rattle.generated.specs.Generated.{smallEnough}
+use Rattle.generated.specs.Lent.{subgroupOf, subgrouping, mapsRight}
 use Rattle.generated.proofs.Admits.{small-elements, maps-lent}
 use Rattle.predicate.specs.Predicate.{Picked, picked, predicateIn, admitsOver, toldBack, toldInto, fromPredicate}
 use Rattle.predicate.proofs.Choices.{over-fine, over-admitted}
@@ -166,10 +160,10 @@ module _ (from : List ℕ) (over : Group) (members table : List ℕ) (start : �
     hi = limited (length table) start room 8 has
 
     pub work-long : length (take (workNeed 8 room) work) ≡ workNeed 8 room
-    work-long = length-take-le (workNeed 8 room) work (leb-true _ _ (lent-enough (length table) start (length work) room 8 lent))
+    work-long = work-taken table start work 8 room lent
 
     pub work-fits : room * (6 * 8 * 8 + 4 * 8) ≤ length (take (workNeed 8 room) work)
-    work-fits = rw work-long (le-refl (workNeed 8 room))
+    work-fits = taken-enough table start work 8 room lent
 
   module _ (S : Predicated from over members table start work inn outw room) (As : AllAccepted from (handles over)) where
     abbrev op : ℕ → ℕ → ℕ
@@ -179,13 +173,10 @@ module _ (from : List ℕ) (over : Group) (members table : List ℕ) (start : �
     inv = direct from over .inv
 
     pub G : GroupOn M op inv
-    G = subst (λ (k : ℕ). GroupOn k op inv) (parts-elements from (handles over)) (product-overgroup from As)
-
-    inside : {x : ℕ} → x < M → x < product (parts from (handles over)) .elements
-    inside h = rw (parts-elements from (handles over)) h
+    G = product-overgroup from As
 
     pub answers : (y x : ℕ) → y < M → x < M → composes from (handles over) y x ≡ reached.Element (record { 0 = op y x })
-    answers y x hy hx = product-answers from As y x (inside hy) (inside hx)
+    answers = product-answers from As
 
     told-of : {gens : List ℕ} {c : ℕ} {t w i o : List ℕ} → whole ≡ picked gens (renumbering (built (counted.Count c) t w) i o)
         → Told op inv byte M room room (tableNeed 8 room) (workNeed 8 room) gens c t w i o

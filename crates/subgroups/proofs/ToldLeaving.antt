@@ -4,7 +4,6 @@ use Prim.Native.Nat.{ℕ, zero, suc, _+_}
 use mathlib.Core.Path.{_≡_, refl, sym, ap, _∙_}
 use mathlib.Core.Bool.{Bool, true, false}
 use mathlib.Core.List.{List, [], _∷_, _++_}
-use native.Mathlib.Omega.{arith}
 use lib.Dec.{ltb}
 use lib.ListN.{length, getD, take, replicate, length-replicate}
 use Rattle.egg.specs.declared.Refusal.{Refusal}
@@ -16,6 +15,7 @@ use Rattle.egg.specs.Table.{pick, putAt}
 use Rattle.checks.specs.Checks.{Checked, checked, check-group}
 use Rattle.reading.specs.Reading.{placed}
 use Rattle.lending.specs.Finish.{built, zeroed, settledBy, finished}
+use Rattle.lending.proofs.Finishing.{refused-counted}
 use Rattle.lending.specs.Lending.{tableNeed, workNeed, within}
 use Rattle.meaning.proofs.Lengths.{checks-work}
 use Rattle.meaning.proofs.Accepted.{checks-kept}
@@ -48,17 +48,13 @@ settled-long c (checked verdict.Fine t₁ w₁) t₀ w₀ n h {d} {t} {w} q =
     let a : t ≡ t₁ = cc in
     let b : w ≡ zeroed w₁ = cc in
     (ap length a ∙ checks-kept t₀ w₀ n c h .size, ap length b ∙ length-replicate {A = ℕ} (length w₁) 0 ∙ checks-work t₀ w₀ n c h)
-settled-long c (checked (verdict.Refused s) t₁ w₁) t₀ w₀ n h {d} {t} {w} q = absurd (never q) where
-  never : built (Refused s) (zeroed t₁) (zeroed w₁) ≡ built (Count d) t w → ⊥
-  never z = let x : _≡_ {A = ℕ} 0 1 = cc in omega arith
+settled-long c (checked (verdict.Refused s) t₁ w₁) t₀ w₀ n h q = absurd (refused-counted q)
 
 finished-long : (k : Counted) (n : ℕ) (t₀ w₀ : List ℕ) {c : ℕ} {t w : List ℕ} → finished k n t₀ w₀ ≡ built (Count c) t w
     → (length t ≡ length t₀) × (length w ≡ length w₀)
 unfolding finished
 finished-long (Count k) n t₀ w₀ q = settled-long k (check-group t₀ w₀ n k) t₀ w₀ n refl q
-finished-long (Refused s) n t₀ w₀ {c} {t} {w} q = absurd (never q) where
-  never : built (Refused s) (zeroed t₀) (zeroed w₀) ≡ built (Count c) t w → ⊥
-  never z = let x : _≡_ {A = ℕ} 0 1 = cc in omega arith
+finished-long (Refused s) n t₀ w₀ q = absurd (refused-counted q)
 
 pub accepted-lengths : (size : ℕ) (w₀ : List ℕ) (source : ℕ → ℕ → Reached) (n room M K x₀ : ℕ) {c : ℕ} {t w i o : List ℕ}
     → renumberIn size w₀ source n room M K x₀ ≡ renumbering (built (Count c) t w) i o

@@ -73,7 +73,7 @@ module _ {n : ℕ} {src : ℕ → ℕ → ℕ} where
   count-within R (new {x} k hg t) = let h = count-within R k in omega (arith, numbered-table R .closed {e = x} (omega (arith, row-known k)) hg)
   count-within R (next-row k _) = count-within R k
 
-ahead-above : {x g y h : ℕ} → Ahead x g y h → x ≤ y
+pub ahead-above : {x g y h : ℕ} → Ahead x g y h → x ≤ y
 ahead-above (row p) = omega arith
 ahead-above (column p q) = omega arith
 

@@ -136,8 +136,12 @@ pub wrote : (s : List ℕ) (n e : ℕ) (out : List ℕ) {w r x : Counted} {o : L
     → (x ≡ w) × (o ≡ writtenBy w s n e out)
 wrote s n e out q p h = rw q (p, h)
 
+-- A count is no refusal, and counts that are equal count the same.
 pub never-both : {v : Counted} {r : Refusal} {k : ℕ} → v ≡ counted.Refused r → v ≡ counted.Count k → ⊥
 never-both q e = let z : _≡_ {A = ℕ} 0 1 = cc in omega arith
+
+pub same-count : {k m : ℕ} → counted.Count k ≡ counted.Count m → k ≡ m
+same-count q = cc
 
 -- A word that was written had room.
 pub write-fits : (s : List ℕ) (n count e size : ℕ) {k : ℕ} → writeIn s n count e size ≡ counted.Count k → k ≤ size
