@@ -200,7 +200,7 @@ module _ (l : List ℕ) (B : Bytes l) where
     refused-zero (inr (inl a)) z = omega arith
     refused-zero (inr (inr a)) z = omega arith
 
-    built-taken : built (tableNeed gens elts) zeros succs gens elts ≡ 0 → Taken (composedAt succs gens) gens elts elts
+    built-taken : built (tableNeed gens elts) zeros succs gens elts ≡ 0 → Taken (imageStep l) gens elts elts
     unfolding built
     built-taken h = by (readAll (composedAt succs gens) gens elts (replicate (tableNeed gens elts) 0)) refl h where
       src : ℕ → ℕ → ℕ

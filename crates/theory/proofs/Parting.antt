@@ -29,6 +29,10 @@ all-fails (suc k) p f = ⊎-elim
     (decide (p k))
 
 module _ {n N : ℕ} {step : ℕ → ℕ → ℕ} {word : ℕ → List ℕ} (Q : Table n N step) (S : Spelled n N step word) where
+  -- Where viewers part no group has the table.
+  parting-groupless : Parting n N step word → ¬ (SomeGroup n N step)
+  parting-groupless P G = P .apart (sym (compose-walk Q S ((exact-any S Q) .0 G .2) (P .from-below) (P .over)))
+
   -- A place where multiplication on the left does not commute with a step.
   check-fails : ¬ (Check n N step word)
       → (s : ℕ) × (g : ℕ) × (x : ℕ) × (s < n) × (g < n) × (x < N) × ¬ (left step word s (step x g) ≡ step (left step word s x) g)
@@ -52,7 +56,4 @@ module _ {n N : ℕ} {step : ℕ → ℕ → ℕ} {word : ℕ → List ℕ} (Q :
 
   -- No group has the table exactly where viewers part.
   pub groupless-parting : {back : ℕ → ℕ → ℕ} → Columns n N step back → (¬ (SomeGroup n N step)) ↔ Parting n N step word
-  groupless-parting {back} B = (
-    λ none. parts (λ c. none ((exact-any S Q) .1 (back, B, c))),
-    λ P G. P .apart (sym (compose-walk Q S ((exact-any S Q) .0 G .2) (P .from-below) (P .over))),
-  )
+  groupless-parting {back} B = (λ none. parts (λ c. none ((exact-any S Q) .1 (back, B, c))), parting-groupless)

@@ -26,7 +26,7 @@ refused-requires c κs = search needs
 returns-2 : tie.Need-returns-2
 returns-2 c =
     let a = c .before .before .before .before .before .before .before .before .args in
-    c .refused .ensures ∙ end-out (length (a .table .now)) (a .f) (a .e) (a .g) (a .r) (c .before .before .before .before .before .before .place .ensures) (c .before .before .before .before .enum-told .given .1) (c .before .if1 .taken)
+    c .refused .ensures ∙ end-out (length (a .table .now)) (a .f) (a .e) (a .g) (a .r) (c .before .before .before .before .before .before .place .ensures) (c .before .before .before .before .enum-told .given .1) (search needs)
 
 returns-3 : tie.Need-returns-3
 returns-3 c =

@@ -49,7 +49,7 @@ same-length-3 : tie.Need-same-length-3
 same-length-3 c = search needs
 
 returns-3 : tie.Need-returns-3
-returns-3 c = rw (listing-bytes (c .before .before .before .before .before .before .before .before .before .before .before .before .before .before .args .input .now) (c .before .before .before .before .before .before .before .before .if1 .left) (c .before .before .before .before .before .before .if2 .left) (c .before .before .before .before .before .pair-count .ensures) (c .before .before .before .before .if3 .taken)) (c .before .before .write-refused3 .ensures)
+returns-3 c = rw (listing-bytes (c .before .before .before .before .before .before .before .before .before .before .before .before .before .before .args .input .now) (c .before .before .before .before .before .before .before .before .if1 .left) (c .before .before .before .before .before .before .if2 .left) (c .before .before .before .before .before .pair-count .ensures) (λ q. omega (arith, q, c .before .before .before .before .if3 .taken))) (c .before .before .write-refused3 .ensures)
 
 read-orders-requires : tie.Need-read-orders-requires
 read-orders-requires c κs = (omega (arith, c .before .before .pair-count .ensures, pairs-few (c .before .before .before .if2 .left)), c .before .before .before .before .before .before .before .before .before .before .before .pre .2)

@@ -23,7 +23,7 @@ shared-slice-read-if1 : tie.Need-shared-slice-read-if1 Inv-loop μ-loop
 shared-slice-read-if1 c = search needs
 
 returns : tie.Need-returns Inv-loop μ-loop
-returns c = letter-wrong (c .before .before .before .before .args .n) (c .before .before .before .before .args .word .now) (c .before .before .before .loop .i) (c .before .before .loop-test .taken) refl (c .if1 .taken) ∙ (c .before .before .before .loop .inv)
+returns c = letter-wrong (c .before .before .before .before .args .n) (c .before .before .before .before .args .word .now) (c .before .before .before .loop .i) (c .before .before .loop-test .taken) refl (search needs) ∙ (c .before .before .before .loop .inv)
 
 add-i : tie.Need-add-i Inv-loop μ-loop
 add-i c = search needs
