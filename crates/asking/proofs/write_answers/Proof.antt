@@ -1,23 +1,21 @@
--- The buffer keeps its length; the rest is that the loop ends.
-use Prim.Native.Nat.{_-_}
-use mathlib.Core.Path.{_≡_}
+-- The loop ends; nothing else is to be shown.
+use Prim.Native.Nat.{_-_, _≤_}
 use native.Mathlib.Omega.{arith}
-use lib.ListN.{length}
 use borrow.Author.Needs.{needs}
 use Rattle.asking.proofs.write_answers.Statement.{statement}
 use Rattle.asking.proofs.write_answers.Tie as tie
 
 abbrev Inv-loop : tie.InvT-loop
-Inv-loop out₀ at table g what a count next₀ b₀ t11 out next b = length out ≡ length out₀
+Inv-loop table g what a count b₀ t8 b = b ≤ count
 
 abbrev μ-loop : tie.MeasureT-loop
-μ-loop out₀ at table g what a count next₀ b₀ t11 out next b = count - b
+μ-loop table g what a count b₀ t8 b = count - b
 
-slice-aggregate-word : tie.Need-slice-aggregate-word Inv-loop μ-loop
-slice-aggregate-word c = search needs
+slice-aggregate-write-all : tie.Need-slice-aggregate-write-all Inv-loop μ-loop
+slice-aggregate-write-all c = search needs
 
-word-requires : tie.Need-word-requires Inv-loop μ-loop
-word-requires c κs = search needs
+write-all-requires : tie.Need-write-all-requires Inv-loop μ-loop
+write-all-requires c κs = search needs
 
 loop-holds : tie.Need-loop-holds Inv-loop μ-loop
 loop-holds c = search needs
@@ -35,16 +33,13 @@ loop-less : tie.Need-loop-less Inv-loop μ-loop
 loop-less c = omega arith
 
 loop-again : tie.Need-loop-again Inv-loop μ-loop
-loop-again c = search needs
+loop-again c = omega arith
 
-slice-aggregate-word-2 : tie.Need-slice-aggregate-word-2 Inv-loop μ-loop
-slice-aggregate-word-2 c = search needs
+slice-aggregate-write-all-2 : tie.Need-slice-aggregate-write-all-2 Inv-loop μ-loop
+slice-aggregate-write-all-2 c = search needs
 
-word-requires-2 : tie.Need-word-requires-2 Inv-loop μ-loop
-word-requires-2 c κs = search needs
-
-same-length : tie.Need-same-length Inv-loop μ-loop
-same-length c = search needs
+write-all-requires-2 : tie.Need-write-all-requires-2 Inv-loop μ-loop
+write-all-requires-2 c κs = search needs
 
 returns : tie.Need-returns Inv-loop μ-loop
 returns c = search needs
@@ -55,15 +50,14 @@ write-answers-spec =
     (tie.spec
     Inv-loop
     μ-loop
-    slice-aggregate-word
-    word-requires
+    slice-aggregate-write-all
+    write-all-requires
     loop-holds
     ask-requires
     write-answer-requires
     add-b
     loop-less
     loop-again
-    slice-aggregate-word-2
-    word-requires-2
-    same-length
+    slice-aggregate-write-all-2
+    write-all-requires-2
     returns)

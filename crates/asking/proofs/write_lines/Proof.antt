@@ -1,29 +1,27 @@
--- The buffer keeps its length; the rest is that the loop ends.
-use Prim.Native.Nat.{_-_}
-use mathlib.Core.Path.{_≡_}
+-- The loop ends; nothing else is to be shown.
+use Prim.Native.Nat.{_-_, _≤_}
 use native.Mathlib.Omega.{arith}
-use lib.ListN.{length}
 use borrow.Author.Needs.{needs}
 use Rattle.asking.proofs.write_lines.Statement.{statement}
 use Rattle.asking.proofs.write_lines.Tie as tie
 
 abbrev Inv-loop : tie.InvT-loop
-Inv-loop out₀ at name table g what lines count next₀ a₀ out next a = length out ≡ length out₀
+Inv-loop name table g what lines count a₀ a = a ≤ lines
 
 abbrev μ-loop : tie.MeasureT-loop
-μ-loop out₀ at name table g what lines count next₀ a₀ out next a = lines - a
+μ-loop name table g what lines count a₀ a = lines - a
 
 loop-holds : tie.Need-loop-holds Inv-loop μ-loop
 loop-holds c = search needs
 
-word-requires : tie.Need-word-requires Inv-loop μ-loop
-word-requires c κs = search needs
+write-all-requires : tie.Need-write-all-requires Inv-loop μ-loop
+write-all-requires c κs = search needs
 
-cast-spaced : tie.Need-cast-spaced Inv-loop μ-loop
-cast-spaced c = search needs
+cast-number : tie.Need-cast-number Inv-loop μ-loop
+cast-number c = search needs
 
-spaced-requires : tie.Need-spaced-requires Inv-loop μ-loop
-spaced-requires c κs = search needs
+number-requires : tie.Need-number-requires Inv-loop μ-loop
+number-requires c κs = search needs
 
 write-answers-requires : tie.Need-write-answers-requires Inv-loop μ-loop
 write-answers-requires c κs = search needs
@@ -35,10 +33,7 @@ loop-less : tie.Need-loop-less Inv-loop μ-loop
 loop-less c = omega arith
 
 loop-again : tie.Need-loop-again Inv-loop μ-loop
-loop-again c = search needs
-
-same-length : tie.Need-same-length Inv-loop μ-loop
-same-length c = search needs
+loop-again c = omega arith
 
 returns : tie.Need-returns Inv-loop μ-loop
 returns c = search needs
@@ -50,12 +45,11 @@ write-lines-spec =
     Inv-loop
     μ-loop
     loop-holds
-    word-requires
-    cast-spaced
-    spaced-requires
+    write-all-requires
+    cast-number
+    number-requires
     write-answers-requires
     add-a
     loop-less
     loop-again
-    same-length
     returns)
