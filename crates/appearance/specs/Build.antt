@@ -26,5 +26,5 @@ settledMaps (built c t w) inn outw = renumbering (built c t w) (keptAfter c inn)
 abbrev pub finishedMapped : Mapped → ℕ → List ℕ → Renumbering
 finishedMapped (mapped p inn outw) n w = settledMaps (finishedPlaced p n w) inn outw
 
-unfoldable pub renumberIn : ℕ → List ℕ → (ℕ → ℕ → Reached) → ℕ → ℕ → ℕ → ℕ → ℕ → Renumbering
+unfoldable pub renumberIn : (size : ℕ) (w : List ℕ) (source : ℕ → ℕ → Reached) (n room M K x₀ : ℕ) → Renumbering
 renumberIn size w source n room M K x₀ = finishedMapped (mapAll source n room M K x₀ (replicate size 0)) n w

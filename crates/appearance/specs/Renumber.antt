@@ -30,7 +30,7 @@ onNew (reached.Element e) t inn outw count x = mapped (placed (Count (count + 1)
 onNew (reached.Refused r) t inn outw count x = mapped (placed (Refused r) t) inn outw
 
 -- One place (e, g) whose outside element is x, with `count` elements known: where x has a number that is set, else it gets the next.
-unfoldable pub mapPlace : List ℕ → List ℕ → List ℕ → ℕ → ℕ → ℕ → ℕ → ℕ → ℕ → Mapped
+unfoldable pub mapPlace : (t inn outw : List ℕ) (n room count e g x : ℕ) → Mapped
 mapPlace t inn outw n room count e g x =
     pick (eqb (getD inn x 0) none)
     (onNew (adds t n room count (record { 0 = e }) (record { 0 = g }) .answer) (adds t n room count (record { 0 = e }) (record { 0 = g }) .table) inn outw count x)
@@ -42,13 +42,13 @@ mapFrom (reached.Element x) t inn outw n room count e g = mapPlace t inn outw n 
 mapFrom (reached.Refused r) t inn outw n room count e g = mapped (placed (Refused r) t) inn outw
 
 -- The k places of row e from generator g on.
-unfoldable pub mapRow : ℕ → (ℕ → ℕ → Reached) → ℕ → ℕ → ℕ → ℕ → ℕ → List ℕ → List ℕ → List ℕ → Mapped
+unfoldable pub mapRow : (k : ℕ) (source : ℕ → ℕ → Reached) (n room e g count : ℕ) (t inn outw : List ℕ) → Mapped
 mapRow zero source n room e g count t inn outw = mapped (placed (Count count) t) inn outw
 mapRow (suc k) source n room e g count t inn outw =
     thenMapped (mapFrom (source (getD outw e 0) g) t inn outw n room count e g) (λ c t′ inn′ outw′. mapRow k source n room e (g + 1) c t′ inn′ outw′)
 
 -- Rows from e on, while there is an element e; k of them at most.
-unfoldable pub mapRows : ℕ → (ℕ → ℕ → Reached) → ℕ → ℕ → ℕ → ℕ → List ℕ → List ℕ → List ℕ → Mapped
+unfoldable pub mapRows : (k : ℕ) (source : ℕ → ℕ → Reached) (n room e count : ℕ) (t inn outw : List ℕ) → Mapped
 mapRows zero source n room e count t inn outw = mapped (placed (Count count) t) inn outw
 mapRows (suc k) source n room e count t inn outw =
     pick (ltb e count)
@@ -56,5 +56,5 @@ mapRows (suc k) source n room e count t inn outw =
     (mapped (placed (Count count) t) inn outw)
 
 -- The whole reading, from x₀ alone, which is element 0, with maps of M and K numbers: before it nothing outside has a number, and the other map is zero.
-abbrev pub mapAll : (ℕ → ℕ → Reached) → ℕ → ℕ → ℕ → ℕ → ℕ → List ℕ → Mapped
+abbrev pub mapAll : (source : ℕ → ℕ → Reached) (n room M K x₀ : ℕ) (t : List ℕ) → Mapped
 mapAll source n room M K x₀ t = mapRows room source n room 0 1 t (putAt (replicate M none) x₀ 0) (putAt (replicate K 0) 0 x₀)

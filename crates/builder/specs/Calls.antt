@@ -67,7 +67,7 @@ placed len f e g =
     (refusedOf 17 0 0 0)
 
 -- The same, then 14 for a second element.
-unfoldable pub placedStep : ℕ → Factor → GroupElementId → GeneratorId → GroupElementId → Verdict
+unfoldable pub placedStep : (len : ℕ) (f : Factor) (e : GroupElementId) (g : GeneratorId) (r : GroupElementId) → Verdict
 placedStep len f e g r = andThen (placed len f e g) (pick (leb (f .elements) (r .0)) (refusedOf 14 2 0 0) verdict.Fine)
 
 -- 17, "a number read from it is out of range": there is room, since 5 comes before, and the recorded word of e is longer than any word may be.
@@ -105,7 +105,7 @@ storesBy t verdict.Fine new t₁ = leaving (newOr new) t₁
 storesBy t (verdict.Refused r) new t₁ = leaving (stored.Refused r) t
 
 -- `set_successor`: the step e·g = r, both ways.
-unfoldable pub stores : List ℕ → Builder → GroupElementId → GeneratorId → GroupElementId → Leaving Stored
+unfoldable pub stores : (t : List ℕ) (b : Builder) (e : GroupElementId) (g : GeneratorId) (r : GroupElementId) → Leaving Stored
 stores t b e g r =
     storesBy t (placedStep (length t) (b .0) e g r) (isNew (stretch t (b .0)) (b .0 .generators) e g)
     (withStretch t (b .0) (setStep (stretch t (b .0)) (b .0 .generators) e g r))

@@ -57,7 +57,7 @@ pub record RightPlace (t : List ℕ) (b : Builder) (e : GroupElementId) (g : Gen
   pub generator : g .0 < b .0 .generators
 
 -- The step e·g = r stored both ways in the builder's stretch.
-abbrev pub withStep : List ℕ → Builder → GroupElementId → GeneratorId → GroupElementId → List ℕ
+abbrev pub withStep : (t : List ℕ) (b : Builder) (e : GroupElementId) (g : GeneratorId) (r : GroupElementId) → List ℕ
 withStep t b e g r = withStretch t (b .0) (setStep (stretch t (b .0)) (b .0 .generators) e g r)
 
 -- `set_successor`: 17 and 14 leave the table as it was; else the step is stored, with 1 where nothing stood at the place, and 0 where it was known.

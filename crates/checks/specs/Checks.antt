@@ -13,7 +13,7 @@ use Rattle.inverses.specs.Inverses.{fillInverses, inversesRight}
 use Rattle.lefts.specs.Lefts.{check-steps, Lefts, left, lefts}
 
 -- 8, "a successor or predecessor missing": a place of the row that is still 0. Predecessors stand n places after the successors.
-abbrev pub missingAt : List ℕ → ℕ → ℕ → ℕ → ℕ → Verdict
+abbrev pub missingAt : (t : List ℕ) (n shift e g : ℕ) → Verdict
 missingAt t n shift e g = pick (eqb (getD t (startOf n e + shift + g) 0) 0) (refusedOf 8 e g 0) Fine
 
 unfoldable pub missingRow : List ℕ → ℕ → ℕ → ℕ → Verdict
@@ -29,7 +29,7 @@ check8 t n count = andThen (missing t n count 0) (missing t n count n)
 -- 17, "a number read from it is out of range": a stored step beyond the elements, a word over 4,096 letters, a parent that is no earlier element, a letter
 -- that is no generator. No reading and no enumeration leaves such a table; the checks do not rest on that. It is tested after 8 and
 -- before 9, so that all tests below read numbers in range.
-abbrev pub rangeAt : List ℕ → ℕ → ℕ → ℕ → ℕ → Verdict
+abbrev pub rangeAt : (t : List ℕ) (n count e k : ℕ) → Verdict
 rangeAt t n count e k = pick (ltb count (getD t (startOf n e + 0 + k) 0)) (refusedOf 17 0 0 0) Fine
 
 unfoldable pub rangeRow : List ℕ → ℕ → ℕ → ℕ → Verdict
@@ -66,11 +66,11 @@ unfoldable pub wiped : ℕ → List ℕ → ℕ → List ℕ
 wiped zero w e = w
 wiped (suc k) w e = wiped k (putAt w e 0) (e + 1)
 
-unfoldable pub arriveRow : ℕ → List ℕ → ℕ → ℕ → List ℕ → ℕ → List ℕ
+unfoldable pub arriveRow : (k : ℕ) (t : List ℕ) (n e : ℕ) (w : List ℕ) (g : ℕ) → List ℕ
 arriveRow zero t n e w g = w
 arriveRow (suc k) t n e w g = arriveRow k t n e (putAt w (stepOf t n e g) (getD w (stepOf t n e g) 0 + 1)) (g + 1)
 
-unfoldable pub arrivals : ℕ → List ℕ → ℕ → List ℕ → ℕ → List ℕ
+unfoldable pub arrivals : (k : ℕ) (t : List ℕ) (n : ℕ) (w : List ℕ) (e : ℕ) → List ℕ
 arrivals zero t n w e = w
 arrivals (suc k) t n w e = arrivals k t n (arriveRow n t n e w 0) (e + 1)
 

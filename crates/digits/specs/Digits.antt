@@ -18,7 +18,7 @@ abbrev pub above : ℕ → ℕ → Reached → Reached
 above x N r = onReached r (λ y. Element (record { 0 = x + N * y }))
 
 -- What is asked of one factor and its digits. (For an inverse the second counts for nothing.)
-abbrev pub digitOf : Asked → List ℕ → Factor → ℕ → ℕ → Reached
+abbrev pub digitOf : (asked : Asked) (t : List ℕ) (h : Factor) (a b : ℕ) → Reached
 digitOf Compose t h a b = composeIn (stretch t h) (h .generators) (h .elements) a b
 digitOf Inverse t h a b = inverseIn (stretch t h) (h .generators) (h .elements) a
 digitOf Conjugate t h a b = conjugateIn (stretch t h) (h .generators) (h .elements) a b

@@ -58,7 +58,7 @@ unfoldable pub stretch : List ℕ → Factor → List ℕ
 stretch t f = take (f .room * (2 * f .generators + 4)) (drop (f .start) t)
 
 -- A stored step read for an answer: 17, "a number read from it is out of range", where it is missing or beyond the element count.
-unfoldable pub readStep : List ℕ → ℕ → ℕ → ℕ → ℕ → Reached
+unfoldable pub readStep : (s : List ℕ) (n count e g : ℕ) → Reached
 readStep s n count e g =
     pick (eqb (getD s (startOf n e + g) 0) 0) (refusedReach 17 0)
     (pick (ltb count (getD s (startOf n e + g) 0)) (refusedReach 17 0) (Element (record { 0 = getD s (startOf n e + g) 0 - 1 })))

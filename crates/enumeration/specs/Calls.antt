@@ -48,7 +48,7 @@ abbrev pub related : ℕ → List ℕ → Built → Built
 related n o (built c t w) = withWork w (relates n o c t)
 
 -- The whole build in its stretches, of these lengths: the run, 8 to 12, then 13.
-unfoldable pub enumeratedIn : ℕ → ℕ → List ℕ → ℕ → ℕ → Built
+unfoldable pub enumeratedIn : (lt lw : ℕ) (o : List ℕ) (n room : ℕ) → Built
 enumeratedIn lt lw o n room =
     related n o (finished (ranCount (enumerated n o room lt lw .answer)) n (enumerated n o room lt lw .table) (enumerated n o room lt lw .work))
 
@@ -58,7 +58,7 @@ refusedMaking verdict.Fine t w m = m
 refusedMaking (verdict.Refused r) t w m = making (record { answer = verdict.Refused r; factor = noFactor }) t w
 
 -- 1, then 2 and 3, then 4, with every buffer as it was; then the build.
-unfoldable pub enumerates : List ℕ → ℕ → List ℕ → List ℕ → ℕ → ℕ → Making
+unfoldable pub enumerates : (table : List ℕ) (start : ℕ) (work orders : List ℕ) (n room : ℕ) → Making
 enumerates table start work orders n room =
     pick (ltb 8 n) (making (refusedMade 1 n) table work)
     (refusedMaking (ordersRight orders n) table work

@@ -20,7 +20,7 @@ use Rattle.enumeration.specs.declared.inner.Ran.{Ran}
 use Rattle.enumeration.specs.declared.inner.Ran.the-variants as ran
 
 -- What follows from a new element, e·g = new: "A new element also gets its step back, which is no fact"; its rows begin; and the step itself is the first fact, alone on the stack.
-unfoldable pub discovered : ℕ → List ℕ → GroupElementId → GeneratorId → GroupElementId → List ℕ → List ℕ → State
+unfoldable pub discovered : (n : ℕ) (o : List ℕ) (e : GroupElementId) (g : GeneratorId) (new : GroupElementId) (t w : List ℕ) → State
 discovered n o e g new t w =
     settled n
     (state (setStep t n new g e) (putAt (addedRows w o n new) (belowAt (placeAt n e g)) 0) (link n e g))
@@ -43,7 +43,7 @@ abbrev pub onAdds : {A : Type 0} → Adds → (GroupElementId → List ℕ → A
 onAdds a f h = onReached (a .answer) (a .table) f h
 
 -- One place (element, generator) of 000's inner loop: a known step is skipped; else there is a new element, or 5 or 6.
-unfoldable pub visits : ℕ → List ℕ → ℕ → ℕ → GroupElementId → GeneratorId → List ℕ → List ℕ → Visit
+unfoldable pub visits : (n : ℕ) (o : List ℕ) (room count : ℕ) (e : GroupElementId) (g : GeneratorId) (t w : List ℕ) → Visit
 visits n o room count e g t w =
     pick (isNew t n e g)
     (onAdds (adds t n room count e g)
@@ -75,7 +75,7 @@ abbrev pub after : {A : Type 0} → Visit → (ℕ → List ℕ → List ℕ →
 after v f h = onVisit (v .answer) (v .table) (v .work) f h
 
 -- The places in order, at most k of them: done when no element is left (000, `while element_id < g.element_count()`), paused where the allowance is spent before that, refused at the first place that refuses.
-unfoldable pub runs : ℕ → ℕ → List ℕ → ℕ → Run → List ℕ → List ℕ → Outcome
+unfoldable pub runs : (k n : ℕ) (o : List ℕ) (room : ℕ) (at : Run) (t w : List ℕ) → Outcome
 runs zero n o room at t w =
     pick (ltb (at .element) (at .count)) (outcome (ran.Paused at) t w) (outcome (ran.Done (at .count)) t w)
 runs (suc k) n o room at t w =
@@ -90,7 +90,7 @@ abbrev pub first : Run
 first = record { element = 0; generator = 0; count = 1 }
 
 -- A whole run, in stretches of these lengths: both cleared, the identity's rows begun, the places visited in order. With no generators there is no place.
-unfoldable pub enumerated : ℕ → List ℕ → ℕ → ℕ → ℕ → Outcome
+unfoldable pub enumerated : (n : ℕ) (o : List ℕ) (room lt lw : ℕ) → Outcome
 enumerated n o room lt lw =
     pick (eqb n 0) (outcome (ran.Done 1) (replicate lt 0) (addedRows (replicate lw 0) o n (record { 0 = 0 })))
     (runs 18446744073709551615 n o room first (replicate lt 0) (addedRows (replicate lw 0) o n (record { 0 = 0 })))

@@ -16,11 +16,11 @@ abbrev pub composedAt : List ℕ → ℕ → ℕ → ℕ → ℕ
 composedAt rows n e g = getD rows (e * n + g) 0
 
 -- The build in its stretches: the table's is zeroed first, and read into; then the checks.
-unfoldable pub composedIn : ℕ → List ℕ → List ℕ → ℕ → ℕ → Built
+unfoldable pub composedIn : (size : ℕ) (w rows : List ℕ) (n room : ℕ) → Built
 composedIn size w rows n room = finishedPlaced (readAll (composedAt rows n) n room (replicate size 0)) n w
 
 -- 1, then 4, with every buffer as it was; then the build. "A composed list needs Rn entries."
-unfoldable pub composed : List ℕ → ℕ → List ℕ → List ℕ → ℕ → ℕ → Making
+unfoldable pub composed : (table : List ℕ) (start : ℕ) (work rows : List ℕ) (n room : ℕ) → Making
 composed table start work rows n room =
     pick (ltb 8 n) (making (refusedMade 1 n) table work)
     (pick (lentRight (length table) start (length work) room n && leb (room * n) (length rows))

@@ -31,7 +31,7 @@ abbrev pub belowAt : ℕ → ℕ
 belowAt place = place + 6
 
 -- 000, `if g.set_successor(..)`: the step e·g = r set both ways; where it was not known, it is a fact and goes on the stack.
-unfoldable pub learns : ℕ → GroupElementId → GeneratorId → GroupElementId → State → State
+unfoldable pub learns : (n : ℕ) (e : GroupElementId) (g : GeneratorId) (r : GroupElementId) (s : State) → State
 learns n e g r s =
     state (setStep (s .table) n e g r)
     (pick (isNew (s .table) n e g) (putAt (s .work) (belowAt (placeAt n e g)) (s .top)) (s .work))
@@ -44,7 +44,7 @@ gives n r s =
     (learns n (r .from) (genOf (r .pair) (r .left)) (r .to) s)
 
 -- 000, `match row.fill(g)`: what a filled row gives where its ends have met; else the copy at `at` waits again, on the side from which it was woken.
-unfoldable pub woken : ℕ → ℕ → SideOfGap → RelationTableRow → State → State
+unfoldable pub woken : (n at : ℕ) (side : SideOfGap) (r : RelationTableRow) (s : State) → State
 woken n at side r s =
     pick (eqb (r .left) (r .right)) (gives n r s) (state (s .table) (waits (s .work) n at r side) (s .top))
 
@@ -53,7 +53,7 @@ unfoldable pub wakes : ℕ → ℕ → SideOfGap → State → State
 wakes n at side s = woken n at side (filled (s .table) n (readRow (s .work) at)) s
 
 -- The copies of a list from a link on, as many as the list counts, "in waiting order". The link to the next is read before a copy is woken; 0 ends a list.
-unfoldable pub wakesAll : ℕ → ℕ → ℕ → SideOfGap → State → State
+unfoldable pub wakesAll : (k n at : ℕ) (side : SideOfGap) (s : State) → State
 wakesAll zero n at side s = s
 wakesAll (suc k) n at side s =
     pick (eqb at 0) s (wakesAll k n (getD (s .work) (at - 1 + 5) 0) side (wakes n (at - 1) side s))

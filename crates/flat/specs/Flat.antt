@@ -25,19 +25,19 @@ placeBy t n room count e g (reached.Element v) = readPlace t n room count e g (v
 placeBy t n room count e g (reached.Refused r) = placed (Refused r) t
 
 -- The k places of row e from generator g on.
-unfoldable pub rowBy : ℕ → (ℕ → ℕ → Reached) → ℕ → ℕ → ℕ → ℕ → ℕ → List ℕ → Placed
+unfoldable pub rowBy : (k : ℕ) (src : ℕ → ℕ → Reached) (n room e g count : ℕ) (t : List ℕ) → Placed
 rowBy zero src n room e g count t = placed (Count count) t
 rowBy (suc k) src n room e g count t =
     thenPlaced (placeBy t n room count e g (src e g)) (λ c t′. rowBy k src n room e (g + 1) c t′)
 
 -- Rows from e on, while there is an element e; k of them at most.
-unfoldable pub rowsBy : ℕ → (ℕ → ℕ → Reached) → ℕ → ℕ → ℕ → ℕ → List ℕ → Placed
+unfoldable pub rowsBy : (k : ℕ) (src : ℕ → ℕ → Reached) (n room e count : ℕ) (t : List ℕ) → Placed
 rowsBy zero src n room e count t = placed (Count count) t
 rowsBy (suc k) src n room e count t =
     pick (ltb e count) (thenPlaced (rowBy n src n room e 0 count t) (λ c t′. rowsBy k src n room (e + 1) c t′)) (placed (Count count) t)
 
 -- The build in its stretches.
-unfoldable pub flatIn : ℕ → List ℕ → List ℕ → List Factor → ℕ → ℕ → Built
+unfoldable pub flatIn : (size : ℕ) (w from : List ℕ) (hs : List Factor) (n room : ℕ) → Built
 flatIn size w from hs n room = finishedPlaced (rowsBy room (stepIn from hs) n room 0 1 (replicate size 0)) n w
 
 -- A refused question makes no factor.
@@ -46,7 +46,7 @@ ifMaking verdict.Fine table work m = m
 ifMaking (verdict.Refused r) table work m = making (record { answer = verdict.Refused r; factor = noFactor }) table work
 
 -- 1, then 4, with every buffer as it was; then the build.
-unfoldable pub flatInto : List ℕ → List Factor → List ℕ → ℕ → List ℕ → ℕ → Making
+unfoldable pub flatInto : (from : List ℕ) (hs : List Factor) (table : List ℕ) (start : ℕ) (work : List ℕ) (room : ℕ) → Making
 flatInto from hs table start work room =
     pick (ltb 8 (generatorsOf hs)) (making (refusedMade 1 (generatorsOf hs)) table work)
     (pick (lentRight (length table) start (length work) room (generatorsOf hs))
@@ -55,6 +55,6 @@ flatInto from hs table start work room =
     (making (refusedMade 4 0) table work))
 
 -- 17 in the handles and 15 come before.
-unfoldable pub flat : List ℕ → Group → List ℕ → ℕ → List ℕ → ℕ → Making
+unfoldable pub flat : (from : List ℕ) (g : Group) (table : List ℕ) (start : ℕ) (work : List ℕ) (room : ℕ) → Making
 flat from g table start work room =
     ifMaking (admits (length from) g 0 1 0 1) table work (flatInto from (handles g) table start work room)

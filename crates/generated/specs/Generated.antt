@@ -35,7 +35,7 @@ admitsGenerators len over gens =
     (refusedOf 17 0 0 0)
 
 -- 1 with the count, then 4, with every buffer as it was; then the build: "Numbering in order of first appearance; two maps".
-unfoldable pub generatedInto : List ℕ → Group → List ℕ → List ℕ → ℕ → List ℕ → List ℕ → List ℕ → ℕ → Subgrouping
+unfoldable pub generatedInto : (from : List ℕ) (over : Group) (gens table : List ℕ) (start : ℕ) (work inn outw : List ℕ) (room : ℕ) → Subgrouping
 generatedInto from over gens table start work inn outw room =
     pick (ltb 8 (length gens)) (subgrouping (subgroupOf over (refusedMade 1 (shown (length gens)))) table work inn outw)
     (pick (mapsRight (length table) start (length work) (length inn) (length outw) room (length gens) (elementsOf (handles over)))
@@ -50,6 +50,6 @@ ifSubgrouping verdict.Fine over table work inn outw m = m
 ifSubgrouping (verdict.Refused r) over table work inn outw m =
     subgrouping (subgroupOf over (record { answer = verdict.Refused r; factor = noFactor })) table work inn outw
 
-unfoldable pub fromGenerators : List ℕ → Group → List ℕ → List ℕ → ℕ → List ℕ → List ℕ → List ℕ → ℕ → Subgrouping
+unfoldable pub fromGenerators : (from : List ℕ) (over : Group) (gens table : List ℕ) (start : ℕ) (work inn outw : List ℕ) (room : ℕ) → Subgrouping
 fromGenerators from over gens table start work inn outw room =
     ifSubgrouping (admitsGenerators (length from) over gens) over table work inn outw (generatedInto from over gens table start work inn outw room)

@@ -27,7 +27,7 @@ pub data Subgrouping : Type 0 where
   subgrouping : Subgrouped → List ℕ → List ℕ → List ℕ → List ℕ → Subgrouping
 
 -- Where this fails it is 4: "A subgroup's maps need the overgroup's count and R", and table and work as for any build with n generators.
-unfoldable pub mapsRight : ℕ → ℕ → ℕ → ℕ → ℕ → ℕ → ℕ → ℕ → Bool
+unfoldable pub mapsRight : (table start work inn outw room n M : ℕ) → Bool
 mapsRight table start work inn outw room n M = lentRight table start work room n && (leb M inn && leb room outw)
 
 -- A build's outcome put back into the four buffers that its stretches were lent from, which were as long as k generators and M elements of the overgroup

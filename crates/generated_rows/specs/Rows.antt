@@ -8,5 +8,5 @@ use Rattle.egg.specs.declared.Reached.{Reached}
 use Rattle.digits.specs.Digits.{composes}
 
 -- "Numbering in order of first appearance": what appears at x by the generator g is `compose`, in the overgroup, of x with the element of g.
-abbrev pub productOf : List ℕ → List Factor → List ℕ → ℕ → ℕ → Reached
+abbrev pub productOf : (from : List ℕ) (hs : List Factor) (gens : List ℕ) (x g : ℕ) → Reached
 productOf from hs gens x g = composes from hs x (getD gens g 0)

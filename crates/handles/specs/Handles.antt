@@ -76,11 +76,11 @@ inOrder fit first second within =
     (refusedOf 17 0 0 0)
 
 -- Two arguments a and b, which have to be below la and lb, in their order. A call with fewer takes 0, below 1.
-unfoldable pub admits : ℕ → Group → ℕ → ℕ → ℕ → ℕ → Verdict
+unfoldable pub admits : (len : ℕ) (g : Group) (a la b lb : ℕ) → Verdict
 admits len g a la b lb = inOrder (allFit len (handles g)) (leb la a) (leb lb b) (limited g)
 
 -- The same by what was seen of the handles, and how many are told.
-unfoldable pub admitsSeen : Seen → ℕ → ℕ → Limit → ℕ → Limit → Verdict
+unfoldable pub admitsSeen : (s : Seen) (told a : ℕ) (la : Limit) (b : ℕ) (lb : Limit) → Verdict
 admitsSeen s told a la b lb = inOrder (s .fit) (leb (limitSeen s la) a) (leb (limitSeen s lb) b) (leb told 8 && leb (s .elements) 4294967295)
 
 -- What a pass has to show of the handles for these tests: "17 in the handle" is the first, so that a pass may end at one that does not fit.

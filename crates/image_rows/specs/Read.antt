@@ -21,5 +21,5 @@ abbrev pub allPlaced : ℕ → Placed → Placed
 allPlaced room (placed c t) = placed (reachedAll room c) t
 
 -- The build in its stretches: the table's is zeroed first, and read into; then 16, then the checks.
-unfoldable pub imageIn : ℕ → List ℕ → List ℕ → ℕ → ℕ → Built
+unfoldable pub imageIn : (size : ℕ) (w rows : List ℕ) (n room : ℕ) → Built
 imageIn size w rows n room = finishedPlaced (allPlaced room (readAll (composedAt rows n) n room (replicate size 0))) n w

@@ -40,11 +40,11 @@ imageOf src n N = headBytes (4 + 2 * n * N) n N ++ spelled (rowsOf N src n 0)
 abbrev pub putHalf : List ℕ → ℕ → ℕ → List ℕ
 putHalf l at v = set (set l at (v / 256 % 256)) (at + 1) (v % 256)
 
-unfoldable pub putRow : ℕ → (ℕ → ℕ → ℕ) → ℕ → ℕ → ℕ → List ℕ → List ℕ
+unfoldable pub putRow : (k : ℕ) (src : ℕ → ℕ → ℕ) (n e g : ℕ) (out : List ℕ) → List ℕ
 putRow zero src n e g out = out
 putRow (suc k) src n e g out = putRow k src n e (g + 1) (putHalf out (8 + 2 * (e * n + g)) (src e g))
 
-unfoldable pub putRows : ℕ → (ℕ → ℕ → ℕ) → ℕ → ℕ → List ℕ → List ℕ
+unfoldable pub putRows : (k : ℕ) (src : ℕ → ℕ → ℕ) (n e : ℕ) (out : List ℕ) → List ℕ
 putRows zero src n e out = out
 putRows (suc k) src n e out = putRows k src n (e + 1) (putRow n src n e 0 out)
 

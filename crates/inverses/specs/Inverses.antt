@@ -9,7 +9,7 @@ use Rattle.egg.specs.Table.{pick, putAt, startOf, parentOf, lastOf, lengthOf, i
 use Rattle.egg.specs.Scan.{refusedOf, scan}
 
 -- "The inverse follows the reversed word through predecessors from the identity": k letters are left of the word that ends at the element `at`.
-unfoldable pub invertFrom : ℕ → List ℕ → ℕ → ℕ → ℕ → ℕ
+unfoldable pub invertFrom : (k : ℕ) (t : List ℕ) (n at x : ℕ) → ℕ
 invertFrom zero t n at x = x
 invertFrom (suc k) t n at x = invertFrom k t n (parentOf t n at) (backOf t n x (lastOf t n at))
 

@@ -32,10 +32,10 @@ unfoldable pub check-steps : List ℕ → ℕ → ℕ → Verdict
 check-steps t n count = andThen (identityRow t n) (spelled t n count)
 
 -- Then, for each generator s, multiplication on the left by s, filled into the work by going from parent to parent, must commute with every step.
-abbrev pub leftOf : List ℕ → ℕ → ℕ → List ℕ → ℕ → ℕ
+abbrev pub leftOf : (t : List ℕ) (n s : ℕ) (w : List ℕ) (x : ℕ) → ℕ
 leftOf t n s w x = pick (ltb 0 x) (stepOf t n (getD w (parentOf t n x) 0) (lastOf t n x)) (stepOf t n 0 s)
 
-unfoldable pub fillLeft : ℕ → List ℕ → ℕ → ℕ → List ℕ → ℕ → List ℕ
+unfoldable pub fillLeft : (k : ℕ) (t : List ℕ) (n s : ℕ) (w : List ℕ) (x : ℕ) → List ℕ
 fillLeft zero t n s w x = w
 fillLeft (suc k) t n s w x = fillLeft k t n s (putAt w x (leftOf t n s w x)) (x + 1)
 
@@ -58,7 +58,7 @@ thenLeft Fine w l = l
 thenLeft (Refused r) w l = left (Refused r) w
 
 -- For k generators from s on.
-unfoldable pub lefts : ℕ → List ℕ → ℕ → ℕ → List ℕ → ℕ → Lefts
+unfoldable pub lefts : (k : ℕ) (t : List ℕ) (n count : ℕ) (w : List ℕ) (s : ℕ) → Lefts
 lefts zero t n count w s = left Fine w
 lefts (suc k) t n count w s =
     thenLeft (allGo t (fillLeft count t n s w 0) n count) (fillLeft count t n s w 0) (lefts k t n count (fillLeft count t n s w 0) (s + 1))

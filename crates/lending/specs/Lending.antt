@@ -25,7 +25,7 @@ abbrev pub workNeed : ℕ → ℕ → ℕ
 workNeed n room = room * workOf n
 
 -- Where this fails it is 4, "room 0 or above 65,535, or a lent buffer short". (`hasRoom` also asks for at most 8 generators, which 1 has shown by then.)
-unfoldable pub lentRight : ℕ → ℕ → ℕ → ℕ → ℕ → Bool
+unfoldable pub lentRight : (table start work room n : ℕ) → Bool
 lentRight table start work room n = hasRoom table start room n && leb (workNeed n room) work
 
 -- Where a stretch of k numbers that starts at `start` ends, in a buffer of so many.

@@ -50,9 +50,9 @@ numberBy check (placed (counted.Refused r) t) room = r .number
 numberBy check (placed (counted.Count c) t) room = pick (ltb c room) 16 (verdictNumber (check t))
 
 -- With the short checks, in a table of so many cells.
-unfoldable pub judged : ℕ → List ℕ → List ℕ → ℕ → ℕ → ℕ
+unfoldable pub judged : (size : ℕ) (w rows : List ℕ) (n room : ℕ) → ℕ
 judged size w rows n room = numberBy (λ t. short t w n room) (readAll (composedAt rows n) n room (replicate size 0)) room
 
 -- The number that reading into 32-bit buffers and all of 8 to 12 give: "reading with room N; fewer than N reached is 16, before 8".
-unfoldable pub built : ℕ → List ℕ → List ℕ → ℕ → ℕ → ℕ
+unfoldable pub built : (size : ℕ) (w rows : List ℕ) (n room : ℕ) → ℕ
 built size w rows n room = numberBy (λ t. verdictOf (check-group t w n room)) (readAll (composedAt rows n) n room (replicate size 0)) room

@@ -31,7 +31,7 @@ abbrev pub spaced : ℕ → List ℕ
 spaced x = 32 ∷ decimal x
 
 -- The successors of e, from generator g on, k of them.
-unfoldable pub stepsText : ℕ → List ℕ → ℕ → ℕ → ℕ → List ℕ
+unfoldable pub stepsText : (k : ℕ) (t : List ℕ) (n e g : ℕ) → List ℕ
 stepsText zero t n e g = []
 stepsText (suc k) t n e g = spaced (stepOf t n e g) ++ stepsText k t n e (g + 1)
 

@@ -48,7 +48,7 @@ powiAlone t f a i =
 
 -- The powers of a from x, which is the k-th, on: the number of the first that is the identity, among `left` of them. "17 .. none of the first N powers in a
 -- period walk is the identity".
-unfoldable pub periodFrom : ℕ → (ℕ → ℕ → Reached) → ℕ → ℕ → ℕ → Counted
+unfoldable pub periodFrom : (left : ℕ) (op : ℕ → ℕ → Reached) (a x k : ℕ) → Counted
 periodFrom zero op a x k = counted.Refused (record { number = 17; a = 0; b = 0; c = 0 })
 periodFrom (suc left) op a x k = pick (eqb x 0) (counted.Count k) (onElement (op x a) (λ y. periodFrom left op a y (k + 1)))
 

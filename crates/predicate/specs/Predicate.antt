@@ -50,11 +50,11 @@ chooses (suc k) again byte x gens (renumbering (built (Count c) t w) inn outw) =
     (chooses k again byte (x + 1) gens (renumbering (built (Count c) t w) inn outw))
 
 -- The build of a subgroup by a list of elements. `source y x` is the overgroup's product of y and x, or a refusal.
-abbrev pub againIn : ℕ → (ℕ → ℕ → Reached) → ℕ → ℕ → ℕ → List ℕ → List ℕ → Renumbering
+abbrev pub againIn : (size : ℕ) (source : ℕ → ℕ → Reached) (room M K : ℕ) (gens w : List ℕ) → Renumbering
 againIn size source room M K gens w = renumberIn size w (λ y g. source y (getD gens g 0)) (length gens) room M K 0
 
 -- The whole: it starts from the subgroup of one element.
-abbrev pub predicateIn : ℕ → List ℕ → (ℕ → ℕ → Reached) → ℕ → ℕ → ℕ → (ℕ → ℕ) → Picked
+abbrev pub predicateIn : (size : ℕ) (w : List ℕ) (source : ℕ → ℕ → Reached) (room M K : ℕ) (byte : ℕ → ℕ) → Picked
 predicateIn size w source room M K byte = chooses M (againIn size source room M K) byte 0 [] (againIn size source room M K [] w)
 
 -- What the code knows on its way: the chosen are the first of eight.
@@ -62,10 +62,10 @@ pub record Eight (p : Picks) : Type 0 where
   pub few : p .generators ≤ 8
   pub long : length (p .chosen) ≡ 8
 
-abbrev pub pickedOf : Picks → List ℕ → List ℕ → List ℕ → List ℕ → Picked
+abbrev pub pickedOf : (p : Picks) (t w inn outw : List ℕ) → Picked
 pickedOf p t w inn outw = picked (take (p .generators) (p .chosen)) (renumbering (built (p .made) t w) inn outw)
 
-abbrev pub ninthOf : Picks → List ℕ → List ℕ → List ℕ → List ℕ → Picked
+abbrev pub ninthOf : (p : Picks) (t w inn outw : List ℕ) → Picked
 ninthOf p t w inn outw = picked (take (p .generators) (p .chosen)) (ninth t w inn outw)
 
 -- "Calls on handles check 17 in the handle, .. then 15".
@@ -77,7 +77,7 @@ abbrev pub toldBack : Group → List ℕ → ℕ → List ℕ → List ℕ → L
 toldBack over table start work inn outw M room (picked gens r) = mapsBack over table start work inn outw M 8 (length gens) room r
 
 -- 4, also for a predicate of fewer bytes than the overgroup has elements, with every buffer as it was; then the builds.
-unfoldable pub toldInto : List ℕ → Group → List ℕ → List ℕ → ℕ → List ℕ → List ℕ → List ℕ → ℕ → Subgrouping
+unfoldable pub toldInto : (from : List ℕ) (over : Group) (members table : List ℕ) (start : ℕ) (work inn outw : List ℕ) (room : ℕ) → Subgrouping
 toldInto from over members table start work inn outw room =
     pick (mapsRight (length table) start (length work) (length inn) (length outw) room 8 (elementsOf (handles over))
     && leb (elementsOf (handles over)) (length members))
@@ -86,6 +86,6 @@ toldInto from over members table start work inn outw room =
     (λ x. getD members x 0)))
     (subgrouping (subgroupOf over (refusedMade 4 0)) table work inn outw)
 
-unfoldable pub fromPredicate : List ℕ → Group → List ℕ → List ℕ → ℕ → List ℕ → List ℕ → List ℕ → ℕ → Subgrouping
+unfoldable pub fromPredicate : (from : List ℕ) (over : Group) (members table : List ℕ) (start : ℕ) (work inn outw : List ℕ) (room : ℕ) → Subgrouping
 fromPredicate from over members table start work inn outw room =
     ifSubgrouping (admitsOver (length from) over) over table work inn outw (toldInto from over members table start work inn outw room)

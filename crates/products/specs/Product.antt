@@ -23,7 +23,7 @@ pub record Part : Type 0 where
   pub word : ℕ → List ℕ
 
 -- The factor of a table with its predecessors and recorded words, as an accepted factor holds them.
-abbrev pub table-part : ℕ → ℕ → (ℕ → ℕ → ℕ) → (ℕ → ℕ → ℕ) → (ℕ → List ℕ) → Part
+abbrev pub table-part : (n N : ℕ) (step back : ℕ → ℕ → ℕ) (word : ℕ → List ℕ) → Part
 table-part n N step back word =
     record { elements = N; generators = n; op = compose step word; inv = inverse back word; step = step; word = word }
 

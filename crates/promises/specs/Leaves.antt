@@ -44,10 +44,10 @@ pub data Leaves (right : Type 0) (before after : List ℕ) (buffers : List Lent)
   zeros : right → In after r → AllCleared buffers → Leaves right before after buffers r
 
 -- The buffers of a build: its stretch of the table, and the front of the work.
-abbrev pub tableFor : List ℕ → ℕ → ℕ → ℕ → List ℕ → Lent
+abbrev pub tableFor : (table : List ℕ) (start n room : ℕ) (t : List ℕ) → Lent
 tableFor table start n room t = record { entry = table; start = start; need = tableNeed n room; exit = t }
 
-abbrev pub lentFor : List ℕ → ℕ → List ℕ → ℕ → ℕ → List ℕ → List ℕ → List Lent
+abbrev pub lentFor : (table : List ℕ) (start : ℕ) (work : List ℕ) (n room : ℕ) (t w : List ℕ) → List Lent
 lentFor table start work n room t w = tableFor table start n room t ∷ record { entry = work; start = 0; need = workNeed n room; exit = w } ∷ []
 
 -- By which numbers a build from composed rows may be refused, and one from pair orders, once they have started.

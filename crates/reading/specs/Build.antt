@@ -17,11 +17,11 @@ abbrev pub isNew : List ℕ → ℕ → GroupElementId → GeneratorId → Bool
 isNew t n e g = eqb (getD t (succAt n e g) 0) 0
 
 -- The step e·g = r, both ways.
-unfoldable pub setStep : List ℕ → ℕ → GroupElementId → GeneratorId → GroupElementId → List ℕ
+unfoldable pub setStep : (t : List ℕ) (n : ℕ) (e : GroupElementId) (g : GeneratorId) (r : GroupElementId) → List ℕ
 setStep t n e g r = putAt (putAt t (succAt n e g) (r .0 + 1)) (predAt n r g) (e .0 + 1)
 
 -- The word of a new element: parent, last generator, length. "Each element's word is its parent's word and one generator."
-unfoldable pub setWord : List ℕ → ℕ → GroupElementId → GroupElementId → GeneratorId → ℕ → List ℕ
+unfoldable pub setWord : (t : List ℕ) (n : ℕ) (new e : GroupElementId) (g : GeneratorId) (len : ℕ) → List ℕ
 setWord t n new e g len =
     putAt (putAt (putAt t (startOf n (new .0) + 2 * n) (e .0)) (startOf n (new .0) + 2 * n + 1) (g .0)) (startOf n (new .0) + 2 * n + 2) len
 
@@ -35,7 +35,7 @@ pub record Adds : Type 0 where
   pub table : List ℕ
 
 -- The element that is added has the count for its number. 5: "an element is needed beyond the room"; 6: "its word would pass 4,096".
-unfoldable pub adds : List ℕ → ℕ → ℕ → ℕ → GroupElementId → GeneratorId → Adds
+unfoldable pub adds : (t : List ℕ) (n room count : ℕ) (e : GroupElementId) (g : GeneratorId) → Adds
 adds t n room count e g =
     pick (leb room count) (record { answer = Refused (numbered 5 (e .0) (g .0) 0); table = t })
     (pick (leb 4096 (lengthOf t n (e .0))) (record { answer = Refused (numbered 6 (e .0) (g .0) 0); table = t })

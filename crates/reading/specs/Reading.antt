@@ -28,20 +28,20 @@ onAdds count (reached.Element e) t = placed (Count (count + 1)) t
 onAdds count (reached.Refused r) t = placed (Refused r) t
 
 -- One place (e, g) whose number is v, with `count` elements known.
-unfoldable pub readPlace : List ℕ → ℕ → ℕ → ℕ → ℕ → ℕ → ℕ → Placed
+unfoldable pub readPlace : (t : List ℕ) (n room count e g v : ℕ) → Placed
 readPlace t n room count e g v =
     pick (ltb count v) (placed (Refused (numbered 7 e g v)) t)
     (pick (ltb v count) (placed (Count count) (setStep t n (record { 0 = e }) (record { 0 = g }) (record { 0 = v })))
     (onAdds count (adds t n room count (record { 0 = e }) (record { 0 = g }) .answer) (adds t n room count (record { 0 = e }) (record { 0 = g }) .table)))
 
 -- The k places of row e from generator g on.
-unfoldable pub readRow : ℕ → (ℕ → ℕ → ℕ) → ℕ → ℕ → ℕ → ℕ → ℕ → List ℕ → Placed
+unfoldable pub readRow : (k : ℕ) (src : ℕ → ℕ → ℕ) (n room e g count : ℕ) (t : List ℕ) → Placed
 readRow zero src n room e g count t = placed (Count count) t
 readRow (suc k) src n room e g count t =
     thenPlaced (readPlace t n room count e g (src e g)) (λ c t′. readRow k src n room e (g + 1) c t′)
 
 -- Rows from e on, while there is an element e; k of them at most. "Rows never reached are not read."
-unfoldable pub readFrom : ℕ → (ℕ → ℕ → ℕ) → ℕ → ℕ → ℕ → ℕ → List ℕ → Placed
+unfoldable pub readFrom : (k : ℕ) (src : ℕ → ℕ → ℕ) (n room e count : ℕ) (t : List ℕ) → Placed
 readFrom zero src n room e count t = placed (Count count) t
 readFrom (suc k) src n room e count t =
     pick (ltb e count) (thenPlaced (readRow n src n room e 0 count t) (λ c t′. readFrom k src n room (e + 1) c t′)) (placed (Count count) t)

@@ -17,7 +17,7 @@ use Rattle.egg.specs.Factor.{readStep}
 use Rattle.walks.specs.Walks.{onReached}
 
 -- From e by a and then b, k times both.
-unfoldable pub turned : ℕ → List ℕ → ℕ → ℕ → ℕ → ℕ → ℕ → Reached
+unfoldable pub turned : (k : ℕ) (s : List ℕ) (n count e a b : ℕ) → Reached
 turned zero s n count e a b = Element (record { 0 = e })
 turned (suc k) s n count e a b =
     onReached (readStep s n count e a) (λ x. onReached (readStep s n count x b) (λ y. turned k s n count y a b))
@@ -27,7 +27,7 @@ abbrev pub returnsTo : ℕ → ℕ → ℕ → Reached → Verdict
 returnsTo e a b (Element x) = pick (eqb (x .0) e) verdict.Fine (refusedOf 13 e a b)
 returnsTo e a b (Refused r) = verdict.Refused r
 
-abbrev pub relationAt : List ℕ → ℕ → ℕ → ℕ → ℕ → ℕ → ℕ → Verdict
+abbrev pub relationAt : (s : List ℕ) (n count e a b k : ℕ) → Verdict
 relationAt s n count e a b k = returnsTo e a b (turned k s n count e a b)
 
 -- "each generator doubled, .."
@@ -35,11 +35,11 @@ unfoldable pub doubledRow : List ℕ → ℕ → ℕ → ℕ → Verdict
 doubledRow s n count e = scan n (λ g. relationAt s n count e g g 1) 0
 
 -- ".. then each pair's 2m steps in list order": the pair (a, b) stands in the list as 8a + b.
-unfoldable pub pairsRow : List ℕ → ℕ → ℕ → List ℕ → ℕ → Verdict
+unfoldable pub pairsRow : (s : List ℕ) (n count : ℕ) (orders : List ℕ) (e : ℕ) → Verdict
 pairsRow s n count orders e =
     scan (length orders) (λ k. relationAt s n count e (pairCode k / 8) (pairCode k % 8) (getD orders k 0)) 0
 
-abbrev pub relationsRow : List ℕ → ℕ → ℕ → List ℕ → ℕ → Verdict
+abbrev pub relationsRow : (s : List ℕ) (n count : ℕ) (orders : List ℕ) (e : ℕ) → Verdict
 relationsRow s n count orders e = andThen (doubledRow s n count e) (pairsRow s n count orders e)
 
 unfoldable pub relations : List ℕ → ℕ → ℕ → List ℕ → Verdict

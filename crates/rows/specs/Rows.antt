@@ -29,7 +29,7 @@ abbrev pub genOf : ℕ → ℕ → GeneratorId
 genOf pair index = pick (eqb (index % 2) 0) (record { 0 = pair / 8 % 8 }) (record { 0 = pair % 8 })
 
 -- 000, `RelationTableRow`: the pair, the columns on the left and the right of the gap (`left_index`, `right_index`), and the elements there (`left_element`, `right_element`).
-abbrev pub rowOf : ℕ → ℕ → ℕ → GroupElementId → GroupElementId → RelationTableRow
+abbrev pub rowOf : (pair left right : ℕ) (from to : GroupElementId) → RelationTableRow
 rowOf pair left right from to = record { pair = pair; left = left; right = right; from = from; to = to }
 
 -- A stored row: these five numbers, and the link to the row that waits after it.
@@ -98,7 +98,7 @@ listAt n r Left = placeAt n (r .from) (genOf (r .pair) (r .left))
 listAt n r Right = placeAt n (r .to) (genOf (r .pair) (r .right)) + 3
 
 -- 000, `add_row_left` and `add_row_right`: the copy at `at` stored, and put at the end of its list.
-unfoldable pub waits : List ℕ → ℕ → ℕ → RelationTableRow → SideOfGap → List ℕ
+unfoldable pub waits : (w : List ℕ) (n at : ℕ) (r : RelationTableRow) (side : SideOfGap) → List ℕ
 waits w n at r side = appended (writeRow w at r) (listAt n r side) at
 
 -- 000, `new_row`: "A row has 2m places"; its columns are 0 to 2m - 1, and the element stands at both ends.
@@ -106,12 +106,12 @@ abbrev pub newRow : GroupElementId → ℕ → ℕ → RelationTableRow
 newRow e pair order = rowOf pair 0 (order * 2 - 1) e e
 
 -- 000, `add_row`: a row waits twice, in two copies, the right copy after the left.
-unfoldable pub addedRow : List ℕ → ℕ → GroupElementId → ℕ → ℕ → ℕ → List ℕ
+unfoldable pub addedRow : (w : List ℕ) (n : ℕ) (e : GroupElementId) (at pair order : ℕ) → List ℕ
 addedRow w n e at pair order =
     waits (waits w n at (newRow e pair order) Left) n (at + 6) (newRow e pair order) Right
 
 -- "Each element starts a row per pair": the rows of the pairs from k on, f of them, for the orders o in list order.
-unfoldable pub addRowsFrom : ℕ → List ℕ → List ℕ → ℕ → GroupElementId → ℕ → List ℕ
+unfoldable pub addRowsFrom : (f : ℕ) (w o : List ℕ) (n : ℕ) (e : GroupElementId) (k : ℕ) → List ℕ
 addRowsFrom zero w o n e k = w
 addRowsFrom (suc f) w o n e k =
     addRowsFrom f (addedRow w n e (rowsAt n e + 12 * k) (pairCode k) (getD o k 0)) o n e (k + 1)

@@ -12,11 +12,11 @@ abbrev pub walkOf : ℕ → ℕ → Walked
 walkOf e left = record { element = record { 0 = e }; left = left }
 
 -- From e by column a, then b, then a again, and so on, at most k steps, until a step is not known.
-unfoldable pub walkFrom : ℕ → List ℕ → ℕ → ℕ → ℕ → ℕ → Walked
+unfoldable pub walkFrom : (k : ℕ) (t : List ℕ) (n e a b : ℕ) → Walked
 walkFrom zero t n e a b = walkOf e 0
 walkFrom (suc k) t n e a b =
     pick (eqb (getD t (startOf n e + a) 0) 0) (walkOf e (suc k)) (walkFrom k t n (getD t (startOf n e + a) 0 - 1) b a)
 
 -- What a walk comes to from the end of a leg: it goes on by the same columns where there is more of it, else it has ended there.
-abbrev pub onward : List ℕ → ℕ → ℕ → ℕ → Leg → Walked
+abbrev pub onward : (t : List ℕ) (n a b : ℕ) (l : Leg) → Walked
 onward t n a b l = pick (l .more) (walkFrom (l .left) t n (l .element .0) a b) (walkOf (l .element .0) (l .left))

@@ -50,7 +50,7 @@ unfoldable pub sidesLimited : Subgroup → Bool
 sidesLimited s = fewFactors s && (leb (elementsOf (overSide s)) 4294967295 && leb (elementsOf (subSide s)) 4294967295)
 
 -- 17 in the handles and for a map of fewer than `need` places, then 14 for an argument a that is not below la, then 15.
-unfoldable pub admitsSides : ℕ → ℕ → Subgroup → ℕ → ℕ → ℕ → ℕ → Verdict
+unfoldable pub admitsSides : (from table : ℕ) (s : Subgroup) (map need a la : ℕ) → Verdict
 admitsSides from table s map need a la =
     pick (sidesFit from table s && leb need map)
     (pick (leb la a) (refusedOf 14 0 0 0) (pick (sidesLimited s) verdict.Fine (refusedOf 15 0 0 0)))

@@ -28,7 +28,7 @@ readables t (h ∷ hs) e =
 
 -- The last k letters of the word that ends at e go to the places from `start` on, each moved up by `offset`. (Both together are below 64 where all is in
 -- range, so that the remainder by 256 is the letter itself.)
-unfoldable pub spellFrom : ℕ → List ℕ → ℕ → ℕ → ℕ → ℕ → List ℕ → List ℕ
+unfoldable pub spellFrom : (k : ℕ) (s : List ℕ) (n e start offset : ℕ) (out : List ℕ) → List ℕ
 spellFrom zero s n e start offset out = out
 spellFrom (suc k) s n e start offset out =
     spellFrom k s n (parentOf s n e) start offset (set out (start + k) ((offset + lastOf s n e) % 256))

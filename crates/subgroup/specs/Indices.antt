@@ -23,12 +23,12 @@ abbrev pub withWithin : Indices → ℕ → Indices
 withWithin i x = record { below = i .below; within = x; above = i .above }
 
 -- `subgroup_to_overgroup`: M elements in the overgroup's part, N in the subgroup's.
-abbrev pub overOf : ℕ → ℕ → ℕ → (ℕ → ℕ) → ℕ → ℕ
+abbrev pub overOf : (stride M N : ℕ) (toOver : ℕ → ℕ) (e : ℕ) → ℕ
 overOf stride M N toOver e =
     unfactorIndices (withWithin (factorIndices e stride N) (toOver (factorIndices e stride N .within))) stride M
 
 -- `overgroup_to_subgroup`, where `none` is "not in the subgroup".
-abbrev pub subOf : ℕ → ℕ → ℕ → (ℕ → ℕ) → ℕ → ℕ
+abbrev pub subOf : (stride M N : ℕ) (toSub : ℕ → ℕ) (x : ℕ) → ℕ
 subOf stride M N toSub x =
     pick (eqb (toSub (factorIndices x stride M .within)) none) none
     (unfactorIndices (withWithin (factorIndices x stride M) (toSub (factorIndices x stride M .within))) stride N)

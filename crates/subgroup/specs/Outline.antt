@@ -30,7 +30,7 @@ outlineOf from table s = record {
   above = capped (elementsOf (handles (s .above)));
 }
 
-abbrev pub outlineBy : Bool → Bool → ℕ → Seen → Seen → Seen → Outline
+abbrev pub outlineBy : (fits few : Bool) (within : ℕ) (below over above : Seen) → Outline
 outlineBy fits few within below over above = record {
   fit = fits && (below .fit && (over .fit && above .fit));
   few = few;
@@ -58,7 +58,7 @@ subMeasure o = capped (o .below * capped (o .within * o .above))
 unfoldable pub outlineLimited : Outline → Bool
 outlineLimited o = o .few && (leb (overMeasure o) 4294967295 && leb (subMeasure o) 4294967295)
 
-unfoldable pub admitsOutline : Outline → ℕ → ℕ → ℕ → ℕ → Verdict
+unfoldable pub admitsOutline : (o : Outline) (map need a la : ℕ) → Verdict
 admitsOutline o map need a la =
     pick (o .fit && leb need map)
     (pick (leb la a) (refusedOf 14 0 0 0) (pick (outlineLimited o) verdict.Fine (refusedOf 15 0 0 0)))

@@ -37,19 +37,19 @@ ifWithin verdict.Fine x = x
 ifWithin (verdict.Refused r) x = within.Refused r
 
 -- From the subgroup's e to the overgroup, by the map's cell; 17 where that is no element. By how many elements are below, in the overgroup's part and in the subgroup's.
-abbrev pub carriedBy : ℕ → ℕ → ℕ → List ℕ → ℕ → Reached
+abbrev pub carriedBy : (stride M N : ℕ) (outw : List ℕ) (e : ℕ) → Reached
 carriedBy stride M N outw e =
     pick (ltb (getD outw (e / stride % N) 0) M) (reached.Element (record { 0 = overOf stride M N (λ i. getD outw i 0) e })) (refusedReach 17 0)
 
 unfoldable pub carriedOver : Subgroup → List ℕ → ℕ → Reached
 carriedOver s outw e = carriedBy (strideOf s) (overCount s) (s .factor .elements) outw e
 
-unfoldable pub toOverAnswer : ℕ → ℕ → Subgroup → List ℕ → GroupElementId → Reached
+unfoldable pub toOverAnswer : (from table : ℕ) (s : Subgroup) (outw : List ℕ) (e : GroupElementId) → Reached
 toOverAnswer from table s outw e =
     ifReach (admitsSides from table s (length outw) (s .factor .elements) (e .0) (elementsOf (subSide s))) (carriedOver s outw (e .0))
 
 -- And back: what is not in the subgroup has an answer of its own.
-abbrev pub carriedBackBy : ℕ → ℕ → ℕ → List ℕ → ℕ → Within
+abbrev pub carriedBackBy : (stride M N : ℕ) (inn : List ℕ) (x : ℕ) → Within
 carriedBackBy stride M N inn x =
     pick (eqb (getD inn (x / stride % M) 0) none) within.Outside
     (pick (ltb (getD inn (x / stride % M) 0) N) (within.Element (record { 0 = subOf stride M N (λ i. getD inn i 0) x })) (refusedWithin 17))
@@ -58,12 +58,12 @@ unfoldable pub carriedBack : Subgroup → List ℕ → ℕ → Within
 carriedBack s inn x = carriedBackBy (strideOf s) (overCount s) (s .factor .elements) inn x
 
 -- (The map's length is compared as far as 32 bits can tell: an overgroup of more elements is 15.)
-unfoldable pub toSubAnswer : ℕ → ℕ → Subgroup → List ℕ → GroupElementId → Within
+unfoldable pub toSubAnswer : (from table : ℕ) (s : Subgroup) (inn : List ℕ) (x : GroupElementId) → Within
 toSubAnswer from table s inn x =
     ifWithin (admitsSides from table s (length inn) (capped (overCount s)) (x .0) (elementsOf (overSide s))) (carriedBack s inn (x .0))
 
 -- The subgroup's generator, as an element of its product and then of the overgroup.
-unfoldable pub generatorAnswer : List ℕ → List ℕ → Subgroup → List ℕ → GeneratorId → Reached
+unfoldable pub generatorAnswer : (from table : List ℕ) (s : Subgroup) (outw : List ℕ) (g : GeneratorId) → Reached
 generatorAnswer from table s outw g =
     ifReach (admitsSides (length from) (length table) s (length outw) (s .factor .elements) (g .0) (generatorsOf (subSide s)))
     (onReached (sideGenerator from table s (g .0)) (λ e. carriedOver s outw e))

@@ -27,12 +27,12 @@ other back = byLetter back 0 0
 abbrev pub alone : ℕ → ℕ → Group
 alone n N = groupOf (record { start = 0; room = N; generators = n; elements = N } ∷ [])
 
-abbrev pub byGenerators : List ℕ → ℕ → ℕ → List ℕ → ℕ → Paper
+abbrev pub byGenerators : (from : List ℕ) (n N : ℕ) (gens : List ℕ) (room : ℕ) → Paper
 byGenerators from n N gens room =
     subgroupPaper (fromGenerators from (alone n N) gens (replicate (tableNeed (length gens) room) 0) 0 (replicate (workNeed (length gens) room) 0) (replicate N 0)
     (replicate room 0) room)
 
-abbrev pub byPredicate : List ℕ → ℕ → ℕ → List ℕ → ℕ → Paper
+abbrev pub byPredicate : (from : List ℕ) (n N : ℕ) (members : List ℕ) (room : ℕ) → Paper
 byPredicate from n N members room =
     subgroupPaper (fromPredicate from (alone n N) members (replicate (tableNeed 8 room) 0) 0 (replicate (workNeed 8 room) 0) (replicate N 0) (replicate room 0) room)
 

@@ -9,7 +9,7 @@ use Rattle.promises.specs.Leaves.{Lent, tableFor}
 use Rattle.promises.specs.Unaltered.{Wrote}
 
 -- "A subgroup's maps need the overgroup's count and R": M and the room; table and work are needed as by any build with n generators.
-abbrev pub mapsFor : List ℕ → ℕ → List ℕ → List ℕ → List ℕ → ℕ → ℕ → ℕ → List ℕ → List ℕ → List ℕ → List ℕ → List Lent
+abbrev pub mapsFor : (table : List ℕ) (start : ℕ) (work inn outw : List ℕ) (n M room : ℕ) (t w i o : List ℕ) → List Lent
 mapsFor table start work inn outw n M room t w i o =
     tableFor table start n room t
     ∷ record { entry = work; start = 0; need = workNeed n room; exit = w }

@@ -50,7 +50,7 @@ pub data Outcome : Type 0 where
   unread : Outcome  -- some are left to read
 
 -- Reading on from row x and column g, when c elements are known. A row of n places takes n + 1 steps, and at most k are made.
-abbrev pub read : ℕ → (ℕ → ℕ → ℕ) → ℕ → ℕ → ℕ → ℕ → Outcome
+abbrev pub read : (n : ℕ) (step : ℕ → ℕ → ℕ) (k x g c : ℕ) → Outcome
 read n step zero x g c = unread
 read n step (suc k) x g c = elim (ltb g n) [
   | true ↦ elim (ltb (step x g) c) [

@@ -17,7 +17,7 @@ onReached (Element e) f = f (e .0)
 onReached (Refused r) f = Refused r
 
 -- From an element along the last k letters of the recorded word that ends at e: first to the parent's element, then by the last letter.
-unfoldable pub along : ℕ → List ℕ → ℕ → ℕ → ℕ → ℕ → Reached
+unfoldable pub along : (k : ℕ) (s : List ℕ) (n count from e : ℕ) → Reached
 along zero s n count from e = Element (record { 0 = from })
 along (suc k) s n count from e =
     pick (leb count (parentOf s n e)) (refusedReach 17 0)
@@ -25,13 +25,13 @@ along (suc k) s n count from e =
     (onReached (along k s n count from (parentOf s n e)) (λ x. readStep s n count x (lastOf s n e))))
 
 -- A stored step back read for an answer, as `readStep` reads a step.
-unfoldable pub readBack : List ℕ → ℕ → ℕ → ℕ → ℕ → Reached
+unfoldable pub readBack : (s : List ℕ) (n count e g : ℕ) → Reached
 readBack s n count e g =
     pick (eqb (getD s (startOf n e + n + g) 0) 0) (refusedReach 17 0)
     (pick (ltb count (getD s (startOf n e + n + g) 0)) (refusedReach 17 0) (Element (record { 0 = getD s (startOf n e + n + g) 0 - 1 })))
 
 -- From an element back along the last k letters of the recorded word that ends at e, the last letter first.
-unfoldable pub backAlong : ℕ → List ℕ → ℕ → ℕ → ℕ → ℕ → Reached
+unfoldable pub backAlong : (k : ℕ) (s : List ℕ) (n count from e : ℕ) → Reached
 backAlong zero s n count from e = Element (record { 0 = from })
 backAlong (suc k) s n count from e =
     pick (leb count (parentOf s n e)) (refusedReach 17 0)
@@ -46,7 +46,7 @@ inverseIn s n count a = pick (leb count (inverseOf s n a)) (refusedReach 17 0) (
 -- longer; or, where the first's word is shorter than the second's, back along that from the inverse of the second, to the inverse of the product. On an
 -- accepted factor all three lead to the same element. An inverse beyond the elements is 17, and so is a length of the second over 4,096; the other lengths are
 -- only compared with that.
-unfoldable pub composeIn : List ℕ → ℕ → ℕ → ℕ → ℕ → Reached
+unfoldable pub composeIn : (s : List ℕ) (n count a b : ℕ) → Reached
 composeIn s n count a b =
     pick (ltb 4096 (lengthOf s n b)) (refusedReach 17 0)
     (pick (leb count (inverseOf s n b)) (refusedReach 17 0)
@@ -57,7 +57,7 @@ composeIn s n count a b =
     (backAlong (lengthOf s n (inverseOf s n b)) s n count a (inverseOf s n b)))))
 
 -- "`conjugate(a,b)` is a·b·a⁻¹."
-unfoldable pub conjugateIn : List ℕ → ℕ → ℕ → ℕ → ℕ → Reached
+unfoldable pub conjugateIn : (s : List ℕ) (n count a b : ℕ) → Reached
 conjugateIn s n count a b =
     onReached (composeIn s n count a b) (λ c. onReached (inverseIn s n count a) (λ i. composeIn s n count c i))
 

@@ -14,18 +14,18 @@ unfoldable pub lengthIn : List ℕ → ℕ → ℕ → Counted
 lengthIn s n e = pick (ltb 4096 (lengthOf s n e)) (counted.Refused (record { number = 17; a = 0; b = 0; c = 0 })) (counted.Count (lengthOf s n e))
 
 -- Every letter of the last k of the word that ends at e can be read.
-unfoldable pub readable : ℕ → List ℕ → ℕ → ℕ → ℕ → Bool
+unfoldable pub readable : (k : ℕ) (s : List ℕ) (n count e : ℕ) → Bool
 readable zero s n count e = true
 readable (suc k) s n count e = ltb (parentOf s n e) count && (ltb (lastOf s n e) n && readable k s n count (parentOf s n e))
 
 -- They are written to their places, 0 to k - 1; the rest of the buffer stays. (A readable letter is below 8, so that its remainder by 256 is the
 -- letter itself.)
-unfoldable pub spell : ℕ → List ℕ → ℕ → ℕ → List ℕ → List ℕ
+unfoldable pub spell : (k : ℕ) (s : List ℕ) (n e : ℕ) (out : List ℕ) → List ℕ
 spell zero s n e out = out
 spell (suc k) s n e out = spell k s n (parentOf s n e) (set out k (lastOf s n e % 256))
 
 -- "4 if short, after 17 in a length"; then 17 in a letter. After any refusal the buffer is as it was.
-unfoldable pub writeIn : List ℕ → ℕ → ℕ → ℕ → ℕ → Counted
+unfoldable pub writeIn : (s : List ℕ) (n count e size : ℕ) → Counted
 writeIn s n count e size =
     pick (ltb 4096 (lengthOf s n e)) (counted.Refused (record { number = 17; a = 0; b = 0; c = 0 }))
     (pick (ltb size (lengthOf s n e)) (counted.Refused (record { number = 4; a = 0; b = 0; c = 0 }))
