@@ -37,7 +37,7 @@ use Rattle.renumbering.proofs.Refusals.{check-9, check-11}
 use Rattle.renumbering.proofs.FirstRow.{sooner-apart, generators-are}
 
 -- The maps of whatever was built.
-with-maps : (m : Renumbering) {b : Built} → builtOf m ≡ b → (inn : List ℕ) × (outw : List ℕ) × (m ≡ renumbering b inn outw)
+pub with-maps : (m : Renumbering) {b : Built} → builtOf m ≡ b → (inn : List ℕ) × (outw : List ℕ) × (m ≡ renumbering b inn outw)
 with-maps (renumbering b inn outw) q = (inn, outw, ap (λ b. renumbering b inn outw) q)
 
 module _ {M : ℕ} {op : ℕ → ℕ → ℕ} {inv : ℕ → ℕ} (G : GroupOn M op inv) {n : ℕ} {gen : ℕ → ℕ} (gens : (g : ℕ) → g < n → gen g < M)

@@ -1,9 +1,9 @@
 -- The predicate form: which elements are chosen, and how it ends.
 -- Assumes nothing.
-use Prim.Native.Nat.{ℕ, zero, suc, _+_, _*_, _<_, _≤_}
+use Prim.Native.Nat.{ℕ, zero, suc, _+_, _<_, _≤_}
 use mathlib.Core.Path.{_≡_, refl, sym, _∙_, ap, subst}
-use mathlib.Core.Logic.{_⊎_, inl, inr, ⊎-elim}
-use mathlib.Core.Bool.{Bool, true, false, not, _&&_}
+use mathlib.Core.Logic.{_⊎_, inl, inr}
+use mathlib.Core.Bool.{Bool, true, false}
 use mathlib.Core.List.{List, [], _∷_, _++_}
 use native.Mathlib.Nat.{add-zero}
 use native.Mathlib.Decide.{ℕ-discrete, decLt}
@@ -11,7 +11,7 @@ use native.Mathlib.Omega.{arith}
 use lib.ListN.{length, getD, length-append, List·getD-append}
 use lib.Seq.{getD-append-add}
 use lib.Dec.{eqb, ltb}
-use borrow.Author.Tests.{eqb-true, eqb-false, not-true, not-false, eq-eqb, ne-eqb, lt-ltb, le-ltb, ltb-true, ltb-false}
+use borrow.Author.Tests.{eqb-true, eqb-false, not-true, eq-eqb, ne-eqb, ltb-true, ltb-false}
 use Rattle.egg.specs.Table.{pick}
 use Rattle.egg.proofs.Rooms.{and-first, and-second, false-true}
 use Rattle.egg.specs.declared.Counted.the-variants.{Count, Refused}
@@ -20,7 +20,7 @@ use Rattle.appearance.specs.Renumber as appear
 use Rattle.appearance.specs.Build.{Renumbering, renumbering}
 use Rattle.renumbering.specs.Orbit.{Orbit, origin, onward}
 use Rattle.renumbering.specs.Subgroup.{rightBy}
-use Rattle.predicate.specs.Predicate.{Picked, picked, ninth, isNew, chooses}
+use Rattle.predicate.specs.Predicate.{Picked, isNew, chooses}
 use Rattle.subgroups.specs.Predicate.{Reach, Chosen, Knows, Faithful, Ends, accepted, refused, too-many}
 
 -- The same by generators that are the same.

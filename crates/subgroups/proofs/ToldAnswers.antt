@@ -23,7 +23,7 @@ use Rattle.egg.specs.declared.Counted.the-variants.{Count, Refused}
 use Rattle.egg.specs.Factor.{Paper, verdictPaper}
 use Rattle.egg.proofs.Rooms.{false-true, and-first, and-second}
 use Rattle.reading.specs.Build.{numbered}
-use Rattle.lending.specs.Finish.{built}
+use Rattle.lending.specs.Finish.{built, zeroed}
 use Rattle.lending.specs.Lending.{tableNeed, workNeed}
 use Rattle.theory.specs.Group.{GroupOn}
 use Rattle.meaning.specs.Numbers.{In}
@@ -41,8 +41,8 @@ use Rattle.renumbering.proofs.Order.{appearing}
 use Rattle.renumbering.proofs.Subgroups.{right-inside}
 use Rattle.renumbering.proofs.Numberings.{refused-5-or-6}
 use Rattle.renumbering.proofs.Chosen.{chosen-proper, orbit-more}
-use Rattle.renumbering.proofs.Builds.{builtOf, same-refusal, not-refused, renumber-built}
-use Rattle.renumbering.proofs.SubgroupBuilds.{subgroup-refused}
+use Rattle.renumbering.proofs.Builds.{same-refusal, not-refused, renumber-built}
+use Rattle.renumbering.proofs.SubgroupBuilds.{with-maps, subgroup-refused}
 use Rattle.generated.specs.Lent.{mapsRight}
 use Rattle.generated.specs.Generated.{smallEnough}
 use Rattle.predicate.specs.Predicate.{Picked, picked, againIn, predicateIn, admitsOver, toldBack, fromPredicate}
@@ -64,10 +64,6 @@ countedVerdict (Refused r) = verdict.Refused r
 
 abbrev pickedVerdict : Picked → Verdict
 pickedVerdict (picked gens (renumbering (built c t w) i o)) = countedVerdict c
-
-with-maps : (m : Renumbering) {r : Refusal} {t w : List ℕ} → builtOf m ≡ built (Refused r) t w
-    → (t : List ℕ) × (w : List ℕ) × (i : List ℕ) × (o : List ℕ) × (m ≡ renumbering (built (Refused r) t w) i o)
-with-maps (renumbering b i o) {r} {t} {w} q = (t, w, i, o, ap (λ b. renumbering b i o) q)
 
 five-or-six : {n : ℕ} {r : Refusal} → (e : ℕ) × (g : ℕ) × (g < n) × ((r ≡ numbered 5 e g 0) ⊎ (r ≡ numbered 6 e g 0)) → In (5 ∷ 6 ∷ []) r
 five-or-six (e, g, h, inl q) = rw q
@@ -117,10 +113,11 @@ module _ {M : ℕ} {op : ℕ → ℕ → ℕ} {inv : ℕ → ℕ} (G : GroupOn M
       stops-so S =
           let P = refuses-refused (numberedStep (S .count) (S .elt) (rightBy op (λ g. getD gens g 0))) (length gens) room size (C .few) lo hi
           (eight-rows (length gens) room size (C .few) fits) (S .refuses) in
-          with-maps (againIn size source room M K gens w)
+          let m = with-maps (againIn size source room M K gens w)
           (renumber-built (S .appearing) (right-inside G below) small (λ y g. source y (getD gens g 0))
           (answering G small source answers room K lo hi lent size L fits work gens (C .few) below) room K lo hi lent size w (C .few)
-          (eight-rows (length gens) room size (C .few) fits) enough ∙ refused-reading (length gens) w (P .1))
+          (eight-rows (length gens) room size (C .few) fits) enough ∙ refused-reading (length gens) w (P .1)) in
+          (zeroed (P .0), zeroed w, m .0, m .1, m .2)
 
     -- So no list that can be built stops, and none stops in two ways.
     abbrev some-work : List ℕ

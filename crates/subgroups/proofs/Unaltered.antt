@@ -15,7 +15,7 @@ use Rattle.egg.specs.declared.Factor.{Factor}
 use Rattle.egg.specs.declared.GroupElementId.{GroupElementId}
 use Rattle.egg.specs.declared.GeneratorId.{GeneratorId}
 use Rattle.egg.specs.Factor.{fitsIn}
-use Rattle.egg.proofs.Rooms.{and-first, and-second}
+use Rattle.egg.proofs.Rooms.{and-first, and-second, some}
 use Rattle.meaning.proofs.Accepted.{sound-group}
 use Rattle.answers.specs.Accepted.{factorStep}
 use Rattle.answers.specs.Unaltered.{Unaltered}
@@ -61,10 +61,6 @@ capped-below n = by (leb n 4294967295) refl where
   by true e = rw (cap-small (leb-true n 4294967295 e)) (le-refl n)
   by false e = let h : 4294967295 < n = leb-false n 4294967295 e in rw (cap-large h) (omega arith)
 
-some-in : (len : ℕ) (h : Factor) → fitsIn len h ≡ true → 0 < h .elements
-unfolding fitsIn
-some-in len h q = leb-true 1 (h .elements) (and-first _ _ q)
-
 module _ {from from′ table table′ : ℕ} {s : Subgroup} {inn inn′ outw outw′ : List ℕ} (P : SameMaps from from′ table table′ s inn inn′ outw outw′) where
   abbrev N : ℕ
   N = s .factor .elements
@@ -81,7 +77,7 @@ module _ {from from′ table table′ : ℕ} {s : Subgroup} {inn inn′ outw out
       (and-first _ _ (and-second (allFit from (handles (s .below))) _ (and-second (fitsIn table (s .factor)) _ parts-fit)))
 
   some-own : 0 < N
-  some-own = some-in table (s .factor) (and-first _ _ parts-fit)
+  some-own = some table (s .factor) (and-first _ _ parts-fit)
 
   may : {map map′ need : ℕ} → need ≤ map → need ≤ map′ → (a la : ℕ) → admitsSides from′ table′ s map′ need a la ≡ admitsSides from table s map need a la
   unfolding admitsSides
