@@ -5,17 +5,18 @@ First the recorded list is replayed by `ours` alone, also where the oracle is no
 inside the domain of equality its answer must be the recorded one of the Rust, and elsewhere the refusal that
 tests/recorded/model.py, written from document 01, expects. Then fresh builds and questions, from a seed that is printed
 (or the first argument), go to the model, the oracle and `ours`; images go to the model and `ours`, since the Rust has
-none. Last, altered tables and forged handles: an answer or a refusal that is due, 14 or 17 (of a check against orders 1,
-2, 3, 13 or 17), never anything else.
+none. Altered tables and forged handles: an answer or a refusal that is due, 14 or 17 (of a check against orders 2, 3, 13
+or 17), never anything else. And the largest factor that there can be, 65,535 elements, beside the Rust.
 """
 
+import math
 import pathlib
 import random
 import sys
 
 HERE = pathlib.Path(__file__).resolve().parent
 sys.path.insert(0, str(HERE / "recorded"))
-from make import FACTORS, built, cycle, damaged, one_product, one_subgroup, random_columns, random_group, rows_command
+from make import FACTORS, abelian, built, cycle, damaged, one_product, one_subgroup, random_columns, random_group, rows_command
 from model import Model, Refused
 from replay import ORACLE, cases, run
 
@@ -193,18 +194,24 @@ def images(seed):
 def short_buffers():
     """One number, or byte, less than is needed: 4, and nothing is written (`ours` looks at its buffers)."""
     z2, s3 = "000000080101000200010000", "table 2 6 1 2 0 3 4 0 5 1 2 5 3 4"
-    asked = [("table", s3), ("work", s3), ("rows", s3), ("table", "enum 2 3"), ("work", "enum 2 3"), ("work", "imgcheck " + z2)]
-    asked += [("table", "unimage " + z2), ("work", "unimage " + z2), ("image", "image enum 2 3"), ("map", "sub 1"), ("table", "sub 1")]
-    asked += [("work", "sub 1"), ("map", "subpred 1 1 0 0 0 0"), ("work", "flatten"), ("table", "flatten"), (None, "subpred 1 1"), (None, "shortword 5")]
-    commands = ["factor enum 2 3", "prod"]
-    for what, line in asked:
-        commands += ["short " + what, line] if what else [line]
-    got = [(command, lines) for command, lines in cases(run(commands, OURS))[2:] if not command.startswith("short ")]
-    for command, lines in got:
+    short = [("table", s3), ("work", s3), ("rows", s3), ("table", "enum 2 3"), ("work", "enum 2 3"), ("work", "imgcheck " + z2)]
+    short += [("table", "unimage " + z2), ("work", "unimage " + z2), ("image", "image enum 2 3"), ("work", "flatten"), ("table", "flatten")]
+    short += [(what, line) for line in ("sub 1", "subpred 1 1 0 0 0 0") for what in ("table", "work", "inward", "outward")]
+    short += [("table", "builder 2")]
+    # Of each list the last command is the one that is refused.
+    ways = [["short " + what, line] for what, line in short] + [["subpred 1 1"], ["shortword 5"], ["join"]]
+    ways += [["builder 1", "add 0 0", "set 1 0 0", "short work", "build"]]
+    ways += [["clear", "factor enum 2 3", "factor enum 1", "prod", "shortsplit 9"], ["join 3"]]
+    commands, asked = ["factor enum 2 3", "prod"], []
+    for way in ways:
+        commands += way
+        asked.append(len(commands) - 1)
+    answers = cases(run(commands, OURS))
+    for command, lines in (answers[i] for i in asked):
         want = ["4"] if command.startswith("imgcheck") else ["refused 4 0 0 0"]
         if lines != want:
             differs("short buffers", command, want, lines)
-    print("short: %d compared" % len(got))
+    print("short: %d compared" % len(asked))
 
 
 def other_calls():
@@ -224,12 +231,13 @@ def other_calls():
 
 # The refusals that are due of each question, whatever stands in the buffers and the handles.
 DUE = {
-    "checked": (1, 2, 3, 13, 17),
+    "checked": (2, 3, 13, 17),
     "add": (5, 6, 14, 17),
     "set": (14, 17),
     "build": (4, 6, 7, 8, 9, 10, 11, 12, 17),
     "flatten": (1, 4, 5, 6, 7, 8, 9, 10, 11, 12, 15, 17),
     "sub": (1, 4, 5, 6, 8, 9, 10, 11, 12, 14, 15, 17),
+    "subpred": (4, 5, 6, 8, 9, 10, 11, 12, 15, 17),
     "join": (4, 14, 15, 17),
     "image": (4, 17),
 }
@@ -245,13 +253,21 @@ def garbage_commands(rng):
     def questions():
         for question in ("step", "compose", "conjugate"):
             yield "%s %d %d" % (question, rng.choice((0, 1, 5, number())), rng.choice((0, 1, 2, 255)))
-        yield from ("inverse %d" % number(), "inverse 3", "word 2", "gens", "count", "length %d" % number(), "split %d" % number())
+        for e in (2, rng.randrange(24), number()):
+            yield from ("word %d" % e, "part %d" % e)
+        yield from ("inverse %d" % number(), "inverse 3", "gens", "count", "length %d" % number(), "split %d" % number())
         yield from ("powi %d %d" % (rng.choice((1, 3, number())), rng.randint(-(2**31), 2**31 - 1)), "period %d" % rng.choice((1, 3, number())))
         yield from ("project %d %d" % (rng.randrange(3), number()), "inject %d %d" % (rng.randrange(3), number()), "join %d %d %d" % (number(), number(), number()))
 
-    factors = ("factor enum 2 3", "factor enum 3 3 2 3", "factor table 1 3 1 2 0")
+    def members(count):
+        """A number for each element, now and then one too few; of a large product a few alone, which is 4."""
+        share = rng.choice((0.02, 0.2, 0.5, 1))
+        return " ".join(str(int(rng.random() < share)) for _ in range(min(count, 600) - (rng.random() < 0.1)))
+
+    factors = {"factor enum 2 3": 6, "factor enum 3 3 2 3": 24, "factor table 1 3 1 2 0": 3}
     for _ in range(250):
-        yield from ("clear", "room 200", *(rng.choice(factors) for _ in range(rng.choice((1, 1, 1, 2, 3)))), "prod")
+        chosen = [rng.choice(list(factors)) for _ in range(rng.choice((1, 1, 1, 2, 3)))]
+        yield from ("clear", "room 200", *chosen, "prod")
         for _ in range(rng.randint(1, 8)):
             yield "alter %d %d" % (rng.randrange(400), number())
         if rng.random() < 0.4:
@@ -261,6 +277,7 @@ def garbage_commands(rng):
         yield from questions()
         yield from ("checked", "checked %d" % rng.choice((3, 2, number())), "checked 3 2 3", "checked 3 %d 3" % rng.choice((2, 7)))
         yield from ("flatten", "image", "sub %d %d" % (rng.choice((1, 2, number())), rng.choice((1, 3))))
+        yield "subpred " + members(math.prod(factors[line] for line in chosen))
     for _ in range(150):
         yield from ("clear", "room %d" % rng.choice((3, 8)), "builder %d" % rng.choice((1, 2, 3)))
         for _ in range(rng.randint(1, 12)):
@@ -277,7 +294,7 @@ def garbage_commands(rng):
 
 
 def garbage(seed):
-    commands, asked = list(garbage_commands(random.Random(seed))), 0
+    commands, asked, word = list(garbage_commands(random.Random(seed))), 0, None
     for command, lines in cases(run(commands, OURS)):
         name = command.split()[0]
         if name in ("clear", "room", "factor", "prod", "alter", "forge", "forgecount", "altermap", "altersub", "builder") or lines in (["unsupported"], ["no builder"], ["no subgroup"]):
@@ -287,8 +304,40 @@ def garbage(seed):
         fine = words[0] in ("ok", "new", "known") or words[0].isdigit() or words[0] == "refused" and int(words[1]) in due
         if not fine:
             differs("altered, seed %s" % seed, command, ["an answer or one of", *map(str, due)], lines)
+        # The part that is handed back is the word, which was asked just before, and nothing where that was refused.
+        if name == "part" and lines != (word if word[0].startswith("ok") else ["ok"]):
+            differs("altered, seed %s" % seed, command, word, lines)
+        word = lines
         asked += 1
     print("altered: %d questions, seed %s" % (asked, seed))
+
+
+def largest():
+    """The most elements that a factor can have, from rows, as a subgroup and as an image; and one room too few."""
+    orders = (3, 5, 17, 257)
+    made, sub = abelian(orders), "sub 1 3 15 255"
+    n, count, *rows = map(int, made.split()[1:])
+    if count != 65535:
+        sys.exit("the largest table has %d elements" % count)
+    image = ((4 + 2 * n * count).to_bytes(4, "big") + bytes([1, n]) + b"".join(x.to_bytes(2, "big") for x in (count, *rows))).hex()
+    # Reading stops at the first number beyond the room, whether the rows are listed or the subgroup's, which are the same.
+    beyond = "refused 5 %d %d 0" % divmod(rows.index(count - 1), n)
+    walked = count - 1
+    for g in range(n):
+        walked = rows[n * walked + g]
+    factor = ["quiet 1", "factor " + made, "prod", "compose 65534 65534", "compose 65533 40000", "conjugate 65534 1"]
+    factor += ["inverse 65534", "word 65534", "step 65534 3", "period 65534"]
+    product = ["clear", *map(cycle, orders), "prod", sub, "subgens", "s2o 65534", "o2s 65534"]
+    rust = [lines for _, lines in cases(run([*factor, *product, made]))]
+    asked = list(zip(factor, rust))
+    asked += [("image", ["ok " + image]), ("imgcheck " + image, ["0"]), ("imgwalk %s 65534 0 1 2 3" % image, [str(walked)])]
+    asked += zip(product, rust[len(factor) :])
+    asked += [("room 65534", []), (made, [beyond]), (sub, [beyond]), ("room 65535", [])]
+    asked += [("unimage " + image, rust[-1])]  # all numbers of the Rust's factor, by their digest
+    for (command, want), (_, got) in zip(asked, cases(run([command for command, _ in asked], OURS)), strict=True):
+        if got != want:
+            differs("largest", command[:60], [line[:200] for line in want], [line[:200] for line in got])
+    print("largest: %d compared" % len(asked))
 
 
 if __name__ == "__main__":
@@ -299,6 +348,7 @@ if __name__ == "__main__":
     images(seed)
     garbage(seed)
     if ORACLE.exists():
+        largest()
         fresh(seed)
     else:
         print("fresh: not compared, since the oracle is not built (oracle/build.sh)")

@@ -19,6 +19,7 @@ import sys
 HERE = pathlib.Path(__file__).resolve().parent
 sys.path.insert(0, str(HERE / "recorded"))
 from beside import OURS
+from make import abelian
 from replay import cases, run
 
 S3, H3, H4 = "2 3", "3 5 2 3", "4 5 2 3 2 2 3"
@@ -171,20 +172,6 @@ def subgroups():
         for room in sorted({int(size), int(over)}):
             row("%s, room %d" % (name, room), [*setup, "room %d" % room, "bench sub " + generators], form="%.5f")
             row("%s, by a predicate, room %d" % (name, room), [*setup, "room %d" % room, "bench subpred " + members], form="%.5f")
-
-
-def abelian(orders):
-    """The rows of a product of cycles by their generators, numbered by first appearance."""
-    zero = (0,) * len(orders)
-    number, listed, rows = {zero: 0}, [zero], []
-    for e in listed:
-        for g, m in enumerate(orders):
-            x = (*e[:g], (e[g] + 1) % m, *e[g + 1 :])
-            if x not in number:
-                number[x] = len(listed)
-                listed.append(x)
-            rows.append(number[x])
-    return "table %d %d %s" % (len(orders), len(listed), " ".join(map(str, rows)))
 
 
 def images():

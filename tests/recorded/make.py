@@ -416,6 +416,20 @@ def cycle(k):
     return spaced("factor table 1", k, *range(1, k), 0)
 
 
+def abelian(orders):
+    """The table of a product of cycles by their generators, numbered by first appearance."""
+    zero = (0,) * len(orders)
+    number, listed, rows = {zero: 0}, [zero], []
+    for e in listed:
+        for g, m in enumerate(orders):
+            x = (*e[:g], (e[g] + 1) % m, *e[g + 1 :])
+            if x not in number:
+                number[x] = len(listed)
+                listed.append(x)
+            rows.append(number[x])
+    return spaced("table", len(orders), len(listed), *rows)
+
+
 def make_product(rng, choices, most, size):
     """Commands that make a random product of not too many elements."""
     while True:

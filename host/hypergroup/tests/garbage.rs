@@ -1,6 +1,7 @@
 //! Every call of `raw` on random buffers, handles and arguments: it answers or refuses, and a refused question writes nothing.
 use hypergroup::Refusal;
 use hypergroup::raw::{self, Answer, Handle, Handles, Sides, SubgroupBuffers};
+use std::ops::Range;
 
 struct Random(u64);
 
@@ -28,6 +29,28 @@ impl Random {
     }
 }
 
+/// The table of S3, and its handle.
+fn s3() -> (Vec<u32>, Handle) {
+    let (mut table, mut work) = (vec![0; raw::table_need(2, 6)], vec![0; raw::work_need(2, 6)]);
+    let handle = raw::composed(&mut table, 0, &mut work, &[1, 2, 0, 3, 4, 0, 5, 1, 2, 5, 3, 4], 2, 6).unwrap();
+    (table, handle)
+}
+
+/// Whether a stretch is zero now, and all around it as it was.
+fn cleared(before: &[u32], after: &[u32], stretch: Range<usize>) -> bool {
+    around(before, after, stretch.clone()) && after[stretch].iter().all(|&x| x == 0)
+}
+
+/// Whether all around a stretch is as it was.
+fn around(before: &[u32], after: &[u32], Range { start, end }: Range<usize>) -> bool {
+    end <= after.len() && after[..start] == before[..start] && after[end..] == before[end..]
+}
+
+/// The stretch that a handle says; only of one that was not refused with 17.
+fn stretch(h: Handle) -> Range<usize> {
+    h.start..h.start + raw::table_need(h.generators, h.room)
+}
+
 /// One of the numbers that a question has.
 fn asked<T>(answer: Answer<T>) {
     if let Err(Refusal { number, .. }) = answer {
@@ -47,8 +70,15 @@ fn writes<T: Copy + PartialEq>(fill: T, size: usize, call: impl FnOnce(&mut [T])
 #[test]
 fn questions() {
     let mut r = Random(1);
+    let s3 = s3();
     for _ in 0..20_000 {
-        let (table, h) = (r.list(200), r.handle());
+        let (mut table, mut h) = (r.list(200), r.handle());
+        // Of a table that is nearly a group's more is read.
+        if r.below(2) == 0 {
+            (table, h) = s3.clone();
+            let at = r.below(48) as usize;
+            table[at] = r.number();
+        }
         let (a, b, g) = (r.number(), r.number(), r.byte());
         asked(raw::count(&table, h));
         asked(raw::step(&table, h, a, g));
@@ -58,9 +88,12 @@ fn questions() {
         asked(raw::inverse(&table, h, a));
         asked(raw::length(&table, h, a));
         writes(165, r.below(9) as usize, |out| raw::word(&table, h, a, out));
+        let mut out = [165; 4096];
+        let len = raw::word(&table, h, a, &mut out).unwrap_or(0);
+        assert_eq!(raw::part(&table, h, a), out[..len as usize]);
         writes(165, r.below(99) as usize, |out| raw::image_write(&table, h, out));
         let checked = raw::check(&table, h, &r.list(4)).err().map_or(0, |x| x.number);
-        assert!([0, 1, 2, 3, 13, 17].contains(&checked), "{checked}");
+        assert!([0, 2, 3, 13, 17].contains(&checked), "{checked}");
     }
 }
 
@@ -131,6 +164,65 @@ fn builds() {
     }
 }
 
+/// Builds element by element, by the builder that is handed back or a forged one, in a table that is altered now and then.
+#[test]
+fn builders() {
+    let mut r = Random(7);
+    let mut met = [0; 18];
+    for _ in 0..20_000 {
+        let (n, room, start) = (r.below(11).saturating_sub(1) as u8, r.below(6) as u32, r.below(9) as usize);
+        let before = r.list(150);
+        let mut t = before.clone();
+        let begun = raw::begin(&mut t, start, room, n);
+        match begun {
+            Ok(b) => assert!(b == Handle { start, room, generators: n, elements: 1 } && cleared(&before, &t, stretch(b))),
+            Err(x) => assert!([1, 4].contains(&x.number) && t == before, "{x:?}"),
+        }
+        let mut b = begun.unwrap_or_else(|_| r.handle());
+        for _ in 0..r.below(9) {
+            match r.below(20) {
+                0 => b = r.handle(),
+                1 | 2 if !t.is_empty() => {
+                    let at = r.below(t.len() as u64) as usize;
+                    t[at] = r.number();
+                }
+                _ => {}
+            }
+            let (before, e, g, x) = (t.clone(), r.below(4) as u32, r.below(3) as u8, r.number());
+            let number = if r.below(2) == 0 {
+                let grown = raw::add(&mut t, b, e, g);
+                let over = grown.builder.elements == 0;
+                match grown.answer {
+                    Ok(new) => {
+                        assert!(new == b.elements && grown.builder == Handle { elements: new + 1, ..b } && around(&before, &t, stretch(b)))
+                    }
+                    Err(Refusal { number: 5 | 6, .. }) => assert!(over && cleared(&before, &t, stretch(b))),
+                    // 17 for the length that is read ends the build; in the handle, or 14, nothing changes.
+                    Err(Refusal { number: 17, .. }) if over && b.elements > 0 => assert!(cleared(&before, &t, stretch(b))),
+                    Err(Refusal { number: 14 | 17, .. }) => assert!(t == before && (over || grown.builder == b)),
+                    Err(x) => panic!("{x:?}"),
+                }
+                b = grown.builder;
+                grown.answer.err()
+            } else {
+                let stored = raw::set(&mut t, b, e, g, x);
+                match stored {
+                    Ok(_) => {
+                        assert!(around(&before, &t, stretch(b)));
+                        let now = t.clone();
+                        assert!(raw::set(&mut t, b, e, g, x) == Ok(false) && t == now);
+                    }
+                    Err(x) => assert!([14, 17].contains(&x.number) && t == before, "{x:?}"),
+                }
+                stored.err()
+            };
+            met[number.map_or(0, |x| x.number as usize)] += 1;
+        }
+    }
+    // All of this was met but 6, which needs a longer word; else the test would look at little.
+    assert!([0, 5, 14, 17].iter().all(|&k| met[k] > 100), "{met:?}");
+}
+
 #[test]
 fn questions_of_subgroups() {
     let mut r = Random(5);
@@ -153,14 +245,20 @@ fn questions_of_subgroups() {
     }
 }
 
-/// As for other builds, and the maps with them: subgroups of S3 and of tables that are none.
+/// As for other builds, and the maps with them: subgroups of S3 and of tables that are none, by generators and by a predicate.
 #[test]
 fn subgroups() {
     let mut r = Random(6);
-    let (mut s3, mut spare) = (vec![0; raw::table_need(2, 6)], vec![0; raw::work_need(2, 6)]);
-    let handle = raw::composed(&mut s3, 0, &mut spare, &[1, 2, 0, 3, 4, 0, 5, 1, 2, 5, 3, 4], 2, 6).unwrap();
-    let over = [handle].into_iter().collect();
+    let (s3, handle) = s3();
+    let mut met = [[0; 18]; 2];
     for _ in 0..20_000 {
+        let over: Handles = match r.below(8) {
+            0 => [Handle { elements: r.below(7) as u32, ..handle }].into_iter().collect(),
+            1 => [handle, r.handle()].into_iter().collect(),
+            // More than 65,535 elements, or more than 8 factors.
+            2 => (0..7 + r.below(3)).map(|_| handle).collect(),
+            _ => [handle].into_iter().collect(),
+        };
         let mut from = s3.clone();
         if r.below(2) == 0 {
             let at = r.below(48) as usize;
@@ -168,30 +266,45 @@ fn subgroups() {
         }
         let (start, room) = (r.below(9) as usize, r.below(8) as u32);
         let generators: Vec<u32> = (0..r.below(4)).map(|_| r.below(7) as u32).collect();
-        let n = generators.len() as u8;
+        let members: Vec<u8> = (0..6 - r.below(8) / 7).map(|_| (r.below(3) / 2) as u8).collect();
+        let told = r.below(2) == 0;
+        let n = if told { 8 } else { generators.len() as u8 };
         let (end, need) = (start + raw::table_need(n, room), raw::work_need(n, room));
+        // The overgroup's count, which a forged one may have too large for the map: 4 then.
+        let mapped = raw::product_count(&from, &over).unwrap_or(6).min(6) as usize;
         let before =
             [end as u64 + r.below(9), need as u64 + r.below(9), 6 + r.below(3), room as u64 + r.below(3)].map(|len| vec![9; len as usize]);
         let [mut table, mut work, mut inward, mut outward] = before.clone();
         let lent = SubgroupBuffers { table: &mut table, work: &mut work, inward: &mut inward, outward: &mut outward };
-        let answer = raw::subgroup(&from, &over, &generators, lent, start, room);
+        let answer = match told {
+            true => raw::subgroup_predicate(&from, &over, &members, lent, start, room),
+            false => raw::subgroup(&from, &over, &generators, lent, start, room),
+        };
         let after = [table, work, inward, outward];
-        let needed = [start..end, 0..need, 0..6, 0..room as usize];
+        let needed = [start..end, 0..need, 0..mapped, 0..room as usize];
         let zero = (0..4).all(|k| after[k][needed[k].clone()].iter().all(|&x| x == 0));
         let excess = (0..4).all(|k| {
             after[k][..needed[k].start] == before[k][..needed[k].start] && after[k][needed[k].end..] == before[k][needed[k].end..]
         });
+        let due: &[u32] = if told { &[4, 5, 6, 8, 9, 10, 11, 12, 15, 17] } else { &[1, 4, 5, 6, 8, 9, 10, 11, 12, 14, 15, 17] };
         match answer {
             Ok(h) => assert!(excess && after[3][h.elements as usize..room as usize].iter().chain(&after[1][..need]).all(|&x| x == 0)),
-            Err(Refusal { number: 1..=4 | 14 | 15, .. }) => assert!(after == before),
-            Err(_) => assert!(after == before || excess && zero),
+            Err(Refusal { number, .. }) if !due.contains(&number) => panic!("{number}"),
+            Err(Refusal { number: 1 | 4 | 14, .. }) => assert!(after == before),
+            Err(Refusal { number: 15, .. }) if !told => assert!(after == before),
+            // Before a build starts 15 and 17 change nothing, once it has started they leave zeros.
+            Err(Refusal { number: 15 | 17, .. }) => assert!(after == before || excess && zero),
+            Err(_) => assert!(excess && zero),
         }
+        met[usize::from(told)][answer.err().map_or(0, |x| x.number as usize)] += 1;
     }
+    assert!(met.iter().all(|met| [0, 4, 5, 15, 17].iter().all(|&k| met[k] > 20)), "{met:?}");
 }
 
 #[test]
 fn images() {
     let mut r = Random(4);
+    let mut met = [0; 18];
     for _ in 0..20_000 {
         let (n, count) = (r.below(3), r.below(5));
         let mut image = ((4 + 2 * n * count) as u32).to_be_bytes().to_vec();
@@ -204,10 +317,35 @@ fn images() {
         let mut work = vec![0xa5; r.below(2000) as usize];
         let number = raw::image_check(&image, &mut work);
         assert!([0, 1, 4, 5, 7, 8, 9, 10, 11, 12, 16].contains(&number), "{number}");
+        let (n, count) = (image[5], u32::from(image[6]) * 256 + u32::from(image[7]));
+        // Of a bad head no buffer's length is looked at.
+        let right = n <= 8 && image.len() == 8 + 2 * usize::from(n) * count as usize;
+        let (end, need) = if right { (raw::table_need(n, count), raw::work_need(n, count)) } else { (9, 9) };
+        let start = r.below(9) as usize;
+        let before = [start + end, need].map(|len| vec![9; (len + r.below(9) as usize).saturating_sub(1)]);
+        let [mut t, mut w] = before.clone();
+        let read = raw::image_read(&image, &mut t, start, &mut w);
+        let untouched = [&t, &w] == [&before[0], &before[1]];
+        let zero = || cleared(&before[0], &t, start..start + end) && cleared(&before[1], &w, 0..need);
+        match read {
+            Ok(h) => {
+                assert!(h == Handle { start, room: count, generators: n, elements: count });
+                assert!(around(&before[0], &t, stretch(h)) && cleared(&before[1], &w, 0..need));
+            }
+            Err(Refusal { number: 1 | 4, .. }) => assert!(untouched),
+            Err(Refusal { number: 16, .. }) => assert!(untouched || zero()),
+            Err(Refusal { number: 5 | 7..=12, .. }) => assert!(zero()),
+            Err(x) => panic!("{x:?}"),
+        }
+        // Checking and reading refuse by the same number, unless the one or the other was lent too little.
+        let other = read.err().map_or(0, |x| x.number);
+        assert!(number == other || number == 4 || other == 4, "{number} {other}");
+        met[other as usize] += 1;
         let word: Vec<u8> = (0..r.below(6)).map(|_| r.byte()).collect();
         let reached = raw::image_walk(&image, r.number(), &word);
         assert!(reached < 65_536 || [1, 14, 16, 17].contains(&(reached - 65_536)), "{reached}");
     }
+    assert!([0, 1, 4, 5, 7, 8, 9, 16].iter().all(|&k| met[k] > 100), "{met:?}");
 }
 
 #[test]

@@ -3,7 +3,7 @@
 //! Beyond the oracle's commands (oracle/README.md):
 //!
 //! - `short table`, `short work`, `short rows` lend the next build one number less; `short work` also the next `imgcheck` one byte, and
-//!   `short image` the next `image`, and `short map` the maps of the next `sub`.
+//!   `short image` the next `image`, and `short inward` and `short outward` one map of the next `sub` or `subpred`.
 //! - `alter I V` stores V at the I-th number of the table buffer of the current builder, or else of the current product. `forge START
 //!   ROOM N COUNT` puts another handle in the place of the builder's, or of the product's first factor; with five numbers the first
 //!   says which factor. `forgecount K` says how many factors the product has.
@@ -13,8 +13,8 @@
 //!   products where the product has one factor too, and without the word the calls on that factor are asked.
 //! - `builder n` begins a build with the current room, `add e g` prints the new element, `set e g r` prints `new` or `known`, `build`
 //!   prints as `table` does and makes the factor the current product.
-//! - `count`, `length e`; `shortword e` writes a word into one byte less than it has; `part e` is the word by the call that hands back
-//!   the filled part of its buffer, nothing where it is refused.
+//! - `count`, `length e`; `shortword e` writes a word into one byte less than it has, `shortsplit e` the digits into one place less;
+//!   `part e` is the word by the call that hands back the filled part of its buffer, nothing where it is refused.
 //! - `image enum ..`, `image table ..` or `image` alone, for the one factor of the current product, print `ok` and the bytes in hex;
 //!   `unimage HEX` prints as `table` does; `imgcheck HEX` and `imgwalk HEX START G..` print the number that comes back. `-` is no byte.
 //!
@@ -99,7 +99,8 @@ struct Short {
     work: usize,
     rows: usize,
     image: usize,
-    map: usize,
+    inward: usize,
+    outward: usize,
 }
 
 struct Ours {
@@ -169,7 +170,8 @@ impl Ours {
                 Some(&"table") => self.short.table = 1,
                 Some(&"work") => self.short.work = 1,
                 Some(&"image") => self.short.image = 1,
-                Some(&"map") => self.short.map = 1,
+                Some(&"inward") => self.short.inward = 1,
+                Some(&"outward") => self.short.outward = 1,
                 _ => self.short.rows = 1,
             },
             "alter" => self.alter(number(w, 1)?, number(w, 2)?),

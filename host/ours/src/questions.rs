@@ -32,9 +32,9 @@ impl Product {
         written(8 * 4096 + 4, |out| raw::product_word(&self.table, &self.handles, e, out))
     }
 
-    /// The digits, in a list that is longer than any of them needs.
-    fn split(&self, e: u32) -> Answer<Vec<u32>> {
-        let mut digits = [FILL; 12];
+    /// The digits, in a list with so many places.
+    fn split(&self, e: u32, places: usize) -> Answer<Vec<u32>> {
+        let mut digits = vec![FILL; places];
         let answer = raw::product_split(&self.table, &self.handles, e, &mut digits);
         let len = answer.unwrap_or(0) as usize;
         assert!(digits[len..].iter().all(|&x| x == FILL), "digits were written past their end");
@@ -48,7 +48,7 @@ impl Product {
             .collect()
     }
 
-    /// A word, or digits, into one place less than they need: 4, and nothing is written.
+    /// A word into one byte less than it needs: 4, and nothing is written.
     fn short_word(&self, e: u32) -> Answer<u32> {
         let (t, p) = (&self.table, &self.handles);
         let size = (raw::product_length(t, p, e)? as usize).saturating_sub(1);
@@ -99,7 +99,9 @@ impl Ours {
             "shortword" => p.short_word(number(w, 1)?)?.to_string(),
             "powi" => raw::product_powi(t, hs, number(w, 1)?, number(w, 2)?)?.to_string(),
             "period" => raw::product_period(t, hs, number(w, 1)?)?.to_string(),
-            "split" => say::listed(&p.split(number(w, 1)?)?),
+            // More places than any product's digits need, or one less than these do.
+            "split" => say::listed(&p.split(number(w, 1)?, 12)?),
+            "shortsplit" => say::listed(&p.split(number(w, 1)?, usize::from(hs.count).saturating_sub(1))?),
             "join" => raw::product_join(t, hs, &numbers(&w[1..])?)?.to_string(),
             "project" => raw::product_project(t, hs, number(w, 1)?, number(w, 2)?)?.to_string(),
             "inject" => raw::product_inject(t, hs, number(w, 1)?, number(w, 2)?)?.to_string(),

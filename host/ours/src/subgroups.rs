@@ -104,9 +104,9 @@ impl Ours {
         let size = if mapped <= 65_535 { mapped as usize } else { 0 };
         // A subgroup has no more elements than the overgroup, so that more room would change nothing.
         let room = if self.room <= 65_535 { self.room.min(size.max(1) as u32) } else { self.room };
-        let short = std::mem::take(&mut self.short.map);
-        let lengths = [size, room.min(65_535) as usize].map(|n| if short == 0 { n + MARGIN } else { n.saturating_sub(1) });
-        let [mut inward, mut outward] = lengths.map(|n| vec![FILL; n]);
+        let short = [std::mem::take(&mut self.short.inward), std::mem::take(&mut self.short.outward)];
+        let lent = |n: usize, short| vec![FILL; if short == 0 { n + MARGIN } else { n.saturating_sub(1) }];
+        let (mut inward, mut outward) = (lent(size, short[0]), lent(room.min(65_535) as usize, short[1]));
         let before = [inward.clone(), outward.clone()];
         let (table, answer) = self.build_after(vec![], n, room, |table, start, work| {
             call(&from, &over, SubgroupBuffers { table, work, inward: &mut inward, outward: &mut outward }, start, room)
