@@ -8,7 +8,9 @@ const ARCHIVES: [&str; 6] = ["bridge_factor", "bridge_builder", "bridge_image", 
 fn main() {
     let machine = std::env::var("CARGO_CFG_TARGET_ARCH").unwrap_or_default();
     if machine != "x86_64" {
-        panic!("The archives of the proved library are for x86-64, and this is a build for {machine}. README.md says how to build and run it here.");
+        panic!(
+            "The archives of the proved library are for x86-64, and this is a build for {machine}. README.md says how to build and run it here."
+        );
     }
     let root = Path::new(env!("CARGO_MANIFEST_DIR")).join("../..");
     let folder = root.join("target/staticlib");
