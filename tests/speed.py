@@ -7,6 +7,10 @@ zeroes, and checks 8 to 13; the Rust allocates, and checks 8 to 10.
 GAP (Debian's gap-core, installed if it is missing) is beside where it can do the same: it enumerates the cosets of the
 trivial subgroup, in a numbering of its own and with no checks.
 
+Our archives are for x86-64. Elsewhere they would run under an emulator, and no time would mean anything: there the same
+proved modules are compiled for the machine's own processor, by tools/here.sh in the place of host/build.sh, which is not what
+is shipped.
+
 Arguments choose the tables (enumerations, questions, products, ones, subgroups, maps, images); without any, all are
 measured."""
 
@@ -192,7 +196,7 @@ def images():
 
 if __name__ == "__main__":
     if platform.machine() != "x86_64":
-        sys.exit("our archives are for x86-64 and run under an emulator here, so that no time means anything")
+        OURS = (HERE.parent / "target" / "here" / "ours", "--echo")
     tables = {f.__name__: f for f in (enumerations, questions, products, ones, subgroups, maps, images)}
     for name in sys.argv[1:] or tables:
         print("\n%s\n" % name.capitalize())

@@ -1,19 +1,22 @@
 //! Links the archives of the proved library. An archive that is not there is made by `rt staticlib`, which proves it first; one that is
-//! there is taken as it is, and host/build.sh makes them all anew.
-use std::path::Path;
+//! there is taken as it is, and host/build.sh makes them all anew. `HYPERGROUP_ARCHIVES` names a folder with archives for another machine
+//! (tools/here.sh makes them, to measure there).
+use std::path::{Path, PathBuf};
 use std::process::Command;
 
 const ARCHIVES: [&str; 6] = ["bridge_factor", "bridge_builder", "bridge_image", "bridge_group", "bridge_subgroup", "exports"];
 
 fn main() {
     let machine = std::env::var("CARGO_CFG_TARGET_ARCH").unwrap_or_default();
-    if machine != "x86_64" {
+    let given = std::env::var("HYPERGROUP_ARCHIVES").ok().map(PathBuf::from);
+    println!("cargo:rerun-if-env-changed=HYPERGROUP_ARCHIVES");
+    if given.is_none() && machine != "x86_64" {
         panic!(
             "The archives of the proved library are for x86-64, and this is a build for {machine}. README.md says how to build and run it here."
         );
     }
     let root = Path::new(env!("CARGO_MANIFEST_DIR")).join("../..");
-    let folder = root.join("target/staticlib");
+    let folder = given.unwrap_or_else(|| root.join("target/staticlib"));
     for name in ARCHIVES {
         let archive = folder.join(format!("lib{name}.a"));
         if !archive.exists() {

@@ -43,9 +43,9 @@ back-number : (table : List ℕ) (start : ℕ) (work : List ℕ) (n room : ℕ) 
 back-number table start work n room (finish.built (Count c) t w) = refl
 back-number table start work n room (finish.built (Refused r) t w) = refl
 
-settled-number : (c : ℕ) (k : Checked) → verdictNumber (verdictOf k) ≡ builtNumber (settledBy c k)
-settled-number c (checked verdict.Fine t w) = refl
-settled-number c (checked (verdict.Refused r) t w) = refl
+settled-number : (n c : ℕ) (k : Checked) → verdictNumber (verdictOf k) ≡ builtNumber (settledBy n c k)
+settled-number n c (checked verdict.Fine t w) = refl
+settled-number n c (checked (verdict.Refused r) t w) = refl
 
 module _ (table : List ℕ) (start : ℕ) (work rows : List ℕ) (n room : ℕ) (hn : n ≤ 8)
     (lent : lentRight (length table) start (length work) room n ≡ true) (listed : room * n ≤ length rows)
@@ -78,8 +78,8 @@ module _ (table : List ℕ) (start : ℕ) (work rows : List ℕ) (n room : ℕ) 
       let R = accepted-read (composedAt rows n) n room (tableNeed n room) hn lo hi (le-refl (tableNeed n room)) q in
       let e : c ≡ room = omega (arith, R .within) in
       ap verdictNumber (whole-same hn hi (subst (λ (k : ℕ). Read (composedAt rows n) n room (tableNeed n room) k t) e R) w w₁ enough enough₁)
-      ∙ settled-number c (check-group t w₁ n room)
-      ∙ ap (λ (k : ℕ). builtNumber (settledBy c (check-group t w₁ n k))) (sym e)
+      ∙ settled-number n c (check-group t w₁ n room)
+      ∙ ap (λ (k : ℕ). builtNumber (settledBy n c (check-group t w₁ n k))) (sym e)
 
   counting : (c : ℕ) (t : List ℕ) → readAll (composedAt rows n) n room (replicate (tableNeed n room) 0) ≡ placed (Count c) t → (b : Bool) → ltb c room ≡ b
       → pick b 16 (verdictNumber (verdictOf (check-group t w n room))) ≡ pick b 16 (builtNumber (finishedPlaced (placed (Count c) t) n w₁))

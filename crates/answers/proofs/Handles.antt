@@ -5,6 +5,7 @@ use mathlib.Core.Path.{_≡_, refl, sym, _∙_}
 use mathlib.Core.Logic.{_↔_}
 use mathlib.Core.Bool.{true}
 use mathlib.Core.List.{List, _++_}
+use native.Mathlib.Omega.{arith}
 use borrow.Author.Tests.{lt-leb}
 use lib.ListN.{length, drop}
 use lib.Seq.{take-append-seam}
@@ -15,7 +16,7 @@ use Rattle.egg.specs.declared.Counted.the-variants.{Count}
 use Rattle.egg.specs.Pairs.{ordersRight}
 use Rattle.egg.specs.Factor.{fitsIn, stretch, stepAnswer}
 use Rattle.egg.proofs.Answers.{step-read}
-use Rattle.egg.proofs.Rooms.{has, few}
+use Rattle.egg.proofs.Rooms.{has, few, room-enough, limited}
 use Rattle.factor.specs.Questions.{admits, composeAnswer, inverseAnswer, conjugateAnswer, countAnswer, generatorAnswer, lengthAnswer, writeAnswer, written, wordPart}
 use Rattle.relations.specs.Relations.{relations}
 use Rattle.factor.specs.Relations.{checkAnswer}
@@ -38,6 +39,10 @@ module _ {t : List ℕ} {f : Factor} (A : Accepted t f) where
   few-generators : f .generators ≤ 8
   few-generators = few (length t) (f .start) (f .room) (f .generators) (has (length t) f (A .fits))
 
+  -- Their numbers have 16 bits.
+  pub few-elements : f .elements ≤ 65536
+  few-elements = omega (arith, room-enough (length t) f (A .fits), limited (length t) (f .start) (f .room) (f .generators) (has (length t) f (A .fits)))
+
   module _ {e : ℕ} (he : e < f .elements) where
     pub step-answer : {g : ℕ} → g < f .generators
         → stepAnswer t f (record { 0 = e }) (record { 0 = g }) ≡ reach (factorStep t f e g)
@@ -54,14 +59,14 @@ module _ {t : List ℕ} {f : Factor} (A : Accepted t f) where
     pub write-answer : (size : ℕ) → length (factorWord t f e) ≤ size
         → writeAnswer t f (record { 0 = e }) size ≡ Count (length (factorWord t f e))
     unfolding writeAnswer
-    write-answer size room = rw (admits-fine (length t) f (A .fits) he origin) (write-in (A .sound) size he room)
+    write-answer size room = rw (admits-fine (length t) f (A .fits) he origin) (write-in (A .sound) (A .hops) few-elements size he room)
 
     pub written-is : (out : List ℕ) → length (factorWord t f e) ≤ length out
         → written t f (record { 0 = e }) out
         ≡ factorWord t f e ++ drop (length (factorWord t f e)) out
     unfolding written
     written-is out room =
-        rw (write-answer (length out) room) (spell-word (A .sound) few-generators (length (factorWord t f e)) out he refl room)
+        rw (write-answer (length out) room) (spell-word (A .sound) (A .hops) few-elements few-generators (length (factorWord t f e)) out he refl room)
 
     pub word-part : (out : List ℕ) → length (factorWord t f e) ≤ length out
         → wordPart t f (record { 0 = e }) out ≡ factorWord t f e
@@ -74,12 +79,12 @@ module _ {t : List ℕ} {f : Factor} (A : Accepted t f) where
     pub compose-answer : composeAnswer t f (record { 0 = a }) (record { 0 = b })
         ≡ reach (compose (factorStep t f) (factorWord t f) a b)
     unfolding composeAnswer
-    compose-answer = rw (admits-fine (length t) f (A .fits) ha hb) (compose-in (A .sound) ha hb)
+    compose-answer = rw (admits-fine (length t) f (A .fits) ha hb) (compose-in (A .sound) (A .hops) few-elements ha hb)
 
     pub conjugate-answer : conjugateAnswer t f (record { 0 = a }) (record { 0 = b })
         ≡ reach (conjugate (compose (factorStep t f) (factorWord t f)) (inverse (factorBack t f) (factorWord t f)) a b)
     unfolding conjugateAnswer
-    conjugate-answer = rw (admits-fine (length t) f (A .fits) ha hb) (conjugate-in (A .sound) ha hb)
+    conjugate-answer = rw (admits-fine (length t) f (A .fits) ha hb) (conjugate-in (A .sound) (A .hops) few-elements ha hb)
 
   pub count-answer : countAnswer t f ≡ Count (f .elements)
   unfolding countAnswer

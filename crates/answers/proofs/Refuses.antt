@@ -27,7 +27,7 @@ use Rattle.egg.specs.Factor.{fitsIn, stretch, refusedReach, readStep, stepAnswe
 use Rattle.egg.proofs.Rooms.{some}
 use Rattle.egg.proofs.Scans.{refused-fine, says-scan}
 use Rattle.factor.specs.Questions.{admits, ifReach, ifCount}
-use Rattle.walks.specs.Walks.{onReached, along, readBack, backAlong, composeIn, inverseIn, conjugateIn, generatorIn}
+use Rattle.walks.specs.Walks.{onReached, along, readBack, ahead, backBy, composeIn, inverseIn, conjugateIn, generatorIn}
 use Rattle.words.specs.Words.{lengthIn, readable, writeIn}
 use Rattle.factor.specs.Questions.{composeAnswer, inverseAnswer, conjugateAnswer, countAnswer, generatorAnswer, lengthAnswer, writeAnswer, written, wordPart}
 use Rattle.relations.specs.Relations.{turned, returnsTo, relationAt, doubledRow, pairsRow, relations}
@@ -117,10 +117,16 @@ module _ (s : List ℕ) (n count : ℕ) where
   along-in zero from e = reached-element _
   along-in (suc k) from e = search (reads, along-in k, step-in)
 
-  back-along-in : (k from e : ℕ) → ReachedIn (17 ∷ []) (backAlong k s n count from e)
-  unfolding backAlong
-  back-along-in zero from e = reached-element _
-  back-along-in (suc k) from e = search (reads, back-along-in k, back-in)
+  ahead-in : (k from c : ℕ) → ReachedIn (17 ∷ []) (ahead k s n count from c)
+  unfolding ahead
+  ahead-in zero from c = reached-element _
+  ahead-in (suc k) from c = search (reads, ahead-in k, step-in)
+
+  back-by-in : (k j from c : ℕ) → ReachedIn (17 ∷ []) (backBy k j s n count from c)
+  unfolding backBy
+  back-by-in zero j from c = reached-element _
+  back-by-in (suc k) zero from c = search (reads, back-by-in k 4, back-in)
+  back-by-in (suc k) (suc j) from c = search (reads, back-by-in k j, back-in)
 
   pub inverse-in : (a : ℕ) → ReachedIn (17 ∷ []) (inverseIn s n count a)
   unfolding inverseIn
@@ -128,7 +134,7 @@ module _ (s : List ℕ) (n count : ℕ) where
 
   pub compose-in : (a b : ℕ) → ReachedIn (17 ∷ []) (composeIn s n count a b)
   unfolding composeIn
-  compose-in a b = search (reads, along-in, back-along-in, inverse-in)
+  compose-in a b = search (reads, along-in, ahead-in, back-by-in, inverse-in) depth 6
 
   pub conjugate-in : (a b : ℕ) → ReachedIn (17 ∷ []) (conjugateIn s n count a b)
   unfolding conjugateIn

@@ -70,7 +70,7 @@ module _ {t : List ℕ} (t′ : List ℕ) {f : Factor} (A : Accepted t f) (same 
   -- The premise of demands 2 and 3: where the stretch is the same and the handle fits, everything is the same.
   pub unaltered : Unaltered t t′ f
   unaltered = record {
-    accepted = record { fits = fits; sound = rw same (A .sound); ruled = rw same (A .ruled) };
+    accepted = record { fits = fits; sound = rw same (A .sound); ruled = rw same (A .ruled); hops = rw same (A .hops) };
     stretches = same;
     steps = steps-same;
     composes = composes-same;

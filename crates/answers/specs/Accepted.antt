@@ -16,6 +16,7 @@ use Rattle.egg.specs.declared.Counted.the-variants.{Count}
 use Rattle.egg.specs.Table.{stepOf, backOf}
 use Rattle.egg.specs.Pairs.{ordersRight}
 use Rattle.egg.specs.Factor.{fitsIn, stretch, stepAnswer}
+use Rattle.hops.specs.Hops.{Hops}
 use Rattle.factor.specs.Questions.{composeAnswer, inverseAnswer, conjugateAnswer, countAnswer, generatorAnswer, lengthAnswer}
 use Rattle.factor.specs.Questions.{writeAnswer, written, wordPart}
 use Rattle.factor.specs.Relations.{checkAnswer}
@@ -27,12 +28,14 @@ use Rattle.meaning.specs.Stored.{wordOf}
 use Rattle.meaning.specs.Sound.{Sound, Ruled}
 
 -- A factor that was accepted, whichever call made it: its handle fits the buffer, its stretch holds a table that the checks let through, and that table
--- follows the numbering rule, with the parent and last generator of each element's first appearance. Document 01: "its handle and its needed stretch of
--- table come unaltered from the call that accepted it".
+-- follows the numbering rule, with the parent and last generator of each element's first appearance; and above its last generator each row has the letters
+-- before it, so that a word is read five letters at a time. Document 01: "its handle and its needed stretch of table come unaltered from the call that
+-- accepted it".
 pub record Accepted (t : List ℕ) (f : Factor) : Type 0 where
   pub fits : fitsIn (length t) f ≡ true
   pub sound : Sound (stretch t f) (f .generators) (f .elements)
   pub ruled : Ruled (stretch t f) (f .generators) (f .elements)
+  pub hops : Hops (stretch t f) (f .generators) (f .elements)
 
 -- The step, the step back and the recorded word that the factor's stretch holds.
 abbrev pub factorStep : List ℕ → Factor → ℕ → ℕ → ℕ

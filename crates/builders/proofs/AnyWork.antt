@@ -22,11 +22,11 @@ pub any-work : (c : Counted) (n : ℕ) (t w w′ : List ℕ) → length w ≡ le
 unfolding finished
 any-work (Count N) n t w w′ long =
     by (check-group t w n N) (check-group t w′ n N) refl refl (checks.any-work t n N w w′ (λ i h l. omega (arith, long)) (λ i h l. omega (arith, long))) where
-      by : (c c′ : Checked) → check-group t w n N ≡ c → check-group t w′ n N ≡ c′ → checks.Like c c′ → settledBy N c ≡ settledBy N c′
+      by : (c c′ : Checked) → check-group t w n N ≡ c → check-group t w′ n N ≡ c′ → checks.Like c c′ → settledBy n N c ≡ settledBy n N c′
       by (checked v t₁ w₁) (checked v′ t₂ w₂) p q L =
-          settled-like N w₁ w₂ (L .0) (L .1)
-          ∙ ap (λ (k : ℕ). builtWith (replicate k 0) (settledBy N (checked v′ t₂ w₂))) (checks-work t w n N p ∙ long ∙ sym (checks-work t w′ n N q))
-          ∙ sym (settled-like N {v = v′} {t = t₂} w₂ w₂ refl refl)
+          settled-like n N w₁ w₂ (L .0) (L .1)
+          ∙ ap (λ (k : ℕ). builtWith (replicate k 0) (settledBy n N (checked v′ t₂ w₂))) (checks-work t w n N p ∙ long ∙ sym (checks-work t w′ n N q))
+          ∙ sym (settled-like n N {v = v′} {t = t₂} w₂ w₂ refl refl)
 any-work (counted-by.Refused r) n t w w′ long = ap (λ (k : ℕ). built (counted-by.Refused r) (zeroed t) (replicate k 0)) long
 
 placed-any-work : (p : Placed) (n : ℕ) (w w′ : List ℕ) → length w ≡ length w′ → finishedPlaced p n w ≡ finishedPlaced p n w′

@@ -34,7 +34,7 @@ pub data Comes (own : ℕ → ℕ → ℕ) (n room size N : ℕ) (w : List ℕ) 
   nowhere : n ≡ 0 → 1 < N → B ≡ built (Refused (numbered 17 0 0 0)) (replicate size 0) (replicate (length w) 0) → Comes own n room size N w B
   lacking : (c : ℕ) (r : Refusal) → Readable (ownNumber N own) n room c → Lacks own n N c r → B ≡ built (Refused r) (replicate size 0) (replicate (length w) 0)
       → Comes own n room size N w B
-  whole : (t : List ℕ) → ownAll own n room N (replicate size 0) ≡ placed (Count N) t → ReadOwn own n room size N N t → check8 t n N ≡ verdict.Fine → B ≡ settledBy N (check-group t (zeroed w) n N)
+  whole : (t : List ℕ) → ownAll own n room N (replicate size 0) ≡ placed (Count N) t → ReadOwn own n room size N N t → check8 t n N ≡ verdict.Fine → B ≡ settledBy n N (check-group t (zeroed w) n N)
       → Comes own n room size N w B
 
 module _ (own : ℕ → ℕ → ℕ) (n room size N : ℕ) (w : List ℕ) where
@@ -44,7 +44,7 @@ module _ (own : ℕ → ℕ → ℕ) (n room size N : ℕ) (w : List ℕ) where
   zeros-left r t q = rw (q, length-replicate {A = ℕ} (length w) 0)
 
   refused-8 : (t : List ℕ) {r : Refusal} → check8 t n N ≡ verdict.Refused r
-      → settledBy N (check-group t (zeroed w) n N) ≡ built (Refused r) (zeroed t) (zeroed (zeroed w))
+      → settledBy n N (check-group t (zeroed w) n N) ≡ built (Refused r) (zeroed t) (zeroed (zeroed w))
   unfolding check-group check-table
   refused-8 t q = rw q
 
@@ -69,7 +69,7 @@ module _ (own : ℕ → ℕ → ℕ) (n room size N : ℕ) (w : List ℕ) where
   all-read : (t : List ℕ) → ownAll own n room N (replicate size 0) ≡ placed (Count N) t → ReadOwn own n room size N N t → Comes own n room size N w (finished (Count N) n t (zeroed w))
   unfolding finished
   all-read t all O = by (check8 t n N) refl where
-    by : (v : Verdict) → check8 t n N ≡ v → Comes own n room size N w (settledBy N (check-group t (zeroed w) n N))
+    by : (v : Verdict) → check8 t n N ≡ v → Comes own n room size N w (settledBy n N (check-group t (zeroed w) n N))
     by verdict.Fine q = whole t all O q refl
     by (verdict.Refused r) q = lacking N r (read-readable (O .read)) (lacks O refl q) (refused-8 t q ∙ zeros-left r t (O .beside .whole))
 

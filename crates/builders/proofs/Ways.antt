@@ -1,6 +1,6 @@
 -- The ways in which `build` is refused, with their numbers, and what they leave; and that an accepted build is `from_composed` on the builder's rows.
 -- Assumes nothing.
-use Prim.Native.Nat.{ℕ, suc, _+_, _-_, _≤_, _<_}
+use Prim.Native.Nat.{ℕ, suc, _+_, _≤_, _<_}
 use mathlib.Core.Path.{_≡_, refl, sym, ap, _∙_, subst}
 use mathlib.Core.Logic.{_⊎_, inl, inr, ⊎-elim}
 use mathlib.Core.Bool.{true}
@@ -151,7 +151,7 @@ module _ (t : List ℕ) (b : Builder) (w : List ℕ) (fits : fitsIn (length t) (
     by (nowhere p q e) = inr (inl (p, q, one z e))
     by (lacking c x R L e) = inr (inr (inl (c, R, subst (λ (y : Refusal). Lacks own n N c y) (one e z) L)))
     by (whole t₁ all O fine e) =
-        let k = check-refused N (check-group t₁ (zeroed W) n N) (sym e ∙ z) in
+        let k = check-refused n N (check-group t₁ (zeroed W) n N) (sym e ∙ z) in
         inr (inr (inr (filled t₁ O fine, late-number t₁ O fine all (k .2), rows-numbered t₁ O fine, is-composed t₁ O fine)))
 
   -- By which numbers.

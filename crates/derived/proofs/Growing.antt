@@ -91,7 +91,7 @@ module _ (t : List ℕ) (n count : ℕ) (e : GroupElementId) (g : GeneratorId) (
   parent-old x h = other-row x (2 * n) h (omega arith)
 
   pub last-old : (x : ℕ) → x < count → lastOf written n x ≡ lastOf t n x
-  last-old x h = let q : startOf n x + (2 * n + 1) ≡ startOf n x + 2 * n + 1 = omega arith in rw q at (other-row x (2 * n + 1) h (omega arith))
+  last-old x h = let q : startOf n x + (2 * n + 1) ≡ startOf n x + 2 * n + 1 = omega arith in rw (rw q at (other-row x (2 * n + 1) h (omega arith)))
 
   module _ (enough : startOf n count + (2 * n + 4) ≤ length t) where
     pub parent-new : e .0 < 4294967296 → parentOf written n count ≡ e .0
@@ -100,12 +100,17 @@ module _ (t : List ℕ) (n count : ℕ) (e : GroupElementId) (g : GeneratorId) (
         let a = put-same t (startOf n count + 2 * n) (e .0) (omega arith) h in
         put-other _ (startOf n count + 2 * n + 2) len (omega arith) ∙ put-other _ (startOf n count + 2 * n + 1) (g .0) (omega arith) ∙ a
 
-    pub last-new : g .0 < 4294967296 → lastOf written n count ≡ g .0
+    pub last-new : g .0 < 8 → lastOf written n count ≡ g .0
     unfolding setWord
     last-new h =
         let t1 = putAt t (startOf n count + 2 * n) (e .0) in
         let l : length t1 ≡ length t = put-length t (startOf n count + 2 * n) (e .0) in
-        put-other _ (startOf n count + 2 * n + 2) len (omega arith) ∙ put-same t1 (startOf n count + 2 * n + 1) (g .0) (rw l (omega arith)) h
+        let t2 = putAt t1 (startOf n count + 2 * n + 1) (g .0) in
+        rw (
+          put-other t2 (startOf n count + 2 * n + 2) len {j = startOf n count + 2 * n + 1} (omega arith),
+          put-same t1 (startOf n count + 2 * n + 1) (g .0) (rw l (omega arith)) (omega arith),
+        )
+        (omega arith)
 
 module _ {n : ℕ} {m : ℕ → ℕ → ℕ} {word : ℕ → List ℕ} {count : ℕ} {t : List ℕ} (T : TableOk n m word count t) (some : 1 ≤ count) (small : count ≤ 65535)
     (enough : startOf n count + (2 * n + 4) ≤ length t) (e : GroupElementId) (g : GeneratorId) (he : e .0 < count) (hg : g .0 < n) (few : n ≤ 8) where
@@ -138,6 +143,10 @@ module _ {n : ℕ} {m : ℕ → ℕ → ℕ} {word : ℕ → List ℕ} {count : 
           grow = λ x h k. ⊎-elim (λ q. rw q (rw (p, l) new-word))
               (λ b. let c = T .words .earlier x h b in
               rw (parent-old t n count e g len x b, last-old t n count e g len x b, agrees x b, agrees (parentOf t n x) (omega arith)) (T .words .grow x h b)) (split k);
+          identity = λ h. (
+            parent-old t n count e g len 0 (omega arith) ∙ T .words .identity (omega arith) .0,
+            last-old t n count e g len 0 (omega arith) ∙ T .words .identity (omega arith) .1,
+          );
         }
 
     written-ok : TableOk n m (grown word count e g) (count + 1) (written t n count e g len)

@@ -31,6 +31,7 @@ words-same t′ p l W = record {
   earlier = λ e h k. rw (p e k) (W .earlier e h k);
   generator = λ e h k. rw (l e k) (W .generator e h k);
   grow = λ e h k. rw (p e k, l e k) (W .grow e h k);
+  identity = λ h. (p 0 h ∙ W .identity h .0, l 0 h ∙ W .identity h .1);
 }
 
 -- A store among the successors and predecessors leaves parents and last generators.
@@ -39,7 +40,8 @@ module _ (t : List ℕ) (n e k v : ℕ) (h : k < 2 * n) (x : ℕ) where
   put-parent = put-other t (startOf n e + k) v (λ q. let d = cell-is n x e (2 * n) k (omega arith) (omega arith) q in omega arith)
 
   put-last : lastOf (putAt t (startOf n e + k) v) n x ≡ lastOf t n x
-  put-last = put-other t (startOf n e + k) v (λ q. let d = cell-is n x e (2 * n + 1) k (omega arith) (omega arith) (omega arith) in omega arith)
+  put-last = rw (put-other t (startOf n e + k) v {j = startOf n x + 2 * n + 1}
+      (λ q. let d = cell-is n x e (2 * n + 1) k (omega arith) (omega arith) (omega arith) in omega arith))
 
 module _ (t : List ℕ) (n : ℕ) (e : GroupElementId) (g : GeneratorId) (r : GroupElementId) (h : g .0 < n) (x : ℕ) where
   back-at : startOf n (r .0) + (n + g .0) ≡ predAt n r g

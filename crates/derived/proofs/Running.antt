@@ -178,7 +178,13 @@ module _ {n : ℕ} {o : List ℕ} {room lt lw : ℕ} (L : Limits n o room lt lw)
       succ = λ e g r h q v. let z = zeros lt i in absurd (omega arith);
       back = λ e g r h q v. let z = zeros lt i in absurd (omega arith);
     };
-    words = record { start = refl; earlier = λ e h k. absurd (omega arith); generator = λ e h k. absurd (omega arith); grow = λ e h k. absurd (omega arith) };
+    words = record {
+      start = refl;
+      earlier = λ e h k. absurd (omega arith);
+      generator = λ e h k. absurd (omega arith);
+      grow = λ e h k. absurd (omega arith);
+      identity = λ h. (zeros lt (startOf n 0 + 2 * n), rw (zeros lt (startOf n 0 + 2 * n + 1)));
+    };
   }
 
   pub first-work : Working n (order-of o) (λ x. []) 1 (replicate lw 0)

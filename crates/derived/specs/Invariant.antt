@@ -26,12 +26,13 @@ pub record Marked (n : ℕ) (m : ℕ → ℕ → ℕ) (word : ℕ → List ℕ) 
   pub succ : (e g r : ℕ) → g < n → i ≡ startOf n e + g → v ≡ suc r → Step n m word count e g r
   pub back : (e g r : ℕ) → g < n → i ≡ startOf n e + n + g → v ≡ suc r → Step n m word count r g e
 
--- The words of the elements below the count are those that the table records.
+-- The words of the elements below the count are those that the table records; the identity's row has neither parent nor letter.
 pub record Worded (n : ℕ) (word : ℕ → List ℕ) (count : ℕ) (t : List ℕ) : Type 0 where
   pub start : word 0 ≡ []
   pub earlier : (e : ℕ) → 0 < e → e < count → parentOf t n e < e
   pub generator : (e : ℕ) → 0 < e → e < count → lastOf t n e < n
   pub grow : (e : ℕ) → 0 < e → e < count → word e ≡ word (parentOf t n e) ++ lastOf t n e ∷ []
+  pub identity : 0 < count → (parentOf t n 0 ≡ 0) × (lastOf t n 0 ≡ 0)
 
 -- The step by which each element was made is known. (It led to the element when that was made; a step that is set anew may lead elsewhere.)
 pub record Made (n count : ℕ) (t : List ℕ) : Type 0 where

@@ -14,9 +14,9 @@ use Rattle.egg.specs.declared.Refusal.{Refusal}
 use Rattle.egg.specs.declared.GroupElementId.{GroupElementId}
 use Rattle.egg.specs.declared.Reached.{Reached}
 use Rattle.egg.specs.declared.Reached.the-variants.{Element, Refused}
-use Rattle.egg.specs.Table.{pick, startOf, parentOf, lastOf, lengthOf, inverseOf}
+use Rattle.egg.specs.Table.{pick, startOf, parentOf, hopOf, lastOf, lengthOf, inverseOf}
 use Rattle.egg.specs.Factor.{stretch, refusedReach, readStep}
-use Rattle.walks.specs.Walks.{onReached, along, readBack, backAlong, composeIn, inverseIn, conjugateIn}
+use Rattle.walks.specs.Walks.{onReached, along, readBack, ahead, backBy, backAlong, composeIn, inverseIn, conjugateIn}
 use Rattle.products.proofs.RadixLaws.{joined-small, high-small, range-pos}
 use Rattle.digits.specs.declared.inner.Asked.{Asked}
 use Rattle.digits.specs.declared.inner.Asked.the-variants.{Compose, Inverse, Conjugate}
@@ -149,6 +149,12 @@ module _ (s : List ℕ) (n N : ℕ) where
       (λ p. below-pick (leb n (lastOf s n e)) (λ q. refusal)
       (λ q. below-any (along k s n N from (parentOf s n e)) (λ x. step-below x (lastOf s n e))))
 
+  ahead-below : (k from c : ℕ) → from < N → Below N (ahead k s n N from c)
+  unfolding ahead
+  ahead-below zero from c h = element h
+  ahead-below (suc k) from c h =
+      below-pick (leb n (c % 8)) (λ p. refusal) (λ p. below-any (ahead k s n N from (c / 8)) (λ x. step-below x (c % 8)))
+
   back-step-below : (e g : ℕ) → Below N (readBack s n N e g)
   unfolding readBack
   back-step-below e g =
@@ -159,13 +165,15 @@ module _ (s : List ℕ) (n N : ℕ) where
       small : (x : ℕ) → (x ≡ 0 → ⊥) → x ≤ N → x - 1 < N
       small x p q = omega arith
 
-  back-below : (k from e : ℕ) → from < N → Below N (backAlong k s n N from e)
-  unfolding backAlong
-  back-below zero from e h = element h
-  back-below (suc k) from e h =
-      below-pick (leb N (parentOf s n e)) (λ p. refusal)
-      (λ p. below-pick (leb n (lastOf s n e)) (λ q. refusal)
-      (λ q. below-on (readBack s n N from (lastOf s n e)) (back-step-below from (lastOf s n e)) (λ x hx. back-below k x (parentOf s n e) hx)))
+  back-below : (k j from c : ℕ) → from < N → Below N (backBy k j s n N from c)
+  unfolding backBy
+  back-below zero j from c h = element h
+  back-below (suc k) zero from c h =
+      below-pick (leb N c) (λ p. refusal)
+      (λ p. below-pick (leb n (hopOf s n c % 8)) (λ q. refusal)
+      (λ q. below-on (readBack s n N from (hopOf s n c % 8)) (back-step-below from (hopOf s n c % 8)) (λ x hx. back-below k 4 x (hopOf s n c / 8) hx)))
+  back-below (suc k) (suc j) from c h =
+      below-pick (leb n (c % 8)) (λ q. refusal) (λ q. below-on (readBack s n N from (c % 8)) (back-step-below from (c % 8)) (λ x hx. back-below k j x (c / 8) hx))
 
   inverse-below : (a : ℕ) → Below N (inverseIn s n N a)
   unfolding inverseIn
@@ -174,11 +182,12 @@ module _ (s : List ℕ) (n N : ℕ) where
   pub compose-below : (a b : ℕ) → a < N → Below N (composeIn s n N a b)
   unfolding composeIn
   compose-below a b h =
-      below-pick (ltb 4096 (lengthOf s n b)) (λ p. refusal)
-      (λ p. below-pick (leb N (inverseOf s n b)) (λ q. refusal)
+      below-pick (leb (lengthOf s n b) 5) (λ p. ahead-below (lengthOf s n b) a (hopOf s n b) h)
+      (λ p. below-pick (ltb 4096 (lengthOf s n b)) (λ l. refusal)
+      (λ l. below-pick (leb N (inverseOf s n b)) (λ q. refusal)
       (λ q. below-pick (ltb (lengthOf s n a) (lengthOf s n b)) (λ r. below-any (backAlong (lengthOf s n a) s n N (inverseOf s n b) a) inverse-below)
       (λ r. below-pick (ltb (lengthOf s n b) (lengthOf s n (inverseOf s n b))) (λ o. along-below (lengthOf s n b) a b h)
-      (λ o. back-below (lengthOf s n (inverseOf s n b)) a (inverseOf s n b) h))))
+      (λ o. back-below (lengthOf s n (inverseOf s n b)) 0 a (inverseOf s n b) h)))))
 
   conjugate-below : (a b : ℕ) → a < N → Below N (conjugateIn s n N a b)
   unfolding conjugateIn

@@ -1,6 +1,6 @@
 -- The element-by-generator table as a list of numbers. Document 01: "a build with n generators and room R needs exactly R(2n+4) entries of table".
 -- Assumes nothing.
-use Prim.Native.Nat.{ℕ, suc, _+_, _*_, _-_, _<_}
+use Prim.Native.Nat.{ℕ, suc, _+_, _*_, _-_, _%_, _<_}
 use mathlib.Core.Path.{_≡_}
 use mathlib.Core.List.{List}
 use mathlib.Core.Bool.{Bool, true, false}
@@ -49,8 +49,13 @@ foundOf x = pick (eqb x 0) Unknown (Element (record { 0 = x - 1 }))
 abbrev pub parentOf : List ℕ → ℕ → ℕ → ℕ
 parentOf t n e = getD t (startOf n e + 2 * n) 0
 
+-- The last letter has the three lowest bits of its cell. While a table is built there is nothing above it; in an accepted one the letters before it are,
+-- and the element at which the word ends without them (`hops`).
+abbrev pub hopOf : List ℕ → ℕ → ℕ → ℕ
+hopOf t n e = getD t (startOf n e + 2 * n + 1) 0
+
 abbrev pub lastOf : List ℕ → ℕ → ℕ → ℕ
-lastOf t n e = getD t (startOf n e + 2 * n + 1) 0
+lastOf t n e = hopOf t n e % 8
 
 abbrev pub lengthOf : List ℕ → ℕ → ℕ → ℕ
 lengthOf t n e = getD t (startOf n e + 2 * n + 2) 0

@@ -1,12 +1,13 @@
 // Cells and places, for the layers above. The row of element e starts at e * (2n + 4): n successors, n predecessors,
 // parent, last generator, word length, inverse. A successor or predecessor is stored as its number + 1, and 0 is
-// "not known", so that a row never used is zero. Reads and writes are total: a read past the end is 0, a write there
-// does nothing, so no caller owes a proof of an index; but `read`, for a place that is known to be there.
+// "not known", so that a row never used is zero. In an accepted table the letters before it stand above the last generator,
+// in the same cell (`hops`). Reads and writes are total: a read past the end is 0, a write there does nothing, so no caller
+// owes a proof of an index; but `read`, for a place that is known to be there.
 ghost use mathlib.Core.Path.{_≡_};
 ghost use mathlib.Core.Bool.{true};
 ghost use Prim.Native.Nat.{_+_, _*_, _<_, _-_};
 ghost use lib.ListN.{length, getD, replicate};
-ghost use Rattle.egg.specs.Table.{pick, putAt, startOf, succAt, predAt, foundOf, lastOf, stepOf, backOf, workOf, Place};
+ghost use Rattle.egg.specs.Table.{pick, putAt, startOf, succAt, predAt, foundOf, hopOf, lastOf, stepOf, backOf, workOf, Place};
 ghost use Rattle.egg.specs.Pairs.{pairCode, pairCount, ordersRight};
 ghost use Rattle.egg.specs.Scan.{refusedOf};
 ghost use Rattle.egg.specs.Factor.{fitsIn, stretch, refusedReach, readStep};
@@ -169,10 +170,22 @@ pub fn parent(t: &[u32], n: u8, e: GroupElementId) -> u32
     get(t, start(n, e) + 2 * (n as usize))
 }
 
-pub fn last(t: &[u32], n: u8, e: GroupElementId) -> u32
-    ensures { λ r. ⌜ r ≡ getD (now (t .entry)) (startOf n (e .0) + 2 * n + 1) 0 ⌝ }
+pub fn hop_at(n: u8, e: GroupElementId) -> usize
+    ensures { λ r. ⌜ Place r (startOf n (e .0) + 2 * n + 1) 9007199254740992 ⌝ }
 {
-    get(t, start(n, e) + 2 * (n as usize) + 1)
+    start(n, e) + 2 * (n as usize) + 1
+}
+
+pub fn hop(t: &[u32], n: u8, e: GroupElementId) -> u32
+    ensures { λ r. ⌜ r ≡ hopOf (now (t .entry)) n (e .0) ⌝ }
+{
+    get(t, hop_at(n, e))
+}
+
+pub fn last(t: &[u32], n: u8, e: GroupElementId) -> u32
+    ensures { λ r. ⌜ r ≡ lastOf (now (t .entry)) n (e .0) ⌝ }
+{
+    hop(t, n, e) % 8
 }
 
 // The step from x by the last letter of the word of e, and the step back. A letter is a number that was stored, and no

@@ -4,7 +4,6 @@ ghost use mathlib.Core.Bool.{true};
 ghost use mathlib.Core.List.{[], _∷_};
 ghost use Prim.Native.Nat.{_<_, _≤_, _%_};
 ghost use lib.ListN.{length};
-ghost use Rattle.egg.specs.Table.{lengthOf};
 ghost use Rattle.egg.specs.Factor.{fitsIn, stretch};
 ghost use Rattle.reading.specs.Reading.{Placed};
 ghost use Rattle.digits.specs.Digits.{composes};
@@ -121,24 +120,14 @@ fn factor_product(from: &[u32], f: Factor, a: GroupElementId, b: GroupElementId)
     )
 }
 
-// One more than the letter by which a product with b is a step back, where the word of b has one letter and so has its inverse's; else 0.
-fn back_letter(s: &[u32], n: u8, count: u32, b: GroupElementId) -> u32
-    ensures { λ r. ⌜ OneLetter (now (s .entry)) n count (b .0) r ⌝ }
+// One more than the letter by which a product with b is a step, where the word of b has one letter; else 0.
+fn step_letter(s: &[u32], n: u8, b: GroupElementId) -> u32
+    ensures { λ r. ⌜ OneLetter (now (s .entry)) n (b .0) r ⌝ }
 {
     if egg::inner::word_length(s, n, b) != 1 {
         return 0;
     }
-    let i = egg::inner::get(s, egg::inner::inverse_at(n, b));
-    if count <= i {
-        return 0;
-    }
-    if egg::inner::word_length(s, n, GroupElementId(i)) != 1 {
-        return 0;
-    }
-    if count <= egg::inner::parent(s, n, GroupElementId(i)) {
-        return 0;
-    }
-    let letter = egg::inner::last(s, n, GroupElementId(i));
+    let letter = egg::inner::last(s, n, b);
     if (n as u32) <= letter {
         return 0;
     }
@@ -153,20 +142,9 @@ fn find_letters(s: &[u32], n: u8, count: u32, gens: &[u32], letters: &mut [u32])
     let mut i: usize = 0;
     while i < letters.len() {
         let by = egg::inner::get(gens, i);
-        letters[i] = back_letter(s, n, count, GroupElementId(by % count));
+        letters[i] = step_letter(s, n, GroupElementId(by % count));
         i += 1;
     }
-}
-
-// Whether a is an element whose word has letters: a product with a letter is a step back from it.
-fn steps_from(s: &[u32], n: u8, count: u32, a: GroupElementId) -> bool
-    ensures { λ r. ⌜ (r ≡ true → (a .0 < count) × (0 < lengthOf (now (s .entry)) n (a .0))) ⌝ }
-{
-    let x = a.0;
-    if count <= x {
-        return false;
-    }
-    0 < egg::inner::word_length(s, n, a)
 }
 
 // The product with an element of which a letter is known, or none is.
@@ -176,21 +154,22 @@ fn letter_product(
     a: GroupElementId,
     b: GroupElementId,
     letter: u32,
-    steps: bool,
 ) -> Reached
-    requires { ⌜ (fitsIn (length (now from)) f ≡ true) × (OneLetter (stretch (now from) f) (f .generators) (f .elements) (b .0 % f .elements) letter × (steps ≡ true → (a .0 < f .elements) × (0 < lengthOf (stretch (now from) f) (f .generators) (a .0)))) ⌝ }
+    requires { ⌜ (fitsIn (length (now from)) f ≡ true) × OneLetter (stretch (now from) f) (f .generators) (b .0 % f .elements) letter ⌝ }
     ensures { λ r. ⌜ r ≡ composes (now (from .entry)) (f ∷ []) (a .0) (b .0) ⌝ }
 {
+    let m = f.elements;
+    let x = a.0;
     if letter == 0 {
         return factor_product(from, f, a, b);
     }
-    if !steps {
+    if m <= x {
         return factor_product(from, f, a, b);
     }
-    walks::inner::previous(
+    egg::inner::next(
         egg::inner::part(from, f),
         f.generators,
-        f.elements,
+        m,
         a,
         GeneratorId((letter - 1) as u8),
     )
@@ -216,25 +195,12 @@ fn factor_row(
 {
     let row = e.0;
     let at = egg::inner::get(&outw[..], row as usize);
-    let steps = steps_from(
-        egg::inner::part(from, f),
-        f.generators,
-        f.elements,
-        GroupElementId(at),
-    );
     let mut g: u8 = 0;
     let mut count = first;
     while g < n {
         let by = egg::inner::get(gens, g as usize);
         let letter = egg::inner::get(letters, g as usize);
-        let reached = letter_product(
-            from,
-            f,
-            GroupElementId(at),
-            GroupElementId(by),
-            letter,
-            steps,
-        );
+        let reached = letter_product(from, f, GroupElementId(at), GroupElementId(by), letter);
         let x = match reached {
             Reached::Refused(why) => {
                 return Counted::Refused(why);

@@ -4,11 +4,11 @@ use Prim.Native.Nat.{ℕ, zero, suc, _+_, _/_, _%_, _≤_, _<_}
 use mathlib.Core.Path.{_≡_, refl, sym, ap, _∙_}
 use mathlib.Core.Bool.{Bool, true, false, _&&_}
 use mathlib.Core.List.{List, [], _∷_}
-use native.Mathlib.Nat.{mul-one, mul-zero, zero-add, mod-eq-of-lt, div-eq-of-lt}
+use native.Mathlib.Nat.{mul-one, mul-zero, mod-eq-of-lt, div-eq-of-lt}
 use native.Mathlib.Omega.{arith}
 use borrow.Author.Tests.{le-leb, lt-leb, lt-ltb, leb-false}
 use lib.IntN.{ℤ, pos, negsuc}
-use lib.ListN.{length, set}
+use lib.ListN.{length}
 use lib.Dec.{eqb, leb, ltb}
 use Rattle.egg.specs.declared.Factor.{Factor}
 use Rattle.egg.specs.declared.GroupElementId.{GroupElementId}
@@ -19,7 +19,7 @@ use Rattle.egg.specs.declared.Reached.{Reached}
 use Rattle.egg.specs.declared.Reached.the-variants.{Element, Refused}
 use Rattle.egg.specs.declared.Counted.{Counted}
 use Rattle.egg.specs.declared.Counted.the-variants as counted
-use Rattle.egg.specs.Table.{pick, parentOf, lastOf, lengthOf}
+use Rattle.egg.specs.Table.{pick, lengthOf}
 use Rattle.egg.specs.Scan.{refusedOf}
 use Rattle.egg.specs.Factor as egg
 use Rattle.egg.specs.Factor.{fitsIn, stretch, readStep}
@@ -37,7 +37,7 @@ use Rattle.handles.specs.Handles.{handles, elementsOf, generatorsOf, limited, a
 use Rattle.digits.specs.Digits.{above, digitOf, digitwise, stepIn, composes, inverts}
 use Rattle.powers.specs.Powers.{oddToo, halves, negated, powers, powiAlone}
 use Rattle.handles.specs.Counts.{onCounted}
-use Rattle.spelling.specs.Words.{lengths, readables, spellFrom, spells, writesBy, writes, leaves}
+use Rattle.spelling.specs.Words.{lengths, readables, spells, writesBy, writes, leaves}
 use Rattle.group.specs.Questions.{stepAnswer, generatorAnswer, composeAnswer, inverseAnswer, conjugateAnswer, powiAnswer, lengthAnswer, writeAnswer, written}
 use Rattle.handles.proofs.Admitted.{Goes, goes-on}
 use Rattle.digits.proofs.Walks.{Below, element, below-on, digit-below}
@@ -110,12 +110,6 @@ module _ {N : ℕ} (op op′ : ℕ → ℕ → Reached) (some-N : 0 < N) (alike 
   powers-alike half inv inv′ a (negsuc k) h q b =
       ap (λ (r : Reached). onReached r (λ i. negated (eqb (suc k) (half + half)) half op i (suc k))) q
       ∙ on-alike (inv′ a) b (λ i p. negated-alike (eqb (suc k) (half + half)) half i (suc k) p)
-
--- Spelling from the first place on, with nothing to add to a letter.
-spells-first : (k : ℕ) (s : List ℕ) (n e : ℕ) (out : List ℕ) → spell k s n e out ≡ spellFrom k s n e 0 0 out
-unfolding spell spellFrom
-spells-first zero s n e out = refl
-spells-first (suc k) s n e out = rw (zero-add k, zero-add (lastOf s n e)) (spells-first k s n (parentOf s n e) (set out k (lastOf s n e % 256)))
 
 none-after : (r : Counted) → onCounted r (λ k. onCounted (counted.Count 0) (λ m. counted.Count (k + m))) ≡ r
 none-after (counted.Count k) = ap counted.Count (omega arith)
@@ -267,7 +261,7 @@ module _ (t : List ℕ) (g : Group) (h : Factor) (c : g .count ≡ 1) (q : handl
 
   spelled : (e : ℕ) (out : List ℕ) → e < h .elements → spell (lengthOf (stretch t h) (h .generators) e) (stretch t h) (h .generators) e out ≡ spells t (handles g) e 0 0 out
   unfolding spells
-  spelled e out p = rw (q, mod-eq-of-lt p) (spells-first (lengthOf (stretch t h) (h .generators) e) (stretch t h) (h .generators) e out)
+  spelled e out p = rw (q, mod-eq-of-lt p)
 
   -- An answer that is a count is the recorded length, of an element.
   write-counts : (e size k : ℕ) → writeIn (stretch t h) (h .generators) (h .elements) e size ≡ counted.Count k → k ≡ lengthOf (stretch t h) (h .generators) e

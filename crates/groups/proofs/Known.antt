@@ -8,23 +8,24 @@ use Rattle.checks.specs.Checks as checks
 use Rattle.inverses.specs.Inverses as inverses
 use Rattle.lefts.specs.Lefts as lefts
 use Rattle.reading.specs.Build.{setStep, setWord, adds}
+use Rattle.hops.specs.Hops.{hopFrom, withHops}
 use Rattle.lending.specs.Finish.{finished}
 use Rattle.lending.specs.Lending.{lentRight, within}
 use Rattle.reading.specs.Reading.{readPlace, readRow, readFrom}
 use Rattle.factor.specs.Composed.{composedIn, composed}
-use Rattle.walks.specs.Walks.{along, readBack, backAlong, composeIn, inverseIn, conjugateIn}
-use Rattle.words.specs.Words.{readable, lengthIn}
+use Rattle.walks.specs.Walks.{along, readBack, ahead, backBy, composeIn, inverseIn, conjugateIn}
+use Rattle.words.specs.Words.{lengthIn, readableBy, spellBy}
 use Rattle.handles.specs.Handles.{limited, admits, joins}
 use Rattle.digits.specs.Digits.{digitwise, stepIn}
 use Rattle.digits.specs.Splits.{splitTail, digitsRight, joinTail}
 use Rattle.powers.specs.Powers.{periodFrom, periods}
-use Rattle.spelling.specs.Words.{lengths, readables, spellFrom, spells, writes}
+use Rattle.spelling.specs.Words.{lengths, readables, spells, writes}
 use Rattle.flat.specs.Flat.{rowBy, rowsBy, flatIn, flatInto, flat}
 use Rattle.group.specs.Questions as questions
 use Rattle.groups.specs.Known.{KnownProducts}
 
 pub known-products : KnownProducts
-unfolding putAt startOf scan hasRoom fitsIn stretch readStep checks.missingRow checks.missing checks.check8 checks.rangeRow checks.linksOf checks.ranges checks.wrongRow checks.wrong checks.check-table checks.wiped checks.arriveRow checks.arrivals checks.countsRight inverses.invertFrom inverses.fillInverses inverses.inversesRight lefts.identityRow lefts.columnsRow lefts.spelledRow lefts.spelled lefts.check-steps lefts.fillLeft lefts.goesRow lefts.allGo lefts.lefts checks.check-rest checks.check-group setStep setWord adds finished lentRight within readPlace readRow readFrom composedIn composed along readBack backAlong composeIn inverseIn conjugateIn readable lengthIn limited admits joins digitwise stepIn periodFrom periods lengths readables spellFrom spells writes rowBy rowsBy flatIn flatInto flat questions.countAnswer questions.generatorsAnswer questions.generatorAnswer questions.stepAnswer questions.projectAnswer questions.injectAnswer splitTail questions.splitAnswer questions.splitLeaves digitsRight joinTail questions.joinAnswer questions.composeAnswer questions.conjugateAnswer questions.periodAnswer questions.lengthAnswer questions.writeAnswer questions.written
+unfolding putAt startOf scan hasRoom fitsIn stretch readStep checks.missingRow checks.missing checks.check8 checks.rangeRow checks.linksOf checks.ranges checks.wrongRow checks.wrong checks.check-table checks.wiped checks.arriveRow checks.arrivals checks.countsRight inverses.invertFrom inverses.fillInverses inverses.inversesRight lefts.identityRow lefts.columnsRow lefts.spelledRow lefts.spelled lefts.check-steps lefts.fillLeft lefts.goesRow lefts.allGo lefts.lefts checks.check-rest checks.check-group setStep setWord adds hopFrom withHops finished lentRight within readPlace readRow readFrom composedIn composed along readBack ahead backBy composeIn inverseIn conjugateIn readableBy lengthIn limited admits joins digitwise stepIn periodFrom periods lengths readables spellBy spells writes rowBy rowsBy flatIn flatInto flat questions.countAnswer questions.generatorsAnswer questions.generatorAnswer questions.stepAnswer questions.projectAnswer questions.injectAnswer splitTail questions.splitAnswer questions.splitLeaves digitsRight joinTail questions.joinAnswer questions.composeAnswer questions.conjugateAnswer questions.periodAnswer questions.lengthAnswer questions.writeAnswer questions.written
 known-products = record {
   joined = refl;
   counted = refl;

@@ -4,27 +4,25 @@ use Prim.Native.Nat.{ℕ, zero, suc, _+_, _*_, _-_, _/_, _%_, _≤_, _<_}
 use mathlib.Core.Path.{_≡_, refl, sym, ap, _∙_}
 use mathlib.Core.Bool.{true}
 use mathlib.Core.List.{List, [], _∷_, _++_, append-assoc}
-use native.Mathlib.Nat.{mod-eq-of-lt}
+use native.Mathlib.Nat.{zero-add}
 use native.Mathlib.Omega.{arith}
 use borrow.Author.Tests.{le-ltb}
-use lib.ListN.{length, drop, set, length-set, length-append, length-drop}
+use lib.ListN.{length, drop, set, length-append, length-drop}
 use lib.Seq.{drop-drop}
 use Rattle.egg.specs.declared.Factor.{Factor}
 use Rattle.egg.specs.declared.Counted.the-variants.{Count}
-use Rattle.egg.specs.Table.{parentOf, lastOf, lengthOf}
+use Rattle.egg.specs.Table.{hopOf, lengthOf}
 use Rattle.egg.specs.Factor.{stretch}
 use Rattle.egg.proofs.Rooms.{has, few}
-use Rattle.meaning.specs.Stored.{wordOf}
-use Rattle.meaning.specs.Sound.{Sound}
 use Rattle.answers.specs.Accepted.{factorWord}
-use Rattle.answers.proofs.Steps.{no-letters, not-first, parent-length, parent-below}
-use Rattle.words.proofs.Words.{drop-set-here}
-use Rattle.answers.proofs.Letters.{word-readable, length-in}
+use Rattle.words.specs.Words.{spellBy, spellFrom}
+use Rattle.answers.proofs.Handles.{few-elements}
+use Rattle.answers.proofs.Letters.{word-readable, length-in, spelled}
 use Rattle.products.specs.Product.{product, shift}
 use Rattle.products.proofs.RadixLaws.{low-small, high-small}
 use Rattle.products.proofs.WordLaws.{shift-length, shift-shift, shift-append, shift-zero}
 use Rattle.handles.specs.Handles.{generatorsOf}
-use Rattle.spelling.specs.Words.{lengths, readables, spellFrom, spells, writes}
+use Rattle.spelling.specs.Words.{lengths, readables, spells, writes}
 use Rattle.groups.specs.Products.{parts, AllAccepted, none, more}
 
 -- A word is written behind what stands there, whatever that is.
@@ -34,28 +32,12 @@ set-behind (x ∷ xs) ys k v =
     let z : suc (length xs) + k ≡ suc (length xs + k) = omega arith in
     rw z (ap (λ (l : List ℕ). x ∷ l) (set-behind xs ys k v))
 
-behind : (k : ℕ) (s : List ℕ) (n e o : ℕ) (xs ys : List ℕ) → spellFrom k s n e (length xs) o (xs ++ ys) ≡ xs ++ spellFrom k s n e 0 o ys
-unfolding spellFrom
-behind zero s n e o xs ys = refl
-behind (suc k) s n e o xs ys =
-    let v : ℕ = (o + lastOf s n e) % 256 in
-    let z : 0 + k ≡ k = omega arith in
-    rw z (ap (λ (l : List ℕ). spellFrom k s n (parentOf s n e) (length xs) o l) (set-behind xs ys k v) ∙ behind k s n (parentOf s n e) o xs (set ys k v))
-
-module _ {s : List ℕ} {n N : ℕ} (S : Sound s n N) (o : ℕ) (small : o + n ≤ 256) where
-  spelled : (k : ℕ) {e : ℕ} (out : List ℕ) → e < N → k ≡ length (wordOf s n e) → k ≤ length out
-      → spellFrom k s n e 0 o out ≡ shift o (wordOf s n e) ++ drop k out
-  unfolding spellFrom
-  spelled zero {e} out he q room = rw (no-letters (wordOf s n e) q)
-  spelled (suc k) {e} out he q room =
-      let up = not-first S e q in
-      let below = parent-below S up he in
-      let byte : o + lastOf s n e < 256 = omega (arith, S .parents .generator up he) in
-      let z : 0 + k ≡ k = omega arith in
-      rw (mod-eq-of-lt byte, z)
-      (spelled k (set out k (o + lastOf s n e)) below (parent-length S up he q) (rw (length-set out k (o + lastOf s n e)) (omega arith))
-      ∙ rw (drop-set-here out k (o + lastOf s n e) (omega arith), S .recorded .grow up he, shift-append)
-      (sym (append-assoc (shift o (wordOf s n (parentOf s n e))) ((o + lastOf s n e) ∷ []) (drop (suc k) out))))
+module _ (s : List ℕ) (n o : ℕ) (xs : List ℕ) where
+  behind : (k j c : ℕ) (ys : List ℕ) → spellBy k j s n c (length xs) o (xs ++ ys) ≡ xs ++ spellBy k j s n c 0 o ys
+  unfolding spellBy
+  behind zero j c ys = refl
+  behind (suc k) zero c ys = rw (zero-add k, set-behind xs ys k ((o + hopOf s n c % 8) % 256)) (behind k 4 (hopOf s n c / 8) (set ys k ((o + hopOf s n c % 8) % 256)))
+  behind (suc k) (suc j) c ys = rw (zero-add k, set-behind xs ys k ((o + c % 8) % 256)) (behind k j (c / 8) (set ys k ((o + c % 8) % 256)))
 
 module _ (t : List ℕ) where
   pub lengths-are : {hs : List Factor} → AllAccepted t hs → (e : ℕ) → e < product (parts t hs) .elements → lengths t hs e ≡ Count (length (product (parts t hs) .word e))
@@ -75,7 +57,7 @@ module _ (t : List ℕ) where
       let N : ℕ = h .elements in
       let M : ℕ = product (parts t hs) .elements in
       let l = low-small N M e he in
-      rw (word-readable (A .sound) (lengthOf (stretch t h) (h .generators) (e % N)) l (A .sound .stored .lengths l), readables-are As (e / N) (high-small N M e he))
+      rw (word-readable (A .sound) (A .hops) (few-elements A) (lengthOf (stretch t h) (h .generators) (e % N)) l (A .sound .stored .lengths l), readables-are As (e / N) (high-small N M e he))
 
   spells-are : {hs : List Factor} → AllAccepted t hs → (e o : ℕ) (xs ys : List ℕ) → e < product (parts t hs) .elements → o + generatorsOf hs ≤ 256
       → length (product (parts t hs) .word e) ≤ length ys
@@ -95,8 +77,8 @@ module _ (t : List ℕ) where
       let fit : k ≤ length ys = omega (arith, q, all, room) in
       let rest : length v ≤ length (drop k ys) = omega (arith, q, all, room, length-drop k ys) in
       let first : spellFrom k (stretch t h) (h .generators) (e % N) (length xs) o (xs ++ ys) ≡ (xs ++ shift o u) ++ drop k ys =
-      behind k (stretch t h) (h .generators) (e % N) o xs ys
-      ∙ ap (λ (z : List ℕ). xs ++ z) (spelled (A .sound) o (omega arith) k ys l q fit) ∙ sym (append-assoc xs (shift o u) (drop k ys)) in
+      behind (stretch t h) (h .generators) o xs k 0 (e % N) ys
+      ∙ ap (λ (z : List ℕ). xs ++ z) (spelled (A .sound) (A .hops) (few-elements A) o (omega arith) k ys l q fit) ∙ sym (append-assoc xs (shift o u) (drop k ys)) in
       let at : length xs + k ≡ length (xs ++ shift o u) = sym (length-append xs (shift o u) ∙ ap (λ (n : ℕ). length xs + n) (shift-length o u ∙ sym q)) in
       ap (λ (z : List ℕ). spells t hs (e / N) (length xs + k) (o + h .generators) z) first
       ∙ ap (λ (z : ℕ). spells t hs (e / N) z (o + h .generators) ((xs ++ shift o u) ++ drop k ys)) at

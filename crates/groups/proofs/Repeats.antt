@@ -18,6 +18,7 @@ use Rattle.theory.proofs.GroupLaws.{power-closed}
 use Rattle.theory.proofs.Periods.{period-exists}
 use Rattle.answers.specs.Accepted.{Accepted, reach}
 use Rattle.answers.proofs.Steps.{compose-in}
+use Rattle.answers.proofs.Handles.{few-elements}
 use Rattle.products.specs.Product.{product}
 use Rattle.products.specs.Power.{odd-too, halving, negative, powi}
 use Rattle.products.specs.Divisors.{lcm}
@@ -96,7 +97,7 @@ module _ (t : List ℕ) where
   factor-period {h} A a ha =
       let G = part-worded t A .stepped .group .laws in
       let (k, l, P) = period-exists G ha in
-      (k, walk-is G (record { is = λ a b ha hb. compose-in (A .sound) ha hb }) ha P l, P)
+      (k, walk-is G (record { is = λ a b ha hb. compose-in (A .sound) (A .hops) (few-elements A) ha hb }) ha P l, P)
 
   pub periods-are : {hs : List Factor} → AllAccepted t hs → (a : ℕ) → a < product (parts t hs) .elements
       → (k : ℕ) × (periods t hs a ≡ Count k) × Period (product (parts t hs) .op) a k

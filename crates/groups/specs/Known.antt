@@ -95,7 +95,7 @@ pub record KnownProducts : Type 0 where
   pub flat-missing : flat (set table 0 0) S3 (replicate 49 7) 0 (replicate 193 7) 6
       ≡ making (record { answer = refusedOf 17 0 0 0; factor = noFactor }) (replicate 48 0 ++ 7 ∷ []) (replicate 192 0 ++ 7 ∷ [])
   -- In Z2 with a step from 1 to 1 no power of 1 is the identity.
-  pub never-home : periodAnswer (set table 55 2) (groupOf (z2 ∷ [])) (element 1) ≡ Refused (record { number = 17; a = 0; b = 0; c = 0 })
+  pub never-home : periodAnswer (set table 54 2) (groupOf (z2 ∷ [])) (element 1) ≡ Refused (record { number = 17; a = 0; b = 0; c = 0 })
   -- Nine generators, by their count; before any buffer is looked at.
   pub nine-generators : madeBy (flat table (groupOf (s3 ∷ s3 ∷ s3 ∷ s3 ∷ z2 ∷ [])) [] 0 [] 0) .answer ≡ refusedOf 1 9 0 0
   -- Refusals in their order.

@@ -33,7 +33,7 @@ use Rattle.image.specs.Read.{headPlace, readImage}
 use Rattle.image.proofs.Checking.{zeros-long}
 use Rattle.promises.specs.Composed.{Taken, Given}
 use Rattle.promises.specs.Papers.{madePaper}
-use Rattle.promises.proofs.Built.{checked-holds, taken-checked}
+use Rattle.promises.proofs.Built.{settle, settled-holds, taken-checked}
 use Rattle.promises.proofs.Lent.{refused-making}
 use Rattle.promises.proofs.Composed.{composed-exactly, composed-given}
 use Rattle.images.specs.Images.{Bytes, imageStep, WellFormed, GroupImage}
@@ -212,8 +212,8 @@ module _ (l : List ℕ) (B : Bytes l) where
       whole c t false e R z =
           let k = fine-checks t zeros gens elts z in
           let q : c ≡ elts = omega (arith, R .within, ltb-false c elts e) in
-          checked-holds src gens elts (tableNeed gens elts) zeros (F .few) (F .some) few-elements (le-refl (tableNeed gens elts)) zeros-work
-          (subst (λ (x : ℕ). Read src gens elts (tableNeed gens elts) x t) q R) (k .2) .taken
+          settled-holds src gens elts (tableNeed gens elts) zeros (F .few) (F .some) few-elements (le-refl (tableNeed gens elts)) zeros-work
+          (subst (λ (x : ℕ). Read src gens elts (tableNeed gens elts) x t) q R) (settle (k .2)) .taken
 
       by : (p : Placed) → readAll src gens elts (replicate (tableNeed gens elts) 0) ≡ p
           → numberBy (λ t. verdictOf (check-group t zeros gens elts)) p elts ≡ 0 → Taken src gens elts elts

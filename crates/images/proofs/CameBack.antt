@@ -32,7 +32,7 @@ module _ {t : List ℕ} {f : Factor} (A : Accepted t f) where
       let M = read-written A table start work lent in
       record {
         back = M;
-        same = same-table (A .sound) (M .accepted .sound) (A .ruled .appearance) (M .accepted .ruled .appearance) (λ e g he hg. M .steps he hg);
+        same = same-table (A .sound) (M .accepted .sound) (A .ruled) (M .accepted .ruled) (A .hops) (M .accepted .hops) (λ e g he hg. M .steps he hg);
       }
 
   pub round-trip : (out : List ℕ) → imageSize (f .generators) (f .elements) ≤ length out → RoundTrip t f out

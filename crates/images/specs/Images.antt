@@ -49,10 +49,10 @@ pub record MadeWith (start n N : ℕ) (step : ℕ → ℕ → ℕ) (m : Making) 
   pub accepted : Accepted table (record { start = start; room = N; generators = n; elements = N })
   pub steps : {e g : ℕ} → e < N → g < n → factorStep table (record { start = start; room = N; generators = n; elements = N }) e g ≡ step e g
 
--- Two stretches hold the same table: "images written and read back are the same table". Every number of the N rows is the same, successors, predecessors,
--- parents, last generators, word lengths and inverses; but for the identity's parent and last generator, of which nothing is said and which are never read.
+-- Two stretches hold the same table: "images written and read back are the same table". Every number of the N rows is the same: successors, predecessors,
+-- parents, last letters, word lengths and inverses.
 pub record SameTable (s s′ : List ℕ) (n N : ℕ) : Type 0 where
-  pub cells : (i : ℕ) → i < N * (2 * n + 4) → (i ≡ 2 * n → ⊥) → (i ≡ 2 * n + 1 → ⊥) → getD s′ i 0 ≡ getD s i 0
+  pub cells : (i : ℕ) → i < N * (2 * n + 4) → getD s′ i 0 ≡ getD s i 0
 
 -- A factor f of the table t came back from its image, by a call that reads with the given start: accepted, with as many generators and elements, the same
 -- steps and the same table. (The room is N then, for an image tells no room.)

@@ -1,6 +1,6 @@
 -- A word that is a letter and then an earlier element's word: how hints grow from parent to child, and the inverses that come by them.
 -- Assumes nothing.
-use Prim.Native.Nat.{ℕ, zero, suc, _+_, _*_, _-_, _≤_, _<_}
+use Prim.Native.Nat.{ℕ, zero, suc, _+_, _*_, _-_, _%_, _≤_, _<_}
 use mathlib.Core.Path.{_≡_, refl, sym, ap, _∙_}
 use mathlib.Core.List.{List}
 use native.Mathlib.Decide.{ℕ-discrete, decLt}
@@ -21,7 +21,7 @@ module _ {t t′ : List ℕ} {n : ℕ} (A : SameButInverses t t′ n) (e : ℕ) 
   parent-same = A .cells (startOf n e + 2 * n) e (2 * n) (omega arith) refl
 
   last-same : lastOf t′ n e ≡ lastOf t n e
-  last-same = A .cells (startOf n e + 2 * n + 1) e (2 * n + 1) (omega arith) (omega arith)
+  last-same = ap (λ (x : ℕ). x % 8) (A .cells (startOf n e + 2 * n + 1) e (2 * n + 1) (omega arith) (omega arith))
 
   length-same : lengthOf t′ n e ≡ lengthOf t n e
   length-same = A .cells (startOf n e + 2 * n + 2) e (2 * n + 2) (omega arith) (omega arith)

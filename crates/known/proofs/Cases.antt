@@ -10,6 +10,7 @@ use Rattle.reading.specs.Reading.{readPlace, readRow, readFrom}
 use Rattle.checks.specs.Checks as checks
 use Rattle.inverses.specs.Inverses as inverses
 use Rattle.lefts.specs.Lefts as lefts
+use Rattle.hops.specs.Hops.{hopFrom, withHops}
 use Rattle.lending.specs.Finish.{finished}
 use Rattle.lending.specs.Lending.{lentRight, within}
 use Rattle.factor.specs.Composed.{composedIn, composed}
@@ -26,7 +27,7 @@ use Rattle.handles.specs.Handles.{limited, admits}
 use Rattle.digits.specs.Digits.{digitwise}
 use Rattle.digits.specs.Splits.{splitTail}
 use Rattle.powers.specs.Powers.{halves, powers, periodFrom, periods}
-use Rattle.spelling.specs.Words.{lengths, readables, spellFrom, spells, writes}
+use Rattle.spelling.specs.Words.{lengths, readables, spells, writes}
 use Rattle.group.specs.Questions as group
 use Rattle.cells.specs.Cells as cells
 use Rattle.packed.specs.Short.{built}
@@ -38,7 +39,7 @@ use Rattle.image.specs.Read.{readImage}
 use Rattle.known.specs.Cases.{KnownCases}
 
 pub known-cases : KnownCases
-unfolding putAt startOf scan pairCode pairCount ordersRight hasRoom fitsIn stretch readStep setStep setWord adds readPlace readRow readFrom checks.missingRow checks.missing checks.check8 checks.rangeRow checks.linksOf checks.ranges checks.wrongRow checks.wrong checks.check-table checks.wiped checks.arriveRow checks.arrivals checks.countsRight inverses.invertFrom inverses.fillInverses inverses.inversesRight lefts.identityRow lefts.columnsRow lefts.spelledRow lefts.spelled lefts.check-steps lefts.fillLeft lefts.goesRow lefts.allGo lefts.lefts checks.check-rest checks.check-group finished lentRight within composedIn composed factor.admits walks.along walks.readBack walks.backAlong walks.composeIn walks.inverseIn walks.conjugateIn factor.composeAnswer factor.conjugateAnswer words.readable words.lengthIn words.spell words.writeIn factor.writeAnswer factor.written factor.wordPart turned doubledRow pairsRow relations checkAnswer rows.workWidth rows.placeAt rows.rowsAt rows.readRow rows.writeRow rows.backFrom rows.forwardFrom rows.filled rows.appended rows.waits rows.addedRow rows.addRowsFrom facts.learns facts.woken facts.wakes facts.wakesAll facts.emptied facts.updated facts.settleFrom enumerated runs visits discovered advanced enumeratedIn enumerates limited admits digitwise halves powers periodFrom periods lengths readables spellFrom spells writes splitTail group.splitAnswer group.splitLeaves group.composeAnswer group.inverseAnswer group.powiAnswer group.periodAnswer group.writeAnswer group.written group.wordPart cells.halves built headNumber imageNumber rowOf rowsOf spelled imageOf knownRow allKnown writeCount writtenImage imageIn readImage
+unfolding putAt startOf scan pairCode pairCount ordersRight hasRoom fitsIn stretch readStep setStep setWord adds readPlace readRow readFrom checks.missingRow checks.missing checks.check8 checks.rangeRow checks.linksOf checks.ranges checks.wrongRow checks.wrong checks.check-table checks.wiped checks.arriveRow checks.arrivals checks.countsRight inverses.invertFrom inverses.fillInverses inverses.inversesRight lefts.identityRow lefts.columnsRow lefts.spelledRow lefts.spelled lefts.check-steps lefts.fillLeft lefts.goesRow lefts.allGo lefts.lefts checks.check-rest checks.check-group hopFrom withHops finished lentRight within composedIn composed factor.admits walks.along walks.readBack walks.ahead walks.backBy walks.composeIn walks.inverseIn walks.conjugateIn factor.composeAnswer factor.conjugateAnswer words.readableBy words.lengthIn words.spellBy words.writeIn factor.writeAnswer factor.written factor.wordPart turned doubledRow pairsRow relations checkAnswer rows.workWidth rows.placeAt rows.rowsAt rows.readRow rows.writeRow rows.backFrom rows.forwardFrom rows.filled rows.appended rows.waits rows.addedRow rows.addRowsFrom facts.learns facts.woken facts.wakes facts.wakesAll facts.emptied facts.updated facts.settleFrom enumerated runs visits discovered advanced enumeratedIn enumerates limited admits digitwise halves powers periodFrom periods lengths readables spells writes splitTail group.splitAnswer group.splitLeaves group.composeAnswer group.inverseAnswer group.powiAnswer group.periodAnswer group.writeAnswer group.written group.wordPart cells.halves built headNumber imageNumber rowOf rowsOf spelled imageOf knownRow allKnown writeCount writtenImage imageIn readImage
 known-cases = record {
   square-made = refl;
   square-rows = refl;

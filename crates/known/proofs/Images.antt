@@ -9,6 +9,7 @@ use Rattle.reading.specs.Reading.{readPlace, readRow, readFrom}
 use Rattle.checks.specs.Checks as checks
 use Rattle.inverses.specs.Inverses as inverses
 use Rattle.lefts.specs.Lefts as lefts
+use Rattle.hops.specs.Hops.{hopFrom, withHops}
 use Rattle.lending.specs.Finish.{finished}
 use Rattle.lending.specs.Lending.{lentRight, within}
 use Rattle.factor.specs.Composed.{composedIn, composed}
@@ -24,7 +25,7 @@ use Rattle.image.specs.Walked.{walkNumber}
 use Rattle.known.specs.Images.{KnownImages}
 
 pub known-images : KnownImages
-unfolding putAt startOf scan hasRoom fitsIn stretch readStep setStep setWord adds readPlace readRow readFrom checks.missingRow checks.missing checks.check8 checks.rangeRow checks.linksOf checks.ranges checks.wrongRow checks.wrong checks.check-table checks.wiped checks.arriveRow checks.arrivals checks.countsRight inverses.invertFrom inverses.fillInverses inverses.inversesRight lefts.identityRow lefts.columnsRow lefts.spelledRow lefts.spelled lefts.check-steps lefts.fillLeft lefts.goesRow lefts.allGo lefts.lefts checks.check-rest checks.check-group finished lentRight within composedIn composed halves built headNumber imageNumber rowOf rowsOf spelled imageOf knownRow allKnown writeCount writtenImage imageIn readImage lettersBelow follow walkNumber
+unfolding putAt startOf scan hasRoom fitsIn stretch readStep setStep setWord adds readPlace readRow readFrom checks.missingRow checks.missing checks.check8 checks.rangeRow checks.linksOf checks.ranges checks.wrongRow checks.wrong checks.check-table checks.wiped checks.arriveRow checks.arrivals checks.countsRight inverses.invertFrom inverses.fillInverses inverses.inversesRight lefts.identityRow lefts.columnsRow lefts.spelledRow lefts.spelled lefts.check-steps lefts.fillLeft lefts.goesRow lefts.allGo lefts.lefts checks.check-rest checks.check-group hopFrom withHops finished lentRight within composedIn composed halves built headNumber imageNumber rowOf rowsOf spelled imageOf knownRow allKnown writeCount writtenImage imageIn readImage lettersBelow follow walkNumber
 known-images = record {
   work-short = refl;
   eight = refl;

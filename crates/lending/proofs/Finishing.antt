@@ -10,6 +10,7 @@ use Rattle.egg.specs.declared.Verdict.the-variants as verdict
 use Rattle.egg.specs.declared.Counted.{Counted}
 use Rattle.egg.specs.declared.Counted.the-variants.{Count, Refused}
 use Rattle.checks.specs.Checks.{Checked, checked, check-group}
+use Rattle.hops.specs.Hops.{withHops}
 use Rattle.lending.specs.Finish.{Built, built, zeroed, settledBy, finished}
 
 -- A refused build is not a counted one.
@@ -21,11 +22,11 @@ abbrev pub builtWith : List ℕ → Built → Built
 builtWith v (built c t w) = built c t v
 
 -- The end of a build goes by the verdict and the table; of the work only the length shows.
-pub settled-like : (N : ℕ) {v v′ : Verdict} {t t′ : List ℕ} (w w′ : List ℕ) → v ≡ v′ → t ≡ t′
-    → settledBy N (checked v t w) ≡ builtWith (zeroed w) (settledBy N (checked v′ t′ w′))
-settled-like N {v} {v′} {t} {t′} w w′ p q =
-    ap (λ (x : List ℕ). settledBy N (checked v x w)) q ∙ ap (λ (u : Verdict). settledBy N (checked u t′ w)) p ∙ by v′ where
-      by : (u : Verdict) → settledBy N (checked u t′ w) ≡ builtWith (zeroed w) (settledBy N (checked u t′ w′))
+pub settled-like : (n N : ℕ) {v v′ : Verdict} {t t′ : List ℕ} (w w′ : List ℕ) → v ≡ v′ → t ≡ t′
+    → settledBy n N (checked v t w) ≡ builtWith (zeroed w) (settledBy n N (checked v′ t′ w′))
+settled-like n N {v} {v′} {t} {t′} w w′ p q =
+    ap (λ (x : List ℕ). settledBy n N (checked v x w)) q ∙ ap (λ (u : Verdict). settledBy n N (checked u t′ w)) p ∙ by v′ where
+      by : (u : Verdict) → settledBy n N (checked u t′ w) ≡ builtWith (zeroed w) (settledBy n N (checked u t′ w′))
       by verdict.Fine = refl
       by (verdict.Refused r) = refl
 
@@ -41,6 +42,6 @@ module _ {read : Counted} (n : ℕ) (t w : List ℕ) where
     unfolding finished
     finish-unfit h a b = rw (r, ← e, h, a, b)
 
-    pub finish-fit : {w₂ : List ℕ} → v ≡ verdict.Fine → w₂ ≡ zeroed w₁ → built (Count count) t₁ w₂ ≡ finished read n t w
+    pub finish-fit : {t₂ w₂ : List ℕ} → v ≡ verdict.Fine → t₂ ≡ withHops count t₁ n → w₂ ≡ zeroed w₁ → built (Count count) t₂ w₂ ≡ finished read n t w
     unfolding finished
-    finish-fit h b = rw (r, ← e, h, b)
+    finish-fit h a b = rw (r, ← e, h, a, b)

@@ -9,6 +9,7 @@ use Rattle.egg.specs.declared.Counted.{Counted}
 use Rattle.egg.specs.declared.Counted.the-variants.{Count, Refused}
 use Rattle.reading.specs.Reading.{Placed, placed}
 use Rattle.checks.specs.Checks.{Checked, check-group}
+use Rattle.hops.specs.Hops.{withHops}
 
 -- So many zeros as the list has numbers.
 abbrev pub zeroed : List ℕ → List ℕ
@@ -18,14 +19,14 @@ zeroed l = replicate (length l) 0
 pub data Built : Type 0 where
   built : Counted → List ℕ → List ℕ → Built
 
--- After a refusal both stretches are zero; after acceptance the work is.
-abbrev pub settledBy : ℕ → Checked → Built
-settledBy count (Checked.checked verdict.Fine t w) = built (Count count) t (zeroed w)
-settledBy count (Checked.checked (verdict.Refused r) t w) = built (Refused r) (zeroed t) (zeroed w)
+-- After a refusal both stretches are zero; after acceptance the work is, and the table has its words by five letters.
+abbrev pub settledBy : ℕ → ℕ → Checked → Built
+settledBy n count (Checked.checked verdict.Fine t w) = built (Count count) (withHops count t n) (zeroed w)
+settledBy n count (Checked.checked (verdict.Refused r) t w) = built (Refused r) (zeroed t) (zeroed w)
 
 -- What reading or enumerating left, a count or a refusal, and then the checks.
 unfoldable pub finished : Counted → ℕ → List ℕ → List ℕ → Built
-finished (Count count) n t w = settledBy count (check-group t w n count)
+finished (Count count) n t w = settledBy n count (check-group t w n count)
 finished (Refused r) n t w = built (Refused r) (zeroed t) (zeroed w)
 
 -- What a reading left, then the checks.

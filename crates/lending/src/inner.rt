@@ -9,7 +9,8 @@ use egg::Factor;
 use egg::Made;
 use egg::Verdict;
 
-// The end of every build: 8 to 12, and the stretches as document 01 wants them left.
+// The end of every build: 8 to 12, and the stretches as document 01 wants them left, the words of an accepted table by five
+// letters.
 pub fn finish(t: &mut [u32], w: &mut [u32], n: u8, read: Counted) -> Counted
     ensures { λ r. ⌜ Built.built r (now (t .exit)) (now (w .exit)) ≡ finished read n (now (t .entry)) (now (w .entry)) ⌝ }
 {
@@ -26,6 +27,7 @@ pub fn finish(t: &mut [u32], w: &mut [u32], n: u8, read: Counted) -> Counted
                 Counted::Refused(why)
             }
             Verdict::Fine => {
+                hops::inner::fill_hops(t, n, count);
                 egg::inner::clear(w);
                 Counted::Count(count)
             }

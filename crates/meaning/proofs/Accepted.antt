@@ -24,7 +24,7 @@ use Rattle.meaning.specs.Sound.{Sound}
 use Rattle.egg.proofs.Scans.{refused-fine}
 use Rattle.meaning.proofs.Permutations.{two-sided}
 use Rattle.meaning.proofs.Tests.{check8-fine, table-fine, steps-fine, ranges-fine, counts-fine, identity-fine, spelled-fine}
-use Rattle.meaning.proofs.Inverses.{keeps, fill-kept, kept-turned, kept-cell, stored-kept, fill-inverse}
+use Rattle.meaning.proofs.Inverses.{kept-same, fill-kept, kept-turned, kept-cell, stored-kept, fill-inverse}
 use Rattle.meaning.proofs.Lefts.{lefts-sound}
 
 -- The parts of an acceptance.
@@ -202,7 +202,7 @@ checks-kept t w n N h =
     let Q : List ℕ → Type 0 = λ l. Kept t l n N in
     let f = fillInverses N t n 0 in
     let c = counted t w n N in
-    let here : Q t = keeps t t n N refl (λ i d. refl) in
+    let here : Q t = kept-same in
     let there : Q f = fill-kept t n N in
     subst (λ x. Q (tableOf x)) h
     (either-table Q (check-table t n N) t w _ here

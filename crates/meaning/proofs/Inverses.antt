@@ -1,11 +1,11 @@
 -- The filling of the inverses writes at each element what its reversed word leads back to, and changes no other cell.
 -- Assumes nothing.
-use Prim.Native.Nat.{ℕ, zero, suc, _+_, _*_, _-_, _≤_, _<_}
+use Prim.Native.Nat.{ℕ, zero, suc, _+_, _*_, _-_, _%_, _≤_, _<_}
 use mathlib.Core.Path.{_≡_, refl, sym, ap, _∙_}
 use mathlib.Core.List.{List, [], _∷_, _++_}
 use native.Mathlib.Omega.{arith}
 use lib.ListN.{length, getD}
-use Rattle.egg.specs.Table.{putAt, startOf, lengthOf, inverseOf, stepOf, backOf}
+use Rattle.egg.specs.Table.{putAt, startOf, hopOf, lastOf, lengthOf, inverseOf, stepOf, backOf}
 use Rattle.inverses.specs.Inverses.{invertFrom, invertOf, fillInverses}
 use Rattle.theory.specs.Table.{Table, Columns}
 use Rattle.theory.specs.Words.{Parents, Recorded, retrace}
@@ -31,39 +31,60 @@ fill-length zero t n e = refl
 fill-length (suc k) t n e = fill-length k _ n (e + 1) ∙ put-length t (startOf n e + 2 * n + 3) (invertOf t n e)
 
 module _ (t t₁ : List ℕ) (n N : ℕ) (size : length t₁ ≡ length t)
-    (other : (i : ℕ) → ((e : ℕ) → e < N → i ≡ startOf n e + 2 * n + 3 → ⊥) → getD t₁ i 0 ≡ getD t i 0) where
-  -- Cell k of a row, other than the last.
-  cell-same : (i e k : ℕ) → k < 2 * n + 3 → i ≡ startOf n e + k → getD t₁ i 0 ≡ getD t i 0
-  cell-same i e k hk q = other i λ d hd p. other-cell n {k = k} (omega arith) e d {k′ = 2 * n + 3} (omega arith) (omega arith) (omega arith)
+    (other : (i : ℕ) → ((e : ℕ) → e < N → (i ≡ startOf n e + 2 * n + 1 → ⊥) × (i ≡ startOf n e + 2 * n + 3 → ⊥)) → getD t₁ i 0 ≡ getD t i 0) where
+  -- Cell k of a row, other than these.
+  cell-same : (i e k : ℕ) → k < 2 * n + 3 → (k ≡ 2 * n + 1 → ⊥) → i ≡ startOf n e + k → getD t₁ i 0 ≡ getD t i 0
+  cell-same i e k hk d q = other i λ x hx. (
+    λ p. other-cell n {k = k} (omega arith) e x {k′ = 2 * n + 1} (omega arith) d (omega arith),
+    λ p. other-cell n {k = k} (omega arith) e x {k′ = 2 * n + 3} (omega arith) (omega arith) (omega arith),
+  )
 
-  pub keeps : Kept t t₁ n N
-  keeps = record {
+  pub keeps : ((e : ℕ) → lastOf t₁ n e ≡ lastOf t n e) → Kept t t₁ n N
+  keeps last = record {
     size = size;
     other = other;
-    step-same = λ e {g} hg. ap (λ (x : ℕ). x - 1) (cell-same (startOf n e + g) e g (omega arith) refl);
-    back-same = λ e {g} hg. ap (λ (x : ℕ). x - 1) (cell-same (startOf n e + n + g) e (n + g) (omega arith) (omega arith));
-    parent-same = λ e. cell-same (startOf n e + 2 * n) e (2 * n) (omega arith) refl;
-    last-same = λ e. cell-same (startOf n e + 2 * n + 1) e (2 * n + 1) (omega arith) (omega arith);
-    length-same = λ e. cell-same (startOf n e + 2 * n + 2) e (2 * n + 2) (omega arith) (omega arith);
+    step-same = λ e {g} hg. ap (λ (x : ℕ). x - 1) (cell-same (startOf n e + g) e g (omega arith) (omega arith) refl);
+    back-same = λ e {g} hg. ap (λ (x : ℕ). x - 1) (cell-same (startOf n e + n + g) e (n + g) (omega arith) (omega arith) (omega arith));
+    parent-same = λ e. cell-same (startOf n e + 2 * n) e (2 * n) (omega arith) (omega arith) refl;
+    last-same = last;
+    length-same = λ e. cell-same (startOf n e + 2 * n + 2) e (2 * n + 2) (omega arith) (omega arith) (omega arith);
   }
 
+pub kept-same : {t : List ℕ} {n N : ℕ} → Kept t t n N
+kept-same {t} {n} {N} = keeps t t n N refl (λ i h. refl) (λ e. refl)
+
+pub kept-turned : {t t₁ : List ℕ} {n N : ℕ} → Kept t t₁ n N → Kept t₁ t n N
+kept-turned {t} {t₁} {n} {N} K = keeps t₁ t n N (sym (K .size)) (λ i h. sym (K .other i h)) (λ e. sym (K .last-same e))
+
+pub kept-then : {t t₁ t₂ : List ℕ} {n N : ℕ} → Kept t t₁ n N → Kept t₁ t₂ n N → Kept t t₂ n N
+kept-then {t} {t₁} {t₂} {n} {N} K L =
+    keeps t t₂ n N (L .size ∙ K .size) (λ i h. L .other i h ∙ K .other i h) (λ e. L .last-same e ∙ K .last-same e)
+
+-- Cell k of a row: its successors, its predecessors and its parent.
+pub kept-cell : {t t₁ : List ℕ} {n N : ℕ} → Kept t t₁ n N → (i e k : ℕ) → k < 2 * n + 1 → i ≡ startOf n e + k → getD t₁ i 0 ≡ getD t i 0
+kept-cell {t} {t₁} {n} {N} K i e k hk q = cell-same t t₁ n N (K .size) (K .other) i e k (omega arith) (omega arith) q
+
+-- Where only inverses differ.
+module _ (t t₁ : List ℕ) (n N : ℕ) (size : length t₁ ≡ length t)
+    (other : (i : ℕ) → ((e : ℕ) → e < N → i ≡ startOf n e + 2 * n + 3 → ⊥) → getD t₁ i 0 ≡ getD t i 0) where
+  letter-cell : (e : ℕ) → hopOf t₁ n e ≡ hopOf t n e
+  letter-cell e = other (startOf n e + 2 * n + 1)
+      λ x hx p. other-cell n {k = 2 * n + 1} (omega arith) e x {k′ = 2 * n + 3} (omega arith) (omega arith) (omega arith)
+
+  inverses-kept : Kept t t₁ n N
+  inverses-kept = keeps t t₁ n N size (λ i h. other i (λ e he. h e he .1)) (λ e. ap (λ (x : ℕ). x % 8) (letter-cell e))
+
 pub fill-kept : (t : List ℕ) (n N : ℕ) → Kept t (fillInverses N t n 0) n N
-fill-kept t n N = keeps t (fillInverses N t n 0) n N (fill-length N t n 0) (λ i h. fill-other N t n 0 i (λ d l m. h d (omega arith)))
+fill-kept t n N = inverses-kept t (fillInverses N t n 0) n N (fill-length N t n 0) (λ i h. fill-other N t n 0 i (λ d l m. h d (omega arith)))
 
 pub put-kept : (t : List ℕ) (n N e v : ℕ) → e < N → Kept t (putAt t (startOf n e + 2 * n + 3) v) n N
 put-kept t n N e v he =
-    keeps t (putAt t (startOf n e + 2 * n + 3) v) n N (put-length t (startOf n e + 2 * n + 3) v) (λ i h. put-other t (startOf n e + 2 * n + 3) v (h e he))
+    inverses-kept t (putAt t (startOf n e + 2 * n + 3) v) n N (put-length t (startOf n e + 2 * n + 3) v)
+    (λ i h. put-other t (startOf n e + 2 * n + 3) v (h e he))
 
 retrace-append : (back : ℕ → ℕ → ℕ) (x : ℕ) (u : List ℕ) (g : ℕ) → retrace back x (u ++ g ∷ []) ≡ retrace back (back x g) u
 retrace-append back x [] g = refl
 retrace-append back x (h ∷ u) g = ap (λ (y : ℕ). back y h) (retrace-append back x u g)
-
-pub kept-turned : {t t₁ : List ℕ} {n N : ℕ} → Kept t t₁ n N → Kept t₁ t n N
-kept-turned {t} {t₁} {n} {N} K = keeps t₁ t n N (sym (K .size)) (λ i h. sym (K .other i h))
-
--- Cell k of a row, where t₁ keeps all but the inverses.
-pub kept-cell : {t t₁ : List ℕ} {n N : ℕ} → Kept t t₁ n N → (i e k : ℕ) → k < 2 * n + 3 → i ≡ startOf n e + k → getD t₁ i 0 ≡ getD t i 0
-kept-cell {t} {t₁} {n} {N} K = cell-same t t₁ n N (K .size) (K .other)
 
 module _ {n N : ℕ} {step back : ℕ → ℕ → ℕ} {parent last : ℕ → ℕ} {word : ℕ → List ℕ} where
   pub stored-kept : {t t₁ : List ℕ} → Kept t t₁ n N → Stored t n N step back parent last word → Stored t₁ n N step back parent last word

@@ -10,4 +10,5 @@ pub mod Refused
 pub mod Lengths
 pub mod Numbers
 pub mod Ruling
+pub mod Hopping
 pub mod AnyWork

@@ -20,10 +20,11 @@ pub record Stored (t : List ℕ) (n N : ℕ) (step back : ℕ → ℕ → ℕ) (
 abbrev pub wordOf : List ℕ → ℕ → ℕ → List ℕ
 wordOf t n e = word-of (parentOf t n) (lastOf t n) e
 
--- t₁ is t but for the inverses of the first N elements, the last cell of each row: so the other cells of every row read the same.
+-- t₁ is t but for what is put into the rows of the first N elements once the table stands: the letters before the last, which have the last letter's cell with it,
+-- and the inverses. So what else is read of every row reads the same.
 pub record Kept (t t₁ : List ℕ) (n N : ℕ) : Type 0 where
   pub size : length t₁ ≡ length t
-  pub other : (i : ℕ) → ((e : ℕ) → e < N → i ≡ startOf n e + 2 * n + 3 → ⊥) → getD t₁ i 0 ≡ getD t i 0
+  pub other : (i : ℕ) → ((e : ℕ) → e < N → (i ≡ startOf n e + 2 * n + 1 → ⊥) × (i ≡ startOf n e + 2 * n + 3 → ⊥)) → getD t₁ i 0 ≡ getD t i 0
   pub step-same : (e : ℕ) {g : ℕ} → g < n → stepOf t₁ n e g ≡ stepOf t n e g
   pub back-same : (e : ℕ) {g : ℕ} → g < n → backOf t₁ n e g ≡ backOf t n e g
   pub parent-same : (e : ℕ) → parentOf t₁ n e ≡ parentOf t n e

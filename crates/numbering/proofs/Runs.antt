@@ -1,13 +1,13 @@
 -- Reading a row, and row after row: from a state that the invariant describes it comes to a table that is read whole, or to a refusal.
 -- Assumes nothing.
 use Prim.Native.Nat.{ℕ, zero, suc, _+_, _*_, _≤_, _<_}
-use mathlib.Core.Path.{_≡_, refl, _∙_}
+use mathlib.Core.Path.{_≡_, refl, sym, _∙_}
 use mathlib.Core.List.{List}
 use native.Mathlib.Decide.{decLt}
 use native.Mathlib.Omega.{arith}
 use borrow.Author.Tests.{lt-ltb, le-ltb}
 use lib.ListN.{length, getD, replicate, length-replicate, getD-replicate, List·getD-eq-default}
-use Rattle.egg.specs.Table.{startOf, parentOf, lastOf, lengthOf}
+use Rattle.egg.specs.Table.{startOf, parentOf, hopOf, lastOf, lengthOf}
 use Rattle.egg.specs.declared.Refusal.{Refusal}
 use Rattle.egg.specs.declared.Counted.the-variants.{Count, Refused}
 use Rattle.reading.specs.Reading.{Placed, placed, thenPlaced, readPlace, readRow, readFrom, readAll}
@@ -65,15 +65,26 @@ module _ (src : ℕ → ℕ → ℕ) (n room size : ℕ) where
     blank = S .blank;
   }
 
-  module _ {x c : ℕ} {t : List ℕ} (h : c ≤ suc x) (S : State src n room size x n c t) where
+  module _ (hn : n ≤ 8) {x c : ℕ} {t : List ℕ} (h : c ≤ suc x) (S : State src n room size x n c t) where
     origin : 0 < c
     origin = omega (arith, row-known (S .held .known))
 
     before : {e g : ℕ} → e < c → g < n → Ahead e g x n
     before he hg = ahead-row hg (row (omega arith))
 
+    -- The cell of the last letter holds nothing else yet.
+    hop-is : {e : ℕ} → 0 < e → e < c → hopOf t n e ≡ last-of n src e
+    hop-is {e} p l = let i : startOf n e + (2 * n + 1) ≡ startOf n e + 2 * n + 1 = omega arith in rw i at (S .words .letter p l)
+
+    hop-none : hopOf t n 0 ≡ 0
+    hop-none = let i : startOf n 0 + (2 * n + 1) ≡ startOf n 0 + 2 * n + 1 = omega arith in rw i at (S .words .no-letter)
+
+    one-letter : (e : ℕ) → e < c → hopOf t n e ≡ lastOf t n e
+    one-letter zero l = omega (arith, hop-none)
+    one-letter (suc e) l = let p : 0 < suc e = omega arith in omega (arith, hop-is p l, known-first (S .held .known) .first p l .generator)
+
     last-is : {e : ℕ} → 0 < e → e < c → lastOf t n e ≡ last-of n src e
-    last-is {e} p l = let i : startOf n e + (2 * n + 1) ≡ startOf n e + 2 * n + 1 = omega arith in rw i at (S .words .letter p l)
+    last-is {e} p l = sym (one-letter e l) ∙ hop-is p l
 
     letters-are : {e : ℕ} → e < c → lengthOf t n e ≡ length (recorded n src e)
     letters-are {e} l = let i : startOf n e + (2 * n + 2) ≡ startOf n e + 2 * n + 2 = omega arith in rw i at (S .words .letters l)
@@ -104,7 +115,8 @@ module _ (src : ℕ → ℕ → ℕ) (n room size : ℕ) where
           short = λ l. rw (letters-are l) (S .held .short l);
           no-inverse = λ {e} l. let i : startOf n e + (2 * n + 3) ≡ startOf n e + 2 * n + 3 = omega arith in rw i at (S .words .no-inverse e);
           no-parent = S .words .no-parent;
-          no-last = let i : startOf n 0 + (2 * n + 1) ≡ startOf n 0 + 2 * n + 1 = omega arith in rw i at (S .words .no-letter);
+          no-last = sym (one-letter 0 origin) ∙ hop-none;
+          one-letter = λ {e} l. one-letter e l;
           beyond = λ {i} l. S .blank i l;
         }
 
@@ -138,7 +150,7 @@ module _ (src : ℕ → ℕ → ℕ) (n room size : ℕ) where
             → (State src n room size (suc x) 0 c′ t′ → On (Read src n room size) (Refuses src n room) (readFrom k src n room (suc x) c′ t′))
             → Dec (suc x < c′) → On (Read src n room size) (Refuses src n room) (readFrom k src n room (x + 1) c′ t′)
         go c′ t′ S′ ih (yes l) = let p : x + 1 ≡ suc x = omega arith in rw p (ih (state-row l S′))
-        go c′ t′ S′ ih (no l) = rw (ends-here k (x + 1) c′ t′ (omega arith)) (state-read (omega arith) S′)
+        go c′ t′ S′ ih (no l) = rw (ends-here k (x + 1) c′ t′ (omega arith)) (state-read hn (omega arith) S′)
 
     -- The whole reading.
     pub read-all : 1 ≤ room → On (Read src n room size) (Refuses src n room) (readAll src n room (replicate size 0))

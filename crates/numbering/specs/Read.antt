@@ -5,7 +5,7 @@ use Prim.Native.Nat.{ℕ, suc, _+_, _*_, _≤_, _<_}
 use mathlib.Core.Path.{_≡_}
 use mathlib.Core.List.{List}
 use lib.ListN.{length, getD}
-use Rattle.egg.specs.Table.{startOf, parentOf, lastOf, lengthOf, inverseOf}
+use Rattle.egg.specs.Table.{startOf, parentOf, hopOf, lastOf, lengthOf, inverseOf}
 use Rattle.egg.specs.declared.Refusal.{Refusal}
 use Rattle.reading.specs.Build.{numbered}
 use Rattle.theory.specs.Numbering.{Known, Numbered}
@@ -13,7 +13,7 @@ use Rattle.theory.specs.Appearance.{FirstAppearance, recorded}
 
 -- An accepted reading: the numbers have N rows by the numbering rule, and t holds them. Each step is stored one more than its number, and a predecessor,
 -- where there is one, is one from which the generator leads there. Parent and last generator of an element are the place where it first appears.
--- "After acceptance, rows .. beyond the last element .. are zero"; and the inverses are still to be found.
+-- "After acceptance, rows .. beyond the last element .. are zero"; the inverses are still to be found, and a last generator's cell has that one letter.
 pub record Read (src : ℕ → ℕ → ℕ) (n room size N : ℕ) (t : List ℕ) : Type 0 where
   pub by-rule : Numbered n N src
   pub origin : 1 ≤ N
@@ -29,6 +29,7 @@ pub record Read (src : ℕ → ℕ → ℕ) (n room size N : ℕ) (t : List ℕ)
   pub no-inverse : {e : ℕ} → e < N → inverseOf t n e ≡ 0
   pub no-parent : parentOf t n 0 ≡ 0
   pub no-last : lastOf t n 0 ≡ 0
+  pub one-letter : {e : ℕ} → e < N → hopOf t n e ≡ lastOf t n e
   pub beyond : {i : ℕ} → N * (2 * n + 4) ≤ i → getD t i 0 ≡ 0
 
 -- What reading takes: numbers with N rows by the numbering rule, the elements within the room, and their words within 4,096.

@@ -79,9 +79,9 @@ abbrev pub withWork : List ℕ → Renumbering → Renumbering
 withWork v (renumbering (built c t w) inn outw) = renumbering (built c t v) inn outw
 
 module _ (n : ℕ) (t w w′ : List ℕ) where
-  settled-with : (N : ℕ) (c c′ : Checked) → check-group t w n N ≡ c → Like c c′ → settledBy N c ≡ builtWith (zeroed w) (settledBy N c′)
+  settled-with : (N : ℕ) (c c′ : Checked) → check-group t w n N ≡ c → Like c c′ → settledBy n N c ≡ builtWith (zeroed w) (settledBy n N c′)
   settled-with N (checked v t₁ w₁) (checked v′ t₂ w₂) q L =
-      settled-like N w₁ w₂ (L .0) (L .1) ∙ ap (λ (k : ℕ). builtWith (replicate k 0) (settledBy N (checked v′ t₂ w₂))) (checks-work t w n N q)
+      settled-like n N w₁ w₂ (L .0) (L .1) ∙ ap (λ (k : ℕ). builtWith (replicate k 0) (settledBy n N (checked v′ t₂ w₂))) (checks-work t w n N q)
 
   finished-with : (N : ℕ) → N ≤ length w → N ≤ length w′ → finished (Count N) n t w ≡ builtWith (zeroed w) (finished (Count N) n t w′)
   unfolding finished

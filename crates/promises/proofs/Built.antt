@@ -1,7 +1,7 @@
 -- A build from the numbers of a source in its stretches: accepted exactly when the rows are taken, and then the table holds them.
 -- Assumes nothing.
 use Prim.Native.Nat.{ℕ, suc, _+_, _*_, _≤_, _<_}
-use mathlib.Core.Path.{_≡_, sym, ap, _∙_, subst}
+use mathlib.Core.Path.{_≡_, refl, sym, ap, _∙_, subst}
 use mathlib.Core.List.{List}
 use native.Mathlib.Nat.{mul-le-mul, le-refl}
 use native.Mathlib.Omega.{arith}
@@ -9,6 +9,8 @@ use lib.ListN.{length, replicate}
 use Rattle.egg.specs.declared.Verdict.the-variants as verdict
 use Rattle.egg.specs.declared.Counted.the-variants.{Count, Refused}
 use Rattle.egg.specs.Table.{startOf, stepOf}
+use Rattle.hops.specs.Hops.{withHops, Hops}
+use Rattle.hops.proofs.Hops.{hops-there}
 use Rattle.checks.specs.Checks.{Checked, checked, check-group}
 use Rattle.lending.specs.Finish.{built, zeroed, settledBy, finished, finishedPlaced}
 use Rattle.lending.proofs.Finishing.{refused-counted}
@@ -18,7 +20,11 @@ use Rattle.theory.proofs.Counting.{numbered-table}
 use Rattle.theory.proofs.FirstPlaces.{first-parents}
 use Rattle.theory.proofs.Recording.{word-of-recorded}
 use Rattle.theory.proofs.Complete.{columns}
+use Rattle.meaning.specs.Stored.{Kept}
+use Rattle.meaning.specs.Sound.{Sound}
 use Rattle.meaning.proofs.Accepted.{checks-sound, checks-kept, sound-regular}
+use Rattle.meaning.proofs.Inverses.{kept-then}
+use Rattle.meaning.proofs.Hopping.{hops-kept, hopping-sound}
 use Rattle.meaning.proofs.Ruling.{ruled-kept}
 use Rattle.meaning.proofs.Complete.{checks-complete}
 use Rattle.meaning.proofs.Lengths.{checks-work}
@@ -28,40 +34,64 @@ use Rattle.numbering.proofs.Readings.{accepted-read, readable-accepted, read-wo
 use Rattle.numbering.proofs.Storing.{read-stored}
 use Rattle.promises.specs.Composed.{Taken, Holding}
 
--- An accepted end of a build is an accepted count and a passed check.
+-- An accepted end of a build: the checks passed, the letters before the last were put in, and the work was wiped.
+pub record Settled (n N : ℕ) (k : Checked) (t w : List ℕ) : Type 0 where
+  pub table : List ℕ
+  pub work : List ℕ
+  pub checks : k ≡ checked verdict.Fine table work
+  pub lettered : t ≡ withHops N table n
+  pub wiped : w ≡ zeroed work
+
+-- And before it an accepted count.
 pub record Passed (p : Placed) (n N : ℕ) (w t w₁ : List ℕ) : Type 0 where
   pub before : List ℕ
-  pub after : List ℕ
   pub count : p ≡ placed (Count N) before
-  pub checks : check-group before w n N ≡ checked verdict.Fine t after
-  pub wiped : w₁ ≡ zeroed after
+  pub end : Settled n N (check-group before w n N) t w₁
 
-pub by-check : {c N : ℕ} {t w₁ : List ℕ} (k : Checked) → settledBy c k ≡ built (Count N) t w₁ → (c ≡ N) × ((w₂ : List ℕ) × ((k ≡ checked verdict.Fine t w₂) × (w₁ ≡ zeroed w₂)))
-by-check (checked verdict.Fine t₁ w₂) q = (cc, (w₂, (cc, cc)))
-by-check (checked (verdict.Refused r) t₁ w₂) q = absurd (refused-counted q)
+pub settle : {n N : ℕ} {k : Checked} {t w : List ℕ} → k ≡ checked verdict.Fine t w → Settled n N k (withHops N t n) (zeroed w)
+settle {t = t} {w} h = record { table = t; work = w; checks = h; lettered = refl; wiped = refl }
+
+pub by-check : {n c N : ℕ} {t w : List ℕ} (k : Checked) → settledBy n c k ≡ built (Count N) t w → (c ≡ N) × Settled n N k t w
+by-check {n} {c} {N} {t} {w} (checked verdict.Fine t₁ w₁) q = (cc, record { table = t₁; work = w₁; checks = refl; lettered = cc; wiped = cc })
+by-check (checked (verdict.Refused r) t₁ w₁) q = absurd (refused-counted q)
 
 pub passed : (p : Placed) (n : ℕ) (w : List ℕ) {N : ℕ} {t w₁ : List ℕ} → finishedPlaced p n w ≡ built (Count N) t w₁ → Passed p n N w t w₁
 unfolding finished
-passed (placed (Count c) t₀) n w {N} {t} q =
+passed (placed (Count c) t₀) n w {N} {t} {w₁} q =
     let b = by-check (check-group t₀ w n c) q in
     record {
       before = t₀;
-      after = b .1 .0;
       count = ap (λ (k : ℕ). placed (Count k) t₀) (b .0);
-      checks = subst (λ (k : ℕ). check-group t₀ w n k ≡ checked verdict.Fine t (b .1 .0)) (b .0) (b .1 .1 .0);
-      wiped = b .1 .1 .1;
+      end = subst (λ (k : ℕ). Settled n N (check-group t₀ w n k) t w₁) (b .0) (b .1);
     }
 passed (placed (Refused r) t₀) n w q = absurd (refused-counted q)
 
-pub passes : {p : Placed} (n : ℕ) {N : ℕ} (w : List ℕ) {t₀ t w₁ : List ℕ} → p ≡ placed (Count N) t₀ → check-group t₀ w n N ≡ checked verdict.Fine t w₁
-    → finishedPlaced p n w ≡ built (Count N) t (zeroed w₁)
+pub passes : {p : Placed} (n : ℕ) {N : ℕ} (w : List ℕ) {t₀ t w₁ : List ℕ} → p ≡ placed (Count N) t₀ → Settled n N (check-group t₀ w n N) t w₁
+    → finishedPlaced p n w ≡ built (Count N) t w₁
 unfolding finished
-passes n w a b = rw (a, b)
+passes n w a E = rw (a, E .checks, E .lettered, E .wiped)
 
--- A place beyond the rows is no inverse's.
-pub below-cells : (n N e : ℕ) → e < N → (i : ℕ) → N * (2 * n + 4) ≤ i → i ≡ startOf n e + 2 * n + 3 → ⊥
+-- What such an end keeps of the table before it, and what it gives.
+module _ (t₀ w₀ : List ℕ) {n N : ℕ} {t w : List ℕ} (E : Settled n N (check-group t₀ w₀ n N) t w) where
+  pub settled-kept : Kept t₀ t n N
+  settled-kept = rw (E .lettered) (kept-then (checks-kept t₀ w₀ n N (E .checks)) (hops-kept (E .table) n N))
+
+  pub settled-work : w ≡ replicate (length w₀) 0
+  settled-work = E .wiped ∙ ap (λ (k : ℕ). replicate k 0) (checks-work t₀ w₀ n N (E .checks))
+
+  module _ (fits : N * (2 * n + 4) ≤ length t₀) where
+    pub settled-sound : 0 < N → N ≤ 65535 → Sound t n N
+    settled-sound some small = rw (E .lettered) (hopping-sound (checks-sound t₀ w₀ n N (E .checks) some small fits))
+
+    pub settled-hops : Hops t n N
+    settled-hops = rw (E .lettered) (hops-there (E .table) n N (rw (checks-kept t₀ w₀ n N (E .checks) .size) fits))
+
+-- A place beyond the rows has no letters and no inverse.
+pub below-cells : (n N e : ℕ) → e < N → (i : ℕ) → N * (2 * n + 4) ≤ i → (i ≡ startOf n e + 2 * n + 1 → ⊥) × (i ≡ startOf n e + 2 * n + 3 → ⊥)
 unfolding startOf
-below-cells n N e he i h q = omega (arith, mul-le-mul {n₁ = suc e} he (le-refl (2 * n + 4)))
+below-cells n N e he i h =
+    let inside = mul-le-mul {n₁ = suc e} he (le-refl (2 * n + 4)) in
+    (λ q. omega (arith, inside), λ q. omega (arith, inside))
 
 module _ (src : ℕ → ℕ → ℕ) (n room size : ℕ) (w : List ℕ) (few : n ≤ 8) (lo : 1 ≤ room) (hi : room ≤ 65535) (fits : room * (2 * n + 4) ≤ size)
     (work : room * (6 * n * n + 4 * n) ≤ length w) where
@@ -75,11 +105,11 @@ module _ (src : ℕ → ℕ → ℕ) (n room size : ℕ) (w : List ℕ) (few : n
   rows-fit h e = omega (arith, mul-le-mul h (le-refl (2 * n + 4)))
 
   module _ {N : ℕ} {t₀ : List ℕ} (R : Read src n room size N t₀) where
-    -- What the checks accepted after this reading.
-    pub checked-holds : {t w₁ : List ℕ} → check-group t₀ w n N ≡ checked verdict.Fine t w₁ → Holding src n room size N t
-    checked-holds {t} {w₁} h =
-        let K = checks-kept t₀ w n N h in
-        let S = checks-sound t₀ w n N h (R .origin) (omega (arith, R .within)) (rows-fit (R .within) (R .whole)) in
+    -- What was accepted after this reading.
+    pub settled-holds : {t w₁ : List ℕ} → Settled n N (check-group t₀ w n N) t w₁ → Holding src n room size N t
+    settled-holds {t} E =
+        let K = settled-kept t₀ w E in
+        let S = settled-sound t₀ w E (rows-fit (R .within) (R .whole)) (R .origin) (omega (arith, R .within)) in
         let same : (e g : ℕ) → e < N → g < n → stepOf t n e g ≡ src e g = λ e g he hg. K .step-same e hg ∙ read-steps R e g he hg in
         record {
           taken = record {
@@ -88,10 +118,11 @@ module _ (src : ℕ → ℕ → ℕ) (n room size : ℕ) (w : List ℕ) (few : n
             group = any-carrier .1 (regular-same (S .table) same (sound-regular S));
           };
           sound = S;
-          ruled = ruled-kept K S (read-rule R) (read-appearance R);
+          ruled = ruled-kept K S (read-rule R) (read-appearance R) (R .no-parent) (R .no-last);
+          hops = settled-hops t₀ w E (rows-fit (R .within) (R .whole));
           size-kept = K .size ∙ R .whole;
           steps = λ {e} {g} he hg. same e g he hg;
-          beyond = λ {i} h. K .other i (λ e he q. below-cells n N e he i h q) ∙ R .beyond h;
+          beyond = λ {i} h. K .other i (λ e he. below-cells n N e he i h) ∙ R .beyond h;
         }
 
     -- And a group's rows are accepted.
@@ -106,17 +137,15 @@ module _ (src : ℕ → ℕ → ℕ) (n room size : ℕ) (w : List ℕ) (few : n
   pub built-holds : {N : ℕ} {t w₁ : List ℕ} → finishedPlaced (readAll src n room (replicate size 0)) n w ≡ built (Count N) t w₁ → Holding src n room size N t
   built-holds q =
       let p = passed (readAll src n room (replicate size 0)) n w q in
-      checked-holds (accepted-read src n room size few lo hi fits (p .count)) (p .checks)
+      settled-holds (accepted-read src n room size few lo hi fits (p .count)) (p .end)
 
   -- Then the work is zero.
   pub built-work : {N : ℕ} {t w₁ : List ℕ} → finishedPlaced (readAll src n room (replicate size 0)) n w ≡ built (Count N) t w₁ → w₁ ≡ replicate (length w) 0
-  built-work {N} q =
-      let p = passed (readAll src n room (replicate size 0)) n w q in
-      p .wiped ∙ ap (λ (k : ℕ). replicate k 0) (checks-work (p .before) w n N (p .checks))
+  built-work q = let p = passed (readAll src n room (replicate size 0)) n w q in settled-work (p .before) w (p .end)
 
   pub taken-built : {N : ℕ} → Taken src n room N → (t : List ℕ) × (w₁ : List ℕ) × (finishedPlaced (readAll src n room (replicate size 0)) n w ≡ built (Count N) t w₁)
-  taken-built G =
+  taken-built {N} G =
       let a = readable-accepted src n room size few lo hi fits (G .readable) in
       let R = accepted-read src n room size few lo hi fits (a .1) in
       let b = taken-checked R G in
-      (b .0, zeroed (b .1), passes n w (a .1) (b .2))
+      (withHops N (b .0) n, zeroed (b .1), passes n w (a .1) (settle (b .2)))

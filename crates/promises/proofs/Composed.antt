@@ -84,6 +84,7 @@ module _ (table : List ℕ) (start : ℕ) (work rows : List ℕ) (n room : ℕ) 
         fits = fits-still table start n room has-room s (H .size-kept) N (H .sound .table .origin) (H .taken .readable .within);
         sound = rw part (H .sound);
         ruled = rw part (H .ruled);
+        hops = rw part (H .hops);
       };
       steps = λ {e} {g} he hg. rw part (H .steps he hg);
       beyond = λ {i} h. rw part (H .beyond h);

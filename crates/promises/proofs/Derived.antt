@@ -12,8 +12,9 @@ use Rattle.egg.specs.declared.Counted.{Counted}
 use Rattle.egg.specs.declared.Counted.the-variants.{Count, Refused}
 use Rattle.egg.specs.Table.{startOf, stepOf}
 use Rattle.egg.specs.Pairs.{ordersRight}
-use Rattle.checks.specs.Checks.{checked, check-group}
-use Rattle.lending.specs.Finish.{Built, built, zeroed, finished}
+use Rattle.hops.specs.Hops.{Hops}
+use Rattle.checks.specs.Checks.{check-group}
+use Rattle.lending.specs.Finish.{Built, built, finished}
 use Rattle.lending.proofs.Finishing.{refused-counted}
 use Rattle.relations.specs.Relations.{relationsRow, relations}
 use Rattle.enumeration.specs.declared.inner.Ran.{Ran}
@@ -26,9 +27,7 @@ use Rattle.theory.proofs.Pasts.{past-agree, past-numbered, past-appearance}
 use Rattle.meaning.specs.Stored.{Kept, wordOf}
 use Rattle.meaning.specs.Sound.{Sound, Ruled}
 use Rattle.meaning.proofs.Inverses.{kept-cell}
-use Rattle.meaning.proofs.Accepted.{checks-sound, checks-kept}
 use Rattle.meaning.proofs.Ruling.{ruled}
-use Rattle.meaning.proofs.Lengths.{checks-work}
 use Rattle.answers.proofs.Relators.{orders-long, relations-exact, relations-first}
 use Rattle.derived.specs.Invariant.{Worded}
 use Rattle.derived.specs.Recorded as run
@@ -36,7 +35,7 @@ use Rattle.derived.proofs.Derivation.{words-traced, done-sound, sound-derived}
 use Rattle.derived.proofs.Running.{Ends, enumerated-ok}
 use Rattle.derived.proofs.Going.{done-finished}
 use Rattle.derived.proofs.Ending.{never-paused}
-use Rattle.promises.proofs.Built.{by-check, below-cells}
+use Rattle.promises.proofs.Built.{Settled, by-check, settled-kept, settled-work, settled-sound, settled-hops, below-cells}
 
 -- Words recorded alike are the same.
 trace-same : {p p′ l l′ : ℕ → ℕ} → ((x : ℕ) → p x ≡ p′ x) → ((x : ℕ) → l x ≡ l′ x) → (k e : ℕ) → trace p l k e ≡ trace p′ l′ k e
@@ -62,11 +61,11 @@ by-relations n o (built (Count c) s v) {N} {t} {w} q = by (relationsRow s n c o 
 by-relations n o (built (Refused r) s v) q = absurd (refused-counted q)
 
 by-count : (c : Counted) (n : ℕ) (s v : List ℕ) {N : ℕ} {t w : List ℕ} → finished c n s v ≡ built (Count N) t w
-    → (c ≡ Count N) × ((w₂ : List ℕ) × ((check-group s v n N ≡ checked verdict.Fine t w₂) × (w ≡ zeroed w₂)))
+    → (c ≡ Count N) × Settled n N (check-group s v n N) t w
 unfolding finished
-by-count (Count c) n s v {N} {t} q =
+by-count (Count c) n s v {N} {t} {w} q =
     let b = by-check (check-group s v n c) q in
-    (ap Count (b .0), (b .1 .0, (subst (λ (k : ℕ). check-group s v n k ≡ checked verdict.Fine t (b .1 .0)) (b .0) (b .1 .1 .0), b .1 .1 .1)))
+    (ap Count (b .0), subst (λ (k : ℕ). Settled n N (check-group s v n k) t w) (b .0) (b .1))
 by-count (Refused r) n s v q = absurd (refused-counted q)
 
 module _ (o : List ℕ) (n room lt lw : ℕ) (L : run.Limits n o room lt lw) (right : ordersRight o n ≡ verdict.Fine) where
@@ -94,9 +93,7 @@ module _ (o : List ℕ) (n room lt lw : ℕ) (L : run.Limits n o room lt lw) (ri
   -- How an enumeration was accepted: the run was done, 8 to 12 passed, and 13 at the identity.
   pub record Steps (N : ℕ) (t w : List ℕ) : Type 0 where
     pub finish : enumerated n o room lt lw .answer ≡ ran.Done N
-    pub work₁ : List ℕ
-    pub checks : check-group (enumerated n o room lt lw .table) (enumerated n o room lt lw .work) n N ≡ checked verdict.Fine t work₁
-    pub wiped : w ≡ zeroed work₁
+    pub end : Settled n N (check-group (enumerated n o room lt lw .table) (enumerated n o room lt lw .work) n N) t w
     pub identity : relationsRow t n N o 0 ≡ verdict.Fine
 
   pub enumerated-steps : {N : ℕ} {t w : List ℕ} → enumeratedIn lt lw o n room ≡ built (Count N) t w → Steps N t w
@@ -106,23 +103,21 @@ module _ (o : List ℕ) (n room lt lw : ℕ) (L : run.Limits n o room lt lw) (ri
       let b = by-count (ranCount (enumerated n o room lt lw .answer)) n (enumerated n o room lt lw .table) (enumerated n o room lt lw .work) (a .0) in
       record {
         finish = done (enumerated n o room lt lw .answer) refl (b .0);
-        work₁ = b .1 .0;
-        checks = b .1 .1 .0;
-        wiped = b .1 .1 .1;
+        end = b .1;
         identity = a .1;
       }
 
   -- And the other way round.
-  pub steps-enumerated : {N : ℕ} {t₀ w₀ t w₁ : List ℕ} → enumerated n o room lt lw .answer ≡ ran.Done N → enumerated n o room lt lw .table ≡ t₀
-      → enumerated n o room lt lw .work ≡ w₀ → check-group t₀ w₀ n N ≡ checked verdict.Fine t w₁ → relationsRow t n N o 0 ≡ verdict.Fine
-      → enumeratedIn lt lw o n room ≡ built (Count N) t (zeroed w₁)
+  pub steps-enumerated : {N : ℕ} {t₀ w₀ t w : List ℕ} → enumerated n o room lt lw .answer ≡ ran.Done N → enumerated n o room lt lw .table ≡ t₀
+      → enumerated n o room lt lw .work ≡ w₀ → Settled n N (check-group t₀ w₀ n N) t w → relationsRow t n N o 0 ≡ verdict.Fine → enumeratedIn lt lw o n room ≡ built (Count N) t w
   unfolding enumeratedIn finished
-  steps-enumerated a b c d e = rw (a, b, c, d, e)
+  steps-enumerated a b c E e = rw (a, b, c, E .checks, ← E .lettered, e, E .wiped)
 
   -- The stretch of an accepted enumeration.
   pub record Related (N : ℕ) (t w : List ℕ) : Type 0 where
     pub sound : Sound t n N
     pub ruled : Ruled t n N
+    pub hops : Hops t n N
     pub within-room : N ≤ room
     pub size-kept : length t ≡ lt
     pub derived : Derived n N (order-of o) (stepOf t n) (wordOf t n)
@@ -137,11 +132,10 @@ module _ (o : List ℕ) (n room lt lw : ℕ) (L : run.Limits n o room lt lw) (ri
       let w₀ = enumerated n o room lt lw .work in
       let P = enumerated-steps q in
       let D = done-sound L (P .finish) in
-      let c = P .checks in
-      let K = checks-kept t₀ w₀ n N c in
+      let K = settled-kept t₀ w₀ (P .end) in
       let small : N ≤ 65535 = omega (arith, D .fits, L .limit) in
       let fits : N * (2 * n + 4) ≤ length t₀ = omega (arith, D .whole, L .table-room, mul-le-mul (D .fits) (le-refl (2 * n + 4))) in
-      let S = checks-sound t₀ w₀ n N c (D .some) small fits in
+      let S = settled-sound t₀ w₀ (P .end) fits (D .some) small in
       let known : (e g : ℕ) → e < N → g < n → getD t₀ (startOf n e + g) 0 ≡ 0 → ⊥ = λ e g he hg z.
       omega (arith, S .stored .successor he hg, kept-cell K (startOf n e + g) e g (omega arith) refl) in
       let same : (e : ℕ) → wordOf t n e ≡ run.words n t₀ e = λ e. trace-same (K .parent-same) (K .last-same) e e in
@@ -149,15 +143,18 @@ module _ (o : List ℕ) (n room lt lw : ℕ) (L : run.Limits n o room lt lw) (ri
       let d = sound-derived D known in
       let H = relations-exact S (L .few) o (orders-long o n right) .0 m in
       let F = done-finished L (P .finish) in
+      let none = F .run .table .words .identity (D .some) in
       let past = past-agree (F .past) (word-same (F .run .table .words) K) in
       record {
         sound = S;
-        ruled = ruled S (past-numbered (S .table) (S .spelled) H (F .end) (F .last-row) past) (past-appearance (S .table) (S .spelled) H (S .parents) (S .recorded) past);
+        ruled = ruled S (past-numbered (S .table) (S .spelled) H (F .end) (F .last-row) past) (past-appearance (S .table) (S .spelled) H (S .parents) (S .recorded) past)
+            (K .parent-same 0 ∙ none .0) (K .last-same 0 ∙ none .1);
+        hops = settled-hops t₀ w₀ (P .end) fits;
         within-room = D .fits;
         size-kept = K .size ∙ D .whole;
         derived = record { derived = λ {e} {g} he hg. rw (K .step-same e hg, same e, same (stepOf t₀ n e g)) (d .derived he hg) };
         all-related = m;
         holds = H;
-        beyond = λ {i} h. K .other i (λ e he x. below-cells n N e he i h x) ∙ blank-beyond D i h;
-        work-zero = P .wiped ∙ ap (λ (k : ℕ). replicate k 0) (checks-work t₀ w₀ n N c ∙ work-long (P .finish));
+        beyond = λ {i} h. K .other i (λ e he. below-cells n N e he i h) ∙ blank-beyond D i h;
+        work-zero = settled-work t₀ w₀ (P .end) ∙ ap (λ (k : ℕ). replicate k 0) (work-long (P .finish));
       }

@@ -92,6 +92,7 @@ module _ (table : List ℕ) (start : ℕ) (work orders : List ℕ) (n room : ℕ
         fits = fits-still table start n room has-room s (R .size-kept) N (R .sound .table .origin) (R .within-room);
         sound = rw part (R .sound);
         ruled = rw part (R .ruled);
+        hops = rw part (R .hops);
       }
 
       demand : Demand3 orders (handle start n room N) (lentTable table start n room s)

@@ -11,11 +11,11 @@ use native.Mathlib.Decide.{ℕ-discrete}
 use native.Mathlib.Omega.{arith}
 use lib.ListN.{length, getD}
 use Rattle.theory.specs.Table.{Table, Columns}
-use Rattle.theory.specs.Words.{Word, empty, letter, walk, Spelled, Parents, Recorded}
+use Rattle.theory.specs.Words.{empty, letter, Spelled, Parents, Recorded}
 use Rattle.theory.specs.Group.{RightRegular}
 use Rattle.theory.specs.Presentation.{order-of, Relator, Equiv, insert, same, turn, join, Holds, Derived}
 use Rattle.theory.proofs.BoundedTests.{below-suc}
-use Rattle.theory.proofs.Walking.{walk-closed}
+use Rattle.theory.proofs.Walking.{walk-closed, walk-agree}
 use Rattle.theory.proofs.AnyCarrier.{any-carrier}
 use Rattle.theory.proofs.ColumnLaws.{columns-by-back}
 use Rattle.theory.proofs.Recording.{recorded-spelled}
@@ -26,16 +26,18 @@ use Rattle.egg.specs.declared.Verdict.the-variants as verdict
 use Rattle.egg.specs.declared.Counted.the-variants.{Count}
 use Rattle.egg.specs.Table.{startOf, parentOf, lastOf, stepOf, backOf}
 use Rattle.egg.specs.Pairs.{ordersRight}
+use Rattle.hops.specs.Hops.{withHops}
 use Rattle.lending.specs.Finish.{built, zeroed}
 use Rattle.lending.specs.Lending.{tableNeed, workNeed, lentRight, within, making, lentBack}
 use Rattle.enumeration.specs.Run.{enumerated}
 use Rattle.enumeration.specs.declared.inner.Ran.the-variants as ran
 use Rattle.enumeration.specs.Calls.{enumeratedIn, enumerates}
-use Rattle.meaning.specs.Stored.{Stored, Kept}
-use Rattle.meaning.proofs.Accepted.{checks-sound, checks-kept}
+use Rattle.meaning.specs.Stored.{Stored}
+use Rattle.meaning.proofs.Inverses.{kept-same}
 use Rattle.meaning.proofs.Complete.{checks-complete}
 use Rattle.answers.proofs.Relators.{orders-long, relations-exact, relations-identity}
 use Rattle.derived.specs.Recorded as run
+use Rattle.promises.proofs.Built.{settle, settled-kept, settled-sound}
 use Rattle.promises.proofs.Lent.{handle, by-build}
 use Rattle.promises.proofs.Enumerated.{limits, enumerates-is-build}
 use Rattle.promises.proofs.Derived.{enumerated-related, enumerated-steps, steps-enumerated, word-same}
@@ -162,21 +164,6 @@ none-twice-agree {n} {N} {m} {word} {word′} D agree = record {
   generators = λ hg hh q. D .generators hg hh q;
 }
 
-kept-same : {t : List ℕ} {n N : ℕ} → Kept t t n N
-kept-same = record {
-  size = refl;
-  other = λ i h. refl;
-  step-same = λ e h. refl;
-  back-same = λ e h. refl;
-  parent-same = λ e. refl;
-  last-same = λ e. refl;
-  length-same = λ e. refl;
-}
-
-walk-agree : {n : ℕ} {step step′ : ℕ → ℕ → ℕ} → ((e g : ℕ) → g < n → step′ e g ≡ step e g) → (e : ℕ) {u : List ℕ} → Word n u → walk step′ e u ≡ walk step e u
-walk-agree agree e empty = refl
-walk-agree {step = step} agree e (letter {g = g} h u) = rw (agree e g h) (walk-agree agree (step e g) u)
-
 -- In a table that presents its group, no two words and no two generators are equal.
 presented-none-twice : {n N : ℕ} {m step : ℕ → ℕ → ℕ} {word : ℕ → List ℕ} → Table n N step → Holds n N m step → Spelled n N step word → Derived n N m step word
     → ((g : ℕ) → g < n → step 0 g ≡ suc g) → NoneTwice n N m word
@@ -205,18 +192,20 @@ module _ (o : List ℕ) (n room lt lw : ℕ) (L : run.Limits n o room lt lw) (ri
       omega (arith, F .run .fits, F .run .work-length, L .work-room, mul-le-mul (le-refl room) one) in
       let short : (e : ℕ) → e < N → length (F .run .word e) ≤ 4096 = λ e he. omega (arith, F .letters e he, F .short e he) in
       let C = checks-complete (L .few) small fits (kept F D) (table F D) (parents F D) (recorded F D) (columns F D) short W work (identity-row F D) (regular F D) in
-      let K = checks-kept T W n N (C .2) in
-      let S = checks-sound T W n N (C .2) (F .run .some) small fits in
-      let H : Holds n N (order-of o) (stepOf (C .0) n) = record { holds = λ {e} he R. walk-agree (λ x g hg. K .step-same x hg) e (relator-word R) ∙ holds F D .holds he R } in
+      let t = withHops N (C .0) n in
+      let E = settle (C .2) in
+      let K = settled-kept T W E in
+      let S = settled-sound T W E fits (F .run .some) small in
+      let H : Holds n N (order-of o) (stepOf t n) = record { holds = λ {e} he R. walk-agree (λ x g hg. K .step-same x hg) e (relator-word R) ∙ holds F D .holds he R } in
       let long = orders-long o n right in
       let fine = sym (relations-identity S (L .few) o long) ∙ relations-exact S (L .few) o long .1 H in
-      (C .0, zeroed (C .1), steps-enumerated o n room lt lw L right finish refl refl (C .2) fine)
+      (t, zeroed (C .1), steps-enumerated o n room lt lw L right finish refl refl E fine)
 
   none-twice-by : {t w : List ℕ} → enumeratedIn lt lw o n room ≡ built (Count N) t w → NoneTwice n N (order-of o) (F .run .word)
   none-twice-by {t} {w} q =
       let P = enumerated-steps o n room lt lw L right q in
       let R = enumerated-related o n room lt lw L right q in
-      let K = checks-kept T W n N (P .checks) in
+      let K = settled-kept T W (P .end) in
       none-twice-agree (presented-none-twice (R .sound .table) (R .holds) (R .sound .spelled) (R .derived) (λ g hg. R .sound .identity-row hg))
       (λ e he. sym (word-same (F .run .table .words) K e he))
 

@@ -2,7 +2,7 @@
 -- stretch goes as in the shorter one; a call is a build put back into its buffers.
 -- Assumes nothing.
 use Prim.Native.Nat.{ℕ, zero, suc, _+_, _*_, _-_, _≤_, _<_, _/_, _%_}
-use mathlib.Core.Path.{_≡_, refl, sym, ap, _∙_, subst}
+use mathlib.Core.Path.{_≡_, refl, sym, ap, _∙_}
 use mathlib.Core.Bool.{Bool, true, false}
 use mathlib.Core.List.{List}
 use native.Mathlib.Nat.{mul-le-mul, le-refl, div-add-mod', mod-lt, div-lt-iff-lt-mul}
@@ -19,8 +19,10 @@ use Rattle.egg.specs.Pairs.{ordersRight}
 use Rattle.egg.specs.declared.Reached.{Reached}
 use Rattle.egg.specs.declared.Reached.the-variants.{Element, Refused}
 use Rattle.egg.specs.Factor.{readStep, hasRoom}
-use Rattle.egg.proofs.Cells.{put-length, inside}
-use Rattle.checks.specs.Checks.{checked, check-group}
+use Rattle.egg.proofs.Cells.{put-length, inside, cell-inside}
+use Rattle.hops.specs.Hops.{hopFrom, withHops}
+use Rattle.hops.proofs.Hops.{hop-agree}
+use Rattle.checks.specs.Checks.{check-group}
 use Rattle.inverses.specs.Inverses.{invertFrom, invertOf, fillInverses}
 use Rattle.lending.specs.Finish.{built, zeroed, finishedPlaced}
 use Rattle.lending.specs.Lending.{tableNeed, workNeed, lentRight, within, making, lentBack, Making}
@@ -36,8 +38,8 @@ use Rattle.theory.proofs.AnyCarrier.{any-carrier}
 use Rattle.theory.proofs.Complete.{columns}
 use Rattle.theory.proofs.FirstPlaces.{first-unique}
 use Rattle.meaning.specs.Stored.{Stored, wordOf}
-use Rattle.meaning.proofs.Inverses.{kept-cell}
-use Rattle.meaning.proofs.Accepted.{checks-sound, checks-kept, accepted-filled, sound-regular}
+use Rattle.meaning.proofs.Inverses.{kept-turned, stored-kept}
+use Rattle.meaning.proofs.Accepted.{checks-kept, accepted-filled, sound-regular}
 use Rattle.meaning.proofs.Complete.{checks-complete}
 use Rattle.numbering.specs.Read.{Read}
 use Rattle.numbering.proofs.Readings.{accepted-read, readable-accepted, read-letters}
@@ -53,7 +55,7 @@ use Rattle.promises.proofs.Enumerated.{limits, enumerates-is-build}
 use Rattle.promises.proofs.Enumerated as enumeration
 use Rattle.promises.proofs.Composed as rows-call
 use Rattle.numbering.proofs.Storing.{read-stored}
-use Rattle.promises.proofs.Built.{passed, passes, work-enough, rows-fit, checked-holds, built-holds}
+use Rattle.promises.proofs.Built.{Settled, settle, passed, passes, settled-kept, settled-sound, work-enough, rows-fit, settled-holds, built-holds}
 
 -- Inverses are found and filled alike in a longer list.
 invert-longer : (k : ℕ) (l : List ℕ) (n j at x : ℕ) → invertFrom j (longer k l) n at x ≡ invertFrom j l n at x
@@ -70,6 +72,16 @@ fill-longer k (suc c) l n e N h fits =
     let v : invertOf (longer k l) n e ≡ invertOf l n e = simp longer-get (invert-longer k l n (lengthOf l n e) e 0) in
     rw (v, longer-put k l (e * (2 * n + 4) + 2 * n + 3) (invertOf l n e) at)
     (fill-longer k c (putAt l (e * (2 * n + 4) + 2 * n + 3) (invertOf l n e)) n (e + 1) N (omega arith) (rw (put-length l (e * (2 * n + 4) + 2 * n + 3) (invertOf l n e)) fits))
+
+-- So are the letters before the last.
+hops-longer : (k c : ℕ) (l : List ℕ) (n : ℕ) → c * (2 * n + 4) ≤ length l → withHops c (longer k l) n ≡ longer k (withHops c l n)
+unfolding withHops
+hops-longer k zero l n fits = refl
+hops-longer k (suc c) l n fits =
+    let at : startOf n c + 2 * n + 1 < length l = omega (arith, cell-inside n {k = 2 * n + 1} (omega arith) {e = c} {N = suc c} (omega arith)) in
+    let v : hopFrom 5 (longer k l) n c ≡ hopFrom 5 l n c = hop-agree 5 l (longer k l) n (λ e. longer-get k l (startOf n e + 2 * n)) (λ e. rw (longer-get k l (startOf n e + 2 * n + 1))) c in
+    rw (v, longer-put k l (startOf n c + 2 * n + 1) (hopFrom 5 l n c) at)
+    (hops-longer k c (putAt l (startOf n c + 2 * n + 1) (hopFrom 5 l n c)) n (rw (put-length l (startOf n c + 2 * n + 1) (hopFrom 5 l n c)) (omega arith)))
 
 -- And so are relations tested.
 read-longer : (k : ℕ) (l : List ℕ) (n N e g : ℕ) → readStep (longer k l) n N e g ≡ readStep l n N e g
@@ -97,26 +109,27 @@ relations-longer k l n N o = simp turned-longer
 
 -- What the checks have accepted, they accept with zeros behind it, and whatever the work held.
 module _ {n N : ℕ} (few : n ≤ 8) (some : 0 < N) (small : N ≤ 65535) where
-  checks-longer : (k : ℕ) (t₀ w₀ : List ℕ) {t w₁ : List ℕ} (w : List ℕ) → N * (2 * n + 4) ≤ length t₀ → (0 < n → N ≤ length w)
-      → check-group t₀ w₀ n N ≡ checked verdict.Fine t w₁ → (w₂ : List ℕ) × (check-group (longer k t₀) w n N ≡ checked verdict.Fine (longer k t) w₂)
-  checks-longer k t₀ w₀ {t} w fits work h =
-      let K = checks-kept t₀ w₀ n N h in
-      let S = checks-sound t₀ w₀ n N h some small fits in
-      let cell : (e j : ℕ) → j < 2 * n + 3 → getD (longer k t₀) (startOf n e + j) 0 ≡ getD t (startOf n e + j) 0 = λ e j hj.
-      longer-get k t₀ (startOf n e + j) ∙ sym (kept-cell K (startOf n e + j) e j hj refl) in
+  settled-longer : (k : ℕ) (t₀ w₀ : List ℕ) {t w₁ : List ℕ} (w : List ℕ) → N * (2 * n + 4) ≤ length t₀ → (0 < n → N ≤ length w)
+      → Settled n N (check-group t₀ w₀ n N) t w₁ → (w₂ : List ℕ) × Settled n N (check-group (longer k t₀) w n N) (longer k t) w₂
+  settled-longer k t₀ w₀ {t} w fits work E =
+      let S = settled-sound t₀ w₀ E fits some small in
+      let Q = stored-kept (kept-turned (settled-kept t₀ w₀ E)) (S .stored) in
       let fits₁ : N * (2 * n + 4) ≤ length (longer k t₀) = omega (arith, longer-length k t₀) in
       let stored : Stored (longer k t₀) n N (stepOf t n) (backOf t n) (parentOf t n) (lastOf t n) (wordOf t n) = record {
-        successor = λ {e} {g} he hg. cell e g (omega arith) ∙ S .stored .successor he hg;
-        predecessor = λ {e} {g} he hg. let z : startOf n e + (n + g) ≡ startOf n e + n + g = omega arith in (rw z at (cell e (n + g) (omega arith))) ∙ S .stored .predecessor he hg;
-        parents = λ {e} pos he. cell e (2 * n) (omega arith);
-        letters = λ {e} pos he. let z : startOf n e + (2 * n + 1) ≡ startOf n e + 2 * n + 1 = omega arith in rw z at (cell e (2 * n + 1) (omega arith));
-        lengths = λ {e} he. let z : startOf n e + (2 * n + 2) ≡ startOf n e + 2 * n + 2 = omega arith in (rw z at (cell e (2 * n + 2) (omega arith))) ∙ S .stored .lengths he;
+        successor = λ he hg. longer-get k t₀ _ ∙ Q .successor he hg;
+        predecessor = λ he hg. longer-get k t₀ _ ∙ Q .predecessor he hg;
+        parents = λ pos he. longer-get k t₀ _ ∙ Q .parents pos he;
+        letters = λ pos he. rw longer-get (Q .letters pos he);
+        lengths = λ he. longer-get k t₀ _ ∙ Q .lengths he;
       } in
       let C = checks-complete few small fits₁ stored (S .table) (S .parents) (S .recorded) (S .columns)
       (λ e he. rw (← S .stored .lengths he) (S .short he)) w work (λ g hg. S .identity-row hg) (sound-regular S) in
-      let filled : C .0 ≡ longer k t = sym (accepted-filled (longer k t₀) w n N (C .2)) ∙ fill-longer k N t₀ n 0 N (omega arith) fits
-      ∙ ap (longer k) (accepted-filled t₀ w₀ n N h) in
-      (C .1, subst (λ (l : List ℕ). check-group (longer k t₀) w n N ≡ checked verdict.Fine l (C .1)) filled (C .2))
+      let filled : C .0 ≡ longer k (E .table) = sym (accepted-filled (longer k t₀) w n N (C .2)) ∙ fill-longer k N t₀ n 0 N (omega arith) fits
+      ∙ ap (longer k) (accepted-filled t₀ w₀ n N (E .checks)) in
+      let long = checks-kept t₀ w₀ n N (E .checks) .size in
+      let same : withHops N (C .0) n ≡ longer k t = ap (λ (l : List ℕ). withHops N l n) filled ∙ hops-longer k N (E .table) n (rw long fits)
+      ∙ ap (longer k) (sym (E .lettered)) in
+      (zeroed (C .1), rw same at (settle {n = n} {N = N} (C .2)))
 
 -- A build's stretch with zeros behind it, put back into other buffers.
 module _ (table : List ℕ) (start n room : ℕ) (has : hasRoom (length table) start room n ≡ true) (table′ : List ℕ) (start′ : ℕ) (work′ : List ℕ) (room′ : ℕ)
@@ -158,9 +171,9 @@ module _ (o : List ℕ) (n room lt lw : ℕ) (L : run.Limits n o room lt lw) (ri
       let work : 0 < n → N ≤ length w₁ = λ pos.
       let one : 1 ≤ 6 * n * n + 4 * n = omega arith in
       omega (arith, D .fits, L′ .work-room, work-long o n room′ lt′ lw′ L′ right (R .answer), mul-le-mul (le-refl room′) one) in
-      let C = checks-longer (L .few) (D .some) (omega (arith, D .fits, L .limit)) k (enumerated n o room lt lw .table) (enumerated n o room lt lw .work) w₁ fits work (P .checks) in
+      let C = settled-longer (L .few) (D .some) (omega (arith, D .fits, L .limit)) k (enumerated n o room lt lw .table) (enumerated n o room lt lw .work) w₁ fits work (P .end) in
       let fine : relationsRow (longer k t) n N o 0 ≡ verdict.Fine = relations-longer k t n N o ∙ P .identity in
-      (zeroed (C .0), steps-enumerated o n room′ lt′ lw′ L′ right (R .answer) (R .table) refl (C .1) fine)
+      (C .0, steps-enumerated o n room′ lt′ lw′ L′ right (R .answer) (R .table) refl (C .1) fine)
 
 module _ (table : List ℕ) (start : ℕ) (work orders : List ℕ) (n room : ℕ) (f : Factor) (t w table′ : List ℕ) (start′ : ℕ) (work′ : List ℕ) (room′ : ℕ) where
   -- Nothing is asked but that the first call is accepted and that the second is lent enough for at least the same room.
@@ -200,7 +213,7 @@ module _ {src back : ℕ → ℕ → ℕ} {n room size room′ size′ N : ℕ} 
   -- The four numbers at a row's end, then the others.
   end-same : (e : ℕ) → e < N → (k : ℕ) → k < 4 → getD t′ (startOf n e + 2 * n + k) 0 ≡ getD t (startOf n e + 2 * n + k) 0
   end-same e he zero hk = at (startOf n e + 2 * n) (omega arith) (parent-same e he)
-  end-same e he (suc zero) hk = at (startOf n e + 2 * n + 1) (omega arith) (last-same e he)
+  end-same e he (suc zero) hk = at (startOf n e + 2 * n + 1) (omega arith) (R′ .one-letter he ∙ last-same e he ∙ sym (R .one-letter he))
   end-same e he (suc (suc zero)) hk = at (startOf n e + 2 * n + 2) (omega arith) (read-letters R′ e he ∙ sym (read-letters R e he))
   end-same e he (suc (suc (suc zero))) hk = at (startOf n e + 2 * n + 3) (omega arith) (R′ .no-inverse he ∙ sym (R .no-inverse he))
   end-same e he (suc (suc (suc (suc k)))) hk = absurd (omega arith)
@@ -242,15 +255,15 @@ module _ (src : ℕ → ℕ → ℕ) (n room size : ℕ) (w : List ℕ) (few : n
   built-roomier {N} {t} q =
       let p = passed (readAll src n room (replicate size 0)) n w q in
       let R = accepted-read src n room size few lo hi fits (p .count) in
-      let H = checked-holds src n room size w few lo hi fits work R (p .checks) in
+      let H = settled-holds src n room size w few lo hi fits work R (p .end) in
       let lo′ : 1 ≤ room′ = omega arith in
       let within-room : N ≤ room′ = omega (arith, R .within) in
       let a = readable-accepted src n room′ size′ few lo′ hi′ fits′ (record { by-rule = R .by-rule; within = within-room; short = H .taken .readable .short }) in
       let r = any-carrier .0 (H .taken .group) in
       let same = read-longer-same R (accepted-read src n room′ size′ few lo′ hi′ fits′ (a .1)) (columns (r .group) (r .steps)) wider in
-      let C = checks-longer few (R .origin) (omega (arith, R .within)) (size′ - size) (p .before) w w′ (rows-fit src n room size w few lo hi fits work (R .within) (R .whole))
-      (work-enough src n room′ size′ w′ few lo′ hi′ fits′ work′ within-room) (p .checks) in
-      (zeroed (C .0), passes n w′ (a .1 ∙ ap (placed (Count N)) same) (C .1))
+      let C = settled-longer few (R .origin) (omega (arith, R .within)) (size′ - size) (p .before) w w′ (rows-fit src n room size w few lo hi fits work (R .within) (R .whole))
+      (work-enough src n room′ size′ w′ few lo′ hi′ fits′ work′ within-room) (p .end) in
+      (C .0, passes n w′ (a .1 ∙ ap (placed (Count N)) same) (C .1))
 
 module _ (table : List ℕ) (start : ℕ) (work rows : List ℕ) (n room : ℕ) (f : Factor) (t w table′ : List ℕ) (start′ : ℕ) (work′ : List ℕ) (room′ : ℕ) where
   -- The same of the call on composed rows, which needs them for the larger room too.

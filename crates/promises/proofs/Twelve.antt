@@ -3,7 +3,7 @@
 use Prim.Native.Nat.{ℕ, _+_, _*_, _≤_}
 use mathlib.Core.Path.{_≡_, refl, sym, ap, subst}
 use mathlib.Core.Logic.{_↔_, _⊎_, inl, inr}
-use mathlib.Core.List.{List, []}
+use mathlib.Core.List.{List}
 use native.Mathlib.Omega.{arith}
 use lib.ListN.{length, replicate}
 use Rattle.egg.specs.declared.Refusal.{Refusal}
@@ -34,15 +34,15 @@ abbrev pub CheckRefused : Placed → ℕ → List ℕ → Refusal → Type 0
 CheckRefused p n w r =
     (N : ℕ) × (t₀ : List ℕ) × (t₁ : List ℕ) × (w₁ : List ℕ) × (p ≡ placed (Count N) t₀) × (check-group t₀ w n N ≡ checked (verdict.Refused r) t₁ w₁)
 
-pub check-refused : (c : ℕ) {r : Refusal} {t w₁ : List ℕ} (k : Checked) → settledBy c k ≡ built (Refused r) t w₁
+pub check-refused : (n c : ℕ) {r : Refusal} {t w₁ : List ℕ} (k : Checked) → settledBy n c k ≡ built (Refused r) t w₁
     → (t₁ : List ℕ) × (w₂ : List ℕ) × (k ≡ checked (verdict.Refused r) t₁ w₂)
-check-refused c (checked verdict.Fine t₁ w₂) q = absurd (refused-counted (sym q))
-check-refused c {r} (checked (verdict.Refused s) t₁ w₂) q = let e : s ≡ r = cc in (t₁, w₂, cc)
+check-refused n c (checked verdict.Fine t₁ w₂) q = absurd (refused-counted (sym q))
+check-refused n c {r} (checked (verdict.Refused s) t₁ w₂) q = let e : s ≡ r = cc in (t₁, w₂, cc)
 
 pub build-refused : (p : Placed) (n : ℕ) (w : List ℕ) {r : Refusal} {t w₁ : List ℕ} → finishedPlaced p n w ≡ built (Refused r) t w₁
     → ((t₀ : List ℕ) × (p ≡ placed (Refused r) t₀)) ⊎ CheckRefused p n w r
 unfolding finished
-build-refused (placed (Count c) t₀) n w q = let b = check-refused c (check-group t₀ w n c) q in inr (c, t₀, b .0, b .1, refl, b .2)
+build-refused (placed (Count c) t₀) n w q = let b = check-refused n c (check-group t₀ w n c) q in inr (c, t₀, b .0, b .1, refl, b .2)
 build-refused (placed (Refused s) t₀) n w {r} q = let e : s ≡ r = cc in inl (t₀, ap (λ (x : Refusal). placed (Refused x) t₀) e)
 
 pub refused-build : {p : Placed} (n : ℕ) {N : ℕ} (w : List ℕ) {r : Refusal} {t₀ t₁ w₁ : List ℕ} → p ≡ placed (Count N) t₀

@@ -15,6 +15,8 @@ use Rattle.egg.specs.declared.Counted.{Counted}
 use Rattle.egg.specs.declared.Counted.the-variants.{Count, Refused}
 use Rattle.egg.specs.Pairs.{ordersRight}
 use Rattle.egg.proofs.Scans.{Says}
+use Rattle.hops.specs.Hops.{withHops}
+use Rattle.hops.proofs.Hops.{hops-long}
 use Rattle.checks.specs.Checks.{check-table, Checked, checked, check-group}
 use Rattle.lending.specs.Finish.{built, zeroed, settledBy, finished, finishedPlaced}
 use Rattle.lending.proofs.Finishing.{refused-counted}
@@ -26,6 +28,7 @@ use Rattle.enumeration.specs.Run.{enumerated}
 use Rattle.enumeration.specs.Calls.{ranCount, relatingBy, withWork, related, enumeratedIn}
 use Rattle.meaning.specs.Numbers.{member, every, In, lateNumbers}
 use Rattle.meaning.proofs.Accepted.{checks-sound, checks-kept}
+use Rattle.meaning.proofs.Hopping.{hopping-sound}
 use Rattle.meaning.proofs.Lengths.{checks-work}
 use Rattle.meaning.proofs.Numbers.{each-in, none-of, ranged-numbers, full-numbers, checks-number}
 use Rattle.numbering.proofs.Readings.{accepted-read, refused-read, refused-number}
@@ -47,7 +50,7 @@ pub record Zeros (r : Refusal) (l : List ℕ) (lt lw : ℕ) (t w : List ℕ) : T
   pub work : w ≡ replicate lw 0
 
 -- Whatever is refused at the end of a build, both lists are zero then.
-pub settled-zeros : (c : ℕ) (k : Checked) (t₀ w₀ : List ℕ) (n : ℕ) → check-group t₀ w₀ n c ≡ k → {r : Refusal} {t w : List ℕ} → settledBy c k ≡ built (Refused r) t w
+pub settled-zeros : (c : ℕ) (k : Checked) (t₀ w₀ : List ℕ) (n : ℕ) → check-group t₀ w₀ n c ≡ k → {r : Refusal} {t w : List ℕ} → settledBy n c k ≡ built (Refused r) t w
     → (t ≡ replicate (length t₀) 0) × (w ≡ replicate (length w₀) 0)
 settled-zeros c (checked verdict.Fine t₁ w₁) t₀ w₀ n h q = absurd (refused-counted (sym q))
 settled-zeros c (checked (verdict.Refused s) t₁ w₁) t₀ w₀ n h {r} {t} {w} q =
@@ -62,7 +65,7 @@ finished-zeros (Count c) n t₀ w₀ q = settled-zeros c (check-group t₀ w₀ 
 finished-zeros (Refused s) n t₀ w₀ {r} {t} {w} q = (cc, cc)
 
 pub check-zeros : (l : List ℕ) → every (λ x. member x l) lateNumbers ≡ true → (t₀ w₀ : List ℕ) (n c : ℕ) → Says (In l) (check-table t₀ n c)
-    → (k : Checked) → check-group t₀ w₀ n c ≡ k → {r : Refusal} {t w : List ℕ} → settledBy c k ≡ built (Refused r) t w
+    → (k : Checked) → check-group t₀ w₀ n c ≡ k → {r : Refusal} {t w : List ℕ} → settledBy n c k ≡ built (Refused r) t w
     → Zeros r l (length t₀) (length w₀) t w
 check-zeros l late t₀ w₀ n c says (checked verdict.Fine t₁ w₂) h q = absurd (refused-counted (sym q))
 check-zeros l late t₀ w₀ n c says (checked (verdict.Refused s) t₁ w₂) h {r} q =
@@ -115,32 +118,32 @@ module _ (o : List ℕ) (n room lt lw : ℕ) (L : run.Limits n o room lt lw) (ri
     W = enumerated n o room lt lw .work
 
     -- 13, where 8 to 12 have passed.
-    thirteen : {t₁ w₂ : List ℕ} → check-group T W n N ≡ checked verdict.Fine t₁ w₂ → {r : Refusal} → relationsRow t₁ n N o 0 ≡ verdict.Refused r
+    thirteen : {t₁ w₂ : List ℕ} → check-group T W n N ≡ checked verdict.Fine t₁ w₂ → {r : Refusal} → relationsRow (withHops N t₁ n) n N o 0 ≡ verdict.Refused r
         → r .number ≡ 13
     thirteen {t₁} c {r} q =
         let F = done-sound L D in
         let small : N ≤ 65535 = omega (arith, F .fits, L .limit) in
         let fits : N * (2 * n + 4) ≤ length T = omega (arith, F .whole, L .table-room, mul-le-mul (F .fits) (le-refl (2 * n + 4))) in
-        let S = checks-sound T W n N c (F .some) small fits in
+        let S = hopping-sound (checks-sound T W n N c (F .some) small fits) in
         fails-number (relations-fail S (L .few) o (orders-long o n right) (relations-identity S (L .few) o (orders-long o n right) ∙ q))
 
-    related-by : {t₁ w₂ : List ℕ} → check-group T W n N ≡ checked verdict.Fine t₁ w₂ → (v : Verdict) → relationsRow t₁ n N o 0 ≡ v → {r : Refusal} {t w : List ℕ}
-        → withWork (zeroed w₂) (relatingBy v N t₁) ≡ built (Refused r) t w → Zeros r (13 ∷ lateNumbers) (length T) (length W) t w
+    related-by : {t₁ w₂ : List ℕ} → check-group T W n N ≡ checked verdict.Fine t₁ w₂ → (v : Verdict) → relationsRow (withHops N t₁ n) n N o 0 ≡ v → {r : Refusal} {t w : List ℕ}
+        → withWork (zeroed w₂) (relatingBy v N (withHops N t₁ n)) ≡ built (Refused r) t w → Zeros r (13 ∷ lateNumbers) (length T) (length W) t w
     related-by c verdict.Fine e q = absurd (refused-counted (sym q))
     related-by {t₁} {w₂} c (verdict.Refused s) e {r} {t} {w} q =
         let i : s ≡ r = cc in
-        let a : t ≡ zeroed t₁ = cc in
+        let a : t ≡ zeroed (withHops N t₁ n) = cc in
         let b : w ≡ zeroed w₂ = cc in
         let k : r .number ≡ 13 = ap (λ (x : Refusal). x .number) (sym i) ∙ thirteen c e in
         record {
           number = rw k;
-          table = a ∙ ap (λ (k : ℕ). replicate k 0) (checks-kept T W n N c .size);
+          table = a ∙ ap (λ (k : ℕ). replicate k 0) (hops-long N t₁ n ∙ checks-kept T W n N c .size);
           work = b ∙ ap (λ (k : ℕ). replicate k 0) (checks-work T W n N c);
         }
 
-    checked-by : (k : Checked) → check-group T W n N ≡ k → {r : Refusal} {t w : List ℕ} → related n o (settledBy N k) ≡ built (Refused r) t w
+    checked-by : (k : Checked) → check-group T W n N ≡ k → {r : Refusal} {t w : List ℕ} → related n o (settledBy n N k) ≡ built (Refused r) t w
         → Zeros r (13 ∷ lateNumbers) (length T) (length W) t w
-    checked-by (checked verdict.Fine t₁ w₂) e q = related-by e (relationsRow t₁ n N o 0) refl q
+    checked-by (checked verdict.Fine t₁ w₂) e q = related-by e (relationsRow (withHops N t₁ n) n N o 0) refl q
     checked-by (checked (verdict.Refused s) t₁ w₂) e q =
         let F = done-finished L D in
         zeros-widen (13 ∷ lateNumbers) refl

@@ -8,6 +8,7 @@ use lib.ListN.{length, getD, replicate}
 use Rattle.egg.specs.declared.Factor.{Factor}
 use Rattle.egg.specs.Table.{stepOf}
 use Rattle.egg.specs.Factor.{stretch}
+use Rattle.hops.specs.Hops.{Hops}
 use Rattle.lending.specs.Lending.{tableNeed, workNeed, lentRight, within}
 use Rattle.factor.specs.Composed.{composedAt}
 use Rattle.theory.specs.Numbering.{IdentityRow}
@@ -49,11 +50,13 @@ pub record Parted (src : ℕ → ℕ → ℕ) (n room N : ℕ) : Type 0 where
   pub until-12 : Until12 n N src back (recorded n src)
   pub parting : Parting n N src (recorded n src)
 
--- What a stretch of that size holds after acceptance: a sound table by the numbering rule, whose steps are the rows', and zeros beyond its last row.
+-- What a stretch of that size holds after acceptance: a sound table by the numbering rule, whose steps are the rows', with the last five letters of each word in
+-- one cell, and zeros beyond its last row.
 pub record Holding (src : ℕ → ℕ → ℕ) (n room size N : ℕ) (t : List ℕ) : Type 1 where
   pub taken : Taken src n room N
   pub sound : Sound t n N
   pub ruled : Ruled t n N
+  pub hops : Hops t n N
   pub size-kept : length t ≡ size
   pub steps : {e g : ℕ} → e < N → g < n → stepOf t n e g ≡ src e g
   pub beyond : {i : ℕ} → N * (2 * n + 4) ≤ i → getD t i 0 ≡ 0

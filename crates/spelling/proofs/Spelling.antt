@@ -1,24 +1,24 @@
 -- Laws of the words of a product.
 -- Assumes nothing.
-use Prim.Native.Nat.{ℕ, suc, _+_, _*_, _-_, _/_, _%_, _≤_, _<_}
+use Prim.Native.Nat.{ℕ, _+_, _*_, _-_, _/_, _%_, _≤_, _<_}
 use mathlib.Core.Path.{_≡_, refl, sym, ap, _∙_}
 use mathlib.Core.Bool.{Bool, true, false, _&&_}
 use mathlib.Core.List.{List, [], _∷_}
 use native.Mathlib.Nat.{add-assoc}
 use native.Mathlib.Omega.{arith}
 use borrow.Author.Tests.{lt-ltb, le-ltb, ltb-false}
-use lib.ListN.{length, drop, set}
+use lib.ListN.{length, drop}
 use lib.Dec.{ltb}
 use Rattle.egg.specs.declared.Factor.{Factor}
 use Rattle.egg.specs.declared.Refusal.{Refusal}
 use Rattle.egg.specs.declared.Counted.{Counted}
 use Rattle.egg.specs.declared.Counted.the-variants.{Count, Refused}
-use Rattle.egg.specs.Table.{pick, parentOf, lastOf, lengthOf}
+use Rattle.egg.specs.Table.{pick, lengthOf}
 use Rattle.egg.specs.Factor.{stretch}
-use Rattle.words.specs.Words.{readable, lengthIn}
+use Rattle.words.specs.Words.{lengthIn, readable, spellFrom}
 use Rattle.words.proofs.Words.{never-both, same-count}
 use Rattle.handles.specs.Counts.{onCounted}
-use Rattle.spelling.specs.Words.{lengths, readables, spellFrom, spells, writesBy, writes, leaves}
+use Rattle.spelling.specs.Words.{lengths, readables, spells, writesBy, writes, leaves}
 
 pub length-small : (s : List ℕ) (n e : ℕ) {v : Counted} {k : ℕ} → v ≡ lengthIn s n e → v ≡ Count k → k ≤ 4096
 unfolding lengthIn
@@ -100,19 +100,6 @@ module _ {t : List ℕ} {hs : List Factor} {e f rest : ℕ} {h : Factor} (w : Lo
 pub looks-end : {t : List ℕ} {hs : List Factor} {e f rest : ℕ} → Looking t hs e f rest → drop f hs ≡ [] → true ≡ readables t hs e
 unfolding readables
 looks-end {t} {hs} {e} {f} {rest} w d = ap (λ (z : List Factor). readables t z rest) (sym d) ∙ w .same
-
--- Writing the word of one digit.
-module _ (s : List ℕ) (n e start offset : ℕ) (out : List ℕ) where
-  pub spell-end : {left : ℕ} → left ≤ 0 → out ≡ spellFrom left s n e start offset out
-  unfolding spellFrom
-  spell-end {left} h = let d : left ≡ 0 = omega arith in rw d
-
-  pub spell-more : {left p g : ℕ} → 0 < left → p ≡ parentOf s n e → g ≡ lastOf s n e
-      → spellFrom left s n e start offset out ≡ spellFrom (left - 1) s n p start offset (set out (start + (left - 1)) ((offset + g) % 256))
-  unfolding spellFrom
-  spell-more {left} k q w =
-      let d : left ≡ suc (left - 1) = omega arith in
-      ap (λ (l : ℕ). spellFrom l s n e start offset out) d ∙ rw (q, w)
 
 -- One digit's word after the other.
 pub record Spelling (t : List ℕ) (hs : List Factor) (e : ℕ) (out₀ out : List ℕ) (f rest start offset : ℕ) : Type 0 where

@@ -1,16 +1,15 @@
 -- The word of an element of a product: the words of its digits, one after the other, where each factor's generators come after those of the factors before.
 -- Assumes nothing.
-use Prim.Native.Nat.{ℕ, zero, suc, _+_, _/_, _%_}
+use Prim.Native.Nat.{ℕ, _+_, _/_, _%_}
 use mathlib.Core.List.{List, [], _∷_}
 use mathlib.Core.Bool.{Bool, true, _&&_}
-use lib.ListN.{set}
 use lib.Dec.{ltb}
 use Rattle.egg.specs.declared.Factor.{Factor}
 use Rattle.egg.specs.declared.Counted.{Counted}
 use Rattle.egg.specs.declared.Counted.the-variants.{Count, Refused}
-use Rattle.egg.specs.Table.{pick, parentOf, lastOf, lengthOf}
+use Rattle.egg.specs.Table.{pick, lengthOf}
 use Rattle.egg.specs.Factor.{stretch}
-use Rattle.words.specs.Words.{readable, lengthIn}
+use Rattle.words.specs.Words.{lengthIn, readable, spellFrom}
 use Rattle.handles.specs.Counts.{onCounted}
 
 -- The recorded lengths, added up; 17 where one is over 4,096.
@@ -25,13 +24,6 @@ readables t [] e = true
 readables t (h ∷ hs) e =
     readable (lengthOf (stretch t h) (h .generators) (e % h .elements)) (stretch t h) (h .generators) (h .elements) (e % h .elements)
     && readables t hs (e / h .elements)
-
--- The last k letters of the word that ends at e go to the places from `start` on, each moved up by `offset`. (Both together are below 64 where all is in
--- range, so that the remainder by 256 is the letter itself.)
-unfoldable pub spellFrom : (k : ℕ) (s : List ℕ) (n e start offset : ℕ) (out : List ℕ) → List ℕ
-spellFrom zero s n e start offset out = out
-spellFrom (suc k) s n e start offset out =
-    spellFrom k s n (parentOf s n e) start offset (set out (start + k) ((offset + lastOf s n e) % 256))
 
 -- Each digit's word after that of the digit before.
 unfoldable pub spells : List ℕ → List Factor → ℕ → ℕ → ℕ → List ℕ → List ℕ

@@ -1,10 +1,9 @@
 // The work of the calls, on products whose handles fit.
 ghost use mathlib.Core.Path.{_≡_};
 ghost use mathlib.Core.Bool.{true};
-ghost use Prim.Native.Nat.{_≤_};
 ghost use lib.ListN.{length};
 ghost use Rattle.handles.specs.Handles.{handles, allFit};
-ghost use Rattle.spelling.specs.Words.{lengths, readables, spellFrom, spells, writes, leaves};
+ghost use Rattle.spelling.specs.Words.{lengths, readables, spells, writes, leaves};
 use egg::Counted;
 use egg::GroupElementId;
 use handles::Group;
@@ -59,30 +58,6 @@ fn readables(table: &[u32], g: Group, e: GroupElementId) -> bool
     true
 }
 
-// The word of one digit to the places from `start` on, each letter moved up by `offset`.
-fn spell_from(
-    s: &[u32],
-    n: u8,
-    e: GroupElementId,
-    len: u32,
-    start: usize,
-    offset: u32,
-    out: &mut [u8],
-)
-    requires { ⌜ start ≤ 1099511627776 ⌝ }
-    ensures { λ r. ⌜ now (out .exit) ≡ spellFrom len (now (s .entry)) n (e .0) start offset (now (out .entry)) ⌝ }
-{
-    let mut at = e.0;
-    let mut left = len;
-    while 0 < left {
-        left -= 1;
-        let x = egg::inner::last(s, n, GroupElementId(at));
-        let letter = (((offset as u64) + (x as u64)) % 256) as u8;
-        words::inner::put_byte(out, start + (left as usize), letter);
-        at = egg::inner::parent(s, n, GroupElementId(at));
-    }
-}
-
 fn spells(table: &[u32], g: Group, e: GroupElementId, out: &mut [u8])
     requires { ⌜ allFit (length (now table)) (handles g) ≡ true ⌝ }
     ensures { λ r. ⌜ now (out .exit) ≡ spells (now (table .entry)) (handles g) (e .0) 0 0 (now (out .entry)) ⌝ }
@@ -98,7 +73,7 @@ fn spells(table: &[u32], g: Group, e: GroupElementId, out: &mut [u8])
         let s = egg::inner::part(table, h);
         let d = rest % n;
         let len = egg::inner::word_length(s, h.generators, GroupElementId(d));
-        spell_from(s, h.generators, GroupElementId(d), len, start, offset, out);
+        words::inner::spell_from(s, h.generators, GroupElementId(d), len, start, offset, out);
         start += len as usize;
         offset += h.generators as u32;
         rest /= n;

@@ -10,7 +10,8 @@ use Rattle.inverses.specs.Inverses.{invertFrom, fillInverses, inversesRight}
 use Rattle.reading.specs.Build.{setStep, setWord, adds}
 use Rattle.lending.specs.Finish.{finished}
 use Rattle.lending.specs.Lending.{lentRight, within}
-use Rattle.walks.specs.Walks.{along, readBack, backAlong, composeIn}
+use Rattle.hops.specs.Hops.{hopFrom, withHops}
+use Rattle.walks.specs.Walks.{ahead, composeIn}
 use Rattle.handles.specs.Handles.{limited}
 use Rattle.digits.specs.Digits.{digitwise}
 use Rattle.appearance.specs.Renumber.{mapPlace, mapRow, mapRows}
@@ -21,7 +22,7 @@ use Rattle.predicate.specs.Predicate.{chooses, admitsOver, toldInto, fromPredic
 use Rattle.subgroups.specs.AlteredCases.{AlteredCases}
 
 pub altered-cases : AlteredCases
-unfolding putAt startOf scan hasRoom fitsIn stretch readStep missingRow missing check8 rangeRow linksOf ranges wrongRow wrong check-table wiped arriveRow arrivals countsRight invertFrom fillInverses inversesRight identityRow columnsRow spelledRow spelled check-steps fillLeft goesRow allGo lefts check-rest check-group setStep setWord adds finished lentRight within along readBack backAlong composeIn limited digitwise mapPlace mapRow mapRows renumberIn mapsRight entriesRight smallEnough admitsGenerators generatedInto fromGenerators chooses admitsOver toldInto fromPredicate
+unfolding putAt startOf scan hasRoom fitsIn stretch readStep missingRow missing check8 rangeRow linksOf ranges wrongRow wrong check-table wiped arriveRow arrivals countsRight invertFrom fillInverses inversesRight identityRow columnsRow spelledRow spelled check-steps fillLeft goesRow allGo lefts check-rest check-group setStep setWord adds hopFrom withHops finished lentRight within ahead composeIn limited digitwise mapPlace mapRow mapRows renumberIn mapsRight entriesRight smallEnough admitsGenerators generatedInto fromGenerators chooses admitsOver toldInto fromPredicate
 altered-cases = record {
   generators-5 = refl;
   generators-8 = refl;

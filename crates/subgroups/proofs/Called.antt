@@ -309,6 +309,7 @@ module _ (from : List ℕ) (over : Group) (gens table : List ℕ) (start : ℕ) 
             fits = fits-still table start n room (has S) t (made .size-kept) c (made .sound .table .origin) (made .held .within);
             sound = rw part (made .sound);
             ruled = rw part (made .ruled);
+            hops = rw part (made .hops);
           };
           proper = made .proper;
           members = generated-as known (made .generated);

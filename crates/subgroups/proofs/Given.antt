@@ -10,6 +10,7 @@ use Rattle.egg.specs.declared.Reached.{Reached}
 use Rattle.egg.specs.declared.Reached.the-variants as reached
 use Rattle.egg.specs.declared.Counted.the-variants.{Count}
 use Rattle.egg.specs.Table.{stepOf, backOf}
+use Rattle.hops.specs.Hops.{Hops}
 use Rattle.lending.specs.Finish.{built}
 use Rattle.lending.specs.Lending.{tableNeed}
 use Rattle.theory.specs.Group.{GroupOn}
@@ -86,8 +87,9 @@ module _ {M : ℕ} {op : ℕ → ℕ → ℕ} {inv : ℕ → ℕ} (G : GroupOn M
         apart : (l : List ℕ) (y : ℕ) → getD l y 0 ≡ appear.none → getD l y 0 < c → c ≤ room → ⊥
         apart l y k a b = omega arith
 
-    -- The first part of the stretch, as long as the chosen need it, is a sound table by itself, and follows the numbering rule.
+    -- The first part of the stretch, as long as the chosen need it, is a sound table by itself, follows the numbering rule, and has the letters of its words.
     pub predicate-narrow : Sound (take (tableNeed (length gens) room) t) (length gens) c × Ruled (take (tableNeed (length gens) room) t) (length gens) c
+        × Hops (take (tableNeed (length gens) room) t) (length gens) c
     predicate-narrow =
         let E = ends-accepted (predicate-ends G small source answers room K lo hi lent size (length w) fits work byte w refl) q in
         let C = E .0 in
@@ -103,7 +105,7 @@ module _ {M : ℕ} {op : ℕ → ℕ → ℕ} {inv : ℕ → ℕ} (G : GroupOn M
         ∙ ap builtOf z in
         let m = narrow (numberedStep (appearing (right-inside G below) .0) (appearing (right-inside G below) .1) (rightBy op (λ g. getD gens g 0))) (length gens) room size
         w₀ (C .few) lo hi rows enough b in
-        (m .sound, m .ruled)
+        (m .sound, m .ruled, m .hops)
 
     -- A predicate that is true of exactly a subgroup gives that subgroup.
     pub told-subgroup : {H : ℕ → Type 0} → Subgroup M op inv H → ((y : ℕ) → y < M → H y ↔ ¬ (byte y ≡ 0))

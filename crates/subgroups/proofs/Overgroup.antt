@@ -63,6 +63,7 @@ module _ {M : ℕ} {op : ℕ → ℕ → ℕ} {inv : ℕ → ℕ} (G : GroupOn M
       record {
         sound = H .sound;
         ruled = H .ruled;
+        hops = H .hops;
         held = D;
         generated = generated-as (λ x. (λ o. (orbit-generated G gens .subgroup .below o, not-none x (D .renumbered .inward o) (D .within)), λ p. D .reached (p .0) (p .1)))
             (orbit-generated G gens);

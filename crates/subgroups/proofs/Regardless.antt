@@ -196,6 +196,7 @@ module _ (from : List ℕ) (over : Group) (gens : List ℕ) (k : ℕ) (table : L
             fits = handle-fits table start k room has most n c t few (H .size-kept) (H .sound .table .origin) (F .within);
             sound = rw cut (own .sound);
             ruled = rw cut (own .ruled);
+            hops = rw cut (own .hops);
           };
           steps = λ {e} {g} h hg. rw cut (numbered-so .steps h hg);
           inn-long = rw (front-long inn i M (F .inn-size) hi-inn) hi-inn;

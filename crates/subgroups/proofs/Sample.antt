@@ -15,9 +15,10 @@ use Rattle.checks.specs.Checks as checks
 use Rattle.inverses.specs.Inverses as inverses
 use Rattle.lefts.specs.Lefts as lefts
 use Rattle.reading.specs.Build.{setStep, setWord, adds, numbered}
+use Rattle.hops.specs.Hops.{hopFrom, withHops}
 use Rattle.lending.specs.Finish.{built, finished}
 use Rattle.appearance.specs.Renumber.{none, mapPlace, mapRow, mapRows}
-use Rattle.appearance.specs.Build.{Renumbering, renumbering, renumberIn}
+use Rattle.appearance.specs.Build.{renumbering, renumberIn}
 use Rattle.predicate.specs.Predicate.{Picked, picked, chooses, predicateIn}
 use Rattle.subgroup.specs.Indices.{overOf, subOf}
 
@@ -38,19 +39,19 @@ told bytes room = shown (predicateIn 120 (replicate 200 0) plus room 6 room (λ 
 
 -- The even ones.
 even : told (1 ∷ 0 ∷ 1 ∷ 0 ∷ 7 ∷ 0 ∷ []) 3 ≡ record { gens = 2 ∷ []; answer = Count 3; inn = 0 ∷ none ∷ 1 ∷ none ∷ 2 ∷ none ∷ []; outw = 0 ∷ 2 ∷ 4 ∷ [] }
-unfolding putAt startOf scan readStep checks.missingRow checks.missing checks.check8 checks.rangeRow checks.linksOf checks.ranges checks.wrongRow checks.wrong checks.check-table checks.wiped checks.arriveRow checks.arrivals checks.countsRight inverses.invertFrom inverses.fillInverses inverses.inversesRight lefts.identityRow lefts.columnsRow lefts.spelledRow lefts.spelled lefts.check-steps lefts.fillLeft lefts.goesRow lefts.allGo lefts.lefts checks.check-rest checks.check-group setStep setWord adds finished mapPlace mapRow mapRows renumberIn chooses
+unfolding putAt startOf scan readStep checks.missingRow checks.missing checks.check8 checks.rangeRow checks.linksOf checks.ranges checks.wrongRow checks.wrong checks.check-table checks.wiped checks.arriveRow checks.arrivals checks.countsRight inverses.invertFrom inverses.fillInverses inverses.inversesRight lefts.identityRow lefts.columnsRow lefts.spelledRow lefts.spelled lefts.check-steps lefts.fillLeft lefts.goesRow lefts.allGo lefts.lefts checks.check-rest checks.check-group setStep setWord adds hopFrom withHops finished mapPlace mapRow mapRows renumberIn chooses
 even = refl
 
 -- 2 and 3 are no subgroup: what they generate.
 all-six : told (0 ∷ 0 ∷ 1 ∷ 1 ∷ 0 ∷ 0 ∷ []) 6
     ≡ record { gens = 2 ∷ 3 ∷ []; answer = Count 6; inn = 0 ∷ 5 ∷ 1 ∷ 2 ∷ 3 ∷ 4 ∷ []; outw = 0 ∷ 2 ∷ 3 ∷ 4 ∷ 5 ∷ 1 ∷ [] }
-unfolding putAt startOf scan readStep checks.missingRow checks.missing checks.check8 checks.rangeRow checks.linksOf checks.ranges checks.wrongRow checks.wrong checks.check-table checks.wiped checks.arriveRow checks.arrivals checks.countsRight inverses.invertFrom inverses.fillInverses inverses.inversesRight lefts.identityRow lefts.columnsRow lefts.spelledRow lefts.spelled lefts.check-steps lefts.fillLeft lefts.goesRow lefts.allGo lefts.lefts checks.check-rest checks.check-group setStep setWord adds finished mapPlace mapRow mapRows renumberIn chooses
+unfolding putAt startOf scan readStep checks.missingRow checks.missing checks.check8 checks.rangeRow checks.linksOf checks.ranges checks.wrongRow checks.wrong checks.check-table checks.wiped checks.arriveRow checks.arrivals checks.countsRight inverses.invertFrom inverses.fillInverses inverses.inversesRight lefts.identityRow lefts.columnsRow lefts.spelledRow lefts.spelled lefts.check-steps lefts.fillLeft lefts.goesRow lefts.allGo lefts.lefts checks.check-rest checks.check-group setStep setWord adds hopFrom withHops finished mapPlace mapRow mapRows renumberIn chooses
 all-six = refl
 
 -- No room for the third: 5, and the maps are zero.
 short : told (1 ∷ 0 ∷ 1 ∷ 0 ∷ 1 ∷ 0 ∷ []) 2
     ≡ record { gens = 2 ∷ []; answer = Refused (numbered 5 1 0 0); inn = 0 ∷ 0 ∷ 0 ∷ 0 ∷ 0 ∷ 0 ∷ []; outw = 0 ∷ 0 ∷ [] }
-unfolding putAt startOf scan readStep checks.missingRow checks.missing checks.check8 checks.rangeRow checks.linksOf checks.ranges checks.wrongRow checks.wrong checks.check-table checks.wiped checks.arriveRow checks.arrivals checks.countsRight inverses.invertFrom inverses.fillInverses inverses.inversesRight lefts.identityRow lefts.columnsRow lefts.spelledRow lefts.spelled lefts.check-steps lefts.fillLeft lefts.goesRow lefts.allGo lefts.lefts checks.check-rest checks.check-group setStep setWord adds finished mapPlace mapRow mapRows renumberIn chooses
+unfolding putAt startOf scan readStep checks.missingRow checks.missing checks.check8 checks.rangeRow checks.linksOf checks.ranges checks.wrongRow checks.wrong checks.check-table checks.wiped checks.arriveRow checks.arrivals checks.countsRight inverses.invertFrom inverses.fillInverses inverses.inversesRight lefts.identityRow lefts.columnsRow lefts.spelledRow lefts.spelled lefts.check-steps lefts.fillLeft lefts.goesRow lefts.allGo lefts.lefts checks.check-rest checks.check-group setStep setWord adds hopFrom withHops finished mapPlace mapRow mapRows renumberIn chooses
 short = refl
 
 -- The even ones of the middle factor in 2 by 6 by 2: the subgroup's element (1, 2, 1) is 2 + .. in the overgroup, and back; (1, 3, 1) is in no subgroup.

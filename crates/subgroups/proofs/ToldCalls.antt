@@ -19,6 +19,7 @@ use Rattle.egg.specs.Table.{stepOf}
 use Rattle.egg.specs.Factor.{hasRoom, stretch}
 use Rattle.egg.proofs.Rooms.{positive, limited, and-first, and-second}
 use Rattle.reading.specs.Build.{numbered}
+use Rattle.hops.specs.Hops.{Hops}
 use Rattle.lending.specs.Finish.{built}
 use Rattle.lending.specs.Lending.{tableNeed, workNeed, lentRight, within, noFactor, refusedMade, madeOf}
 use Rattle.lending.proofs.Lending.{lent-table}
@@ -196,6 +197,7 @@ module _ (from : List ℕ) (over : Group) (members table : List ℕ) (start : �
       sub-same x h = sym (front-cell inn i M (T .held .inn-size) x h)
 
       narrowed : Sound (take (tableNeed (length gens) room) t) (length gens) c × Ruled (take (tableNeed (length gens) room) t) (length gens) c
+          × Hops (take (tableNeed (length gens) room) t) (length gens) c
       narrowed =
           predicate-narrow G (small S) (composes from (handles over)) answers room room (lo S) (hi S) (le-refl room) (tableNeed 8 room) (le-refl (tableNeed 8 room)) byte
           (take (workNeed 8 room) work) (work-fits S) gens q
@@ -234,6 +236,7 @@ module _ (from : List ℕ) (over : Group) (members table : List ℕ) (start : �
             fits = handle-fits table start 8 room (has S) (le-refl 8) (length gens) c t (T .chosen .few) (T .size-kept) (T .sound .table .origin) (T .held .within);
             sound = rw cut (narrowed .0);
             ruled = rw cut (narrowed .1);
+            hops = rw cut (narrowed .2);
           };
           proper = T .proper;
           members = generated-as known (T .generated);

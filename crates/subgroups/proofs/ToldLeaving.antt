@@ -12,14 +12,11 @@ use Rattle.egg.specs.declared.Verdict.the-variants as verdict
 use Rattle.egg.specs.declared.Counted.{Counted}
 use Rattle.egg.specs.declared.Counted.the-variants.{Count, Refused}
 use Rattle.egg.specs.Table.{pick, putAt}
-use Rattle.checks.specs.Checks.{Checked, checked, check-group}
 use Rattle.reading.specs.Reading.{placed}
-use Rattle.lending.specs.Finish.{built, zeroed, settledBy, finished}
-use Rattle.lending.proofs.Finishing.{refused-counted}
+use Rattle.lending.specs.Finish.{built, finished}
 use Rattle.lending.specs.Lending.{tableNeed, workNeed, within}
-use Rattle.meaning.proofs.Lengths.{checks-work}
-use Rattle.meaning.proofs.Accepted.{checks-kept}
 use Rattle.promises.specs.Leaves.{AllCleared}
+use Rattle.promises.proofs.Built.{passed, settled-kept, settled-work}
 use Rattle.handles.specs.declared.Group.{Group}
 use Rattle.handles.specs.Handles.{handles, elementsOf}
 use Rattle.digits.specs.Digits.{composes}
@@ -42,19 +39,12 @@ data Kept (size L M K : ℕ) : Renumbering → Type 0 where
   cleared : {f : Refusal} {t w i o : List ℕ} → t ≡ replicate size 0 → w ≡ replicate L 0 → i ≡ replicate M 0 → o ≡ replicate K 0
       → Kept size L M K (renumbering (built (Refused f) t w) i o)
 
-settled-long : (c : ℕ) (k : Checked) (t₀ w₀ : List ℕ) (n : ℕ) → check-group t₀ w₀ n c ≡ k → {d : ℕ} {t w : List ℕ} → settledBy c k ≡ built (Count d) t w
-    → (length t ≡ length t₀) × (length w ≡ length w₀)
-settled-long c (checked verdict.Fine t₁ w₁) t₀ w₀ n h {d} {t} {w} q =
-    let a : t ≡ t₁ = cc in
-    let b : w ≡ zeroed w₁ = cc in
-    (ap length a ∙ checks-kept t₀ w₀ n c h .size, ap length b ∙ length-replicate {A = ℕ} (length w₁) 0 ∙ checks-work t₀ w₀ n c h)
-settled-long c (checked (verdict.Refused s) t₁ w₁) t₀ w₀ n h q = absurd (refused-counted q)
-
 finished-long : (k : Counted) (n : ℕ) (t₀ w₀ : List ℕ) {c : ℕ} {t w : List ℕ} → finished k n t₀ w₀ ≡ built (Count c) t w
     → (length t ≡ length t₀) × (length w ≡ length w₀)
-unfolding finished
-finished-long (Count k) n t₀ w₀ q = settled-long k (check-group t₀ w₀ n k) t₀ w₀ n refl q
-finished-long (Refused s) n t₀ w₀ q = absurd (refused-counted q)
+finished-long k n t₀ w₀ q =
+    let p = passed (placed k t₀) n w₀ q in
+    let same : p .before ≡ t₀ = cc in
+    (settled-kept (p .before) w₀ (p .end) .size ∙ ap length same, ap length (settled-work (p .before) w₀ (p .end)) ∙ length-replicate {A = ℕ} (length w₀) 0)
 
 pub accepted-lengths : (size : ℕ) (w₀ : List ℕ) (source : ℕ → ℕ → Reached) (n room M K x₀ : ℕ) {c : ℕ} {t w i o : List ℕ}
     → renumberIn size w₀ source n room M K x₀ ≡ renumbering (built (Count c) t w) i o

@@ -14,14 +14,14 @@ use Rattle.generated.specs.Generated.{fromGenerators}
 use Rattle.predicate.specs.Predicate.{fromPredicate}
 use Rattle.subgroups.specs.Answers.{subgroupPaper}
 
--- Rows as an altered buffer may have them: no steps, and any steps back, each stored one more than its number. The word of the element is the generator g, and
--- its inverse is itself, so that `compose` with it reads the steps back by g. All words have one letter: where the first's is shorter, `compose` goes along that.
-abbrev pub byLetter : List ℕ → ℕ → ℕ → List ℕ
-byLetter back g e = replicate (length back) 0 ++ back ++ (0 ∷ g ∷ 1 ∷ e ∷ [])
+-- Rows as an altered buffer may have them: any steps, each stored one more than its number, and no steps back. The word of the element is the generator g, so that
+-- `compose` with it reads the steps by g.
+abbrev pub byLetter : List ℕ → ℕ → List ℕ
+byLetter steps g = steps ++ replicate (length steps) 0 ++ (0 ∷ g ∷ 1 ∷ 0 ∷ [])
 
 -- One that is composed with none.
 abbrev pub other : List ℕ → List ℕ
-other back = byLetter back 0 0
+other steps = byLetter steps 0
 
 -- One factor with n generators and N elements; and the calls on it, in buffers that are just long enough.
 abbrev pub alone : ℕ → ℕ → Group
@@ -38,29 +38,29 @@ byPredicate from n N members room =
 
 -- Two elements: the second leads to itself; the first does; the second leads nowhere; each leads to the other.
 abbrev pub missing : List ℕ
-missing = other (2 ∷ []) ++ byLetter (2 ∷ []) 0 1
+missing = other (2 ∷ []) ++ byLetter (2 ∷ []) 0
 
 abbrev pub fixed : List ℕ
-fixed = other (1 ∷ []) ++ byLetter (1 ∷ []) 0 1
+fixed = other (1 ∷ []) ++ byLetter (1 ∷ []) 0
 
 abbrev pub unknown : List ℕ
-unknown = other (2 ∷ []) ++ byLetter (0 ∷ []) 0 1
+unknown = other (2 ∷ []) ++ byLetter (0 ∷ []) 0
 
 abbrev pub turning : List ℕ
-turning = other (2 ∷ []) ++ byLetter (1 ∷ []) 0 1
+turning = other (2 ∷ []) ++ byLetter (1 ∷ []) 0
 
 -- Rows 1 2 / 3 3 / 0 0 / 2 1, where 10 applies; the element 3 has the word of 1.
 abbrev pub twisted : List ℕ
-twisted = other (2 ∷ 3 ∷ []) ++ byLetter (4 ∷ 4 ∷ []) 0 1 ++ byLetter (1 ∷ 1 ∷ []) 1 2 ++ byLetter (3 ∷ 2 ∷ []) 0 3
+twisted = other (2 ∷ 3 ∷ []) ++ byLetter (4 ∷ 4 ∷ []) 0 ++ byLetter (1 ∷ 1 ∷ []) 1 ++ byLetter (3 ∷ 2 ∷ []) 0
 
 -- Three elements, of which 1 and 2 have the same word.
 abbrev pub repeated : List ℕ
-repeated = other (2 ∷ []) ++ byLetter (1 ∷ []) 0 1 ++ byLetter (1 ∷ []) 0 2
+repeated = other (2 ∷ []) ++ byLetter (1 ∷ []) 0 ++ byLetter (1 ∷ []) 0
 
 -- Rows 1 2 / 0 3 / 4 0 / 2 4 / 3 1: 8 to 11 pass, and no group has these right steps.
 abbrev pub groupless : List ℕ
 groupless =
-    other (2 ∷ 3 ∷ []) ++ byLetter (1 ∷ 4 ∷ []) 0 1 ++ byLetter (5 ∷ 1 ∷ []) 1 2 ++ other (3 ∷ 5 ∷ []) ++ other (4 ∷ 2 ∷ [])
+    other (2 ∷ 3 ∷ []) ++ byLetter (1 ∷ 4 ∷ []) 0 ++ byLetter (5 ∷ 1 ∷ []) 1 ++ other (3 ∷ 5 ∷ []) ++ other (4 ∷ 2 ∷ [])
 
 -- The numbers modulo 9, and nine further elements: the first eight have the words of 1 to 8, and the last that of 1.
 abbrev pub modulo : ℕ → List ℕ
@@ -70,8 +70,8 @@ modulo e =
 abbrev pub eighteen : List ℕ
 eighteen =
     other (modulo 0) ++ other (modulo 1) ++ other (modulo 2) ++ other (modulo 3) ++ other (modulo 4) ++ other (modulo 5) ++ other (modulo 6)
-    ++ other (modulo 7) ++ other (modulo 8) ++ byLetter (modulo 0) 0 9 ++ byLetter (modulo 0) 1 10 ++ byLetter (modulo 0) 2 11 ++ byLetter (modulo 0) 3 12
-    ++ byLetter (modulo 0) 4 13 ++ byLetter (modulo 0) 5 14 ++ byLetter (modulo 0) 6 15 ++ byLetter (modulo 0) 7 16 ++ byLetter (modulo 0) 0 17
+    ++ other (modulo 7) ++ other (modulo 8) ++ byLetter (modulo 0) 0 ++ byLetter (modulo 0) 1 ++ byLetter (modulo 0) 2 ++ byLetter (modulo 0) 3
+    ++ byLetter (modulo 0) 4 ++ byLetter (modulo 0) 5 ++ byLetter (modulo 0) 6 ++ byLetter (modulo 0) 7 ++ byLetter (modulo 0) 0
 
 pub record AlteredCases : Type 0 where
   pub generators-5 : byGenerators turning 1 2 (1 ∷ []) 1 ≡ paper 5 0 0 0

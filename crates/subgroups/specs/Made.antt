@@ -2,10 +2,10 @@
 -- Assumes nothing.
 use Prim.Native.Nat.{ℕ, _+_, _*_, _≤_, _<_}
 use mathlib.Core.Path.{_≡_}
-use mathlib.Core.Logic.{_↔_}
 use mathlib.Core.List.{List}
 use lib.ListN.{length, getD, replicate}
 use Rattle.egg.specs.Table.{stepOf, backOf}
+use Rattle.hops.specs.Hops.{Hops}
 use Rattle.theory.specs.Regular.{compose, inverse}
 use Rattle.meaning.specs.Stored.{wordOf}
 use Rattle.meaning.specs.Sound.{Sound, Ruled}
@@ -17,6 +17,7 @@ use Rattle.subgroups.specs.Carried.{Carried, Homomorphic}
 pub record SubgroupMade (op : ℕ → ℕ → ℕ) (inv : ℕ → ℕ) (n M room K size L : ℕ) (gen : ℕ → ℕ) (c : ℕ) (t w inn outw : List ℕ) : Type 1 where
   pub sound : Sound t n c
   pub ruled : Ruled t n c
+  pub hops : Hops t n c
   pub held : Held n M room K (rightBy op gen) 0 c (stepOf t n) inn outw
   pub generated : Generated n M op inv gen (λ x. (x < M) × ¬ (getD inn x 0 ≡ appear.none))
   pub proper : Proper n gen

@@ -40,3 +40,13 @@ module _ {n N : ℕ} {step back : ℕ → ℕ → ℕ} (B : Columns n N step bac
   pub walk-retrace : {e : ℕ} {w : List ℕ} → e < N → Word n w → walk step (retrace back e w) w ≡ e
   walk-retrace e empty = refl
   walk-retrace e (letter g w) = rw (B .step-back (retrace-closed e w) g) (walk-retrace e w)
+
+-- What leads the same way by each generator leads the same way along a word.
+module _ {n : ℕ} {step step′ : ℕ → ℕ → ℕ} (agree : (e g : ℕ) → g < n → step′ e g ≡ step e g) where
+  pub walk-agree : (e : ℕ) {u : List ℕ} → Word n u → walk step′ e u ≡ walk step e u
+  walk-agree e empty = refl
+  walk-agree e (letter {g = g} h u) = rw (agree e g h) (walk-agree (step e g) u)
+
+  pub retrace-agree : (e : ℕ) {u : List ℕ} → Word n u → retrace step′ e u ≡ retrace step e u
+  retrace-agree e empty = refl
+  retrace-agree e (letter {g = g} {w = w} h u) = rw (retrace-agree e u) (agree (retrace step e w) g h)

@@ -1,19 +1,21 @@
 -- Laws of the walks, one for each answer, by the tests that lead to it.
 -- Assumes nothing.
-use Prim.Native.Nat.{ℕ, suc, _+_, _-_, _%_, _≤_, _<_}
-use mathlib.Core.Path.{_≡_, sym, ap, _∙_}
+use Prim.Native.Nat.{ℕ, suc, _+_, _-_, _/_, _%_, _≤_, _<_}
+use mathlib.Core.Path.{_≡_, refl, sym, ap, _∙_}
 use mathlib.Core.List.{List}
+use native.Mathlib.Nat.{zero-add}
 use native.Mathlib.Omega.{arith}
 use borrow.Author.Tests.{eq-eqb, ne-eqb, lt-ltb, le-ltb, le-leb, lt-leb}
 use lib.ListN.{getD}
+use lib.Dec.{leb}
 use Rattle.egg.specs.declared.Refusal.{Refusal}
 use Rattle.egg.specs.declared.GroupElementId.{GroupElementId}
 use Rattle.egg.specs.declared.Reached.{Reached}
 use Rattle.egg.specs.declared.Reached.the-variants.{Element, Refused}
-use Rattle.egg.specs.Table.{startOf, parentOf, lastOf, lengthOf, inverseOf}
+use Rattle.egg.specs.Table.{pick, startOf, parentOf, hopOf, lastOf, lengthOf, inverseOf}
 use Rattle.egg.specs.Factor.{refusedReach, readStep}
-use Rattle.walks.specs.Legs.{OneBack}
-use Rattle.walks.specs.Walks.{onReached, along, readBack, backAlong, inverseIn, composeIn, generatorIn}
+use Rattle.walks.specs.Letters.{without, LettersBack}
+use Rattle.walks.specs.Walks.{onReached, along, readBack, ahead, backBy, backAlong, inverseIn, composeIn, generatorIn}
 
 -- Going on from an element, and not from a refusal.
 module _ {v w : Reached} (q : v ≡ w) (f : ℕ → Reached) where
@@ -61,75 +63,125 @@ module _ (s : List ℕ) (n count e g : ℕ) {x : ℕ} (q : x ≡ getD s (startOf
   unfolding readBack
   back-element z h = rw (← q) (simp (ne-eqb _ _ z, le-ltb _ _ h))
 
+-- Along the letters in a number.
+module _ (s : List ℕ) (n count from c : ℕ) where
+  pub ahead-none : {k : ℕ} → k ≡ 0 → Element (record { 0 = from }) ≡ ahead k s n count from c
+  unfolding ahead
+  ahead-none z = rw z
+
+  module _ {k : ℕ} (some : k ≡ 0 → ⊥) where
+    pub ahead-letter : n ≤ c % 8 → refusedReach 17 0 ≡ ahead k s n count from c
+    unfolding ahead
+    ahead-letter z = let d : k ≡ suc (k - 1) = omega arith in rw d (simp (le-leb _ _ z))
+
+    pub ahead-more : c % 8 < n → onReached (ahead (k - 1) s n count from (c / 8)) (λ x. readStep s n count x (c % 8)) ≡ ahead k s n count from c
+    unfolding ahead
+    ahead-more z =
+        let d : k ≡ suc (k - 1) = omega arith in
+        sym (ap (λ (l : ℕ). ahead l s n count from c) d ∙ simp (lt-leb _ _ z))
+
+-- Back along the letters in a number, one by one.
+module _ (s : List ℕ) (n count x c : ℕ) where
+  pub letters-end : {left : ℕ} → left ≤ 0 → LettersBack s n count x c left (Element (record { 0 = x }))
+  unfolding without
+  letters-end {left} h = let d : left ≡ 0 = omega arith in record { leads = λ more j. rw (d, zero-add more, zero-add j) }
+
+  module _ {left : ℕ} (k : 0 < left) where
+    letter-back : (more j : ℕ) → backBy (left + more) (left + j) s n count x c
+        ≡ pick (leb n (c % 8)) (refusedReach 17 0) (onReached (readBack s n count x (c % 8)) (λ y. backBy (left - 1 + more) (left - 1 + j) s n count y (c / 8)))
+    unfolding backBy
+    letter-back more j =
+        let d : left + more ≡ suc (left - 1 + more) = omega arith in
+        let e : left + j ≡ suc (left - 1 + j) = omega arith in
+        ap (λ (l : ℕ). backBy l (left + j) s n count x c) d ∙ ap (λ (l : ℕ). backBy (suc (left - 1 + more)) l s n count x c) e
+
+    pub letters-none : {v : Reached} → n ≤ c % 8 → v ≡ refusedReach 17 0 → LettersBack s n count x c left v
+    letters-none z q = record { leads = λ more j. letter-back more j ∙ simp (le-leb _ _ z) (rw q) }
+
+    module _ (z : c % 8 < n) {v : Reached} (u : v ≡ readBack s n count x (c % 8)) where
+      pub letters-refused : {r : Refusal} → v ≡ Refused r → LettersBack s n count x c left v
+      letters-refused m = record { leads = λ more j. letter-back more j ∙ simp (lt-leb _ _ z) (rw (← u, m)) }
+
+      pub letters-more : {y : GroupElementId} {r : Reached} → v ≡ Element y → LettersBack s n count (y .0) (c / 8) (left - 1) r → LettersBack s n count x c left r
+      unfolding without
+      letters-more {r = r} m L = record {
+        leads = λ more j.
+            let d : left ≡ suc (left - 1) = omega arith in
+            letter-back more j ∙ simp (lt-leb _ _ z) (rw (← u, m) (L .leads more j ∙ ap (λ (l : ℕ). onReached r (λ y. backBy more j s n count y (without l c))) (sym d)));
+      }
+
+-- No step after the last.
+no-more : (r : Reached) → onReached r (λ x. Element (record { 0 = x })) ≡ r
+no-more (Element x) = refl
+no-more (Refused r) = refl
+
+five-off : (c : ℕ) → without 5 c ≡ c / 32768
+unfolding without
+five-off c = omega arith
+
+-- Back along a word, row by row.
 module _ (s : List ℕ) (n count x e : ℕ) where
   pub back-end : {left : ℕ} → left ≤ 0 → Element (record { 0 = x }) ≡ backAlong left s n count x e
-  unfolding backAlong
+  unfolding backBy
   back-end {left} h = let d : left ≡ 0 = omega arith in rw d
 
-  module _ {left p : ℕ} (k : 0 < left) (q : p ≡ parentOf s n e) where
-    pub back-parent : count ≤ p → refusedReach 17 0 ≡ backAlong left s n count x e
-    unfolding backAlong
-    back-parent h = let d : left ≡ suc (left - 1) = omega arith in rw (d, ← q) (simp (le-leb _ _ h))
+  pub back-outside : {left : ℕ} → 0 < left → count ≤ e → refusedReach 17 0 ≡ backAlong left s n count x e
+  unfolding backBy
+  back-outside {left} k h = let d : left ≡ suc (left - 1) = omega arith in rw d (simp (le-leb _ _ h))
 
-    module _ (h : p < count) {g : ℕ} (w : g ≡ lastOf s n e) where
-      pub back-letter : n ≤ g → refusedReach 17 0 ≡ backAlong left s n count x e
-      unfolding backAlong
-      back-letter z = let d : left ≡ suc (left - 1) = omega arith in rw (d, ← q, ← w) (simp (lt-leb _ _ h, le-leb _ _ z))
+  module _ (h : e < count) {c : ℕ} (q : c ≡ hopOf s n e) where
+    row-back : {left : ℕ} → 0 < left → backBy left 5 s n count x c ≡ backAlong left s n count x e
+    unfolding backBy
+    row-back {left} k = let d : left ≡ suc (left - 1) = omega arith in rw (d, q) (simp (lt-leb _ _ h))
 
-      module _ (z : g < n) (byte : n < 256) {v : Reached} (u : v ≡ readBack s n count x (g % 256)) where
-        pub back-refused : {r : Refusal} → v ≡ Refused r → v ≡ backAlong left s n count x e
-        unfolding backAlong
-        back-refused m =
-            let d : left ≡ suc (left - 1) = omega arith in
-            rw (d, ← q, ← w) (simp (lt-leb _ _ h, lt-leb _ _ z) (rw (← letter-byte z byte, ← u, m)))
+    pub row-last : {left : ℕ} {v : Reached} → (left ≡ 0 → ⊥) → left ≤ 5 → LettersBack s n count x c left v → v ≡ backAlong left s n count x e
+    unfolding backBy
+    row-last {left} {v} some l L =
+        let d : left + 0 ≡ left = omega arith in
+        let f : left + (5 - left) ≡ 5 = omega arith in
+        let k : 0 < left = omega arith in
+        sym (no-more v) ∙ sym (L .leads 0 (5 - left)) ∙ rw (d, f) (row-back k)
 
-        pub back-more : {y : GroupElementId} → v ≡ Element y → backAlong left s n count x e ≡ backAlong (left - 1) s n count (y .0) p
-        unfolding backAlong
-        back-more m =
-            let d : left ≡ suc (left - 1) = omega arith in
-            ap (λ (l : ℕ). backAlong l s n count x e) d
-            ∙ rw (← q, ← w) (simp (lt-leb _ _ h, lt-leb _ _ z) (rw (← letter-byte z byte, ← u, m)))
+    module _ {left : ℕ} (m : 5 < left) {v : Reached} (L : LettersBack s n count x c 5 v) where
+      row-leads : onReached v (λ y. backAlong (left - 5) s n count y (c / 32768)) ≡ backAlong left s n count x e
+      row-leads =
+          let d : 5 + (left - 5) ≡ left = omega arith in
+          let k : 0 < left = omega arith in
+          rw (← five-off c) (sym (L .leads (left - 5) 0) ∙ rw d (row-back k))
 
--- One letter back, by what was read; and two.
-pub one-back : (s : List ℕ) (n count x e : ℕ) {p g y : ℕ} → p ≡ parentOf s n e → p < count → g ≡ lastOf s n e → g < n
-    → y ≡ getD s (startOf n x + n + g) 0 → (y ≡ 0 → ⊥) → y - 1 < count → OneBack s n count x e (y - 1)
-unfolding backAlong
-one-back s n count x e {p} {g} {y} q h w z u some small = record {
-  leads = λ left k.
-      let d : left ≡ suc (left - 1) = omega arith in
-      let b : readBack s n count x g ≡ Element (record { 0 = y - 1 }) = sym (back-element s n count x g u some (omega arith)) in
-      ap (λ (l : ℕ). backAlong l s n count x e) d ∙ rw (← q, ← w) (simp (lt-leb _ _ h, lt-leb _ _ z) (rw b));
-}
+      pub row-refused : {r : Refusal} → v ≡ Refused r → v ≡ backAlong left s n count x e
+      row-refused p = p ∙ on-refused refl _ p ∙ row-leads
 
-pub two-back : (s : List ℕ) (n count x e : ℕ) {p q y z : ℕ} (left : ℕ) → 1 < left → p ≡ parentOf s n e → q ≡ parentOf s n p → OneBack s n count x e y
-    → OneBack s n count y p z → backAlong (left - 2) s n count z q ≡ backAlong left s n count x e
-two-back s n count x e {p} {q} {y} {z} left k a b one two =
-    let m : left - 1 - 1 ≡ left - 2 = omega arith in
-    sym (one .leads left (omega arith) ∙ rw (← a) (two .leads (left - 1) (omega arith) ∙ rw (← b, m)))
+      pub row-more : {y : GroupElementId} → v ≡ Element y → backAlong (left - 5) s n count (y .0) (c / 32768) ≡ backAlong left s n count x e
+      row-more p = on-element refl _ p ∙ row-leads
 
 module _ (s : List ℕ) (n count a b : ℕ) {len : ℕ} (q : len ≡ lengthOf s n b) where
+  pub compose-ahead : len ≤ 5 → {c : ℕ} → c ≡ hopOf s n b → ahead len s n count a c ≡ composeIn s n count a b
+  unfolding composeIn
+  compose-ahead h p = rw (← q, ← p) (simp (le-leb _ _ h))
+
   pub compose-long : 4096 < len → refusedReach 17 0 ≡ composeIn s n count a b
   unfolding composeIn
-  compose-long h = rw (← q) (simp (lt-ltb _ _ h))
+  compose-long h = let o : 5 < len = omega arith in rw (← q) (simp (lt-leb _ _ o, lt-ltb _ _ h))
 
-  module _ (h : len ≤ 4096) {i : ℕ} (p : i ≡ inverseOf s n b) where
+  module _ (more : 5 < len) (h : len ≤ 4096) {i : ℕ} (p : i ≡ inverseOf s n b) where
     pub compose-beyond : count ≤ i → refusedReach 17 0 ≡ composeIn s n count a b
     unfolding composeIn
-    compose-beyond k = rw (← q, ← p) (simp (le-ltb _ _ h, le-leb _ _ k))
+    compose-beyond k = rw (← q, ← p) (simp (lt-leb _ _ more, le-ltb _ _ h, le-leb _ _ k))
 
     module _ (k : i < count) {own : ℕ} (v : own ≡ lengthOf s n a) where
       pub compose-first : own < len → onReached (backAlong own s n count i a) (inverseIn s n count) ≡ composeIn s n count a b
       unfolding composeIn
-      compose-first z = rw (← q, ← p, ← v) (simp (le-ltb _ _ h, lt-leb _ _ k, lt-ltb _ _ z))
+      compose-first z = rw (← q, ← p, ← v) (simp (lt-leb _ _ more, le-ltb _ _ h, lt-leb _ _ k, lt-ltb _ _ z))
 
       module _ (o : len ≤ own) {back : ℕ} (w : back ≡ lengthOf s n i) where
         pub compose-along : len < back → along len s n count a b ≡ composeIn s n count a b
         unfolding composeIn
-        compose-along z = rw (← q, ← p, ← v, ← w) (simp (le-ltb _ _ h, lt-leb _ _ k, le-ltb _ _ o, lt-ltb _ _ z))
+        compose-along z = rw (← q, ← p, ← v, ← w) (simp (lt-leb _ _ more, le-ltb _ _ h, lt-leb _ _ k, le-ltb _ _ o, lt-ltb _ _ z))
 
         pub compose-back : back ≤ len → backAlong back s n count a i ≡ composeIn s n count a b
         unfolding composeIn
-        compose-back z = rw (← q, ← p, ← v, ← w) (simp (le-ltb _ _ h, lt-leb _ _ k, le-ltb _ _ o, le-ltb _ _ z))
+        compose-back z = rw (← q, ← p, ← v, ← w) (simp (lt-leb _ _ more, le-ltb _ _ h, lt-leb _ _ k, le-ltb _ _ o, le-ltb _ _ z))
 
 module _ (s : List ℕ) (n count a : ℕ) {i : ℕ} (q : i ≡ inverseOf s n a) where
   pub inverse-beyond : count ≤ i → refusedReach 17 0 ≡ inverseIn s n count a

@@ -2,13 +2,13 @@
 -- elements of generators. Document 01: "Calls on handles check 17 in the handle, then 14, .. then 17 in what they read." The handle is looked
 -- at before.
 -- Assumes nothing.
-use Prim.Native.Nat.{ℕ, zero, suc, _+_, _-_}
+use Prim.Native.Nat.{ℕ, zero, suc, _+_, _-_, _/_, _%_}
 use mathlib.Core.List.{List}
 use lib.ListN.{getD}
 use lib.Dec.{eqb, ltb, leb}
 use Rattle.egg.specs.declared.Reached.{Reached}
 use Rattle.egg.specs.declared.Reached.the-variants.{Element, Refused}
-use Rattle.egg.specs.Table.{pick, startOf, parentOf, lastOf, lengthOf, inverseOf}
+use Rattle.egg.specs.Table.{pick, startOf, parentOf, hopOf, lastOf, lengthOf, inverseOf}
 use Rattle.egg.specs.Factor.{refusedReach, readStep}
 
 -- What goes on from an element; a refusal stands.
@@ -30,31 +30,45 @@ readBack s n count e g =
     pick (eqb (getD s (startOf n e + n + g) 0) 0) (refusedReach 17 0)
     (pick (ltb count (getD s (startOf n e + n + g) 0)) (refusedReach 17 0) (Element (record { 0 = getD s (startOf n e + n + g) 0 - 1 })))
 
--- From an element back along the last k letters of the recorded word that ends at e, the last letter first.
-unfoldable pub backAlong : (k : ℕ) (s : List ℕ) (n count from e : ℕ) → Reached
-backAlong zero s n count from e = Element (record { 0 = from })
-backAlong (suc k) s n count from e =
-    pick (leb count (parentOf s n e)) (refusedReach 17 0)
-    (pick (leb n (lastOf s n e)) (refusedReach 17 0)
-    (onReached (readBack s n count from (lastOf s n e)) (λ x. backAlong k s n count x (parentOf s n e))))
+-- From an element along the k letters that stand in c, the last lowest.
+unfoldable pub ahead : (k : ℕ) (s : List ℕ) (n count from c : ℕ) → Reached
+ahead zero s n count from c = Element (record { 0 = from })
+ahead (suc k) s n count from c =
+    pick (leb n (c % 8)) (refusedReach 17 0) (onReached (ahead k s n count from (c / 8)) (λ x. readStep s n count x (c % 8)))
+
+-- From an element back along the last k letters of a recorded word, the last letter first. Of these j stand in c, the last lowest, and above them the element at
+-- which the word ends without them; where none is left there, that element's row has five more (`hops`).
+unfoldable pub backBy : (k j : ℕ) (s : List ℕ) (n count from c : ℕ) → Reached
+backBy zero j s n count from c = Element (record { 0 = from })
+backBy (suc k) zero s n count from c =
+    pick (leb count c) (refusedReach 17 0)
+    (pick (leb n (hopOf s n c % 8)) (refusedReach 17 0)
+    (onReached (readBack s n count from (hopOf s n c % 8)) (λ x. backBy k 4 s n count x (hopOf s n c / 8))))
+backBy (suc k) (suc j) s n count from c =
+    pick (leb n (c % 8)) (refusedReach 17 0) (onReached (readBack s n count from (c % 8)) (λ x. backBy k j s n count x (c / 8)))
+
+-- .. of the word that ends at e.
+abbrev pub backAlong : (k : ℕ) (s : List ℕ) (n count from e : ℕ) → Reached
+backAlong k s n count from e = backBy k 0 s n count from e
 
 -- The inverse was found when the table was built, and stands in the row.
 unfoldable pub inverseIn : List ℕ → ℕ → ℕ → ℕ → Reached
 inverseIn s n count a = pick (leb count (inverseOf s n a)) (refusedReach 17 0) (Element (record { 0 = inverseOf s n a }))
 
--- "`compose` walks the word of the second from the first": forward along the word of the second, or back along the word of its inverse where that is no
--- longer; or, where the first's word is shorter than the second's, back along that from the inverse of the second, to the inverse of the product. On an
--- accepted factor all three lead to the same element. An inverse beyond the elements is 17, and so is a length of the second over 4,096; the other lengths are
--- only compared with that.
+-- "`compose` walks the word of the second from the first": forward along the word of the second where that has at most five letters, which stand in its row; else
+-- back along the word of its inverse where that is no longer, else forward along its own; or, where the first's word is shorter than the second's, back along that
+-- from the inverse of the second, to the inverse of the product. On an accepted factor all of these lead to the same element. An inverse beyond the elements is 17,
+-- where it is read, and so is a length of the second over 4,096; the other lengths are only compared with that.
 unfoldable pub composeIn : (s : List ℕ) (n count a b : ℕ) → Reached
 composeIn s n count a b =
-    pick (ltb 4096 (lengthOf s n b)) (refusedReach 17 0)
+    pick (leb (lengthOf s n b) 5) (ahead (lengthOf s n b) s n count a (hopOf s n b))
+    (pick (ltb 4096 (lengthOf s n b)) (refusedReach 17 0)
     (pick (leb count (inverseOf s n b)) (refusedReach 17 0)
     (pick (ltb (lengthOf s n a) (lengthOf s n b))
     (onReached (backAlong (lengthOf s n a) s n count (inverseOf s n b) a) (inverseIn s n count))
     (pick (ltb (lengthOf s n b) (lengthOf s n (inverseOf s n b)))
     (along (lengthOf s n b) s n count a b)
-    (backAlong (lengthOf s n (inverseOf s n b)) s n count a (inverseOf s n b)))))
+    (backAlong (lengthOf s n (inverseOf s n b)) s n count a (inverseOf s n b))))))
 
 -- "`conjugate(a,b)` is a·b·a⁻¹."
 unfoldable pub conjugateIn : (s : List ℕ) (n count a b : ℕ) → Reached

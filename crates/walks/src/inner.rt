@@ -1,10 +1,7 @@
 // Walks through a factor's own stretch, and what they answer; every number is looked at before it is used.
 ghost use mathlib.Core.Path.{_≡_};
-ghost use mathlib.Core.Bool.{true};
-ghost use Prim.Native.Nat.{_<_, _≤_};
-ghost use Rattle.egg.specs.Table.{stillLeft};
-ghost use Rattle.walks.specs.Walks.{along, readBack, backAlong, inverseIn, composeIn, conjugateIn, generatorIn};
-ghost use Rattle.walks.specs.Legs.{retracedRest, OneBack};
+ghost use Rattle.walks.specs.Walks.{along, readBack, ahead, backAlong, inverseIn, composeIn, conjugateIn, generatorIn};
+ghost use Rattle.walks.specs.Letters.{LettersBack};
 use egg::GeneratorId;
 use egg::GroupElementId;
 use egg::Reached;
@@ -51,160 +48,55 @@ pub fn previous(s: &[u32], n: u8, count: u32, e: GroupElementId, g: GeneratorId)
     Reached::Element(GroupElementId(x - 1))
 }
 
-// How far a walk back along a word has come: the element that it has reached, the element at which the word that is left
-// ends, and how many letters that has; how far the last two letters led, and whether there may be more legs.
-pub struct Retraced {
-    pub reached: GroupElementId,
-    pub at: GroupElementId,
-    pub left: u32,
-    pub jump: u32,
-    pub fall: u32,
-    pub more: bool,
-}
-
-fn guessed(x: u32, on: u32, at: u32, down: u32) -> bool
-    ensures { λ r. ⌜ (r ≡ true → (x ≡ on) × (at ≡ down)) ⌝ }
+// From an element along the k letters that stand in c, the last lowest.
+fn ahead(s: &[u32], n: u8, count: u32, from: GroupElementId, c: u32, k: u32) -> Reached
+    ensures { λ r. ⌜ r ≡ ahead k (now (s .entry)) n count (from .0) c ⌝ }
 {
-    if x != on {
-        return false;
+    if k == 0 {
+        return Reached::Element(from);
     }
-    at == down
+    let g = c % 8;
+    if (n as u32) <= g {
+        return egg::inner::refuse(17, 0);
+    }
+    match ahead(&s[..], n, count, from, c / 8, k - 1) {
+        Reached::Refused(why) => Reached::Refused(why),
+        Reached::Element(x) => egg::inner::next(s, n, count, x, GeneratorId(g as u8)),
+    }
 }
 
-// The element to which the last letter of the word that ends at `at` leads back from x; where a number is out of range,
-// the count or more.
-fn retrace_letter(s: &[u32], n: u8, count: u32, x: GroupElementId, at: GroupElementId) -> u32
-    ensures { λ r. ⌜ (r < count → OneBack (now (s .entry)) n count (x .0) (at .0) r) ⌝ }
-{
-    if count <= egg::inner::parent(s, n, at) {
-        return count;
-    }
-    let letter = egg::inner::last(s, n, at);
-    if (n as u32) <= letter {
-        return count;
-    }
-    let y = egg::inner::cell(s, n, x, n, letter);
-    if y == 0 {
-        return count;
-    }
-    y - 1
-}
-
-// Two letters a turn, as long as they lead `jump` numbers on and `fall` numbers back: round a long relation they do, and a
-// processor that has the guess need not wait for the cells. A number out of range ends the leg before it.
-fn retrace_leg(
+// From an element back along the letters that are lowest in a number, the last letter first.
+fn letters_back(
     s: &[u32],
     n: u8,
     count: u32,
     from: GroupElementId,
-    word: GroupElementId,
+    cell: u32,
     letters: u32,
-    jump: u32,
-    fall: u32,
-) -> Retraced
-    ensures { λ r. ⌜ (retracedRest (now (s .entry)) n count r ≡ backAlong letters (now (s .entry)) n count (from .0) (word .0)) × (stillLeft (r .more) (r .left) ≤ letters) ⌝ }
+) -> Reached
+    ensures { λ r. ⌜ LettersBack (now (s .entry)) n count (from .0) cell letters r ⌝ }
 {
-    let mut x = from.0;
-    let mut at = word.0;
+    let mut x = from;
+    let mut c = cell;
     let mut left = letters;
-    while 1 < left {
-        let on = std::num::wrapping_add_u32(x, jump);
-        let down = std::num::wrapping_sub_u32(at, fall);
-        let y = retrace_letter(s, n, count, GroupElementId(x), GroupElementId(at));
-        let p = egg::inner::parent(s, n, GroupElementId(at));
-        let z = retrace_letter(s, n, count, GroupElementId(y), GroupElementId(p));
-        let q = egg::inner::parent(s, n, GroupElementId(p));
-        if count <= y {
-            return Retraced {
-                reached: GroupElementId(x),
-                at: GroupElementId(at),
-                left,
-                jump,
-                fall,
-                more: false,
-            };
+    while 0 < left {
+        let letter = c % 8;
+        if (n as u32) <= letter {
+            return egg::inner::refuse(17, 0);
         }
-        if count <= z {
-            return Retraced {
-                reached: GroupElementId(x),
-                at: GroupElementId(at),
-                left,
-                jump,
-                fall,
-                more: false,
-            };
-        }
-        left -= 2;
-        if !guessed(z, on, q, down) {
-            return Retraced {
-                reached: GroupElementId(z),
-                at: GroupElementId(q),
-                left,
-                jump: std::num::wrapping_sub_u32(z, x),
-                fall: std::num::wrapping_sub_u32(at, q),
-                more: true,
-            };
-        }
-        x = on;
-        at = down;
+        let back = previous(s, n, count, x, GeneratorId(letter as u8));
+        let Reached::Element(y) = back else {
+            return back;
+        };
+        x = y;
+        c = c / 8;
+        left -= 1;
     }
-    Retraced {
-        reached: GroupElementId(x),
-        at: GroupElementId(at),
-        left,
-        jump,
-        fall,
-        more: false,
-    }
+    Reached::Element(x)
 }
 
-// The most of a long word, leg by leg. In a short one guesses fail too often.
-fn retrace_most(
-    s: &[u32],
-    n: u8,
-    count: u32,
-    from: GroupElementId,
-    e: GroupElementId,
-    letters: u32,
-) -> Retraced
-    ensures { λ r. ⌜ retracedRest (now (s .entry)) n count r ≡ backAlong letters (now (s .entry)) n count (from .0) (e .0) ⌝ }
-{
-    let mut x = from.0;
-    let mut at = e.0;
-    let mut left = letters;
-    let mut jump = 0;
-    let mut fall = 0;
-    let mut more = 64 < letters;
-    while more {
-        let leg = retrace_leg(
-            s,
-            n,
-            count,
-            GroupElementId(x),
-            GroupElementId(at),
-            left,
-            jump,
-            fall,
-        );
-        x = leg.reached.0;
-        at = leg.at.0;
-        left = leg.left;
-        jump = leg.jump;
-        fall = leg.fall;
-        more = leg.more;
-    }
-    Retraced {
-        reached: GroupElementId(x),
-        at: GroupElementId(at),
-        left,
-        jump,
-        fall,
-        more,
-    }
-}
-
-// From an element back along the last `letters` letters of the word that ends at e. (`&s[..]`: a slice that is itself
-// passed on is copied at the start of its function, and a call would wait there for the one before it.)
+// From an element back along the last `letters` letters of the word that ends at e, five for each row that is read. (`&s[..]`:
+// a slice that is itself passed on is copied at the start of its function, and a call would wait there for the one before it.)
 pub fn back_along(
     s: &[u32],
     n: u8,
@@ -215,33 +107,42 @@ pub fn back_along(
 ) -> Reached
     ensures { λ r. ⌜ r ≡ backAlong letters (now (s .entry)) n count (from .0) (e .0) ⌝ }
 {
-    let rest = retrace_most(&s[..], n, count, from, e, letters);
-    let mut x = rest.reached;
-    let mut at = rest.at;
-    let mut left = rest.left;
-    while 0 < left {
-        let p = egg::inner::parent(s, n, at);
-        if count <= p {
+    let mut x = from;
+    let mut at = e.0;
+    let mut left = letters;
+    while 5 < left {
+        if count <= at {
             return egg::inner::refuse(17, 0);
         }
-        let letter = egg::inner::last(s, n, at);
-        if (n as u32) <= letter {
-            return egg::inner::refuse(17, 0);
-        }
-        let back = previous(s, n, count, x, GeneratorId((letter % 256) as u8));
+        let c = egg::inner::hop(s, n, GroupElementId(at));
+        let back = letters_back(&s[..], n, count, x, c, 5);
         let Reached::Element(y) = back else {
             return back;
         };
         x = y;
-        at = GroupElementId(p);
-        left -= 1;
+        at = c / 32768;
+        left -= 5;
     }
-    Reached::Element(x)
+    if left == 0 {
+        return Reached::Element(x);
+    }
+    if count <= at {
+        return egg::inner::refuse(17, 0);
+    }
+    letters_back(
+        &s[..],
+        n,
+        count,
+        x,
+        egg::inner::hop(s, n, GroupElementId(at)),
+        left,
+    )
 }
 
-// Back along the word of the inverse the letters come in the order in which they are walked, so that nothing waits for
-// a return; where that word is longer, along the element's own. Where the first's word is shorter than the second's, back
-// along that from the second's inverse, to the inverse of the product.
+// Along a word of at most five letters by the cell that has them all. Back along the word of the inverse the letters come in
+// the order in which they are walked, so that nothing waits for a return; where that word is longer, along the element's own.
+// Where the first's word is shorter than the second's, back along that from the second's inverse, to the inverse of the
+// product.
 pub fn compose_with_care(
     s: &[u32],
     n: u8,
@@ -252,6 +153,9 @@ pub fn compose_with_care(
     ensures { λ r. ⌜ r ≡ composeIn (now (s .entry)) n count (a .0) (b .0) ⌝ }
 {
     let len = egg::inner::word_length(s, n, b);
+    if len <= 5 {
+        return ahead(&s[..], n, count, a, egg::inner::hop(s, n, b), len);
+    }
     if 4096 < len {
         return egg::inner::refuse(17, 0);
     }

@@ -1,19 +1,21 @@
 -- Laws of the recorded words, one for each answer, by the tests that lead to it.
 -- Assumes nothing.
-use Prim.Native.Nat.{ℕ, zero, suc, _-_, _%_, _≤_, _<_}
+use Prim.Native.Nat.{ℕ, zero, suc, _+_, _-_, _/_, _%_, _≤_, _<_}
 use mathlib.Core.Path.{_≡_, refl, sym, ap, _∙_}
 use mathlib.Core.Bool.{Bool, true, false, _&&_}
 use mathlib.Core.List.{List, [], _∷_, _++_, append-assoc}
 use native.Mathlib.Omega.{arith}
 use borrow.Author.Tests.{lt-ltb, le-ltb, ltb-true, ltb-false}
-use lib.ListN.{length, take, drop, set, length-set, length-append}
-use lib.Seq.{drop-cons, getD-set-same, drop-set-lt}
+use lib.ListN.{length, take, drop, set, length-set, length-append, length-drop}
+use lib.Seq.{drop-cons, getD-set-same, drop-set-lt, drop-set-add}
 use lib.Dec.{ltb}
 use Rattle.egg.specs.declared.Refusal.{Refusal}
 use Rattle.egg.specs.declared.Counted.{Counted}
 use Rattle.egg.specs.declared.Counted.the-variants as counted
-use Rattle.egg.specs.Table.{parentOf, lastOf, lengthOf}
-use Rattle.words.specs.Words.{lengthIn, readable, spell, writeIn, writtenBy}
+use Rattle.egg.specs.Table.{hopOf, lengthOf}
+use Rattle.egg.proofs.Rooms.{and-first, and-second}
+use Rattle.words.specs.Words.{lengthIn, readableBy, readable, spellBy, spellFrom, spell, writeIn, writtenBy}
+use Rattle.words.specs.Letters.{lettersBelow, lettersPut}
 
 module _ (s : List ℕ) (n e : ℕ) {len : ℕ} (q : len ≡ lengthOf s n e) where
   pub length-long : 4096 < len → counted.Refused (record { number = 17; a = 0; b = 0; c = 0 }) ≡ lengthIn s n e
@@ -24,55 +26,191 @@ module _ (s : List ℕ) (n e : ℕ) {len : ℕ} (q : len ≡ lengthOf s n e) whe
   unfolding lengthIn
   length-count h = rw (← q) (simp (le-ltb _ _ h))
 
-and-false : (a : Bool) → a && false ≡ false
-and-false true = refl
-and-false false = refl
+-- What a number holds above its first j letters.
+unfoldable after : (j c : ℕ) → ℕ
+after zero c = c
+after (suc j) c = after j (c / 8)
 
-module _ (s : List ℕ) (n count e : ℕ) where
-  pub readable-end : {left : ℕ} → left ≤ 0 → true ≡ readable left s n count e
-  unfolding readable
-  readable-end {left} h = let d : left ≡ 0 = omega arith in rw d
+five-after : (c : ℕ) → after 5 c ≡ c / 32768
+unfolding after
+five-after c = omega arith
 
-  module _ {left g : ℕ} (k : 0 < left) (w : g ≡ lastOf s n e) where
-    pub readable-letter : n ≤ g → false ≡ readable left s n count e
-    unfolding readable
-    readable-letter h = let d : left ≡ suc (left - 1) = omega arith in rw (d, ← w) (simp (le-ltb _ _ h, and-false))
+pub all-below : (k j n c : ℕ) → lettersBelow j j n c ≡ true → lettersBelow k j n c ≡ true
+unfolding lettersBelow
+all-below zero j n c h = refl
+all-below (suc k) zero n c h = refl
+all-below (suc k) (suc j) n c h =
+    rw (and-first (ltb (c % 8) n) (lettersBelow j j n (c / 8)) h) (all-below k j n (c / 8) (and-second (ltb (c % 8) n) (lettersBelow j j n (c / 8)) h))
 
-    module _ {p : ℕ} (q : p ≡ parentOf s n e) (h : g < n) where
-      pub readable-parent : count ≤ p → false ≡ readable left s n count e
-      unfolding readable
-      readable-parent z = let d : left ≡ suc (left - 1) = omega arith in rw (d, ← q) (simp (le-ltb _ _ z))
+pub below-five : (n c : ℕ) → c % 8 < n → c / 8 % 8 < n → c / 8 / 8 % 8 < n → c / 8 / 8 / 8 % 8 < n → c / 8 / 8 / 8 / 8 % 8 < n → lettersBelow 5 5 n c ≡ true
+unfolding lettersBelow
+below-five n c a b d e f = simp (lt-ltb _ _ a, lt-ltb _ _ b, lt-ltb _ _ d, lt-ltb _ _ e, lt-ltb _ _ f)
 
-      pub readable-more : p < count → readable left s n count e ≡ readable (left - 1) s n count p
-      unfolding readable
-      readable-more z =
-          let d : left ≡ suc (left - 1) = omega arith in
-          ap (λ (l : ℕ). readable l s n count e) d ∙ rw (← q, ← w) (simp (lt-ltb _ _ z, lt-ltb _ _ h))
+-- Letter by letter: none of the word is left, or none of the number.
+module _ (n c word here : ℕ) where
+  pub below-word : word ≡ 0 → true ≡ lettersBelow word here n c
+  unfolding lettersBelow
+  below-word h = rw h
 
-module _ (s : List ℕ) (n e : ℕ) (out : List ℕ) where
-  pub spell-end : {left : ℕ} → left ≤ 0 → out ≡ spell left s n e out
-  unfolding spell
-  spell-end {left} h = let d : left ≡ 0 = omega arith in rw d
+  pub below-here : here ≤ 0 → true ≡ lettersBelow word here n c
+  unfolding lettersBelow
+  below-here h = let d : here ≡ 0 = omega arith in sym (rw d (all-below word 0 n c refl))
 
-  pub spell-more : {left p g : ℕ} → 0 < left → p ≡ parentOf s n e → g ≡ lastOf s n e
-      → spell left s n e out ≡ spell (left - 1) s n p (set out (left - 1) (g % 256))
-  unfolding spell
-  spell-more {left} k q w =
-      let d : left ≡ suc (left - 1) = omega arith in
-      ap (λ (l : ℕ). spell l s n e out) d ∙ rw (q, w)
+  module _ (w : word ≡ 0 → ⊥) (h : 0 < here) where
+    pub below-no : n ≤ c % 8 → false ≡ lettersBelow word here n c
+    unfolding lettersBelow
+    below-no l = let d : word ≡ suc (word - 1) = omega (arith, w) in let e : here ≡ suc (here - 1) = omega arith in rw (d, e) (simp (le-ltb _ _ l))
 
--- Two letters at once.
-module _ (s : List ℕ) (n count e : ℕ) {left g p h q : ℕ} (k : 1 < left) (a : g ≡ lastOf s n e) (b : p ≡ parentOf s n e) (c : h ≡ lastOf s n p) (d : q ≡ parentOf s n p) where
-  pub readable-two : g < n → p < count → h < n → q < count → readable (left - 2) s n count q ≡ readable left s n count e
-  readable-two gn pc hn qc =
-      let m : left - 1 - 1 ≡ left - 2 = omega arith in
-      sym (readable-more s n count e (omega arith) a b gn pc ∙ readable-more s n count p {left = left - 1} (omega arith) c d hn qc ∙ rw m)
+    pub below-on : c % 8 < n → lettersBelow (word - 1) (here - 1) n (c / 8) ≡ lettersBelow word here n c
+    unfolding lettersBelow
+    below-on l =
+        let d : word ≡ suc (word - 1) = omega (arith, w) in
+        let e : here ≡ suc (here - 1) = omega arith in
+        sym (ap (λ (k : ℕ). lettersBelow k here n c) d ∙ ap (λ (j : ℕ). lettersBelow (suc (word - 1)) j n c) e ∙ simp (lt-ltb _ _ l))
 
-  pub spell-two : (out : List ℕ) {out′ out″ : List ℕ} → out′ ≡ set out (left - 1) (g % 256) → out″ ≡ set out′ (left - 2) (h % 256)
-      → spell (left - 2) s n q out″ ≡ spell left s n e out
-  spell-two out {out′} {out″} u v =
-      let m : left - 1 - 1 ≡ left - 2 = omega arith in
-      sym (spell-more s n e out (omega arith) b a ∙ rw (← u) (spell-more s n p out′ {left = left - 1} (omega arith) d c ∙ rw (m, ← v)))
+module _ (c start offset : ℕ) (out : List ℕ) (word here : ℕ) where
+  pub put-word : word ≡ 0 → out ≡ lettersPut word here c start offset out
+  unfolding lettersPut
+  put-word h = rw h
+
+  pub put-here : here ≤ 0 → out ≡ lettersPut word here c start offset out
+  unfolding lettersPut
+  put-here h = let d : here ≡ 0 = omega arith in rw d (by word) where
+    by : (k : ℕ) → out ≡ lettersPut k 0 c start offset out
+    by zero = refl
+    by (suc k) = refl
+
+  pub put-on : (word ≡ 0 → ⊥) → 0 < here → {o : List ℕ} → o ≡ set out (start + (word - 1)) ((offset + c % 8) % 256)
+      → lettersPut (word - 1) (here - 1) (c / 8) start offset o ≡ lettersPut word here c start offset out
+  unfolding lettersPut
+  put-on w h q =
+      let d : word ≡ suc (word - 1) = omega (arith, w) in
+      let e : here ≡ suc (here - 1) = omega arith in
+      sym (ap (λ (k : ℕ). lettersPut k here c start offset out) d ∙ ap (λ (j : ℕ). lettersPut (suc (word - 1)) j c start offset out) e ∙ rw q)
+
+and-both : (a b d : Bool) → (a && b) && d ≡ a && (b && d)
+and-both true b d = refl
+and-both false b d = refl
+
+-- The letters of one number are read, or written, and the rest of the word from what is above them.
+module _ (s : List ℕ) (n : ℕ) where
+  read-letters : (count k j c : ℕ) → readableBy k j s n count c ≡ lettersBelow k j n c && readableBy (k - j) 0 s n count (after j c)
+  unfolding readableBy lettersBelow after
+  read-letters count zero j c = let d : 0 - j ≡ 0 = omega arith in rw d
+  read-letters count (suc k) zero c = let d : suc k - 0 ≡ suc k = omega arith in rw d
+  read-letters count (suc k) (suc j) c =
+      let d : suc k - suc j ≡ k - j = omega arith in
+      rw (d, and-both (ltb (c % 8) n) (lettersBelow k j n (c / 8)) (readableBy (k - j) 0 s n count (after j (c / 8))), ← read-letters count k j (c / 8))
+
+  spell-letters : (k j c start offset : ℕ) (out : List ℕ)
+      → spellBy k j s n c start offset out ≡ spellBy (k - j) 0 s n (after j c) start offset (lettersPut k j c start offset out)
+  unfolding spellBy lettersPut after
+  spell-letters zero j c start offset out = let d : 0 - j ≡ 0 = omega arith in rw d
+  spell-letters (suc k) zero c start offset out = let d : suc k - 0 ≡ suc k = omega arith in rw d
+  spell-letters (suc k) (suc j) c start offset out =
+      let d : suc k - suc j ≡ k - j = omega arith in
+      rw d (spell-letters k j (c / 8) start offset (set out (start + k) ((offset + c % 8) % 256)))
+
+-- Before the fourth place nothing is looked at.
+put-before : (j c start : ℕ) (held : List ℕ) → start + j ≤ 4 → drop 4 (lettersPut j j c start 0 held) ≡ drop 4 held
+unfolding lettersPut
+put-before zero c start held h = refl
+put-before (suc j) c start held h =
+    put-before j (c / 8) start (set held (start + j) ((0 + c % 8) % 256)) (omega arith) ∙ drop-set-lt 4 held (start + j) ((0 + c % 8) % 256) (omega arith)
+
+letter-same : (x : ℕ) → x % 8 ≡ (0 + x % 8) % 256
+letter-same x = omega arith
+
+pub put-five : (c place : ℕ) (held : List ℕ)
+    → set (set (set (set (set held (place + 4) (c % 8)) (place + 3) (c / 8 % 8)) (place + 2) (c / 8 / 8 % 8)) (place + 1) (c / 8 / 8 / 8 % 8)) place (c / 8 / 8 / 8 / 8 % 8)
+    ≡ lettersPut 5 5 c place 0 held
+unfolding lettersPut
+put-five c place held =
+    let z : place + 0 ≡ place = omega arith in
+    rw (z, ← letter-same c, ← letter-same (c / 8), ← letter-same (c / 8 / 8), ← letter-same (c / 8 / 8 / 8), ← letter-same (c / 8 / 8 / 8 / 8))
+
+-- All letters of the number, behind four places: those of the word are where they belong.
+spell-behind : (s : List ℕ) (n k j c start : ℕ) (held : List ℕ) → start + j ≡ k + 4
+    → spellBy k j s n c 0 0 (drop 4 held) ≡ spellBy (k - j) 0 s n (after j c) 0 0 (drop 4 (lettersPut j j c start 0 held))
+unfolding spellBy lettersPut after
+spell-behind s n zero zero c start held h = refl
+spell-behind s n zero (suc j) c start held h = let d : 0 - suc j ≡ 0 = omega arith in rw d (sym (put-before (suc j) c start held (omega arith)))
+spell-behind s n (suc k) zero c start held h = let d : suc k - 0 ≡ suc k = omega arith in rw d
+spell-behind s n (suc k) (suc j) c start held h =
+    let d : suc k - suc j ≡ k - j = omega arith in
+    let p : start + j ≡ 4 + k = omega arith in
+    let z : 0 + k ≡ k = omega arith in
+    rw (d, z, p, ← drop-set-add 4 held k ((0 + c % 8) % 256)) (rw (← p) (spell-behind s n k j (c / 8) start (set held (start + j) ((0 + c % 8) % 256)) (omega arith)))
+
+-- One turn: the letters of the row at which what is left of the word ends.
+pub readable-end : (s : List ℕ) (n count e : ℕ) {left : ℕ} → left ≤ 0 → true ≡ readable left s n count e
+unfolding readableBy
+readable-end s n count e {left} h = let d : left ≡ 0 = omega arith in rw d
+
+pub readable-out : (s : List ℕ) (n count e : ℕ) {left : ℕ} → 0 < left → count ≤ e → false ≡ readable left s n count e
+unfolding readableBy
+readable-out s n count e {left} k h = let d : left ≡ suc (left - 1) = omega arith in rw d (simp (le-ltb _ _ h))
+
+module _ (s : List ℕ) (n count e : ℕ) {left c : ℕ} (k : 0 < left) (i : e < count) (q : c ≡ hopOf s n e) {b : Bool} (p : b ≡ lettersBelow left 5 n c) where
+  readable-hop : readable left s n count e ≡ readableBy left 5 s n count c
+  unfolding readableBy
+  readable-hop = let d : left ≡ suc (left - 1) = omega arith in rw (d, q) (simp (lt-ltb _ _ i))
+
+  readable-turn : readable left s n count e ≡ b && readable (left - 5) s n count (c / 32768)
+  readable-turn = readable-hop ∙ read-letters s n count left 5 c ∙ rw (five-after c, p)
+
+  pub readable-no : b ≡ false → false ≡ readable left s n count e
+  readable-no h = sym (readable-turn ∙ rw h)
+
+  pub readable-more : b ≡ true → readable (left - 5) s n count (c / 32768) ≡ readable left s n count e
+  readable-more h = sym (readable-turn ∙ rw h)
+
+  pub readable-last : b ≡ true → left ≤ 5 → true ≡ readable left s n count e
+  readable-last h l = readable-end s n count (c / 32768) (omega arith) ∙ readable-more h
+
+pub spell-end : (s : List ℕ) (n e start offset : ℕ) (out : List ℕ) {left : ℕ} → left ≤ 0 → out ≡ spellFrom left s n e start offset out
+unfolding spellBy
+spell-end s n e start offset out {left} h = let d : left ≡ 0 = omega arith in rw d
+
+module _ (s : List ℕ) (n e start offset : ℕ) (out : List ℕ) {left c : ℕ} (k : 0 < left) (q : c ≡ hopOf s n e) where
+  spell-hop : spellFrom left s n e start offset out ≡ spellBy left 5 s n c start offset out
+  unfolding spellBy
+  spell-hop = let d : left ≡ suc (left - 1) = omega arith in rw (d, q)
+
+  module _ {o : List ℕ} (p : o ≡ lettersPut left 5 c start offset out) where
+    pub spell-more : spellFrom (left - 5) s n (c / 32768) start offset o ≡ spellFrom left s n e start offset out
+    spell-more = sym (spell-hop ∙ spell-letters s n left 5 c start offset out ∙ rw (five-after c, ← p))
+
+    pub spell-last : left ≤ 5 → o ≡ spellFrom left s n e start offset out
+    spell-last l = spell-end s n (c / 32768) start offset o (omega arith) ∙ spell-more
+
+-- What is gathered from here on is the word.
+pub record Gathering (s : List ℕ) (n count e len : ℕ) (held₀ held : List ℕ) (at left : ℕ) : Type 0 where
+  pub kept : length held ≡ length held₀
+  pub fewer : left ≤ len
+  pub reads : readable left s n count at ≡ readable len s n count e
+  pub spells : spell left s n at (drop 4 held) ≡ spell len s n e (drop 4 held₀)
+
+pub gathering : (s : List ℕ) (n count e len : ℕ) (held : List ℕ) → Gathering s n count e len held held e len
+gathering s n count e len held = record { kept = refl; fewer = omega arith; reads = refl; spells = refl }
+
+pub gathers-end : {s : List ℕ} {n count e len : ℕ} {held₀ held : List ℕ} {at left : ℕ} → Gathering s n count e len held₀ held at left → left ≤ 0
+    → (readable len s n count e ≡ true) × (drop 4 held ≡ spell len s n e (drop 4 held₀))
+gathers-end {s} {n} {count} {e} {len} {held₀} {held} {at} w h =
+    (sym (readable-end s n count at h ∙ w .reads), spell-end s n at 0 0 (drop 4 held) h ∙ w .spells)
+
+module _ {s : List ℕ} {n count e len : ℕ} {held₀ held : List ℕ} {at left : ℕ} (w : Gathering s n count e len held₀ held at left) {c : ℕ} (k : 0 < left)
+    (i : at < count) (q : c ≡ hopOf s n at) (p : lettersBelow 5 5 n c ≡ true) {held′ : List ℕ} (o : held′ ≡ lettersPut 5 5 c (left - 1) 0 held)
+    (l : length held′ ≡ length held)
+  where
+    pub gathers-on : Gathering s n count e len held₀ held′ (c / 32768) (left - 5)
+    gathers-on = record {
+      kept = l ∙ w .kept;
+      fewer = omega (arith, w .fewer);
+      reads = readable-more s n count at k i q refl (all-below left 5 n c p) ∙ w .reads;
+      spells =
+          sym (spell-hop s n at 0 0 (drop 4 held) k q ∙ spell-behind s n left 5 c (left - 1) held (omega arith) ∙ rw (five-after c, ← o)) ∙ w .spells;
+    }
 
 take-front : (a b : List ℕ) (k : ℕ) → k ≡ length a → take k (a ++ b) ≡ a
 take-front [] b k q = rw q
@@ -88,29 +226,43 @@ drop-set-here l i v h =
     drop-cons (set l i v) i 0 (rw (length-set l i v) h) ∙ rw (getD-set-same l i v 0 h, drop-set-lt (suc i) l i v (omega arith))
 
 -- The letters by themselves: what is spelled is these and the rest of the buffer, so that a copy of them spells the word anywhere.
-unfoldable letters : ℕ → List ℕ → ℕ → ℕ → List ℕ
-letters zero s n e = []
-letters (suc k) s n e = letters k s n (parentOf s n e) ++ (lastOf s n e % 256 ∷ [])
+unfoldable letters : (k j : ℕ) (s : List ℕ) (n c : ℕ) → List ℕ
+letters zero j s n c = []
+letters (suc k) zero s n c = letters k 4 s n (hopOf s n c / 8) ++ ((0 + hopOf s n c % 8) % 256 ∷ [])
+letters (suc k) (suc j) s n c = letters k j s n (c / 8) ++ ((0 + c % 8) % 256 ∷ [])
 
 module _ (s : List ℕ) (n : ℕ) where
-  letters-length : (k e : ℕ) → length (letters k s n e) ≡ k
+  one-spelled : (l out : List ℕ) (k v : ℕ) {x : List ℕ} → k < length out → x ≡ l ++ drop k (set out k v) → x ≡ (l ++ (v ∷ [])) ++ drop (suc k) out
+  one-spelled l out k v h q = q ∙ rw (drop-set-here out k v h) (sym (append-assoc l (v ∷ []) (drop (suc k) out)))
+
+  letters-length : (k j c : ℕ) → length (letters k j s n c) ≡ k
   unfolding letters
-  letters-length zero e = refl
-  letters-length (suc k) e = length-append (letters k s n (parentOf s n e)) (lastOf s n e % 256 ∷ []) ∙ rw (letters-length k (parentOf s n e)) (omega arith)
+  letters-length zero j c = refl
+  letters-length (suc k) zero c = length-append (letters k 4 s n (hopOf s n c / 8)) _ ∙ rw (letters-length k 4 (hopOf s n c / 8)) (omega arith)
+  letters-length (suc k) (suc j) c = length-append (letters k j s n (c / 8)) _ ∙ rw (letters-length k j (c / 8)) (omega arith)
 
-  spelled : (k e : ℕ) (out : List ℕ) → k ≤ length out → spell k s n e out ≡ letters k s n e ++ drop k out
-  unfolding spell letters
-  spelled zero e out room = refl
-  spelled (suc k) e out room =
-      spelled k (parentOf s n e) (set out k (lastOf s n e % 256)) (rw (length-set out k (lastOf s n e % 256)) (omega arith))
-      ∙ rw (drop-set-here out k (lastOf s n e % 256) (omega arith)) (sym (append-assoc (letters k s n (parentOf s n e)) (lastOf s n e % 256 ∷ []) (drop (suc k) out)))
+  spelled : (k j c : ℕ) (out : List ℕ) → k ≤ length out → spellBy k j s n c 0 0 out ≡ letters k j s n c ++ drop k out
+  unfolding spellBy letters
+  spelled zero j c out room = refl
+  spelled (suc k) zero c out room =
+      let z : 0 + k ≡ k = omega arith in
+      one-spelled (letters k 4 s n (hopOf s n c / 8)) out k ((0 + hopOf s n c % 8) % 256) room
+      (rw z (spelled k 4 (hopOf s n c / 8) (set out k ((0 + hopOf s n c % 8) % 256)) (rw (length-set out k ((0 + hopOf s n c % 8) % 256)) (omega arith))))
+  spelled (suc k) (suc j) c out room =
+      let z : 0 + k ≡ k = omega arith in
+      one-spelled (letters k j s n (c / 8)) out k ((0 + c % 8) % 256) room
+      (rw z (spelled k j (c / 8) (set out k ((0 + c % 8) % 256)) (rw (length-set out k ((0 + c % 8) % 256)) (omega arith))))
 
-  pub spell-copied : (k e : ℕ) (held out : List ℕ) {held′ out′ : List ℕ} {m : ℕ} → k ≤ length held → k ≤ length out → held′ ≡ spell k s n e held
-      → m ≡ k → out′ ≡ take m (take k held′) ++ drop m out → out′ ≡ spell k s n e out
-  spell-copied k e held out h r p d q =
-      let first : take k (letters k s n e ++ drop k held) ≡ letters k s n e = take-front (letters k s n e) (drop k held) k (sym (letters-length k e)) in
-      let again : take k (letters k s n e) ≡ letters k s n e = take-all (letters k s n e) k (sym (letters-length k e)) in
-      q ∙ rw (d, p, spelled k e held h, first, again) (sym (spelled k e out r))
+  pub spell-copied : (k e : ℕ) (held out : List ℕ) {l out′ : List ℕ} → k + 4 ≤ length held → k ≤ length out → l ≡ spell k s n e (drop 4 held)
+      → out′ ≡ take (length (take (k + 4 - 4) l)) (take (k + 4 - 4) l) ++ drop (length (take (k + 4 - 4) l)) out → out′ ≡ spell k s n e out
+  spell-copied k e held out {l} h r p q =
+      let d : k + 4 - 4 ≡ k = omega arith in
+      let room : k ≤ length (drop 4 held) = rw (length-drop 4 held) (omega arith) in
+      let first : take (k + 4 - 4) l ≡ letters k 0 s n e =
+      rw (d, p, spelled k 0 e (drop 4 held) room) (take-front (letters k 0 s n e) (drop k (drop 4 held)) k (sym (letters-length k 0 e)))
+      in
+      let all : take k (letters k 0 s n e) ≡ letters k 0 s n e = take-all (letters k 0 s n e) k (sym (letters-length k 0 e)) in
+      q ∙ rw (first, letters-length k 0 e, all) (sym (spelled k 0 e out r))
 
 module _ (s : List ℕ) (n count e size : ℕ) {len : ℕ} (q : len ≡ lengthOf s n e) where
   pub write-long : 4096 < len → writeIn s n count e size ≡ counted.Refused (record { number = 17; a = 0; b = 0; c = 0 })

@@ -1,11 +1,11 @@
 // The recorded words of a factor's elements: their lengths, and their letters into a lent byte buffer.
 ghost use mathlib.Core.Path.{_≡_};
 ghost use mathlib.Core.Bool.{true};
-ghost use Prim.Native.Nat.{_<_, _≤_};
-ghost use lib.ListN.{length, set};
+ghost use Prim.Native.Nat.{_+_, _≤_};
+ghost use lib.ListN.{length, set, drop};
 ghost use Rattle.egg.specs.Table.{pick};
-ghost use Rattle.words.specs.Words.{lengthIn, readable, spell, writeIn, writtenBy};
-ghost use Rattle.words.specs.Legs.{GatheredRest};
+ghost use Rattle.words.specs.Words.{lengthIn, readable, spellFrom, spell, writeIn, writtenBy};
+ghost use Rattle.words.specs.Letters.{lettersBelow, lettersPut};
 use egg::Counted;
 use egg::GroupElementId;
 use egg::Refusal;
@@ -31,6 +31,51 @@ pub fn length_in(s: &[u32], n: u8, e: GroupElementId) -> Counted
     Counted::Count(len)
 }
 
+// Whether all five letters in a number are generators. Those before a word's first one are: in an accepted table the
+// word goes on there as the identity's row has it.
+fn five_below(n: u8, c: u32) -> bool
+    ensures { λ r. ⌜ (r ≡ true → lettersBelow 5 5 n c ≡ true) ⌝ }
+{
+    let m = n as u32;
+    if m <= c % 8 {
+        return false;
+    }
+    if m <= c / 8 % 8 {
+        return false;
+    }
+    if m <= c / 8 / 8 % 8 {
+        return false;
+    }
+    if m <= c / 8 / 8 / 8 % 8 {
+        return false;
+    }
+    c / 8 / 8 / 8 / 8 % 8 < m
+}
+
+// Whether those are that the word has: `left` letters, but no more than five.
+fn letters_below(n: u8, c: u32, left: u32) -> bool
+    ensures { λ r. ⌜ r ≡ lettersBelow left 5 n c ⌝ }
+{
+    if five_below(n, c) {
+        return true;
+    }
+    let mut rest = c;
+    let mut word = left;
+    let mut here: u32 = 5;
+    while 0 < here {
+        if word == 0 {
+            return true;
+        }
+        if (n as u32) <= rest % 8 {
+            return false;
+        }
+        rest /= 8;
+        word -= 1;
+        here -= 1;
+    }
+    true
+}
+
 // Whether every letter of the word can be read, so that nothing is written where one cannot.
 pub fn readable(s: &[u32], n: u8, count: u32, e: GroupElementId, len: u32) -> bool
     ensures { λ r. ⌜ r ≡ readable len (now (s .entry)) n count (e .0) ⌝ }
@@ -38,20 +83,24 @@ pub fn readable(s: &[u32], n: u8, count: u32, e: GroupElementId, len: u32) -> bo
     let mut at = e.0;
     let mut left = len;
     while 0 < left {
-        if (n as u32) <= egg::inner::last(s, n, GroupElementId(at)) {
-            return false;
-        }
-        at = egg::inner::parent(s, n, GroupElementId(at));
         if count <= at {
             return false;
         }
-        left -= 1;
+        let c = egg::inner::hop(s, n, GroupElementId(at));
+        if !letters_below(n, c, left) {
+            return false;
+        }
+        if left <= 5 {
+            return true;
+        }
+        at = c / 32768;
+        left -= 5;
     }
     true
 }
 
 // Stores a byte; nothing past the end.
-pub fn put_byte(out: &mut [u8], i: usize, v: u8)
+fn put_byte(out: &mut [u8], i: usize, v: u8)
     ensures { λ r. ⌜ now (out .exit) ≡ set (now (out .entry)) i v ⌝ }
 {
     if i < out.len() {
@@ -59,169 +108,134 @@ pub fn put_byte(out: &mut [u8], i: usize, v: u8)
     }
 }
 
-// The letters of a word to their places in a list of our own, from the last to the first, and whether each can be read: so
-// one walk is enough, and nothing is written where one cannot.
-fn gather(s: &[u32], n: u8, count: u32, e: GroupElementId, len: u32, held: &mut [u8]) -> bool
-    ensures { λ r. ⌜ (r ≡ readable len (now (s .entry)) n count (e .0)) × (r ≡ true → now (held .exit) ≡ spell len (now (s .entry)) n (e .0) (now (held .entry))) ⌝ }
+// The letters in a number to their places: `left` letters, but no more than five.
+fn put_letters(c: u32, left: u32, start: usize, offset: u32, out: &mut [u8])
+    requires { ⌜ start ≤ 1099511627776 ⌝ }
+    ensures { λ r. ⌜ now (out .exit) ≡ lettersPut left 5 c start offset (now (out .entry)) ⌝ }
+{
+    let mut rest = c;
+    let mut word = left;
+    let mut here: u32 = 5;
+    while 0 < here {
+        if word == 0 {
+            return;
+        }
+        word -= 1;
+        let letter = (((offset as u64) + ((rest % 8) as u64)) % 256) as u8;
+        put_byte(out, start + (word as usize), letter);
+        rest /= 8;
+        here -= 1;
+    }
+}
+
+// The letters of a word to the places from `start` on, each moved up by `offset`.
+pub fn spell_from(
+    s: &[u32],
+    n: u8,
+    e: GroupElementId,
+    len: u32,
+    start: usize,
+    offset: u32,
+    out: &mut [u8],
+)
+    requires { ⌜ start ≤ 1099511627776 ⌝ }
+    ensures { λ r. ⌜ now (out .exit) ≡ spellFrom len (now (s .entry)) n (e .0) start offset (now (out .entry)) ⌝ }
 {
     let mut at = e.0;
     let mut left = len;
     while 0 < left {
-        let letter = egg::inner::last(s, n, GroupElementId(at));
-        if (n as u32) <= letter {
+        let c = egg::inner::hop(s, n, GroupElementId(at));
+        put_letters(c, left, start, offset, out);
+        if left <= 5 {
+            return;
+        }
+        at = c / 32768;
+        left -= 5;
+    }
+}
+
+// All five letters of a number, to the five places from `place` on.
+fn put_five(c: u32, place: usize, held: &mut [u8])
+    requires { ⌜ place + 5 ≤ length (now held) ⌝ }
+    ensures { λ r. ⌜ now (held .exit) ≡ lettersPut 5 5 c place 0 (now (held .entry)) ⌝ }
+{
+    held[place + 4] = (c % 8) as u8;
+    held[place + 3] = (c / 8 % 8) as u8;
+    held[place + 2] = (c / 8 / 8 % 8) as u8;
+    held[place + 1] = (c / 8 / 8 / 8 % 8) as u8;
+    held[place] = (c / 8 / 8 / 8 / 8 % 8) as u8;
+}
+
+// The letters of a word to a list of our own, from the last to the first, and whether each can be read: so one walk is
+// enough, and nothing is written where one cannot. The word stands there behind four places, so that the first letters
+// need no turn of their own: they are taken by five like the others, and what is before the first goes to these places.
+// A letter that is no generator may be one of those, and who asked has to look with care.
+fn gather(s: &[u32], n: u8, count: u32, e: GroupElementId, len: u32, held: &mut [u8]) -> bool
+    requires { ⌜ len + 4 ≤ length (now held) ⌝ }
+    ensures { λ r. ⌜ (r ≡ true → (readable len (now (s .entry)) n count (e .0) ≡ true) × (drop 4 (now (held .exit)) ≡ spell len (now (s .entry)) n (e .0) (drop 4 (now (held .entry))))) ⌝ }
+{
+    let mut at = e.0;
+    let mut left = len;
+    while 0 < left {
+        if count <= at {
             return false;
         }
-        let p = egg::inner::parent(s, n, GroupElementId(at));
-        if count <= p {
+        let five = egg::inner::hop(s, n, GroupElementId(at));
+        if !five_below(n, five) {
             return false;
         }
-        left -= 1;
-        put_byte(held, left as usize, (letter % 256) as u8);
-        at = p;
+        put_five(five, (left - 1) as usize, held);
+        if left <= 5 {
+            return true;
+        }
+        at = five / 32768;
+        left -= 5;
     }
     true
 }
 
-fn two_readable(n: u8, count: u32, g: u32, p: u32, h: u32, q: u32) -> bool
-    ensures { λ r. ⌜ (r ≡ true → ((g < n) × (p < count)) × ((h < n) × (q < count))) ⌝ }
-{
-    if (n as u32) <= g {
-        return false;
-    }
-    if count <= p {
-        return false;
-    }
-    if (n as u32) <= h {
-        return false;
-    }
-    q < count
-}
-
-// How far the letters of a word have been gathered: the element at which what is left of it ends, how many letters that has,
-// how far the last two letters led, and whether there may be more legs.
-pub struct Gathered {
-    pub at: GroupElementId,
-    pub left: u32,
-    pub fall: u32,
-    pub more: bool,
-}
-
-// Two letters a turn, as long as they lead `fall` numbers back, as in `retrace_leg` of `walks`. A number out of range ends the leg
-// before it.
-fn gather_leg(
-    s: &[u32],
-    n: u8,
-    count: u32,
-    e: GroupElementId,
-    letters: u32,
-    fall: u32,
-    held: &mut [u8],
-) -> Gathered
-    ensures { λ r. ⌜ GatheredRest (now (s .entry)) n count (e .0) letters (now (held .entry)) r (now (held .exit)) ⌝ }
-{
-    let mut at = e.0;
-    let mut left = letters;
-    while 1 < left {
-        let down = std::num::wrapping_sub_u32(at, fall);
-        let g = egg::inner::last(s, n, GroupElementId(at));
-        let p = egg::inner::parent(s, n, GroupElementId(at));
-        let h = egg::inner::last(s, n, GroupElementId(p));
-        let q = egg::inner::parent(s, n, GroupElementId(p));
-        if !two_readable(n, count, g, p, h, q) {
-            return Gathered {
-                at: GroupElementId(at),
-                left,
-                fall,
-                more: false,
-            };
-        }
-        put_byte(held, (left - 1) as usize, (g % 256) as u8);
-        put_byte(held, (left - 2) as usize, (h % 256) as u8);
-        left -= 2;
-        if q != down {
-            return Gathered {
-                at: GroupElementId(q),
-                left,
-                fall: std::num::wrapping_sub_u32(at, q),
-                more: true,
-            };
-        }
-        at = down;
-    }
-    Gathered {
-        at: GroupElementId(at),
-        left,
-        fall,
-        more: false,
-    }
-}
-
-// The most of a long word, leg by leg. In a short one guesses fail too often.
-fn gather_most(
-    s: &[u32],
-    n: u8,
-    count: u32,
-    e: GroupElementId,
-    letters: u32,
-    held: &mut [u8],
-) -> Gathered
-    ensures { λ r. ⌜ GatheredRest (now (s .entry)) n count (e .0) letters (now (held .entry)) r (now (held .exit)) ⌝ }
-{
-    let mut at = e.0;
-    let mut left = letters;
-    let mut fall = 0;
-    let mut more = 64 < letters;
-    while more {
-        let leg = gather_leg(&s[..], n, count, GroupElementId(at), left, fall, held);
-        at = leg.at.0;
-        left = leg.left;
-        fall = leg.fall;
-        more = leg.more;
-    }
-    Gathered {
-        at: GroupElementId(at),
-        left,
-        fall,
-        more,
-    }
-}
-
-// The word is written when all of it has been read.
-fn write_through(
+// Letter by letter, in two walks.
+fn write_with_care(
     s: &[u32],
     n: u8,
     count: u32,
     e: GroupElementId,
     len: u32,
-    held: &mut [u8],
     out: &mut [u8],
 ) -> bool
-    requires { ⌜ (len ≤ length (now held)) × (len ≤ length (now out)) ⌝ }
     ensures { λ r. ⌜ (r ≡ readable len (now (s .entry)) n count (e .0)) × (now (out .exit) ≡ pick r (spell len (now (s .entry)) n (e .0) (now (out .entry))) (now (out .entry))) ⌝ }
 {
-    let rest = gather_most(&s[..], n, count, e, len, held);
-    if !gather(&s[..], n, count, rest.at, rest.left, held) {
+    if !readable(&s[..], n, count, e, len) {
         return false;
     }
-    bytes::copy(&held[..len as usize], out);
+    spell_from(&s[..], n, e, len, 0, 0, out);
     true
 }
 
-// Few letters need no long list, which would have to be zeroed.
+// The word is written when all of it has been read. Few letters need no long list, which would have to be zeroed; the list is
+// lent to nothing but `gather`, so that the compiler knows the copy's two ends apart.
 fn write_short(s: &[u32], n: u8, count: u32, e: GroupElementId, len: u32, out: &mut [u8]) -> bool
     requires { ⌜ (len ≤ 64) × (len ≤ length (now out)) ⌝ }
     ensures { λ r. ⌜ (r ≡ readable len (now (s .entry)) n count (e .0)) × (now (out .exit) ≡ pick r (spell len (now (s .entry)) n (e .0) (now (out .entry))) (now (out .entry))) ⌝ }
 {
-    let mut held = [0; 64];
-    write_through(s, n, count, e, len, &mut held, out)
+    let mut held = [0; 68];
+    if !gather(&s[..], n, count, e, len, &mut held) {
+        return write_with_care(&s[..], n, count, e, len, out);
+    }
+    bytes::copy(&held[4..(len as usize) + 4], out);
+    true
 }
 
 fn write_long(s: &[u32], n: u8, count: u32, e: GroupElementId, len: u32, out: &mut [u8]) -> bool
     requires { ⌜ (len ≤ 4096) × (len ≤ length (now out)) ⌝ }
     ensures { λ r. ⌜ (r ≡ readable len (now (s .entry)) n count (e .0)) × (now (out .exit) ≡ pick r (spell len (now (s .entry)) n (e .0) (now (out .entry))) (now (out .entry))) ⌝ }
 {
-    let mut held = [0; 4096];
-    write_through(s, n, count, e, len, &mut held, out)
+    let mut held = [0; 4100];
+    if !gather(&s[..], n, count, e, len, &mut held) {
+        return write_with_care(&s[..], n, count, e, len, out);
+    }
+    bytes::copy(&held[4..(len as usize) + 4], out);
+    true
 }
 
 pub fn write_in(s: &[u32], n: u8, count: u32, e: GroupElementId, out: &mut [u8]) -> Counted

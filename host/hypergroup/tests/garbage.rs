@@ -97,6 +97,47 @@ fn questions() {
     }
 }
 
+/// A cell has five letters of a word and the element at which the word ends without them. The longest word of orders 5, 2, 3 ends at 119, its own inverse, and
+/// has 15 letters: in its cell each letter is read up to the last generator, the element up to the last one, and what is beyond is 17, with nothing written.
+#[test]
+fn letters() {
+    let (mut table, mut work) = (vec![0; raw::table_need(3, 120)], vec![0; raw::work_need(3, 120)]);
+    let h = raw::enumerate(&mut table, 0, &mut work, &[5, 2, 3], 3, 120).unwrap();
+    let at = 119 * 10 + 7;
+    let told = |cell: u32| {
+        let mut altered = table.clone();
+        altered[at] = cell;
+        let mut out = [165; 15];
+        let word = raw::word(&altered, h, 119, &mut out).map_err(|x| x.number);
+        let part = raw::part(&altered, h, 119);
+        let product = raw::compose(&altered, h, 119, 119).map_err(|x| x.number);
+        (word, out, part.len(), product)
+    };
+    let cell = table[at];
+    let (word, out, part, product) = told(cell);
+    assert_eq!((word, part, product), (Ok(15), 15, Ok(0)));
+    assert_eq!(out.iter().try_fold(0, |e, &g| raw::step(&table, h, e, g)), Ok(119));
+    for k in 0..5 {
+        let with = |letter: u32| told(cell & !(7 << (3 * k)) | letter << (3 * k));
+        for letter in 0..8 {
+            let (word, out, part, product) = with(letter);
+            if letter < 3 {
+                assert!(word == Ok(15) && u32::from(out[14 - k]) == letter && part == 15 && product.is_ok());
+            } else {
+                assert_eq!((word, out, part, product), (Err(17), [165; 15], 0, Err(17)));
+            }
+        }
+    }
+    for element in [0, 119, 120, 121, 65_535, 131_071] {
+        let (word, out, part, product) = told(cell & 32_767 | element << 15);
+        if element < 120 {
+            assert!(word == Ok(15) && part == 15 && product.is_ok());
+        } else {
+            assert_eq!((word, out, part, product), (Err(17), [165; 15], 0, Err(17)));
+        }
+    }
+}
+
 #[test]
 fn questions_of_products() {
     let mut r = Random(2);

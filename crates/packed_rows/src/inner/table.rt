@@ -32,9 +32,9 @@ pub fn parent(t: &[u8], n: u8, e: GroupElementId) -> u32
 }
 
 pub fn last(t: &[u8], n: u8, e: GroupElementId) -> u32
-    ensures { λ r. ⌜ r ≡ getD (cells (now (t .entry))) (startOf n (e .0) + 2 * n + 1) 0 ⌝ }
+    ensures { λ r. ⌜ r ≡ lastOf (cells (now (t .entry))) n (e .0) ⌝ }
 {
-    cells::inner::get(t, egg::inner::start(n, e) + 2 * (n as usize) + 1)
+    cells::inner::get(t, egg::inner::hop_at(n, e)) % 8
 }
 
 // The step from x by the last letter of the word of e, and the step back.

@@ -22,8 +22,8 @@ get-requires c κs = search needs
 rem-t11 : tie.Need-rem-t11 Inv-loop μ-loop
 rem-t11 c = (c .before .before .before .before .before .before .pre)
 
-back-letter-requires : tie.Need-back-letter-requires Inv-loop μ-loop
-back-letter-requires c κs = search needs
+step-letter-requires : tie.Need-step-letter-requires Inv-loop μ-loop
+step-letter-requires c κs = search needs
 
 mul-letters : tie.Need-mul-letters Inv-loop μ-loop
 mul-letters c = search needs
@@ -38,7 +38,7 @@ loop-less : tie.Need-loop-less Inv-loop μ-loop
 loop-less c = let h = (c .before .before .before .loop .inv .0) in omega arith
 
 loop-again : tie.Need-loop-again Inv-loop μ-loop
-loop-again c = (simp length-set ((c .before .before .before .loop .inv .0)), letters-next ((c .before .before .before .loop .inv .1)) (c .before .before .loop-test .taken) (c .before .get .ensures) (c .back-letter .ensures))
+loop-again c = (simp length-set ((c .before .before .before .loop .inv .0)), letters-next ((c .before .before .before .loop .inv .1)) (c .before .before .loop-test .taken) (c .before .get .ensures) (c .step-letter .ensures))
 
 same-length : tie.Need-same-length Inv-loop μ-loop
 same-length c = (c .before .loop .inv .0)
@@ -55,7 +55,7 @@ find-letters-spec =
     loop-holds
     get-requires
     rem-t11
-    back-letter-requires
+    step-letter-requires
     mul-letters
     slice-write-letters
     add-i

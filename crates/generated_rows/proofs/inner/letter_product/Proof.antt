@@ -1,37 +1,41 @@
 -- By care, or by a step.
-use borrow.Author.Tests.{not-false}
 use native.Mathlib.Omega.{arith}
 use Rattle.generated_rows.proofs.LetterLaws.{letter-step}
 use borrow.Author.Needs.{needs}
 use Rattle.generated_rows.proofs.inner.letter_product.Statement.{statement}
 use Rattle.generated_rows.proofs.inner.letter_product.Tie as tie
+use Rattle.generated_rows.proofs.inner.letter_product.Reads as reads
+use Rattle.generated_rows.proofs.inner.letter_product.Lts as lts
+use Rattle.egg.proofs.inner.next.Reads as next-reads
+use Rattle.egg.proofs.inner.part.Reads as part-reads
+use Rattle.generated_rows.proofs.inner.factor_product.Reads as factor-product-reads
 
 factor-product-requires : tie.Need-factor-product-requires
-factor-product-requires c κs = (c .before .before .pre .0)
+factor-product-requires c κs = search needs
 
 returns : tie.Need-returns
-returns c = (c .factor-product .ensures)
+returns c = search needs
 
 factor-product-requires-2 : tie.Need-factor-product-requires-2
-factor-product-requires-2 c κs = (c .before .before .before .pre .0)
+factor-product-requires-2 c κs = search needs
 
 returns-2 : tie.Need-returns-2
-returns-2 c = (c .factor-product2 .ensures)
+returns-2 c = search needs
 
 part-requires : tie.Need-part-requires
-part-requires c κs = (c .before .before .before .pre .0)
+part-requires c κs = search needs
 
-sub-t9 : tie.Need-sub-t9
-sub-t9 c = omega (arith, (c .before .before .if1 .left))
+sub-t10 : tie.Need-sub-t10
+sub-t10 c = search needs
 
-cast-t10 : tie.Need-cast-t10
-cast-t10 c = search needs
+cast-t11 : tie.Need-cast-t11
+cast-t11 c = search needs
 
-previous-requires : tie.Need-previous-requires
-previous-requires c κs = search needs
+next-requires : tie.Need-next-requires
+next-requires c κs = search needs
 
 returns-3 : tie.Need-returns-3
-returns-3 c = letter-step (c .before .before .before .before .before .args .from .now) (c .before .before .before .before .before .args .f) (c .before .before .before .before .before .args .a .0) (c .before .before .before .before .before .args .b .0) (c .before .before .before .before .before .args .letter) (c .before .part .ensures) (c .before .before .before .before .before .pre .1 .0) (omega (arith, (c .before .before .before .if1 .left))) ((c .before .before .before .before .before .pre .1 .1) (not-false _ (c .before .before .if2 .left))) (c .previous .ensures)
+returns-3 c = letter-step (c .before .before .before .before .before .args .from .now) (c .before .before .before .before .before .args .f) (c .before .before .before .before .before .args .a .0) (c .before .before .before .before .before .args .b .0) (c .before .before .before .before .before .args .letter) (c .before .part .ensures) (c .before .before .before .before .before .pre .1) (omega (arith, (c .before .before .before .if1 .left))) (c .before .before .if2 .left) (c .next .ensures)
 
 pub letter-product-spec : {M : Type 1} → statement M
 letter-product-spec =
@@ -42,7 +46,7 @@ letter-product-spec =
     factor-product-requires-2
     returns-2
     part-requires
-    sub-t9
-    cast-t10
-    previous-requires
+    sub-t10
+    cast-t11
+    next-requires
     returns-3)

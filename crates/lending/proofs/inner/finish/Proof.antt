@@ -31,6 +31,9 @@ clear-requires-4 c κs = search needs
 enum-told : tie.Need-enum-told
 enum-told c = search needs
 
+fill-hops-requires : tie.Need-fill-hops-requires
+fill-hops-requires c κs = search needs
+
 clear-requires-5 : tie.Need-clear-requires-5
 clear-requires-5 c κs = search needs
 
@@ -64,8 +67,8 @@ same-length-6 c = search needs
 
 returns-3 : tie.Need-returns-3
 returns-3 c =
-    let a = c .before .before .before .before .before .before .before .before .before .before .before .before .before .before .before .before .before .before .args in
-    finish-fit _ (a .t .now) (a .w .now) (c .before .before .before .before .before .before .before .before .before .before .before .before .before .before .read2 .given .1) (c .before .before .before .before .before .before .before .before .before .before .check-group .ensures) (c .before .before .before .before .enum-told .given .1) (c .before .before .clear5 .ensures)
+    let a = c .before .before .before .before .before .before .before .before .before .before .before .before .before .before .before .before .before .before .before .before .before .before .args in
+    finish-fit _ (a .t .now) (a .w .now) (c .before .before .before .before .before .before .before .before .before .before .before .before .before .before .before .before .before .before .read2 .given .1) (c .before .before .before .before .before .before .before .before .before .before .before .before .before .before .check-group .ensures) (c .before .before .before .before .before .before .before .before .enum-told .given .1) (c .before .before .before .before .before .before .fill-hops .ensures) (c .before .before .clear5 .ensures)
 
 pub finish-spec : {M : Type 1} → statement M
 finish-spec =
@@ -80,6 +83,7 @@ finish-spec =
     clear-requires-3
     clear-requires-4
     enum-told
+    fill-hops-requires
     clear-requires-5
     same-length
     same-length-2

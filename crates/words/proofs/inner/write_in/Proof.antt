@@ -5,12 +5,6 @@ use Rattle.words.proofs.Words.{write-long, write-short, write-unread, w
 use borrow.Author.Needs.{needs}
 use Rattle.words.proofs.inner.write_in.Statement.{statement}
 use Rattle.words.proofs.inner.write_in.Tie as tie
-use Rattle.words.proofs.inner.write_in.Reads as reads
-use Rattle.words.proofs.inner.write_in.Lts as lts
-use Rattle.egg.proofs.inner.word_length.Reads as word-length-reads
-use Rattle.words.proofs.inner.refused_count.Reads as refused-count-reads
-use Rattle.words.proofs.inner.write_long.Reads as write-long-reads
-use Rattle.words.proofs.inner.write_short.Reads as write-short-reads
 
 word-length-requires : tie.Need-word-length-requires
 word-length-requires c κs = search needs

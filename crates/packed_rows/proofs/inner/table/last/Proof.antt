@@ -1,27 +1,15 @@
--- The address of the cell.
-use Rattle.cells.specs.Cells.{cells, halves}
-use mathlib.Core.Path.{_∙_}
 use borrow.Author.Needs.{needs}
 use Rattle.packed_rows.proofs.inner.table.last.Statement.{statement}
 use Rattle.packed_rows.proofs.inner.table.last.Tie as tie
 
-start-requires : tie.Need-start-requires
-start-requires c κs = search needs
-
-mul-get : tie.Need-mul-get
-mul-get c = search needs
-
-add-get : tie.Need-add-get
-add-get c = search needs
-
-add-get-2 : tie.Need-add-get-2
-add-get-2 c = search needs
+hop-at-requires : tie.Need-hop-at-requires
+hop-at-requires c κs = search needs
 
 get-requires : tie.Need-get-requires
 get-requires c κs = search needs
 
 returns : tie.Need-returns
-returns c = c .get .ensures ∙ rw (c .before .start .ensures .at)
+returns c = rw (c .get .ensures, c .before .hop-at .ensures .at)
 
 pub last-spec : {M : Type 1} → statement M
-last-spec = tie.close (tie.spec start-requires mul-get add-get add-get-2 get-requires returns)
+last-spec = tie.close (tie.spec hop-at-requires get-requires returns)

@@ -1,0 +1,18 @@
+-- The letters that stand in one number c, the last lowest, as the code takes them: the k that are left of a word, but no more than j. What it comes to is `readableBy`
+-- and `spellBy`.
+-- Assumes nothing.
+use Prim.Native.Nat.{ℕ, zero, suc, _+_, _/_, _%_}
+use mathlib.Core.List.{List}
+use mathlib.Core.Bool.{Bool, true, _&&_}
+use lib.ListN.{set}
+use lib.Dec.{ltb}
+
+unfoldable pub lettersBelow : (k j n c : ℕ) → Bool
+lettersBelow zero j n c = true
+lettersBelow (suc k) zero n c = true
+lettersBelow (suc k) (suc j) n c = ltb (c % 8) n && lettersBelow k j n (c / 8)
+
+unfoldable pub lettersPut : (k j c start offset : ℕ) (out : List ℕ) → List ℕ
+lettersPut zero j c start offset out = out
+lettersPut (suc k) zero c start offset out = out
+lettersPut (suc k) (suc j) c start offset out = lettersPut k j (c / 8) start offset (set out (start + k) ((offset + c % 8) % 256))
