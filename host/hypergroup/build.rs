@@ -16,10 +16,11 @@ fn main() {
         );
     }
     let root = Path::new(env!("CARGO_MANIFEST_DIR")).join("../..");
+    let made = given.is_none();
     let folder = given.unwrap_or_else(|| root.join("target/staticlib"));
     for name in ARCHIVES {
         let archive = folder.join(format!("lib{name}.a"));
-        if !archive.exists() {
+        if made && !archive.exists() {
             make(&root, name);
         }
         println!("cargo:rerun-if-changed={}", archive.display());

@@ -27,7 +27,7 @@ unfoldable pub check8 : List ℕ → ℕ → ℕ → Verdict
 check8 t n count = andThen (missing t n count 0) (missing t n count n)
 
 -- 17, "a number read from it is out of range": a stored step beyond the elements, a word over 4,096 letters, a parent that is no earlier element, a letter
--- that is no generator. No reading and no enumeration leaves such a table; the checks do not rest on that. It is tested after 8 and
+-- that is no generator (the three bits that a letter has: what stands above them is read by nobody, and is written anew when all checks have passed). No reading and no enumeration leaves such a table; the checks do not rest on that. It is tested after 8 and
 -- before 9, so that all tests below read numbers in range.
 abbrev pub rangeAt : (t : List ℕ) (n count e k : ℕ) → Verdict
 rangeAt t n count e k = pick (ltb count (getD t (startOf n e + 0 + k) 0)) (refusedOf 17 0 0 0) Fine

@@ -17,6 +17,6 @@ unfoldable pub withHops : (k : ℕ) (t : List ℕ) (n : ℕ) → List ℕ
 withHops zero t n = t
 withHops (suc k) t n = withHops k (putAt t (startOf n k + 2 * n + 1) (hopFrom 5 t n k)) n
 
--- The first N rows have them.
+-- In each of the first N rows the last generator's cell holds the last five letters of the word, and the element before them.
 pub record Hops (t : List ℕ) (n N : ℕ) : Type 0 where
   pub five : {e : ℕ} → e < N → hopOf t n e ≡ hopFrom 5 t n e

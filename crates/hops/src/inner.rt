@@ -20,7 +20,7 @@ fn hop_of(t: &[u32], n: u8, e: GroupElementId) -> usize
     a + 8 * (b + 8 * (c + 8 * (d + 8 * (f + 8 * before))))
 }
 
-// From the last element to the first, so that the words of the elements before it are as they were built.
+// Parents and last letters stay as they are, so that the order of the elements does not matter.
 pub fn fill_hops(t: &mut [u32], n: u8, count: u32)
     ensures { λ r. ⌜ now (t .exit) ≡ withHops count (now (t .entry)) n ⌝ }
 {

@@ -20,7 +20,7 @@ pub record Stored (t : List ℕ) (n N : ℕ) (step back : ℕ → ℕ → ℕ) (
 abbrev pub wordOf : List ℕ → ℕ → ℕ → List ℕ
 wordOf t n e = word-of (parentOf t n) (lastOf t n) e
 
--- t₁ is t but for what is put into the rows of the first N elements once the table stands: the letters before the last, which have the last letter's cell with it,
+-- t₁ is t but for what is put into the rows of the first N elements once the table stands: the letters before the last, which share its cell,
 -- and the inverses. So what else is read of every row reads the same.
 pub record Kept (t t₁ : List ℕ) (n N : ℕ) : Type 0 where
   pub size : length t₁ ≡ length t

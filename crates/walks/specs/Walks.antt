@@ -55,10 +55,10 @@ backAlong k s n count from e = backBy k 0 s n count from e
 unfoldable pub inverseIn : List ℕ → ℕ → ℕ → ℕ → Reached
 inverseIn s n count a = pick (leb count (inverseOf s n a)) (refusedReach 17 0) (Element (record { 0 = inverseOf s n a }))
 
--- "`compose` walks the word of the second from the first": forward along the word of the second where that has at most five letters, which stand in its row; else
--- back along the word of its inverse where that is no longer, else forward along its own; or, where the first's word is shorter than the second's, back along that
--- from the inverse of the second, to the inverse of the product. On an accepted factor all of these lead to the same element. An inverse beyond the elements is 17,
--- where it is read, and so is a length of the second over 4,096; the other lengths are only compared with that.
+-- "`compose` walks the word of the second from the first": forward along the word of the second where that has at most five letters, which stand in its row; else,
+-- where the first's word is shorter, back along that from the inverse of the second, to the inverse of the product; else back along the word of the second's inverse,
+-- or, where that is longer, forward along the second's own. On an accepted factor all of these lead to the same element. An inverse beyond the elements is 17, where it
+-- is read, and so is a length of the second over 4,096; the other lengths are only compared with that.
 unfoldable pub composeIn : (s : List ℕ) (n count a b : ℕ) → Reached
 composeIn s n count a b =
     pick (leb (lengthOf s n b) 5) (ahead (lengthOf s n b) s n count a (hopOf s n b))

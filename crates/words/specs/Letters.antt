@@ -7,11 +7,13 @@ use mathlib.Core.Bool.{Bool, true, _&&_}
 use lib.ListN.{set}
 use lib.Dec.{ltb}
 
+-- Each of them is a generator.
 unfoldable pub lettersBelow : (k j n c : ℕ) → Bool
 lettersBelow zero j n c = true
 lettersBelow (suc k) zero n c = true
 lettersBelow (suc k) (suc j) n c = ltb (c % 8) n && lettersBelow k j n (c / 8)
 
+-- Each goes to its place, as in `spellBy`.
 unfoldable pub lettersPut : (k j c start offset : ℕ) (out : List ℕ) → List ℕ
 lettersPut zero j c start offset out = out
 lettersPut (suc k) zero c start offset out = out

@@ -31,8 +31,8 @@ pub fn length_in(s: &[u32], n: u8, e: GroupElementId) -> Counted
     Counted::Count(len)
 }
 
-// Whether all five letters in a number are generators. Those before a word's first one are: in an accepted table the
-// word goes on there as the identity's row has it.
+// Whether all five letters in a number are generators. Those before a word's first one are, in an accepted table: the
+// identity's row has zeros there, and where there is a word there is a generator 0.
 fn five_below(n: u8, c: u32) -> bool
     ensures { λ r. ⌜ (r ≡ true → lettersBelow 5 5 n c ≡ true) ⌝ }
 {
@@ -194,7 +194,7 @@ fn gather(s: &[u32], n: u8, count: u32, e: GroupElementId, len: u32, held: &mut 
     true
 }
 
-// Letter by letter, in two walks.
+// In two walks, which look at the word's own letters alone: in an altered table others may stand before its first.
 fn write_with_care(
     s: &[u32],
     n: u8,

@@ -97,45 +97,103 @@ fn questions() {
     }
 }
 
-/// A cell has five letters of a word and the element at which the word ends without them. The longest word of orders 5, 2, 3 ends at 119, its own inverse, and
-/// has 15 letters: in its cell each letter is read up to the last generator, the element up to the last one, and what is beyond is 17, with nothing written.
+/// The table of a group of pair orders, and its handle.
+fn enumerated(n: u8, orders: &[u32], room: u32) -> (Vec<u32>, Handle) {
+    let (mut table, mut work) = (vec![0; raw::table_need(n, room)], vec![0; raw::work_need(n, room)]);
+    let handle = raw::enumerate(&mut table, 0, &mut work, orders, n, room).unwrap();
+    (table, handle)
+}
+
+/// Where the cell stands that has the last five letters of an element's word, and the element at which the word ends without them. The length is behind it.
+fn letters_at(h: Handle, e: u32) -> usize {
+    let n = usize::from(h.generators);
+    e as usize * (2 * n + 4) + 2 * n + 1
+}
+
+/// What is answered when one number of the table is another: the word of e as it is written, by both calls, and asked of a product of this one factor, which must
+/// all say the same; and a product and a conjugate. 17 writes nothing.
+fn altered((table, h): &(Vec<u32>, Handle), at: usize, number: u32, e: u32, a: u32, b: u32) -> [Result<Vec<u8>, u32>; 3] {
+    let mut table = table.clone();
+    table[at] = number;
+    let one: Handles = [*h].into_iter().collect();
+    let written = |call: &dyn Fn(&mut [u8]) -> Answer<u32>| {
+        let mut out = [165; 4096];
+        let len = call(&mut out).map_err(|x| x.number);
+        assert!(out[len.unwrap_or(0) as usize..].iter().all(|&x| x == 165));
+        len.map(|k| out[..k as usize].to_vec())
+    };
+    let word = written(&|out| raw::word(&table, *h, e, out));
+    assert_eq!(word, written(&|out| raw::product_word(&table, &one, e, out)));
+    assert_eq!(raw::part(&table, *h, e), *word.as_deref().unwrap_or_default());
+    let bytes = |answer: Answer<u32>| answer.map(|x| x.to_be_bytes().to_vec()).map_err(|x| x.number);
+    let product = bytes(raw::compose(&table, *h, a, b));
+    assert_eq!(product, bytes(raw::product_compose(&table, &one, a, b)));
+    [word, product, bytes(raw::conjugate(&table, *h, a, b))]
+}
+
+/// Each letter of a cell is read up to the last generator, the element above the letters up to the last one, and what is beyond is 17: on every way that a product
+/// goes, and in the first and the second cell of a word.
 #[test]
 fn letters() {
-    let (mut table, mut work) = (vec![0; raw::table_need(3, 120)], vec![0; raw::work_need(3, 120)]);
-    let h = raw::enumerate(&mut table, 0, &mut work, &[5, 2, 3], 3, 120).unwrap();
-    let at = 119 * 10 + 7;
-    let told = |cell: u32| {
-        let mut altered = table.clone();
-        altered[at] = cell;
-        let mut out = [165; 15];
-        let word = raw::word(&altered, h, 119, &mut out).map_err(|x| x.number);
-        let part = raw::part(&altered, h, 119);
-        let product = raw::compose(&altered, h, 119, 119).map_err(|x| x.number);
-        (word, out, part.len(), product)
-    };
-    let cell = table[at];
-    let (word, out, part, product) = told(cell);
-    assert_eq!((word, part, product), (Ok(15), 15, Ok(0)));
-    assert_eq!(out.iter().try_fold(0, |e, &g| raw::step(&table, h, e, g)), Ok(119));
-    for k in 0..5 {
-        let with = |letter: u32| told(cell & !(7 << (3 * k)) | letter << (3 * k));
-        for letter in 0..8 {
-            let (word, out, part, product) = with(letter);
-            if letter < 3 {
-                assert!(word == Ok(15) && u32::from(out[14 - k]) == letter && part == 15 && product.is_ok());
-            } else {
-                assert_eq!((word, out, part, product), (Err(17), [165; 15], 0, Err(17)));
+    let h3 = enumerated(3, &[5, 2, 3], 120);
+    let of_length = |len: u32| (0..120).find(|&e| raw::length(&h3.0, h3.1, e) == Ok(len)).unwrap();
+    let (five, six) = (of_length(5), of_length(6));
+    let back = raw::inverse(&h3.0, h3.1, six).unwrap();
+    let second = h3.0[letters_at(h3.1, 119)] >> 15;
+    assert_eq!(raw::length(&h3.0, h3.1, second), Ok(10));
+    // The altered element, the one whose word is asked, and the product's two: along the second's own cell, back along its inverse's, along the first's.
+    for (e, word, a, b) in
+        [(five, five, 119, five), (back, back, 119, six), (six, six, six, 119), (119, 119, 119, 119), (second, 119, 119, 119)]
+    {
+        let at = letters_at(h3.1, e);
+        let cell = h3.0[at];
+        let own = raw::length(&h3.0, h3.1, e).unwrap();
+        for k in 0..5 {
+            for letter in 0..8 {
+                let [word, product, conjugate] = altered(&h3, at, cell & !(7 << (3 * k)) | letter << (3 * k), word, a, b);
+                match letter {
+                    0..3 => assert!(word.is_ok() && product.is_ok() && conjugate.is_ok()),
+                    _ => assert_eq!((word, product, conjugate), (Err(17), Err(17), Err(17))),
+                }
+            }
+        }
+        for element in [0, 119, 120, 121, 65_535, 131_071] {
+            let [word, product, conjugate] = altered(&h3, at, cell & 32_767 | element << 15, word, a, b);
+            // Where the word ends with these letters the element is not read.
+            match element < 120 || own == 5 {
+                true => assert!(word.is_ok() && product.is_ok() && conjugate.is_ok()),
+                false => assert_eq!((word, product, conjugate), (Err(17), Err(17), Err(17))),
             }
         }
     }
-    for element in [0, 119, 120, 121, 65_535, 131_071] {
-        let (word, out, part, product) = told(cell & 32_767 | element << 15);
-        if element < 120 {
-            assert!(word == Ok(15) && part == 15 && product.is_ok());
-        } else {
-            assert_eq!((word, out, part, product), (Err(17), [165; 15], 0, Err(17)));
+}
+
+/// What stands in a cell above a word's own letters is not read, and changes no answer.
+#[test]
+fn above_a_short_word() {
+    let h3 = enumerated(3, &[5, 2, 3], 120);
+    for e in 0..120 {
+        let own = raw::length(&h3.0, h3.1, e).unwrap();
+        if own <= 5 {
+            let at = letters_at(h3.1, e);
+            let unaltered = altered(&h3, at, h3.0[at], e, 119, e);
+            assert_eq!(altered(&h3, at, h3.0[at] | u32::MAX << (3 * own), e, 119, e), unaltered);
         }
     }
+}
+
+/// With eight generators every letter is one, and is written and walked; a word of 4,096 letters is written, and one more is 17.
+#[test]
+fn letters_of_eight() {
+    let eight = enumerated(8, &[2; 28], 256);
+    let at = letters_at(eight.1, 255);
+    for letter in 0..8 {
+        let [word, product, conjugate] = altered(&eight, at, eight.0[at] & !7 | letter, 255, 255, 255);
+        assert_eq!(word.map(|w| (w.len(), w[7])), Ok((8, letter as u8)));
+        assert!(product.is_ok() && conjugate.is_ok());
+    }
+    assert_eq!(altered(&eight, at + 1, 4096, 255, 1, 255)[0].as_ref().map(Vec::len), Ok(4096));
+    assert_eq!(altered(&eight, at + 1, 4097, 255, 1, 255), [Err(17), Err(17), Err(17)]);
 }
 
 #[test]

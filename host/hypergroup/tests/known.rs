@@ -79,6 +79,25 @@ fn live_and_delayed_viewers() {
     }
 }
 
+/// "`compose` walks the word of the second from the first", whichever way the answer is found: all pairs of a group with words of 0 to 15 letters, of one in which
+/// an inverse's word may be the longer, and of eight generators; and some of words of thousands of letters.
+#[test]
+fn compose_walks_the_word() {
+    let h3 = Factor::from_orders(3, &[5, 2, 3], 120).unwrap();
+    let z13 = Factor::from_rows(1, &(1..13).chain([0]).collect::<Vec<_>>()).unwrap();
+    let eight = Factor::from_orders(8, &[2; 28], 256).unwrap();
+    let long = Factor::from_orders(2, &[4096], 8192).unwrap();
+    for (f, every) in [(h3, 1), (z13, 1), (eight, 1), (long, 271)] {
+        for b in f.elements().step_by(every) {
+            let word = f.word(b).unwrap();
+            for a in f.elements().step_by(every) {
+                let walked = word.iter().fold(a, |e, &g| f.step(e, g).unwrap());
+                assert_eq!(f.compose(a, b), Ok(walked));
+            }
+        }
+    }
+}
+
 #[test]
 fn products() {
     let (s3, z2) = (Factor::from_rows(2, &S3).unwrap(), Factor::from_rows(1, &[1, 0]).unwrap());

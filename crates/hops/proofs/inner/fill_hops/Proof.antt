@@ -1,8 +1,6 @@
 -- What is left to store, in the table as it is, gives what all gives.
-use Prim.Native.Nat.{_-_}
-use mathlib.Core.Path.{_≡_, refl, sym, _∙_}
+use mathlib.Core.Path.{_≡_, refl, _∙_}
 use lib.ListN.{length}
-use native.Mathlib.Omega.{arith}
 use borrow.Author.Needs.{needs}
 use Rattle.hops.specs.Hops.{withHops}
 use Rattle.hops.proofs.Storing.{hop-stored, none-left}

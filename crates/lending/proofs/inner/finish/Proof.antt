@@ -1,4 +1,4 @@
--- One law for each way in which a build ends, from what `check_group` and `clear` ensure.
+-- One law for each way in which a build ends, from what `check_group`, `fill_hops` and `clear` ensure.
 use Rattle.lending.proofs.Finishing.{finish-refused, finish-unfit, finish-fit}
 use borrow.Author.Needs.{needs}
 use Rattle.lending.proofs.inner.finish.Statement.{statement}
