@@ -197,6 +197,8 @@ def images():
 if __name__ == "__main__":
     if platform.machine() != "x86_64":
         OURS = (HERE.parent / "target" / "here" / "ours", "--echo")
+        if not OURS[0].exists():
+            sys.exit("%s is not there: tools/here.sh makes it" % OURS[0].relative_to(HERE.parent))
     tables = {f.__name__: f for f in (enumerations, questions, products, ones, subgroups, maps, images)}
     for name in sys.argv[1:] or tables:
         print("\n%s\n" % name.capitalize())
