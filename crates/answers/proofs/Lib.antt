@@ -8,3 +8,5 @@ pub mod FirstWords
 pub mod Unaltered
 pub mod Refuses
 pub mod Papers
+pub mod Settled
+pub mod AnyWork

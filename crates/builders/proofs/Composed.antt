@@ -27,7 +27,8 @@ use Rattle.theory.specs.Numbering.{Numbered}
 use Rattle.numbering.proofs.Readings.{accepted-read}
 use Rattle.promises.proofs.Composed.{composed-is-build}
 use Rattle.builders.specs.Own.{ownAt, ownRows, Filled}
-use Rattle.builders.proofs.AnyWork.{any-work, own-in-zeros}
+use Rattle.answers.proofs.AnyWork.{any-work}
+use Rattle.builders.proofs.AnyWork.{own-in-zeros}
 use Rattle.builders.proofs.Alike.{Alike, all-alike, read-alike}
 
 abbrev Same : Refusal → Refusal → List ℕ → List ℕ → Type 0

@@ -6,13 +6,13 @@ use mathlib.Core.List.{List, [], _∷_, _++_}
 use native.Mathlib.Decide.{ℕ-discrete}
 use native.Mathlib.Nat.{le-refl}
 use native.Mathlib.Omega.{arith}
-use lib.ListN.{getD}
+use lib.ListN.{length, getD}
 use Rattle.theory.specs.Words.{trace}
 use Rattle.theory.specs.Presentation.{order-of, Derived}
 use Rattle.egg.specs.Table.{startOf, parentOf, lastOf, stepOf}
-use Rattle.enumeration.specs.Run.{enumerated}
-use Rattle.enumeration.specs.declared.inner.Ran.{Ran}
-use Rattle.enumeration.specs.declared.inner.Ran.the-variants as ran
+use Rattle.running.specs.Run.{enumerated}
+use Rattle.running.specs.declared.inner.Ran.{Ran}
+use Rattle.running.specs.declared.inner.Ran.the-variants as ran
 use Rattle.derived.specs.Invariant.{Worded, RunOk}
 use Rattle.derived.specs.Recorded.{Limits, words, Sound, AllKnown}
 use Rattle.derived.proofs.Growing.{step-more}
@@ -55,6 +55,12 @@ run-sound {n} {N = N} {t} I = record {
 -- A run that is done leaves a table of which every known step follows from the relations.
 pub done-sound : {n : ℕ} {o : List ℕ} {room lt lw : ℕ} → Limits n o room lt lw → {N : ℕ} → enumerated n o room lt lw .answer ≡ ran.Done N → Sound n o room lt N (enumerated n o room lt lw .table)
 done-sound {n} {o} {room} {lt} {lw} L q = run-sound (subst (λ (a : Ran). Ends L a (enumerated n o room lt lw .table) (enumerated n o room lt lw .work)) q (enumerated-ok L))
+
+-- And it has kept the length of the work.
+pub work-long : {n : ℕ} {o : List ℕ} {room lt lw : ℕ} → Limits n o room lt lw → {N : ℕ} → enumerated n o room lt lw .answer ≡ ran.Done N → length (enumerated n o room lt lw .work) ≡ lw
+work-long {n} {o} {room} {lt} {lw} L q =
+    let ok = subst (λ (a : Ran). Ends L a (enumerated n o room lt lw .table) (enumerated n o room lt lw .work)) q (enumerated-ok L) in
+    ok .work-length
 
 -- With nothing missing, every step of the table follows from the relations.
 pub sound-derived : {n : ℕ} {o : List ℕ} {room lt N : ℕ} {t : List ℕ} → Sound n o room lt N t → AllKnown n N t → Derived n N (order-of o) (stepOf t n) (words n t)

@@ -92,7 +92,7 @@ module _ {n : ℕ} {m : ℕ → ℕ → ℕ} {word : ℕ → List ℕ} {count lt
       (I .work .cells .holds (p + 5) 7 (row-spot (I .work .place p in-S) 7 5 (omega arith) refl)))
 
 -- Both lists of a place emptied: the links of the other places stay.
-emptied-stack : {n count : ℕ} {t w : List ℕ} {place : ℕ} (e g : ℕ) → g < n → place ≡ e * workWidth n + 10 * g → {top : ℕ} {fs : List ℕ} → Absent place fs → Stack n count t w top fs
+pub emptied-stack : {n count : ℕ} {t w : List ℕ} {place : ℕ} (e g : ℕ) → g < n → place ≡ e * workWidth n + 10 * g → {top : ℕ} {fs : List ℕ} → Absent place fs → Stack n count t w top fs
     → Stack n count t (emptied w place) top fs
 unfolding emptied
 emptied-stack {n} {count} {t} {w} {place} e g hg q out st =

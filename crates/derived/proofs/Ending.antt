@@ -14,10 +14,10 @@ use Rattle.egg.specs.declared.Counted.{Counted}
 use Rattle.egg.specs.declared.Counted.the-variants as counted
 use Rattle.egg.specs.Table.{pick}
 use Rattle.rows.specs.Rows.{addedRows}
-use Rattle.enumeration.specs.Run.{Visit, visits, advanced, Outcome, outcome, onVisit, after, runs, first, enumerated}
-use Rattle.enumeration.specs.declared.inner.Run.{Run}
-use Rattle.enumeration.specs.declared.inner.Ran.{Ran}
-use Rattle.enumeration.specs.declared.inner.Ran.the-variants as ran
+use Rattle.running.specs.Run.{Visit, visits, advanced, Outcome, outcome, onVisit, after, runs, first, enumerated}
+use Rattle.running.specs.declared.inner.Run.{Run}
+use Rattle.running.specs.declared.inner.Ran.{Ran}
+use Rattle.running.specs.declared.inner.Ran.the-variants as ran
 use Rattle.derived.specs.Recorded.{Limits}
 use Rattle.derived.specs.Invariant.{RunOk}
 use Rattle.egg.proofs.Cells.{inside}

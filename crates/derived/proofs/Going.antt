@@ -24,10 +24,10 @@ use Rattle.egg.specs.Table.{pick, putAt, startOf, succAt, lengthOf}
 use Rattle.reading.specs.Build.{isNew, setStep, numbered, adds}
 use Rattle.rows.specs.Rows.{placeAt, addedRows}
 use Rattle.facts.specs.Facts.{State, state, link, belowAt, settleFrom}
-use Rattle.enumeration.specs.Run.{discovered, Visit, visit, onAdds, visits, advanced, Outcome, outcome, onVisit, after, runs, first, enumerated}
-use Rattle.enumeration.specs.declared.inner.Run.{Run}
-use Rattle.enumeration.specs.declared.inner.Ran.{Ran}
-use Rattle.enumeration.specs.declared.inner.Ran.the-variants as ran
+use Rattle.running.specs.Run.{discovered, Visit, visit, onAdds, visits, advanced, Outcome, outcome, onVisit, after, runs, first, enumerated}
+use Rattle.running.specs.declared.inner.Run.{Run}
+use Rattle.running.specs.declared.inner.Ran.{Ran}
+use Rattle.running.specs.declared.inner.Ran.the-variants as ran
 use Rattle.derived.specs.Recorded.{Limits}
 use Rattle.derived.specs.Invariant.{Known}
 use Rattle.derived.proofs.Visiting.{next}
@@ -277,7 +277,7 @@ module _ {n : ℕ} {o : List ℕ} {room lt lw : ℕ} (L : Limits n o room lt lw)
       let q : e ≡ 0 = omega arith in
       zeros lt (startOf n e + 2 * n + 2) ∙ sym (ap length (ap (first-ok L .word) q ∙ first-ok L .table .words .start))
 
-  first-going : Going n o room lt lw 0 0 1 (replicate lt 0) (addedRows (replicate lw 0) o n (record { 0 = 0 }))
+  pub first-going : Going n o room lt lw 0 0 1 (replicate lt 0) (addedRows (replicate lw 0) o n (record { 0 = 0 }))
   first-going = record {
     run = first-ok L;
     past = start;

@@ -21,10 +21,10 @@ use Rattle.egg.specs.Table.{pick, putAt, startOf, lengthOf}
 use Rattle.reading.specs.Build.{isNew, setStep, numbered, adds}
 use Rattle.rows.specs.Rows.{workWidth, placeAt, addedRows}
 use Rattle.facts.specs.Facts.{state, link, belowAt}
-use Rattle.enumeration.specs.Run.{discovered, Visit, visit, onAdds, visits, advanced, Outcome, outcome, onVisit, after, runs, first, enumerated}
-use Rattle.enumeration.specs.declared.inner.Run.{Run}
-use Rattle.enumeration.specs.declared.inner.Ran.{Ran}
-use Rattle.enumeration.specs.declared.inner.Ran.the-variants as ran
+use Rattle.running.specs.Run.{discovered, Visit, visit, onAdds, visits, advanced, Outcome, outcome, onVisit, after, runs, first, enumerated}
+use Rattle.running.specs.declared.inner.Run.{Run}
+use Rattle.running.specs.declared.inner.Ran.{Ran}
+use Rattle.running.specs.declared.inner.Ran.the-variants as ran
 use Rattle.derived.specs.Recorded.{Limits}
 use Rattle.derived.specs.Invariant.{TableOk, Working, Link, FactLink, Holds, StateOk, RunOk}
 use Rattle.egg.proofs.Cells.{inside, put-length}
@@ -56,7 +56,7 @@ holds-zero n S (suc (suc (suc (suc (suc (suc (suc (suc k)))))))) = tt
 
 -- The limits, as the parts of the proof want them.
 module _ {n : ℕ} {o : List ℕ} {room lt lw : ℕ} (L : Limits n o room lt lw) where
-  pairs-full : length o ≡ pairs-below n
+  pub pairs-full : length o ≡ pairs-below n
   pairs-full = L .full ∙ pairs-length n
 
   pub work-room : room * workWidth n ≤ lw

@@ -10,8 +10,8 @@ use Rattle.reading.specs.Build.{setStep, setWord, adds}
 use Rattle.egg.specs.Pairs
 use Rattle.rows.specs.Rows
 use Rattle.facts.specs.Facts
-use Rattle.enumeration.specs.Run.{enumerated, runs, visits, discovered, advanced}
-use Rattle.enumeration.specs.declared.inner.Ran.the-variants as ran
+use Rattle.running.specs.Run.{enumerated, runs, visits, discovered, advanced}
+use Rattle.running.specs.declared.inner.Ran.the-variants as ran
 use Rattle.derived.specs.Recorded.{Limits, Sound}
 use Rattle.derived.proofs.Derivation.{done-sound}
 

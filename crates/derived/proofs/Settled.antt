@@ -16,7 +16,7 @@ use Rattle.egg.specs.Table.{pick, putAt, startOf}
 use Rattle.reading.specs.Build.{setStep}
 use Rattle.rows.specs.Rows.{workWidth, placeAt, addedRows}
 use Rattle.facts.specs.Facts.{State, state, link, belowAt, updated, settleFrom}
-use Rattle.enumeration.specs.Run.{discovered}
+use Rattle.running.specs.Run.{discovered}
 use Rattle.derived.specs.Recorded.{Limits}
 use Rattle.derived.specs.Invariant.{RunOk}
 use Rattle.derived.specs.Stack.{Fact, bottom, above, Piled}

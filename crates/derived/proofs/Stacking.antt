@@ -83,7 +83,7 @@ module _ {n count : ℕ} {t : List ℕ} (e g : ℕ) (hg : g < n) (z : getD t (st
       let c : f .generator ≡ g = omega arith in
       f .known (rw (a, c) z)
 
-  stack-absent : {w : List ℕ} {top : ℕ} {fs : List ℕ} → Stack n count t w top fs → Absent (e * workWidth n + 10 * g) fs
+  pub stack-absent : {w : List ℕ} {top : ℕ} {fs : List ℕ} → Stack n count t w top fs → Absent (e * workWidth n + 10 * g) fs
   stack-absent (bottom z) = tt
   stack-absent (above q f a st) = (not-fact f, stack-absent st)
 
@@ -113,7 +113,7 @@ module _ {n count lt lw : ℕ} (few : n ≤ 8) (limit : count ≤ 65535) (table-
   unfolding placeAt
   place-within e g he hg = omega (arith, work-room, inside he (place-inside {k = 6} hg (omega arith)))
 
-  stack-small : {t w : List ℕ} {top : ℕ} {fs : List ℕ} → Stack n count t w top fs → top < 4294967296
+  pub stack-small : {t w : List ℕ} {top : ℕ} {fs : List ℕ} → Stack n count t w top fs → top < 4294967296
   stack-small (bottom z) = omega arith
   stack-small (above q f a st) = omega (arith, f .stands, link-small few (lt-of-lt-of-le (f .element-below) limit) (f .generator-below))
 

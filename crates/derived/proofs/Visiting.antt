@@ -18,10 +18,10 @@ use Rattle.egg.specs.declared.Counted.the-variants as counted
 use Rattle.egg.specs.Table.{pick}
 use Rattle.reading.specs.Build.{isNew, adds}
 use Rattle.rows.specs.Rows.{addedRows}
-use Rattle.enumeration.specs.Run.{discovered, Visit, visit, onReached, visits, advanced, Outcome, outcome, onVisit, runs, first, enumerated}
-use Rattle.enumeration.specs.declared.inner.Run.{Run}
-use Rattle.enumeration.specs.declared.inner.Ran.{Ran}
-use Rattle.enumeration.specs.declared.inner.Ran.the-variants as ran
+use Rattle.running.specs.Run.{discovered, Visit, visit, onReached, visits, advanced, Outcome, outcome, onVisit, runs, first, enumerated}
+use Rattle.running.specs.declared.inner.Run.{Run}
+use Rattle.running.specs.declared.inner.Ran.{Ran}
+use Rattle.running.specs.declared.inner.Ran.the-variants as ran
 use Rattle.egg.proofs.Cells.{inside}
 
 abbrev pub IsDone : Ran → Type 0
@@ -34,7 +34,7 @@ IsPaused (ran.Done c) = ⊥
 IsPaused (ran.Paused at) = Unit {0}
 IsPaused (ran.Refused r) = ⊥
 
-abbrev doneOf : Ran → ℕ
+abbrev pub doneOf : Ran → ℕ
 doneOf (ran.Done c) = c
 doneOf (ran.Paused at) = 0
 doneOf (ran.Refused r) = 0

@@ -132,7 +132,7 @@ square : (n : ℕ) → n * (n - 1) + n ≡ n * n
 square zero = refl
 square (suc n) = let q : suc n - 1 ≡ n = omega arith in rw q (omega arith)
 
-pairs-twice : (n : ℕ) → 2 * pairs-below n ≡ n * (n - 1)
+pub pairs-twice : (n : ℕ) → 2 * pairs-below n ≡ n * (n - 1)
 pairs-twice zero = refl
 pairs-twice (suc n) = omega (arith, pairs-twice n, square n, square (suc n))
 

@@ -1,13 +1,14 @@
 -- One law for each way in which the call ends.
 -- Assumes nothing.
-use Prim.Native.Nat.{ℕ, _+_, _*_, _-_, _/_, _≤_, _<_}
-use mathlib.Core.Path.{_≡_, refl, sym, ap, _∙_}
+use Prim.Native.Nat.{ℕ, _+_, _-_, _≤_, _<_}
+use mathlib.Core.Path.{_≡_, refl, sym, ap, _∙_, subst}
 use mathlib.Core.Bool.{true, false}
 use mathlib.Core.List.{List, _++_}
+use native.Mathlib.Nat.{le-refl}
 use native.Mathlib.Omega.{arith}
 use borrow.Author.Tests.{lt-ltb, le-ltb}
 use borrow.Rule.Slice.PartMut.{midOf, putMid}
-use lib.ListN.{length, take, drop, getD}
+use lib.ListN.{length, take, drop}
 use lib.Seq.{length-take-le}
 use Rattle.egg.specs.declared.Refusal.{Refusal}
 use Rattle.egg.specs.declared.Made.{Made}
@@ -17,15 +18,21 @@ use Rattle.egg.specs.declared.Counted.{Counted}
 use Rattle.egg.specs.declared.Counted.the-variants.{Count, Refused}
 use Rattle.egg.specs.Pairs.{ordersRight}
 use Rattle.egg.proofs.Orders.{orders-limits, few-pairs}
+use Rattle.egg.proofs.Rooms.{positive, limited}
 use Rattle.lending.specs.Finish.{Built, built, zeroed, finished}
-use Rattle.lending.specs.Lending.{tableNeed, workNeed, lentRight, Ends, refusedMade, madeOf, Making, making, lentBack}
-use Rattle.lending.proofs.Lending.{part-length, build-back}
+use Rattle.lending.specs.Lending.{tableNeed, workNeed, lentRight, Ends, refusedMade, madeOf, making}
+use Rattle.lending.proofs.Finishing.{refused-counted}
+use Rattle.lending.proofs.Lending.{lent-table, part-length, build-back}
 use Rattle.relations.specs.Relations.{relationsRow}
 use Rattle.rows.specs.Rows.{Orders}
-use Rattle.enumeration.specs.declared.inner.Ran.{Ran}
-use Rattle.enumeration.specs.declared.inner.Ran.the-variants as ran
-use Rattle.enumeration.specs.Run.{Outcome, outcome, enumerated}
-use Rattle.enumeration.specs.Calls.{ranCount, Relating, relating, relates, withWork, related, enumeratedIn, enumerates}
+use Rattle.running.specs.declared.inner.Ran.{Ran}
+use Rattle.running.specs.declared.inner.Ran.the-variants as ran
+use Rattle.running.specs.Run.{Outcome, outcome, enumerated}
+use Rattle.derived.specs.Recorded.{Limits}
+use Rattle.loops.specs.Loops.{sweep, swiftly}
+use Rattle.coincide.proofs.Swift.{swift}
+use Rattle.enumeration.specs.Calls.{ranCount, relating, relatingBy, relates, withWork, related, enumeratedIn, enumerates}
+use Rattle.enumeration.specs.Quick.{Quick}
 
 module _ (n : ℕ) (o : List ℕ) {read : Counted} (t : List ℕ) where
   pub relates-refused : {why : Refusal} → read ≡ Refused why → relating (Refused why) t ≡ relates n o read t
@@ -39,19 +46,74 @@ module _ (n : ℕ) (o : List ℕ) {read : Counted} (t : List ℕ) where
     relates-holds h = rw (e, ← q, h)
 
 -- The run, the checks, and 13.
-pub enumerated-in : (lt lw : ℕ) (o : List ℕ) (n room : ℕ) {r : Ran} {c d f : Counted} {t w t₁ w₁ t₂ : List ℕ}
-    → outcome r t w ≡ enumerated n o room lt lw → c ≡ ranCount r → built d t₁ w₁ ≡ finished c n t w → relating f t₂ ≡ relates n o d t₁
+pub enumerated-in : (lt lw : ℕ) (o : List ℕ) (n room : ℕ) {lt₁ lw₁ : ℕ} {r : Ran} {c d f : Counted} {t w t₁ w₁ t₂ : List ℕ}
+    → lt₁ ≡ lt → lw₁ ≡ lw → outcome r t w ≡ enumerated n o room lt₁ lw₁ → c ≡ ranCount r → built d t₁ w₁ ≡ finished c n t w → relating f t₂ ≡ relates n o d t₁
     → built f t₂ w₁ ≡ enumeratedIn lt lw o n room
 unfolding enumeratedIn
-enumerated-in lt lw o n room {r} {c} {d} {f} {t} {w} {t₁} {w₁} {t₂} a b p q =
-    let x : finished (ranCount r) n t w ≡ built d t₁ w₁ = rw b at (sym p) in
-    let y : finished (ranCount (enumerated n o room lt lw .answer)) n (enumerated n o room lt lw .table) (enumerated n o room lt lw .work) ≡ built d t₁ w₁
-    = ap (λ (s : Outcome). finished (ranCount (s .answer)) n (s .table) (s .work)) (sym a) ∙ x in
-    ap (withWork w₁) q ∙ ap (related n o) (sym y)
+enumerated-in lt lw o n room {r = r} {c} {d} {f} {t} {w} {t₁} {w₁} {t₂} x y a b p q =
+    let z : enumerated n o room lt lw ≡ outcome r t w = rw (x, y) at (sym a) in
+    let u : finished (ranCount r) n t w ≡ built d t₁ w₁ = rw b at (sym p) in
+    let v : finished (ranCount (enumerated n o room lt lw .answer)) n (enumerated n o room lt lw .table) (enumerated n o room lt lw .work) ≡ built d t₁ w₁
+    = ap (λ (s : Outcome). finished (ranCount (s .answer)) n (s .table) (s .work)) z ∙ u in
+    ap (withWork w₁) q ∙ ap (related n o) (sym v)
 
--- Orders that are right are such as the machine wants.
-pub right-orders : (o : List ℕ) (n : ℕ) → n ≤ 8 → ordersRight o n ≡ verdict.Fine → Orders o
-right-orders o n h q = let a = orders-limits o n q in (omega (arith, a .0, few-pairs n h), a .1)
+-- An accepted end: an accepted build before 13, and 13 passed at the identity.
+pub by-relations : (n : ℕ) (o : List ℕ) (b : Built) {N : ℕ} {t w : List ℕ} → related n o b ≡ built (Count N) t w
+    → (b ≡ built (Count N) t w) × (relationsRow t n N o 0 ≡ verdict.Fine)
+by-relations n o (built (Count c) s v) {N} {t} {w} q = by (relationsRow s n c o 0) refl q where
+  by : (d : Verdict) → relationsRow s n c o 0 ≡ d → withWork v (relatingBy d c s) ≡ built (Count N) t w
+      → (built (Count c) s v ≡ built (Count N) t w) × (relationsRow t n N o 0 ≡ verdict.Fine)
+  by verdict.Fine h e =
+      let a : c ≡ N = cc in
+      let b : s ≡ t = cc in
+      (e, subst (λ (x : List ℕ). relationsRow x n N o 0 ≡ verdict.Fine) b (subst (λ (x : ℕ). relationsRow s n x o 0 ≡ verdict.Fine) a h))
+  by (verdict.Refused r) h e = absurd (refused-counted e)
+by-relations n o (built (Refused r) s v) q = absurd (refused-counted q)
+
+-- The quick way, where it stops, and where it accepts.
+module _ (lt lw : ℕ) (o : List ℕ) (n room : ℕ) where
+  pub quick-none : {r : ℕ} {t w : List ℕ} → r ≡ 0 → Quick lt lw o n room r t w
+  quick-none z = record { same = λ some. absurd (some z) }
+
+  pub quick-same : (w : List ℕ) → Limits n o room lt lw → {r : Ran} {N M : ℕ} {c d : Counted} {F t₁ w₁ t₂ : List ℕ}
+      → sweep r F ≡ swiftly n o room lt → r ≡ ran.Done N → length w ≡ lw → built c t₁ w₁ ≡ finished (Count N) n F w → relating d t₂ ≡ relates n o c t₁ → d ≡ Count M
+      → Quick lt lw o n room M t₂ w₁
+  unfolding enumeratedIn
+  quick-same w L {r} {N} {M} {c} {d} {F} {t₁} {w₁} {t₂} a done long p q e =
+      let x : related n o (finished (Count N) n F w) ≡ built (Count M) t₂ w₁
+      = ap (related n o) (sym p) ∙ ap (withWork w₁) (sym q) ∙ ap (λ (k : Counted). built k t₂ w₁) e in
+      let b = by-relations n o (finished (Count N) n F w) x in
+      let S = swift L F (sym a ∙ ap (λ (k : Ran). sweep k F) done) w long (b .0) (b .1) in
+      record {
+        same = λ some.
+            sym (ap (λ (k : Ran). related n o (finished (ranCount k) n (enumerated n o room lt lw .table) (enumerated n o room lt lw .work))) (S .0)
+            ∙ ap (related n o) (S .1 ∙ sym (b .0)) ∙ x);
+      }
+
+-- Orders within the limits are such as the machine wants.
+pub limits-orders : {n : ℕ} {o : List ℕ} {room lt lw : ℕ} → Limits n o room lt lw → Orders o
+limits-orders {n} L = (omega (arith, L .full, few-pairs n (L .few)), L .orders)
+
+-- Where 1 to 4 pass, the run is within its limits.
+module _ (table : List ℕ) (start : ℕ) (work orders : List ℕ) (n room : ℕ) (generators : n ≤ 8) (right : ordersRight orders n ≡ verdict.Fine)
+    (lent : lentRight (length table) start (length work) room n ≡ true) where
+  pub limits : Limits n orders room (tableNeed n room) (workNeed n room)
+  limits =
+      let has = lent-table (length table) start (length work) room n lent in
+      record {
+        few = generators;
+        full = orders-limits orders n right .0;
+        orders = orders-limits orders n right .1;
+        some = positive (length table) start room n has;
+        limit = limited (length table) start room n has;
+        table-room = le-refl (tableNeed n room);
+        work-room = le-refl (workNeed n room);
+      }
+
+  -- Also as the stretches are lent.
+  pub lent-limits : {e d : ℕ} → Ends e start (tableNeed n room) (length table) → d ≡ workNeed n room → d ≤ length work
+      → Limits n orders room (length (midOf start (e - start) table)) (length (take d work))
+  lent-limits {e} {d} q need fits = rw (part-length table start (tableNeed n room) q, length-take-le d work fits, need) limits
 
 module _ (table : List ℕ) (start : ℕ) (work orders : List ℕ) (n room : ℕ) {m : Made} where
   pub enumerates-generators : 8 < n → m ≡ refusedMade 1 n → making m table work ≡ enumerates table start work orders n room

@@ -33,7 +33,8 @@ use Rattle.image.specs.Read.{headPlace, readImage}
 use Rattle.image.proofs.Checking.{zeros-long}
 use Rattle.promises.specs.Composed.{Taken, Given}
 use Rattle.promises.specs.Papers.{madePaper}
-use Rattle.promises.proofs.Built.{settle, settled-holds, taken-checked}
+use Rattle.answers.proofs.Settled.{settle}
+use Rattle.promises.proofs.Built.{settled-holds, taken-checked}
 use Rattle.promises.proofs.Lent.{refused-making}
 use Rattle.promises.proofs.Composed.{composed-exactly, composed-given}
 use Rattle.images.specs.Images.{Bytes, imageStep, WellFormed, GroupImage}

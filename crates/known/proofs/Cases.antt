@@ -21,7 +21,7 @@ use Rattle.relations.specs.Relations.{turned, doubledRow, pairsRow, relations}
 use Rattle.factor.specs.Relations.{checkAnswer}
 use Rattle.rows.specs.Rows as rows
 use Rattle.facts.specs.Facts as facts
-use Rattle.enumeration.specs.Run.{enumerated, runs, visits, discovered, advanced}
+use Rattle.running.specs.Run.{enumerated, runs, visits, discovered, advanced}
 use Rattle.enumeration.specs.Calls.{enumeratedIn, enumerates}
 use Rattle.handles.specs.Handles.{limited, admits}
 use Rattle.digits.specs.Digits.{digitwise}

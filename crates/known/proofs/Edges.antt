@@ -10,7 +10,7 @@ use Rattle.lending.specs.Finish.{finished}
 use Rattle.lending.specs.Lending.{lentRight, within}
 use Rattle.rows.specs.Rows as rows
 use Rattle.facts.specs.Facts as facts
-use Rattle.enumeration.specs.Run.{enumerated, runs, visits, discovered, advanced}
+use Rattle.running.specs.Run.{enumerated, runs, visits, discovered, advanced}
 use Rattle.enumeration.specs.Calls.{enumeratedIn, enumerates}
 use Rattle.known.specs.Edges.{KnownEdges}
 

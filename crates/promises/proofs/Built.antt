@@ -1,7 +1,7 @@
 -- A build from the numbers of a source in its stretches: accepted exactly when the rows are taken, and then the table holds them.
 -- Assumes nothing.
 use Prim.Native.Nat.{ℕ, suc, _+_, _*_, _≤_, _<_}
-use mathlib.Core.Path.{_≡_, refl, sym, ap, _∙_, subst}
+use mathlib.Core.Path.{_≡_, sym, ap, _∙_, subst}
 use mathlib.Core.List.{List}
 use native.Mathlib.Nat.{mul-le-mul, le-refl}
 use native.Mathlib.Omega.{arith}
@@ -9,10 +9,9 @@ use lib.ListN.{length, replicate}
 use Rattle.egg.specs.declared.Verdict.the-variants as verdict
 use Rattle.egg.specs.declared.Counted.the-variants.{Count, Refused}
 use Rattle.egg.specs.Table.{startOf, stepOf}
-use Rattle.hops.specs.Hops.{withHops, Hops}
-use Rattle.hops.proofs.Hops.{hops-there}
-use Rattle.checks.specs.Checks.{Checked, checked, check-group}
-use Rattle.lending.specs.Finish.{built, zeroed, settledBy, finished, finishedPlaced}
+use Rattle.hops.specs.Hops.{withHops}
+use Rattle.checks.specs.Checks.{checked, check-group}
+use Rattle.lending.specs.Finish.{built, zeroed, finished, finishedPlaced}
 use Rattle.lending.proofs.Finishing.{refused-counted}
 use Rattle.reading.specs.Reading.{Placed, placed, readAll}
 use Rattle.theory.proofs.AnyCarrier.{any-carrier}
@@ -20,40 +19,21 @@ use Rattle.theory.proofs.Counting.{numbered-table}
 use Rattle.theory.proofs.FirstPlaces.{first-parents}
 use Rattle.theory.proofs.Recording.{word-of-recorded}
 use Rattle.theory.proofs.Complete.{columns}
-use Rattle.meaning.specs.Stored.{Kept}
-use Rattle.meaning.specs.Sound.{Sound}
-use Rattle.meaning.proofs.Accepted.{checks-sound, checks-kept, sound-regular}
-use Rattle.meaning.proofs.Inverses.{kept-then}
-use Rattle.meaning.proofs.Hopping.{hops-kept, hopping-sound}
+use Rattle.meaning.proofs.Accepted.{sound-regular}
 use Rattle.meaning.proofs.Ruling.{ruled-kept}
 use Rattle.meaning.proofs.Complete.{checks-complete}
-use Rattle.meaning.proofs.Lengths.{checks-work}
 use Rattle.meaning.proofs.Refused.{regular-same}
 use Rattle.numbering.specs.Read.{Read}
 use Rattle.numbering.proofs.Readings.{accepted-read, readable-accepted, read-words, read-readable, read-steps, read-rule, read-appearance}
 use Rattle.numbering.proofs.Storing.{read-stored}
+use Rattle.answers.proofs.Settled.{Settled, settle, by-check, settled-kept, settled-work, settled-sound, settled-hops}
 use Rattle.promises.specs.Composed.{Taken, Holding}
 
--- An accepted end of a build: the checks passed, the letters before the last were put in, and the work was wiped.
-pub record Settled (n N : ℕ) (k : Checked) (t w : List ℕ) : Type 0 where
-  pub table : List ℕ
-  pub work : List ℕ
-  pub checks : k ≡ checked verdict.Fine table work
-  pub lettered : t ≡ withHops N table n
-  pub wiped : w ≡ zeroed work
-
--- And before it an accepted count.
+-- An accepted count, and then an accepted end of the build.
 pub record Passed (p : Placed) (n N : ℕ) (w t w₁ : List ℕ) : Type 0 where
   pub before : List ℕ
   pub count : p ≡ placed (Count N) before
   pub end : Settled n N (check-group before w n N) t w₁
-
-pub settle : {n N : ℕ} {k : Checked} {t w : List ℕ} → k ≡ checked verdict.Fine t w → Settled n N k (withHops N t n) (zeroed w)
-settle {t = t} {w} h = record { table = t; work = w; checks = h; lettered = refl; wiped = refl }
-
-pub by-check : {n c N : ℕ} {t w : List ℕ} (k : Checked) → settledBy n c k ≡ built (Count N) t w → (c ≡ N) × Settled n N k t w
-by-check {n} {c} {N} {t} {w} (checked verdict.Fine t₁ w₁) q = (cc, record { table = t₁; work = w₁; checks = refl; lettered = cc; wiped = cc })
-by-check (checked (verdict.Refused r) t₁ w₁) q = absurd (refused-counted q)
 
 pub passed : (p : Placed) (n : ℕ) (w : List ℕ) {N : ℕ} {t w₁ : List ℕ} → finishedPlaced p n w ≡ built (Count N) t w₁ → Passed p n N w t w₁
 unfolding finished
@@ -70,21 +50,6 @@ pub passes : {p : Placed} (n : ℕ) {N : ℕ} (w : List ℕ) {t₀ t w₁ : List
     → finishedPlaced p n w ≡ built (Count N) t w₁
 unfolding finished
 passes n w a E = rw (a, E .checks, E .lettered, E .wiped)
-
--- What such an end keeps of the table before it, and what it gives.
-module _ (t₀ w₀ : List ℕ) {n N : ℕ} {t w : List ℕ} (E : Settled n N (check-group t₀ w₀ n N) t w) where
-  pub settled-kept : Kept t₀ t n N
-  settled-kept = rw (E .lettered) (kept-then (checks-kept t₀ w₀ n N (E .checks)) (hops-kept (E .table) n N))
-
-  pub settled-work : w ≡ replicate (length w₀) 0
-  settled-work = E .wiped ∙ ap (λ (k : ℕ). replicate k 0) (checks-work t₀ w₀ n N (E .checks))
-
-  module _ (fits : N * (2 * n + 4) ≤ length t₀) where
-    pub settled-sound : 0 < N → N ≤ 65535 → Sound t n N
-    settled-sound some small = rw (E .lettered) (hopping-sound (checks-sound t₀ w₀ n N (E .checks) some small fits))
-
-    pub settled-hops : Hops t n N
-    settled-hops = rw (E .lettered) (hops-there (E .table) n N (rw (checks-kept t₀ w₀ n N (E .checks) .size) fits))
 
 -- A place beyond the rows has no letters and no inverse.
 pub below-cells : (n N e : ℕ) → e < N → (i : ℕ) → N * (2 * n + 4) ≤ i → (i ≡ startOf n e + 2 * n + 1 → ⊥) × (i ≡ startOf n e + 2 * n + 3 → ⊥)

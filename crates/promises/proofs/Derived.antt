@@ -1,26 +1,23 @@
 -- An enumeration's build in its stretches: the run is derivable, the checks make it a group's table, and 13 at the identity is 13 everywhere.
 -- Assumes nothing.
 use Prim.Native.Nat.{ℕ, zero, suc, _+_, _*_, _/_, _%_, _≤_, _<_}
-use mathlib.Core.Path.{_≡_, refl, ap, _∙_, subst}
+use mathlib.Core.Path.{_≡_, refl, ap, _∙_}
 use mathlib.Core.List.{List}
 use native.Mathlib.Nat.{mul-le-mul, le-refl, div-add-mod', mod-lt, le-div-iff-mul-le}
 use native.Mathlib.Omega.{arith}
 use lib.ListN.{length, getD, replicate}
-use Rattle.egg.specs.declared.Verdict.{Verdict}
 use Rattle.egg.specs.declared.Verdict.the-variants as verdict
-use Rattle.egg.specs.declared.Counted.{Counted}
 use Rattle.egg.specs.declared.Counted.the-variants.{Count, Refused}
 use Rattle.egg.specs.Table.{startOf, stepOf}
 use Rattle.egg.specs.Pairs.{ordersRight}
 use Rattle.hops.specs.Hops.{Hops}
 use Rattle.checks.specs.Checks.{check-group}
-use Rattle.lending.specs.Finish.{Built, built, finished}
-use Rattle.lending.proofs.Finishing.{refused-counted}
+use Rattle.lending.specs.Finish.{built, finished}
 use Rattle.relations.specs.Relations.{relationsRow, relations}
-use Rattle.enumeration.specs.declared.inner.Ran.{Ran}
-use Rattle.enumeration.specs.declared.inner.Ran.the-variants as ran
-use Rattle.enumeration.specs.Run.{enumerated}
-use Rattle.enumeration.specs.Calls.{ranCount, relatingBy, withWork, related, enumeratedIn}
+use Rattle.running.specs.declared.inner.Ran.{Ran}
+use Rattle.running.specs.declared.inner.Ran.the-variants as ran
+use Rattle.running.specs.Run.{enumerated}
+use Rattle.enumeration.specs.Calls.{ranCount, enumeratedIn}
 use Rattle.theory.specs.Words.{trace}
 use Rattle.theory.specs.Presentation.{order-of, Holds, Derived}
 use Rattle.theory.proofs.Pasts.{past-agree, past-numbered, past-appearance}
@@ -31,11 +28,12 @@ use Rattle.meaning.proofs.Ruling.{ruled}
 use Rattle.answers.proofs.Relators.{orders-long, relations-exact, relations-first}
 use Rattle.derived.specs.Invariant.{Worded}
 use Rattle.derived.specs.Recorded as run
-use Rattle.derived.proofs.Derivation.{words-traced, done-sound, sound-derived}
-use Rattle.derived.proofs.Running.{Ends, enumerated-ok}
+use Rattle.derived.proofs.Derivation.{words-traced, work-long, done-sound, sound-derived}
 use Rattle.derived.proofs.Going.{done-finished}
 use Rattle.derived.proofs.Ending.{never-paused}
-use Rattle.promises.proofs.Built.{Settled, by-check, settled-kept, settled-work, settled-sound, settled-hops, below-cells}
+use Rattle.answers.proofs.Settled.{Settled, by-count, settled-kept, settled-work, settled-sound, settled-hops}
+use Rattle.enumeration.proofs.Calls.{by-relations}
+use Rattle.promises.proofs.Built.{below-cells}
 
 -- Words recorded alike are the same.
 trace-same : {p p′ l l′ : ℕ → ℕ} → ((x : ℕ) → p x ≡ p′ x) → ((x : ℕ) → l x ≡ l′ x) → (k e : ℕ) → trace p l k e ≡ trace p′ l′ k e
@@ -46,27 +44,6 @@ trace-same {p′ = p′} a b (suc k) (suc e) = rw (a (suc e), b (suc e), trace-s
 -- The words of a run are those that its table records, before and after the checks.
 pub word-same : {n : ℕ} {word : ℕ → List ℕ} {count : ℕ} {t t′ : List ℕ} {N : ℕ} → Worded n word count t → Kept t t′ n N → (x : ℕ) → x < count → wordOf t′ n x ≡ word x
 word-same W K x h = trace-same (K .parent-same) (K .last-same) x x ∙ words-traced W x h
-
--- An accepted end: an accepted build before 13, and 13 passed at the identity.
-by-relations : (n : ℕ) (o : List ℕ) (b : Built) {N : ℕ} {t w : List ℕ} → related n o b ≡ built (Count N) t w
-    → (b ≡ built (Count N) t w) × (relationsRow t n N o 0 ≡ verdict.Fine)
-by-relations n o (built (Count c) s v) {N} {t} {w} q = by (relationsRow s n c o 0) refl q where
-  by : (d : Verdict) → relationsRow s n c o 0 ≡ d → withWork v (relatingBy d c s) ≡ built (Count N) t w
-      → (built (Count c) s v ≡ built (Count N) t w) × (relationsRow t n N o 0 ≡ verdict.Fine)
-  by verdict.Fine h e =
-      let a : c ≡ N = cc in
-      let b : s ≡ t = cc in
-      (e, subst (λ (x : List ℕ). relationsRow x n N o 0 ≡ verdict.Fine) b (subst (λ (x : ℕ). relationsRow s n x o 0 ≡ verdict.Fine) a h))
-  by (verdict.Refused r) h e = absurd (refused-counted e)
-by-relations n o (built (Refused r) s v) q = absurd (refused-counted q)
-
-by-count : (c : Counted) (n : ℕ) (s v : List ℕ) {N : ℕ} {t w : List ℕ} → finished c n s v ≡ built (Count N) t w
-    → (c ≡ Count N) × Settled n N (check-group s v n N) t w
-unfolding finished
-by-count (Count c) n s v {N} {t} {w} q =
-    let b = by-check (check-group s v n c) q in
-    (ap Count (b .0), subst (λ (k : ℕ). Settled n N (check-group s v n k) t w) (b .0) (b .1))
-by-count (Refused r) n s v q = absurd (refused-counted q)
 
 module _ (o : List ℕ) (n room lt lw : ℕ) (L : run.Limits n o room lt lw) (right : ordersRight o n ≡ verdict.Fine) where
   -- Rows from N on are zero, so every number from there on is.
@@ -83,12 +60,6 @@ module _ (o : List ℕ) (n room lt lw : ℕ) (L : run.Limits n o room lt lw) (ri
   done (ran.Refused r) e {N} q = absurd (never q) where
     never : Refused r ≡ Count N → ⊥
     never x = let z : _≡_ {A = ℕ} 0 1 = cc in omega arith
-
-  -- The run keeps the length of the work.
-  pub work-long : {N : ℕ} → enumerated n o room lt lw .answer ≡ ran.Done N → length (enumerated n o room lt lw .work) ≡ lw
-  work-long q =
-      let ok = subst (λ (a : Ran). Ends L a (enumerated n o room lt lw .table) (enumerated n o room lt lw .work)) q (enumerated-ok L) in
-      ok .work-length
 
   -- How an enumeration was accepted: the run was done, 8 to 12 passed, and 13 at the identity.
   pub record Steps (N : ℕ) (t w : List ℕ) : Type 0 where
@@ -156,5 +127,5 @@ module _ (o : List ℕ) (n room lt lw : ℕ) (L : run.Limits n o room lt lw) (ri
         all-related = m;
         holds = H;
         beyond = λ {i} h. K .other i (λ e he. below-cells n N e he i h) ∙ blank-beyond D i h;
-        work-zero = settled-work t₀ w₀ (P .end) ∙ ap (λ (k : ℕ). replicate k 0) (work-long (P .finish));
+        work-zero = settled-work t₀ w₀ (P .end) ∙ ap (λ (k : ℕ). replicate k 0) (work-long L (P .finish));
       }

@@ -4,7 +4,6 @@ use Prim.Native.Nat.{ℕ, _≤_}
 use mathlib.Core.Path.{_≡_, refl, sym, ap, _∙_}
 use mathlib.Core.Bool.{Bool, true, false}
 use mathlib.Core.List.{List}
-use native.Mathlib.Nat.{le-refl}
 use borrow.Author.Tests.{le-ltb, ltb-false}
 use lib.ListN.{length}
 use lib.Dec.{ltb}
@@ -14,8 +13,6 @@ use Rattle.egg.specs.declared.Verdict.the-variants as verdict
 use Rattle.egg.specs.Table.{pick}
 use Rattle.egg.specs.Pairs.{ordersRight}
 use Rattle.egg.specs.Factor.{hasRoom, stretch}
-use Rattle.egg.proofs.Orders.{orders-limits}
-use Rattle.egg.proofs.Rooms.{positive, limited}
 use Rattle.lending.specs.Lending.{tableNeed, workNeed, lentRight, within, refusedMade, Making, making, lentBack}
 use Rattle.lending.proofs.Lending.{lent-table}
 use Rattle.enumeration.specs.Calls.{enumeratedIn, refusedMaking, enumerates}
@@ -25,26 +22,14 @@ use Rattle.theory.proofs.Presented.{presented}
 use Rattle.answers.specs.Accepted.{Accepted, reach}
 use Rattle.answers.proofs.Handles.{compose-answer}
 use Rattle.derived.specs.Recorded as run
+use Rattle.enumeration.proofs.Calls.{limits}
 use Rattle.promises.specs.Enumerated.{OrdersRight, Enumerated, Demand3}
 use Rattle.promises.proofs.Lent.{refused-making, handle, lentTable, by-build, stretch-part, fits-still}
 use Rattle.promises.proofs.Derived.{Related, enumerated-related}
 
--- Where 1 to 4 pass, the run is within its limits, and the call is the build in its stretches, put back into the buffers.
+-- Where 1 to 4 pass, the call is the build in its stretches, put back into the buffers.
 module _ (table : List ℕ) (start : ℕ) (work orders : List ℕ) (n room : ℕ) (generators : n ≤ 8) (right : ordersRight orders n ≡ verdict.Fine)
     (lent : lentRight (length table) start (length work) room n ≡ true) where
-  pub limits : run.Limits n orders room (tableNeed n room) (workNeed n room)
-  limits =
-      let has = lent-table (length table) start (length work) room n lent in
-      record {
-        few = generators;
-        full = orders-limits orders n right .0;
-        orders = orders-limits orders n right .1;
-        some = positive (length table) start room n has;
-        limit = limited (length table) start room n has;
-        table-room = le-refl (tableNeed n room);
-        work-room = le-refl (workNeed n room);
-      }
-
   pub enumerates-is-build : enumerates table start work orders n room
       ≡ lentBack table start work n room (enumeratedIn (tableNeed n room) (workNeed n room) orders n room)
   unfolding enumerates

@@ -29,17 +29,18 @@ use Rattle.egg.specs.Pairs.{ordersRight}
 use Rattle.hops.specs.Hops.{withHops}
 use Rattle.lending.specs.Finish.{built, zeroed}
 use Rattle.lending.specs.Lending.{tableNeed, workNeed, lentRight, within, making, lentBack}
-use Rattle.enumeration.specs.Run.{enumerated}
-use Rattle.enumeration.specs.declared.inner.Ran.the-variants as ran
+use Rattle.running.specs.Run.{enumerated}
+use Rattle.running.specs.declared.inner.Ran.the-variants as ran
 use Rattle.enumeration.specs.Calls.{enumeratedIn, enumerates}
 use Rattle.meaning.specs.Stored.{Stored}
 use Rattle.meaning.proofs.Inverses.{kept-same}
 use Rattle.meaning.proofs.Complete.{checks-complete}
 use Rattle.answers.proofs.Relators.{orders-long, relations-exact, relations-identity}
 use Rattle.derived.specs.Recorded as run
-use Rattle.promises.proofs.Built.{settle, settled-kept, settled-sound}
+use Rattle.answers.proofs.Settled.{settle, settled-kept, settled-sound}
 use Rattle.promises.proofs.Lent.{handle, by-build}
-use Rattle.promises.proofs.Enumerated.{limits, enumerates-is-build}
+use Rattle.promises.proofs.Enumerated.{enumerates-is-build}
+use Rattle.enumeration.proofs.Calls.{limits}
 use Rattle.promises.proofs.Derived.{enumerated-related, enumerated-steps, steps-enumerated, word-same}
 use Rattle.theory.specs.Past.{Past, start, old, new, next-row}
 use Rattle.theory.proofs.Parity.{equiv-parity}

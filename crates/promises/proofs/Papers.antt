@@ -11,8 +11,8 @@ use Rattle.egg.specs.declared.Verdict.{Verdict}
 use Rattle.egg.specs.declared.Verdict.the-variants as verdict
 use Rattle.lending.specs.Lending.{tableNeed, workNeed, Making, making}
 use Rattle.factor.specs.Composed.{composedAt, composed}
-use Rattle.enumeration.specs.Run.{enumerated}
-use Rattle.enumeration.specs.declared.inner.Ran.the-variants as ran
+use Rattle.running.specs.Run.{enumerated}
+use Rattle.running.specs.declared.inner.Ran.the-variants as ran
 use Rattle.enumeration.specs.Calls.{enumerates}
 use Rattle.theory.specs.Presentation.{order-of}
 use Rattle.derived.specs.Recorded.{words}

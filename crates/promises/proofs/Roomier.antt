@@ -31,7 +31,7 @@ use Rattle.walks.specs.Walks.{onReached}
 use Rattle.relations.specs.Relations.{turned, doubledRow, pairsRow, relationsRow}
 use Rattle.reading.specs.Reading.{placed, readAll}
 use Rattle.factor.specs.Composed.{composedAt, composedIn, composed}
-use Rattle.enumeration.specs.Run.{enumerated}
+use Rattle.running.specs.Run.{enumerated}
 use Rattle.enumeration.specs.Calls.{enumeratedIn, enumerates}
 use Rattle.theory.specs.Table.{Columns}
 use Rattle.theory.proofs.AnyCarrier.{any-carrier}
@@ -44,18 +44,20 @@ use Rattle.meaning.proofs.Complete.{checks-complete}
 use Rattle.numbering.specs.Read.{Read}
 use Rattle.numbering.proofs.Readings.{accepted-read, readable-accepted, read-letters}
 use Rattle.derived.specs.Recorded as run
-use Rattle.derived.proofs.Derivation.{done-sound}
+use Rattle.derived.proofs.Derivation.{work-long, done-sound}
 use Rattle.roomier.specs.Longer.{longer}
 use Rattle.roomier.proofs.Stores.{longer-get, longer-put, longer-length}
 use Rattle.roomier.proofs.Roomier.{more-room}
 use Rattle.promises.specs.Roomier.{Roomier}
 use Rattle.promises.proofs.Lent.{handle, lentTable, by-build, stretch-cell}
-use Rattle.promises.proofs.Derived.{work-long, steps-enumerated, enumerated-steps, enumerated-related}
-use Rattle.promises.proofs.Enumerated.{limits, enumerates-is-build}
+use Rattle.promises.proofs.Derived.{steps-enumerated, enumerated-steps, enumerated-related}
+use Rattle.promises.proofs.Enumerated.{enumerates-is-build}
+use Rattle.enumeration.proofs.Calls.{limits}
 use Rattle.promises.proofs.Enumerated as enumeration
 use Rattle.promises.proofs.Composed as rows-call
 use Rattle.numbering.proofs.Storing.{read-stored}
-use Rattle.promises.proofs.Built.{Settled, settle, passed, passes, settled-kept, settled-sound, work-enough, rows-fit, settled-holds, built-holds}
+use Rattle.answers.proofs.Settled.{Settled, settle, settled-kept, settled-sound}
+use Rattle.promises.proofs.Built.{passed, passes, work-enough, rows-fit, settled-holds, built-holds}
 
 -- Inverses are found and filled alike in a longer list.
 invert-longer : (k : ℕ) (l : List ℕ) (n j at x : ℕ) → invertFrom j (longer k l) n at x ≡ invertFrom j l n at x
@@ -170,7 +172,7 @@ module _ (o : List ℕ) (n room lt lw : ℕ) (L : run.Limits n o room lt lw) (ri
       let w₁ = enumerated n o room′ lt′ lw′ .work in
       let work : 0 < n → N ≤ length w₁ = λ pos.
       let one : 1 ≤ 6 * n * n + 4 * n = omega arith in
-      omega (arith, D .fits, L′ .work-room, work-long o n room′ lt′ lw′ L′ right (R .answer), mul-le-mul (le-refl room′) one) in
+      omega (arith, D .fits, L′ .work-room, work-long L′ (R .answer), mul-le-mul (le-refl room′) one) in
       let C = settled-longer (L .few) (D .some) (omega (arith, D .fits, L .limit)) k (enumerated n o room lt lw .table) (enumerated n o room lt lw .work) w₁ fits work (P .end) in
       let fine : relationsRow (longer k t) n N o 0 ≡ verdict.Fine = relations-longer k t n N o ∙ P .identity in
       (C .0, steps-enumerated o n room′ lt′ lw′ L′ right (R .answer) (R .table) refl (C .1) fine)

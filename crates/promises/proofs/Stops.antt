@@ -21,14 +21,15 @@ use Rattle.lending.specs.Lending.{tableNeed, workNeed, lentRight, within, noFac
 use Rattle.lending.proofs.Lending.{lent-table}
 use Rattle.reading.specs.Reading.{Placed, placed, readAll}
 use Rattle.factor.specs.Composed.{composedAt, composedIn, composed}
-use Rattle.enumeration.specs.Run.{Outcome, enumerated}
-use Rattle.enumeration.specs.declared.inner.Ran.the-variants as ran
+use Rattle.running.specs.Run.{Outcome, enumerated}
+use Rattle.running.specs.declared.inner.Ran.the-variants as ran
 use Rattle.enumeration.specs.Calls.{enumerates}
 use Rattle.derived.specs.Recorded.{Limits}
 use Rattle.numbering.specs.Read.{Refuses}
 use Rattle.numbering.proofs.Readings.{accepted-read, refused-read, refuses-refused, refused-number}
 use Rattle.promises.proofs.Composed.{composed-is-build}
-use Rattle.promises.proofs.Enumerated.{limits, enumerates-is-build}
+use Rattle.promises.proofs.Enumerated.{enumerates-is-build}
+use Rattle.enumeration.proofs.Calls.{limits}
 use Rattle.meaning.specs.Numbers.{member, lateNumbers}
 use Rattle.meaning.proofs.Numbers.{none-of, ranged-numbers}
 use Rattle.derived.specs.Going.{Broken}

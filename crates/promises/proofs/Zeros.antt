@@ -22,9 +22,9 @@ use Rattle.lending.specs.Finish.{built, zeroed, settledBy, finished, finishedPl
 use Rattle.lending.proofs.Finishing.{refused-counted}
 use Rattle.reading.specs.Reading.{Placed, placed, readAll}
 use Rattle.relations.specs.Relations.{relationsRow}
-use Rattle.enumeration.specs.declared.inner.Ran.{Ran}
-use Rattle.enumeration.specs.declared.inner.Ran.the-variants as ran
-use Rattle.enumeration.specs.Run.{enumerated}
+use Rattle.running.specs.declared.inner.Ran.{Ran}
+use Rattle.running.specs.declared.inner.Ran.the-variants as ran
+use Rattle.running.specs.Run.{enumerated}
 use Rattle.enumeration.specs.Calls.{ranCount, relatingBy, withWork, related, enumeratedIn}
 use Rattle.meaning.specs.Numbers.{member, every, In, lateNumbers}
 use Rattle.meaning.proofs.Accepted.{checks-sound, checks-kept}

@@ -11,8 +11,8 @@ use lib.ListN.{length, replicate, length-replicate}
 use lib.Dec.{eqb}
 use Rattle.egg.specs.Table.{pick}
 use Rattle.rows.specs.Rows.{workWidth, addedRows}
-use Rattle.enumeration.specs.Run.{Outcome, outcome, runs, first, enumerated}
-use Rattle.enumeration.specs.declared.inner.Ran.the-variants as ran
+use Rattle.running.specs.Run.{Outcome, outcome, runs, first, enumerated}
+use Rattle.running.specs.declared.inner.Ran.the-variants as ran
 use Rattle.derived.specs.Recorded.{Limits}
 use Rattle.derived.proofs.Visiting.{IsDone}
 use Rattle.derived.proofs.Running.{work-room, first-work, first-ok}

@@ -19,9 +19,9 @@ use Rattle.egg.specs.Table.{pick, putAt, startOf, lengthOf}
 use Rattle.reading.specs.Build.{isNew, setStep, setWord, numbered, Adds, adds}
 use Rattle.rows.specs.Rows.{workWidth, placeAt, addedRows}
 use Rattle.facts.specs.Facts.{State, state, link, belowAt}
-use Rattle.enumeration.specs.Run.{discovered, Visit, visit, onAdds, visits, advanced, Outcome, outcome, after, runs}
-use Rattle.enumeration.specs.declared.inner.Run.{Run}
-use Rattle.enumeration.specs.declared.inner.Ran.the-variants as ran
+use Rattle.running.specs.Run.{discovered, Visit, visit, onAdds, visits, advanced, Outcome, outcome, after, runs}
+use Rattle.running.specs.declared.inner.Run.{Run}
+use Rattle.running.specs.declared.inner.Ran.the-variants as ran
 use Rattle.derived.specs.Recorded.{Limits}
 use Rattle.derived.specs.Invariant.{Working, RunOk}
 use Rattle.derived.proofs.Visiting.{IsDone, next}

@@ -5,8 +5,8 @@ use mathlib.Core.Path.{_≡_}
 use mathlib.Core.List.{List, _++_}
 use lib.ListN.{length, replicate}
 use Rattle.facts.specs.Facts.{State, state}
-use Rattle.enumeration.specs.Run.{Visit, visit, Outcome, outcome, enumerated}
-use Rattle.enumeration.specs.declared.inner.Ran.the-variants as ran
+use Rattle.running.specs.Run.{Visit, visit, Outcome, outcome, enumerated}
+use Rattle.running.specs.declared.inner.Ran.the-variants as ran
 
 -- With k zeros behind.
 unfoldable pub longer : ℕ → List ℕ → List ℕ

@@ -16,7 +16,8 @@ use Rattle.reading.specs.Reading.{placed}
 use Rattle.lending.specs.Finish.{built, finished}
 use Rattle.lending.specs.Lending.{tableNeed, workNeed, within}
 use Rattle.promises.specs.Leaves.{AllCleared}
-use Rattle.promises.proofs.Built.{passed, settled-kept, settled-work}
+use Rattle.answers.proofs.Settled.{settled-kept, settled-work}
+use Rattle.promises.proofs.Built.{passed}
 use Rattle.handles.specs.declared.Group.{Group}
 use Rattle.handles.specs.Handles.{handles, elementsOf}
 use Rattle.digits.specs.Digits.{composes}

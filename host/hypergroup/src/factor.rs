@@ -103,11 +103,13 @@ impl Factor {
     }
 
     /// The element that a generator is.
+    #[inline]
     pub fn generator(&self, g: Generator) -> Result<Element, Refusal> {
         raw::generator(&self.table, self.handle, g.0).map(Element)
     }
 
     /// Where one turn leads from an element.
+    #[inline]
     pub fn step(&self, e: Element, g: Generator) -> Result<Element, Refusal> {
         raw::step(&self.table, self.handle, e.0, g.0).map(Element)
     }
@@ -118,21 +120,25 @@ impl Factor {
     }
 
     /// a·b: first the turns of `a`, then those of `b`.
+    #[inline]
     pub fn compose(&self, a: Element, b: Element) -> Result<Element, Refusal> {
         raw::compose(&self.table, self.handle, a.0, b.0).map(Element)
     }
 
     /// The element that undoes `a`.
+    #[inline]
     pub fn inverse(&self, a: Element) -> Result<Element, Refusal> {
         raw::inverse(&self.table, self.handle, a.0).map(Element)
     }
 
     /// a·b·a⁻¹.
+    #[inline]
     pub fn conjugate(&self, a: Element, b: Element) -> Result<Element, Refusal> {
         raw::conjugate(&self.table, self.handle, a.0, b.0).map(Element)
     }
 
     /// How long the recorded word of an element is.
+    #[inline]
     pub fn word_length(&self, e: Element) -> Result<u32, Refusal> {
         raw::length(&self.table, self.handle, e.0)
     }

@@ -178,6 +178,7 @@ macro_rules! ask_subgroup {
     };
 }
 
+#[inline]
 fn coded(x: u64) -> Answer<u32> {
     let (number, value) = ((x >> 32) as u32, x as u32);
     if number == 0 { Ok(value) } else { Err(Refusal { number, places: [value, 0, 0] }) }
@@ -229,6 +230,7 @@ pub fn add(t: &mut [u32], b: Handle, e: u32, g: u8) -> Grown {
 }
 
 /// Stores the step from `e` by `g` to `x`; whether the place was new.
+#[inline]
 pub fn set(t: &mut [u32], b: Handle, e: u32, g: u8, x: u32) -> Answer<bool> {
     // SAFETY: pointers and lengths of slices, as said at the head of this file.
     coded(unsafe { hg_set(t.as_mut_ptr(), t.len(), b.start, b.room, b.generators, b.elements, e, g, x) }).map(|new| new == 1)
@@ -263,47 +265,56 @@ pub fn image_check(image: &[u8], work: &mut [u8]) -> u32 {
 }
 
 /// Walks a word of generators from an element: the element reached, or 65,536 + the refusal's number.
+#[inline]
 pub fn image_walk(image: &[u8], start: u32, word: &[u8]) -> u32 {
     // SAFETY: pointers and lengths of slices, as said at the head of this file.
     unsafe { hg_image_walk(image.as_ptr(), image.len(), start, word.as_ptr(), word.len()) }
 }
 
 /// How many elements the factor has.
+#[inline]
 pub fn count(t: &[u32], h: Handle) -> Answer<u32> {
     coded(ask!(hg_count, t, h))
 }
 
 /// The step from `e` by `g`.
+#[inline]
 pub fn step(t: &[u32], h: Handle, e: u32, g: u8) -> Answer<u32> {
     coded(ask!(hg_step, t, h, e, g))
 }
 
 /// The product of two elements.
+#[inline]
 pub fn compose(t: &[u32], h: Handle, a: u32, b: u32) -> Answer<u32> {
     coded(ask!(hg_compose, t, h, a, b))
 }
 
 /// a·b·a⁻¹.
+#[inline]
 pub fn conjugate(t: &[u32], h: Handle, a: u32, b: u32) -> Answer<u32> {
     coded(ask!(hg_conjugate, t, h, a, b))
 }
 
 /// The inverse of an element.
+#[inline]
 pub fn inverse(t: &[u32], h: Handle, a: u32) -> Answer<u32> {
     coded(ask!(hg_inverse, t, h, a))
 }
 
 /// The element of a generator.
+#[inline]
 pub fn generator(t: &[u32], h: Handle, g: u8) -> Answer<u32> {
     coded(ask!(hg_generator, t, h, g))
 }
 
 /// How long the recorded word of an element is.
+#[inline]
 pub fn length(t: &[u32], h: Handle, e: u32) -> Answer<u32> {
     coded(ask!(hg_length, t, h, e))
 }
 
 /// Writes the recorded word of an element to the start of a buffer; its length.
+#[inline]
 pub fn word(t: &[u32], h: Handle, e: u32, out: &mut [u8]) -> Answer<u32> {
     coded(ask!(hg_word, t, h, e, out.as_mut_ptr(), out.len()))
 }
@@ -330,76 +341,91 @@ pub fn product(t: &[u32], a: &Handles, b: &Handles) -> Answer<u32> {
 }
 
 /// How many elements a product has.
+#[inline]
 pub fn product_count(t: &[u32], p: &Handles) -> Answer<u32> {
     coded(ask_product!(hg_product_count, t, p))
 }
 
 /// How many generators a product has.
+#[inline]
 pub fn product_generators(t: &[u32], p: &Handles) -> Answer<u32> {
     coded(ask_product!(hg_product_generators, t, p))
 }
 
 /// The element of a generator of a product.
+#[inline]
 pub fn product_generator(t: &[u32], p: &Handles, g: u8) -> Answer<u32> {
     coded(ask_product!(hg_product_generator, t, p, g))
 }
 
 /// The step from `e` by `g` in a product.
+#[inline]
 pub fn product_step(t: &[u32], p: &Handles, e: u32, g: u8) -> Answer<u32> {
     coded(ask_product!(hg_product_step, t, p, e, g))
 }
 
 /// The digit of `e` for the factor `f`.
+#[inline]
 pub fn product_project(t: &[u32], p: &Handles, f: u8, e: u32) -> Answer<u32> {
     coded(ask_product!(hg_product_project, t, p, f, e))
 }
 
 /// The element that is `e` in the factor `f` and the identity in the others.
+#[inline]
 pub fn product_inject(t: &[u32], p: &Handles, f: u8, e: u32) -> Answer<u32> {
     coded(ask_product!(hg_product_inject, t, p, f, e))
 }
 
 /// The product of two elements of a product.
+#[inline]
 pub fn product_compose(t: &[u32], p: &Handles, a: u32, b: u32) -> Answer<u32> {
     coded(ask_product!(hg_product_compose, t, p, a, b))
 }
 
 /// The inverse of an element of a product.
+#[inline]
 pub fn product_inverse(t: &[u32], p: &Handles, a: u32) -> Answer<u32> {
     coded(ask_product!(hg_product_inverse, t, p, a))
 }
 
 /// a·b·a⁻¹ in a product.
+#[inline]
 pub fn product_conjugate(t: &[u32], p: &Handles, a: u32, b: u32) -> Answer<u32> {
     coded(ask_product!(hg_product_conjugate, t, p, a, b))
 }
 
 /// The power of an element of a product.
+#[inline]
 pub fn product_powi(t: &[u32], p: &Handles, a: u32, i: i32) -> Answer<u32> {
     coded(ask_product!(hg_product_powi, t, p, a, i))
 }
 
 /// The least power of an element that is the identity, from 1 on.
+#[inline]
 pub fn product_period(t: &[u32], p: &Handles, a: u32) -> Answer<u32> {
     coded(ask_product!(hg_product_period, t, p, a))
 }
 
 /// How long the recorded word of an element of a product is.
+#[inline]
 pub fn product_length(t: &[u32], p: &Handles, e: u32) -> Answer<u32> {
     coded(ask_product!(hg_product_length, t, p, e))
 }
 
 /// The digits of an element, written to the start of a list; how many they are.
+#[inline]
 pub fn product_split(t: &[u32], p: &Handles, e: u32, out: &mut [u32]) -> Answer<u32> {
     coded(ask_product!(hg_product_split, t, p, e, out.as_mut_ptr(), out.len()))
 }
 
 /// The element with the digits that a list starts with.
+#[inline]
 pub fn product_join(t: &[u32], p: &Handles, digits: &[u32]) -> Answer<u32> {
     coded(ask_product!(hg_product_join, t, p, digits.as_ptr(), digits.len()))
 }
 
 /// Writes the recorded word of an element of a product to the start of a buffer; its length.
+#[inline]
 pub fn product_word(t: &[u32], p: &Handles, e: u32, out: &mut [u8]) -> Answer<u32> {
     coded(ask_product!(hg_product_word, t, p, e, out.as_mut_ptr(), out.len()))
 }
@@ -451,16 +477,19 @@ pub fn subgroup_predicate(
 }
 
 /// The element of the overgroup that the subgroup's `e` is.
+#[inline]
 pub fn subgroup_over(from: &[u32], table: &[u32], s: &Sides, outward: &[u32], e: u32) -> Answer<u32> {
     coded(ask_subgroup!(hg_subgroup_over, from, table, s, outward.as_ptr(), outward.len(), e))
 }
 
 /// The element of the subgroup that the overgroup's `x` is; 4,294,967,295 where it is not in it.
+#[inline]
 pub fn subgroup_back(from: &[u32], table: &[u32], s: &Sides, inward: &[u32], x: u32) -> Answer<u32> {
     coded(ask_subgroup!(hg_subgroup_back, from, table, s, inward.as_ptr(), inward.len(), x))
 }
 
 /// The element of the overgroup that a generator of the subgroup is.
+#[inline]
 pub fn subgroup_generator(from: &[u32], table: &[u32], s: &Sides, outward: &[u32], g: u8) -> Answer<u32> {
     coded(ask_subgroup!(hg_subgroup_generator, from, table, s, outward.as_ptr(), outward.len(), g))
 }

@@ -87,11 +87,13 @@ impl Product {
     }
 
     /// The element that a generator is.
+    #[inline]
     pub fn generator(&self, g: Generator) -> Result<Element, Refusal> {
         raw::product_generator(&self.table, &self.handles, g.0).map(Element)
     }
 
     /// Where one turn leads from an element.
+    #[inline]
     pub fn step(&self, e: Element, g: Generator) -> Result<Element, Refusal> {
         raw::product_step(&self.table, &self.handles, e.0, g.0).map(Element)
     }
@@ -102,16 +104,19 @@ impl Product {
     }
 
     /// a·b: first the turns of `a`, then those of `b`.
+    #[inline]
     pub fn compose(&self, a: Element, b: Element) -> Result<Element, Refusal> {
         raw::product_compose(&self.table, &self.handles, a.0, b.0).map(Element)
     }
 
     /// The element that undoes `a`.
+    #[inline]
     pub fn inverse(&self, a: Element) -> Result<Element, Refusal> {
         raw::product_inverse(&self.table, &self.handles, a.0).map(Element)
     }
 
     /// a·b·a⁻¹.
+    #[inline]
     pub fn conjugate(&self, a: Element, b: Element) -> Result<Element, Refusal> {
         raw::product_conjugate(&self.table, &self.handles, a.0, b.0).map(Element)
     }
@@ -125,11 +130,13 @@ impl Product {
     /// assert_eq!(s3.powi(Element(3), i32::MIN)?, Element(3));
     /// # Ok::<(), hypergroup::Refusal>(())
     /// ```
+    #[inline]
     pub fn powi(&self, a: Element, exponent: i32) -> Result<Element, Refusal> {
         raw::product_powi(&self.table, &self.handles, a.0, exponent).map(Element)
     }
 
     /// The least power, from 1 on, of an element that is the identity.
+    #[inline]
     pub fn period(&self, a: Element) -> Result<u32, Refusal> {
         raw::product_period(&self.table, &self.handles, a.0)
     }
@@ -148,16 +155,19 @@ impl Product {
     }
 
     /// The element of one factor that `e` has there.
+    #[inline]
     pub fn project(&self, factor: u8, e: Element) -> Result<Element, Refusal> {
         raw::product_project(&self.table, &self.handles, factor, e.0).map(Element)
     }
 
     /// The element that is `x` in one factor and the identity in the others.
+    #[inline]
     pub fn inject(&self, factor: u8, x: Element) -> Result<Element, Refusal> {
         raw::product_inject(&self.table, &self.handles, factor, x.0).map(Element)
     }
 
     /// How long the recorded word of an element is.
+    #[inline]
     pub fn word_length(&self, e: Element) -> Result<u32, Refusal> {
         raw::product_length(&self.table, &self.handles, e.0)
     }
@@ -178,6 +188,7 @@ impl Product {
     /// assert_eq!(square, Factor::from_orders(2, &[2], 4)?);
     /// # Ok::<(), hypergroup::Refusal>(())
     /// ```
+    #[inline]
     pub fn flatten(&self, room: u32) -> Result<Factor, Refusal> {
         let (mut table, mut work) = raw::lent(self.generators, room);
         let handle = raw::product_flatten(&self.table, &self.handles, self.generators, &mut table, 0, &mut work, room)?;

@@ -105,17 +105,20 @@ impl Subgroup {
     }
 
     /// The element of the overgroup that an element of the subgroup is.
+    #[inline]
     pub fn to_overgroup(&self, e: Element) -> Result<Element, Refusal> {
         raw::subgroup_over(&self.from, self.factor.table(), &self.sides, &self.outward, e.0).map(Element)
     }
 
     /// The element of the subgroup that an element of the overgroup is, if it is in it.
+    #[inline]
     pub fn to_subgroup(&self, x: Element) -> Result<Option<Element>, Refusal> {
         let e = raw::subgroup_back(&self.from, self.factor.table(), &self.sides, &self.inward, x.0)?;
         Ok((e != u32::MAX).then_some(Element(e)))
     }
 
     /// The element of the overgroup that a generator of the subgroup is.
+    #[inline]
     pub fn generator(&self, g: Generator) -> Result<Element, Refusal> {
         raw::subgroup_generator(&self.from, self.factor.table(), &self.sides, &self.outward, g.0).map(Element)
     }
@@ -129,6 +132,7 @@ impl Subgroup {
     }
 
     /// The same with the slower digits.
+    #[inline]
     pub fn multiplied_right(&self, factors: &Product) -> Result<Self, Refusal> {
         let (from, more) = self.with(factors);
         raw::subgroup_right(&from, self.factor.table(), &self.sides, &more.iter().copied().collect())?;

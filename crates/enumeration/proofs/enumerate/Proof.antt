@@ -1,5 +1,5 @@
 -- One law for each answer; both stretches stand in their buffers by `build-back`.
-use Rattle.enumeration.proofs.Calls.{right-orders, enumerates-generators, enumerates-orders, enumerates-short, enumerates-built}
+use Rattle.enumeration.proofs.Calls.{lent-limits, enumerates-generators, enumerates-orders, enumerates-short, enumerates-built}
 use Rattle.lending.proofs.Lending.{lent-table, lent-enough}
 use borrow.Author.Tests.{not-true, not-false, leb-true}
 use mathlib.Core.Path.{_≡_, refl, sym, _∙_}
@@ -73,7 +73,7 @@ slice-aggregate-enumerate-in : tie.Need-slice-aggregate-enumerate-in
 slice-aggregate-enumerate-in c = sym (length-take-le _ (c .before .before .before .before .before .before .before .before .before .before .before .before .before .args .work .now) (rw (c .before .before .work-need .ensures) (leb-true _ _ (lent-enough (length (c .before .before .before .before .before .before .before .before .before .before .before .before .before .args .table .now)) _ (length (c .before .before .before .before .before .before .before .before .before .before .before .before .before .args .work .now)) _ _ (sym (c .before .before .before .before .before .lent-right .ensures) ∙ not-false _ (c .before .before .before .before .if2 .left))))))
 
 enumerate-in-requires : tie.Need-enumerate-in-requires
-enumerate-in-requires c κs = right-orders (c .before .before .before .before .before .before .before .before .before .before .before .before .before .args .orders .now) _ (c .before .before .before .before .before .before .before .before .before .if1 .left) (sym (c .before .before .before .before .before .before .before .before .orders-right .ensures) ∙ c .before .before .before .before .before .before .enum-told .given .1)
+enumerate-in-requires c κs = lent-limits (c .before .before .before .before .before .before .before .before .before .before .before .before .before .args .table .now) (c .before .before .before .before .before .before .before .before .before .before .before .before .before .args .start) (c .before .before .before .before .before .before .before .before .before .before .before .before .before .args .work .now) (c .before .before .before .before .before .before .before .before .before .before .before .before .before .args .orders .now) _ _ (c .before .before .before .before .before .before .before .before .before .if1 .left) (sym (c .before .before .before .before .before .before .before .before .orders-right .ensures) ∙ c .before .before .before .before .before .before .enum-told .given .1) (sym (c .before .before .before .before .before .lent-right .ensures) ∙ not-false _ (c .before .before .before .before .if2 .left)) (c .before .before .before .stretch-end .ensures) (c .before .before .work-need .ensures) (rw (c .before .before .work-need .ensures) (leb-true _ _ (lent-enough (length (c .before .before .before .before .before .before .before .before .before .before .before .before .before .args .table .now)) _ (length (c .before .before .before .before .before .before .before .before .before .before .before .before .before .args .work .now)) _ _ (sym (c .before .before .before .before .before .lent-right .ensures) ∙ not-false _ (c .before .before .before .before .if2 .left)))))
 
 made-requires-2 : tie.Need-made-requires-2
 made-requires-2 c κs = search needs

@@ -1,0 +1,13 @@
+pub mod Columns
+pub mod Ground
+pub mod Learning
+pub mod Carrying
+pub mod Giving
+pub mod Requeueing
+pub mod Waking
+pub mod WakingAll
+pub mod Updating
+pub mod Settling
+pub mod NewRows
+pub mod Discovering
+pub mod Beginning

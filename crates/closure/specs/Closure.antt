@@ -1,0 +1,68 @@
+-- What the enumeration's machine has closed: when no fact is left, a row that lacks one step has been given it.
+-- Assumes nothing.
+use Prim.Native.Nat.{ℕ, suc, _+_, _*_, _<_, _≤_}
+use mathlib.Core.Path.{_≡_}
+use mathlib.Core.Logic.{_⊎_}
+use mathlib.Core.List.{List, []}
+use lib.ListN.{getD, length}
+use Rattle.rows.specs.declared.inner.SideOfGap.{SideOfGap}
+use Rattle.rows.specs.declared.inner.SideOfGap.the-variants.{Left, Right}
+use Rattle.egg.specs.Table.{startOf}
+use Rattle.rows.specs.Rows.{workWidth, readRow}
+use Rattle.facts.specs.Facts.{State, state}
+use Rattle.derived.specs.Invariant.{Known}
+use Rattle.derived.specs.Stack.{Stack}
+use Rattle.rings.specs.Rings.{turn, ring, first, second, Told, Column, rowAt}
+use Rattle.queues.specs.Queues.{In, placeOf, copyAt, Held, Queues}
+
+-- A copy stands at columns of its loop, both ends at elements below the count, with every column outside of them known.
+pub record Rowed (count : ℕ) (step : ℕ → ℕ → ℕ) (o t w : List ℕ) (n u k : ℕ) (side : SideOfGap) : Type 0 where
+  pub left : ℕ
+  pub right : ℕ
+  pub is : readRow w (copyAt n u k side) ≡ rowAt step u k left right
+  pub ordered : left ≤ right
+  pub within : right < 2 * getD o k 0
+  pub from-below : ring step (first k) (second k) u left < count
+  pub to-below : ring step (first k) (second k) u (suc right) < count
+  pub before : (j : ℕ) → j < left → Column n t step u k j
+  pub behind : (j : ℕ) → right < j → j < 2 * getD o k 0 → Column n t step u k j
+
+-- The copy p waits for the step from e by g, which is not known or is a fact on the stack; or it is in hand.
+pub data Awaits (n : ℕ) (t : List ℕ) (held : Held) (facts : List ℕ) (hand : SideOfGap → List ℕ) (side : SideOfGap) (p e g : ℕ) : Type 0 where
+  listed : In p (held side e g) → (Known n t e g → In (placeOf n e g) facts) → Awaits n t held facts hand side p e g
+  in-hand : In p (hand side) → Awaits n t held facts hand side p e g
+
+-- The left copy's left end and the right copy's right end are apart, and both copies wait.
+pub record Open (n : ℕ) (step : ℕ → ℕ → ℕ) (t w : List ℕ) (held : Held) (facts : List ℕ) (hand : SideOfGap → List ℕ) (u k : ℕ) : Type 0 where
+  pub l : ℕ
+  pub r : ℕ
+  pub left-is : readRow w (copyAt n u k Left) .left ≡ l
+  pub right-is : readRow w (copyAt n u k Right) .right ≡ r
+  pub gap : l < r
+  pub left-waits : Awaits n t held facts hand Left (copyAt n u k Left) (ring step (first k) (second k) u l) (turn (first k) (second k) l)
+  pub right-waits : Awaits n t held facts hand Right (copyAt n u k Right) (ring step (first k) (second k) u (suc r)) (turn (first k) (second k) r)
+
+-- Every column of the row is known.
+abbrev pub Whole : (n : ℕ) (step : ℕ → ℕ → ℕ) (o t : List ℕ) (u k : ℕ) → Type 0
+Whole n step o t u k = (j : ℕ) → j < 2 * getD o k 0 → Column n t step u k j
+
+-- The machine with so many elements, beside steps that are known beforehand: `held` says which copies wait where, `facts` what is on the stack, and `hand` which
+-- copies are taken from their lists and still to be woken. `Live` are the rows of whose element neither generator of the pair is the step back.
+pub record Machine (n : ℕ) (o : List ℕ) (step : ℕ → ℕ → ℕ) (Live : ℕ → ℕ → Type 0) (count lt lw : ℕ) (held : Held) (facts : List ℕ) (hand : SideOfGap → List ℕ) (s : State) : Type 0 where
+  pub told : Told n count step (s .table)
+  pub stack : Stack n count (s .table) (s .work) (s .top) facts
+  pub queues : Queues n count (length o) (s .work) held
+  pub rows : (u k : ℕ) (side : SideOfGap) → u < count → k < length o → Rowed count step o (s .table) (s .work) n u k side
+  pub live : (u k : ℕ) → u < count → k < length o → Live u k → Whole n step o (s .table) u k ⊎ Open n step (s .table) (s .work) held facts hand u k
+  pub blank : (i : ℕ) → count * workWidth n ≤ i → getD (s .work) i 0 ≡ 0
+  pub table-length : length (s .table) ≡ lt
+  pub work-length : length (s .work) ≡ lw
+
+-- Nothing is in hand.
+abbrev pub none : SideOfGap → List ℕ
+none s = []
+
+-- Between two places: no fact is left.
+pub record Closed (n : ℕ) (o : List ℕ) (step : ℕ → ℕ → ℕ) (Live : ℕ → ℕ → Type 0) (count lt lw : ℕ) (t w : List ℕ) : Type 0 where
+  pub held : Held
+  pub machine : Machine n o step Live count lt lw held [] none (state t w 0)

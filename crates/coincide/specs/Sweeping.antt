@@ -1,0 +1,21 @@
+-- What the run by closed loops keeps true of its table.
+-- Assumes nothing.
+use Prim.Native.Nat.{ℕ, suc, _+_, _*_, _<_, _≤_}
+use mathlib.Core.Path.{_≡_}
+use mathlib.Core.List.{List}
+use lib.ListN.{getD, length}
+use Rattle.egg.specs.Table.{startOf}
+use Rattle.derived.specs.Invariant.{Known}
+
+-- A step back stands as the step does, a known step leads to an element below the count and is known the other way, and rows from the count on are blank.
+pub record Fair (n count lt : ℕ) (t : List ℕ) : Type 0 where
+  pub back : (e g : ℕ) → g < n → getD t (startOf n e + (n + g)) 0 ≡ getD t (startOf n e + g) 0
+  pub turned : (e g r : ℕ) → g < n → getD t (startOf n e + g) 0 ≡ suc r → (r < count) × (getD t (startOf n r + g) 0 ≡ suc e)
+  pub blank : (e k : ℕ) → count ≤ e → k < 2 * n + 4 → getD t (startOf n e + k) 0 ≡ 0
+  pub size : length t ≡ lt
+
+-- The later table has every known step of the earlier one, and the same words.
+pub record Grows (n count count′ : ℕ) (t t′ : List ℕ) : Type 0 where
+  pub more : count ≤ count′
+  pub known : (e g : ℕ) → g < n → Known n t e g → getD t′ (startOf n e + g) 0 ≡ getD t (startOf n e + g) 0
+  pub rest : (e k : ℕ) → e < count → 2 * n ≤ k → k < 2 * n + 4 → getD t′ (startOf n e + k) 0 ≡ getD t (startOf n e + k) 0

@@ -1,0 +1,2 @@
+// That the enumeration by closed loops gives what 000 gives: theorems in proofs/. There is no code, and a crate needs a function.
+pub fn nothing() {}

@@ -1,0 +1,222 @@
+// The machine of the enumeration by closed loops: what one pair relation says of a step, one visit of a place, the run.
+ghost use mathlib.Core.Path.{_≡_};
+ghost use Prim.Native.Nat.{_+_, _*_, _-_, _<_, _≤_};
+ghost use lib.ListN.{length};
+ghost use Rattle.egg.specs.Table.{lengthOf};
+ghost use Rattle.rows.specs.Rows.{Orders};
+ghost use Rattle.rows.specs.Walk.{walkFrom};
+ghost use Rattle.loops.specs.Loops.{orderFor, loopBy, loopFrom, swept, settles, sweeps, sweep, sweepFrom, swiftly};
+use egg::Counted;
+use egg::GeneratorId;
+use egg::GroupElementId;
+use egg::Reached;
+use rows::inner::Walked;
+use running::inner::Ran;
+use running::inner::Run;
+
+// The order of the pair of two generators.
+pub fn order_for(orders: &[u32], g: u8, h: u8) -> u32
+    ensures { λ r. ⌜ r ≡ orderFor (now (orders .entry)) g h ⌝ }
+{
+    if g < h {
+        egg::inner::get(orders, (egg::inner::pair_count(h) as usize) + (g as usize))
+    } else {
+        egg::inner::get(orders, (egg::inner::pair_count(g) as usize) + (h as usize))
+    }
+}
+
+// The letters of a relation but one.
+pub fn letters(order: u32) -> u32
+    requires { ⌜ order < 32768 ⌝ }
+    ensures { λ r. ⌜ r ≡ 2 * order - 1 ⌝ }
+{
+    if order == 0 {
+        return 0;
+    }
+    let all = 2 * order;
+    all - 1
+}
+
+// A walk along two columns of the table's rows in turn. Most are of a few steps, so there is nothing to guess.
+pub fn loop_end(
+    t: &[u32],
+    n: u8,
+    element: GroupElementId,
+    here: usize,
+    there: usize,
+    steps: u32,
+) -> Walked
+    requires { ⌜ (here < 4294967296) × ((there < 4294967296) × (element .0 < 4294967295)) ⌝ }
+    ensures { λ r. ⌜ (r ≡ walkFrom steps (now (t .entry)) n (element .0) here there) × (r .element .0 < 4294967295) ⌝ }
+{
+    let mut e = element.0;
+    let mut left = steps;
+    while left != 0 {
+        let x = egg::inner::get(t, egg::inner::start(n, GroupElementId(e)) + here);
+        if x == 0 {
+            return Walked {
+                element: GroupElementId(e),
+                left,
+            };
+        }
+        left -= 1;
+        if left == 0 {
+            return Walked {
+                element: GroupElementId(x - 1),
+                left,
+            };
+        }
+        let y = egg::inner::get(t, egg::inner::start(n, GroupElementId(x - 1)) + there);
+        if y == 0 {
+            return Walked {
+                element: GroupElementId(x - 1),
+                left,
+            };
+        }
+        left -= 1;
+        e = y - 1;
+    }
+    Walked {
+        element: GroupElementId(e),
+        left,
+    }
+}
+
+// Where the relation of g and h says that e·g leads, as the number + 1; 0 where it says nothing. `length` is that of e's word.
+pub fn loop_by(
+    t: &[u32],
+    orders: &[u32],
+    n: u8,
+    e: GroupElementId,
+    g: u8,
+    h: u8,
+    length: u32,
+) -> u32
+    requires { ⌜ Orders (now orders) × ((e .0 < 4294967295) × (length ≡ lengthOf (now t) n (e .0))) ⌝ }
+    ensures { λ r. ⌜ r ≡ loopBy (now (t .entry)) (now (orders .entry)) n (e .0) g h ⌝ }
+{
+    if h == g {
+        return 0;
+    }
+    let order = order_for(&orders[..], g, h);
+    if (length as usize) + 1 < (order as usize) {
+        return 0;
+    }
+    let end = loop_end(&t[..], n, e, h as usize, g as usize, letters(order));
+    if end.left != 0 {
+        return 0;
+    }
+    let last = end.element;
+    if egg::inner::get(t, egg::inner::start(n, last) + (g as usize)) != 0 {
+        return 0;
+    }
+    last.0 + 1
+}
+
+// The same by the first relation of g that says it.
+pub fn loop_from(t: &[u32], orders: &[u32], n: u8, e: GroupElementId, g: u8) -> u32
+    requires { ⌜ Orders (now orders) × (e .0 < 4294967295) ⌝ }
+    ensures { λ r. ⌜ r ≡ loopFrom n (now (t .entry)) (now (orders .entry)) n (e .0) g 0 ⌝ }
+{
+    let length = egg::inner::word_length(&t[..], n, e);
+    let mut h: u8 = 0;
+    while h < n {
+        let found = loop_by(&t[..], &orders[..], n, e, g, h, length);
+        if found != 0 {
+            return found;
+        }
+        h += 1;
+    }
+    0
+}
+
+// A step that is not known, by what the loops say of it: the element count after it, or 5 or 6.
+pub fn settle_step(
+    t: &mut [u32],
+    n: u8,
+    room: u32,
+    count: u32,
+    e: GroupElementId,
+    g: GeneratorId,
+    found: u32,
+) -> Counted
+    ensures { λ r. ⌜ swept r (now (t .exit)) ≡ settles n room count e g found (now (t .entry)) ⌝ }
+{
+    if found != 0 {
+        let to = GroupElementId(found - 1);
+        reading::inner::set_successor(t, n, e, g, to);
+        reading::inner::set_successor(t, n, to, g, e);
+        return Counted::Count(count);
+    }
+    match reading::inner::add_successor(t, n, room, count, e, g) {
+        Reached::Refused(why) => Counted::Refused(why),
+        Reached::Element(new) => {
+            reading::inner::set_successor(t, n, new, g, e);
+            Counted::Count(count + 1)
+        }
+    }
+}
+
+// One place: a known step is skipped.
+pub fn sweep_place(
+    t: &mut [u32],
+    orders: &[u32],
+    n: u8,
+    room: u32,
+    count: u32,
+    e: GroupElementId,
+    g: GeneratorId,
+) -> Counted
+    requires { ⌜ Orders (now orders) × (e .0 < 4294967295) ⌝ }
+    ensures { λ r. ⌜ swept r (now (t .exit)) ≡ sweeps n (now (orders .entry)) room count e g (now (t .entry)) ⌝ }
+{
+    if egg::inner::get(&t[..], egg::inner::successor_at(n, e, g)) != 0 {
+        return Counted::Count(count);
+    }
+    let k = g.0;
+    let found = loop_from(&t[..], &orders[..], n, e, k);
+    settle_step(t, n, room, count, e, g, found)
+}
+
+// At most `allowance` places, in order.
+pub fn sweep(t: &mut [u32], orders: &[u32], n: u8, room: u32, from: Run, allowance: u64) -> Ran
+    requires { ⌜ Orders (now orders) × (from .generator < n) ⌝ }
+    ensures { λ r. ⌜ sweep r (now (t .exit)) ≡ sweepFrom allowance n (now (orders .entry)) room from (now (t .entry)) ⌝ }
+{
+    let mut at = from;
+    let mut left = allowance;
+    while at.element < at.count {
+        if left == 0 {
+            return Ran::Paused(at);
+        }
+        let e = GroupElementId(at.element);
+        let g = GeneratorId(at.generator);
+        match sweep_place(t, &orders[..], n, room, at.count, e, g) {
+            Counted::Refused(why) => {
+                return Ran::Refused(why);
+            }
+            Counted::Count(count) => {
+                at = running::inner::advance(n, at, count);
+            }
+        }
+        left -= 1;
+    }
+    Ran::Done(at.count)
+}
+
+// A whole run from a cleared stretch. With no generators there is no place to visit.
+pub fn swiftly(t: &mut [u32], orders: &[u32], n: u8, room: u32) -> Ran
+    requires { ⌜ Orders (now orders) ⌝ }
+    ensures { λ r. ⌜ sweep r (now (t .exit)) ≡ swiftly n (now (orders .entry)) room (length (now (t .entry))) ⌝ }
+{
+    egg::inner::clear(t);
+    if n == 0 {
+        return Ran::Done(1);
+    }
+    let from = Run {
+        element: 0,
+        generator: 0,
+        count: 1,
+    };
+    sweep(t, orders, n, room, from, 18446744073709551615)
+}

@@ -1,0 +1,9 @@
+pub mod Turns
+pub mod Letters
+pub mod Walking
+pub mod Joining
+pub mod Telling
+pub mod Filling
+pub mod Least
+pub mod Reversing
+pub mod Rooting
