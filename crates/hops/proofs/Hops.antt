@@ -10,7 +10,7 @@ use native.Mathlib.Decide.{ℕ-discrete, decLt}
 use native.Mathlib.Omega.{arith}
 use lib.ListN.{length, getD}
 use Rattle.egg.specs.Table.{putAt, startOf, parentOf, hopOf, lastOf}
-use Rattle.hops.specs.Hops.{hopFrom, withHops, Hops}
+use Rattle.hops.specs.Hops.{hopFrom, without, withHops, Hops}
 use Rattle.egg.proofs.Cells.{put-same, put-other, put-length, cell-inside, other-cell, other-row}
 use Rattle.egg.proofs.Laws.{putAt-out}
 
@@ -33,6 +33,11 @@ module _ (j : ℕ) (t : List ℕ) (n e : ℕ) where
   pub hop-before : hopFrom (suc j) t n e / 8 ≡ hopFrom j t n (parentOf t n e)
   unfolding hopFrom
   hop-before = omega arith
+
+-- Without five letters it is the element before them.
+pub five-off : (c : ℕ) → without 5 c ≡ c / 32768
+unfolding without
+five-off c = omega arith
 
 -- They are made of parents and last letters.
 pub hop-agree : (j : ℕ) (t t₁ : List ℕ) (n : ℕ) → ((e : ℕ) → parentOf t₁ n e ≡ parentOf t n e) → ((e : ℕ) → lastOf t₁ n e ≡ lastOf t n e)

@@ -1,7 +1,7 @@
 -- Letters of recorded words, several in one number. Document 01: "parent, last generator and length per element". A last generator has three bits, and its cell has
 -- room for the four before it and for the element before these: so who walks a word back reads one number for five letters.
 -- Assumes nothing.
-use Prim.Native.Nat.{ℕ, zero, suc, _+_, _*_, _%_, _<_}
+use Prim.Native.Nat.{ℕ, zero, suc, _+_, _*_, _/_, _%_, _<_}
 use mathlib.Core.Path.{_≡_}
 use mathlib.Core.List.{List}
 use Rattle.egg.specs.Table.{putAt, startOf, parentOf, hopOf, lastOf}
@@ -11,6 +11,11 @@ use Rattle.egg.specs.Table.{putAt, startOf, parentOf, hopOf, lastOf}
 unfoldable pub hopFrom : (k : ℕ) (t : List ℕ) (n e : ℕ) → ℕ
 hopFrom zero t n e = e % 65536
 hopFrom (suc k) t n e = lastOf t n e + 8 * hopFrom k t n (parentOf t n e)
+
+-- A number without the k letters that are lowest in it.
+unfoldable pub without : (k c : ℕ) → ℕ
+without zero c = c
+without (suc k) c = without k (c / 8)
 
 -- The table with five letters in the cell of each of the first k elements.
 unfoldable pub withHops : (k : ℕ) (t : List ℕ) (n : ℕ) → List ℕ

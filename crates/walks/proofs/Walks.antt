@@ -14,7 +14,9 @@ use Rattle.egg.specs.declared.Reached.{Reached}
 use Rattle.egg.specs.declared.Reached.the-variants.{Element, Refused}
 use Rattle.egg.specs.Table.{pick, startOf, parentOf, hopOf, lastOf, lengthOf, inverseOf}
 use Rattle.egg.specs.Factor.{refusedReach, readStep}
-use Rattle.walks.specs.Letters.{without, LettersBack}
+use Rattle.hops.specs.Hops.{without}
+use Rattle.hops.proofs.Hops.{five-off}
+use Rattle.walks.specs.Letters.{LettersBack}
 use Rattle.walks.specs.Walks.{onReached, along, readBack, ahead, backBy, backAlong, inverseIn, composeIn, generatorIn}
 
 -- Going on from an element, and not from a refusal.
@@ -114,10 +116,6 @@ module _ (s : List ℕ) (n count x c : ℕ) where
 no-more : (r : Reached) → onReached r (λ x. Element (record { 0 = x })) ≡ r
 no-more (Element x) = refl
 no-more (Refused r) = refl
-
-five-off : (c : ℕ) → without 5 c ≡ c / 32768
-unfolding without
-five-off c = omega arith
 
 -- Back along a word, row by row.
 module _ (s : List ℕ) (n count x e : ℕ) where

@@ -1,15 +1,11 @@
 -- Letters that stand in a number, walked back as the code does it: those of one row at a time. What it comes to is `backBy`.
 -- Assumes nothing.
-use Prim.Native.Nat.{ℕ, zero, suc, _+_, _/_}
+use Prim.Native.Nat.{ℕ, _+_}
 use mathlib.Core.Path.{_≡_}
 use mathlib.Core.List.{List}
 use Rattle.egg.specs.declared.Reached.{Reached}
+use Rattle.hops.specs.Hops.{without}
 use Rattle.walks.specs.Walks.{onReached, backBy}
-
--- A number without the k letters that are lowest in it.
-unfoldable pub without : ℕ → ℕ → ℕ
-without zero c = c
-without (suc k) c = without k (c / 8)
 
 -- The k letters lowest in c lead back from an element to r, whatever is left of the word before them.
 pub record LettersBack (s : List ℕ) (n count from c k : ℕ) (r : Reached) : Type 0 where

@@ -14,6 +14,8 @@ use Rattle.egg.specs.declared.Counted.{Counted}
 use Rattle.egg.specs.declared.Counted.the-variants as counted
 use Rattle.egg.specs.Table.{hopOf, lengthOf}
 use Rattle.egg.proofs.Rooms.{and-first, and-second}
+use Rattle.hops.specs.Hops.{without}
+use Rattle.hops.proofs.Hops.{five-off}
 use Rattle.words.specs.Words.{lengthIn, readableBy, readable, spellBy, spellFrom, spell, writeIn, writtenBy}
 use Rattle.words.specs.Letters.{lettersBelow, lettersPut}
 
@@ -25,15 +27,6 @@ module _ (s : List ℕ) (n e : ℕ) {len : ℕ} (q : len ≡ lengthOf s n e) whe
   pub length-count : len ≤ 4096 → counted.Count len ≡ lengthIn s n e
   unfolding lengthIn
   length-count h = rw (← q) (simp (le-ltb _ _ h))
-
--- What a number holds above its first j letters.
-unfoldable after : (j c : ℕ) → ℕ
-after zero c = c
-after (suc j) c = after j (c / 8)
-
-five-after : (c : ℕ) → after 5 c ≡ c / 32768
-unfolding after
-five-after c = omega arith
 
 pub all-below : (k j n c : ℕ) → lettersBelow j j n c ≡ true → lettersBelow k j n c ≡ true
 unfolding lettersBelow
@@ -94,17 +87,17 @@ and-both false b d = refl
 
 -- The letters of one number are read, or written, and the rest of the word from what is above them.
 module _ (s : List ℕ) (n : ℕ) where
-  read-letters : (count k j c : ℕ) → readableBy k j s n count c ≡ lettersBelow k j n c && readableBy (k - j) 0 s n count (after j c)
-  unfolding readableBy lettersBelow after
+  read-letters : (count k j c : ℕ) → readableBy k j s n count c ≡ lettersBelow k j n c && readableBy (k - j) 0 s n count (without j c)
+  unfolding readableBy lettersBelow without
   read-letters count zero j c = let d : 0 - j ≡ 0 = omega arith in rw d
   read-letters count (suc k) zero c = let d : suc k - 0 ≡ suc k = omega arith in rw d
   read-letters count (suc k) (suc j) c =
       let d : suc k - suc j ≡ k - j = omega arith in
-      rw (d, and-both (ltb (c % 8) n) (lettersBelow k j n (c / 8)) (readableBy (k - j) 0 s n count (after j (c / 8))), ← read-letters count k j (c / 8))
+      rw (d, and-both (ltb (c % 8) n) (lettersBelow k j n (c / 8)) (readableBy (k - j) 0 s n count (without j (c / 8))), ← read-letters count k j (c / 8))
 
   spell-letters : (k j c start offset : ℕ) (out : List ℕ)
-      → spellBy k j s n c start offset out ≡ spellBy (k - j) 0 s n (after j c) start offset (lettersPut k j c start offset out)
-  unfolding spellBy lettersPut after
+      → spellBy k j s n c start offset out ≡ spellBy (k - j) 0 s n (without j c) start offset (lettersPut k j c start offset out)
+  unfolding spellBy lettersPut without
   spell-letters zero j c start offset out = let d : 0 - j ≡ 0 = omega arith in rw d
   spell-letters (suc k) zero c start offset out = let d : suc k - 0 ≡ suc k = omega arith in rw d
   spell-letters (suc k) (suc j) c start offset out =
@@ -131,8 +124,8 @@ put-five c place held =
 
 -- All letters of the number, behind four places: those of the word are where they belong.
 spell-behind : (s : List ℕ) (n k j c start : ℕ) (held : List ℕ) → start + j ≡ k + 4
-    → spellBy k j s n c 0 0 (drop 4 held) ≡ spellBy (k - j) 0 s n (after j c) 0 0 (drop 4 (lettersPut j j c start 0 held))
-unfolding spellBy lettersPut after
+    → spellBy k j s n c 0 0 (drop 4 held) ≡ spellBy (k - j) 0 s n (without j c) 0 0 (drop 4 (lettersPut j j c start 0 held))
+unfolding spellBy lettersPut without
 spell-behind s n zero zero c start held h = refl
 spell-behind s n zero (suc j) c start held h = let d : 0 - suc j ≡ 0 = omega arith in rw d (sym (put-before (suc j) c start held (omega arith)))
 spell-behind s n (suc k) zero c start held h = let d : suc k - 0 ≡ suc k = omega arith in rw d
@@ -157,7 +150,7 @@ module _ (s : List ℕ) (n count e : ℕ) {left c : ℕ} (k : 0 < left) (i : e <
   readable-hop = let d : left ≡ suc (left - 1) = omega arith in rw (d, q) (simp (lt-ltb _ _ i))
 
   readable-turn : readable left s n count e ≡ b && readable (left - 5) s n count (c / 32768)
-  readable-turn = readable-hop ∙ read-letters s n count left 5 c ∙ rw (five-after c, p)
+  readable-turn = readable-hop ∙ read-letters s n count left 5 c ∙ rw (five-off c, p)
 
   pub readable-no : b ≡ false → false ≡ readable left s n count e
   readable-no h = sym (readable-turn ∙ rw h)
@@ -179,7 +172,7 @@ module _ (s : List ℕ) (n e start offset : ℕ) (out : List ℕ) {left c : ℕ}
 
   module _ {o : List ℕ} (p : o ≡ lettersPut left 5 c start offset out) where
     pub spell-more : spellFrom (left - 5) s n (c / 32768) start offset o ≡ spellFrom left s n e start offset out
-    spell-more = sym (spell-hop ∙ spell-letters s n left 5 c start offset out ∙ rw (five-after c, ← p))
+    spell-more = sym (spell-hop ∙ spell-letters s n left 5 c start offset out ∙ rw (five-off c, ← p))
 
     pub spell-last : left ≤ 5 → o ≡ spellFrom left s n e start offset out
     spell-last l = spell-end s n (c / 32768) start offset o (omega arith) ∙ spell-more
@@ -209,7 +202,7 @@ module _ {s : List ℕ} {n count e len : ℕ} {held₀ held : List ℕ} {at left
       fewer = omega (arith, w .fewer);
       reads = readable-more s n count at k i q refl (all-below left 5 n c p) ∙ w .reads;
       spells =
-          sym (spell-hop s n at 0 0 (drop 4 held) k q ∙ spell-behind s n left 5 c (left - 1) held (omega arith) ∙ rw (five-after c, ← o)) ∙ w .spells;
+          sym (spell-hop s n at 0 0 (drop 4 held) k q ∙ spell-behind s n left 5 c (left - 1) held (omega arith) ∙ rw (five-off c, ← o)) ∙ w .spells;
     }
 
 take-front : (a b : List ℕ) (k : ℕ) → k ≡ length a → take k (a ++ b) ≡ a
