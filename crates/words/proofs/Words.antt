@@ -17,7 +17,7 @@ use Rattle.egg.proofs.Rooms.{and-first, and-second}
 use Rattle.hops.specs.Hops.{without}
 use Rattle.hops.proofs.Hops.{five-off}
 use Rattle.words.specs.Words.{lengthIn, readableBy, readable, spellBy, spellFrom, spell, writeIn, writtenBy}
-use Rattle.words.specs.Letters.{lettersBelow, lettersPut}
+use Rattle.words.specs.Letters.{lettersInBelow, lettersPut}
 
 module _ (s : List ℕ) (n e : ℕ) {len : ℕ} (q : len ≡ lengthOf s n e) where
   pub length-long : 4096 < len → counted.Refused (record { number = 17; a = 0; b = 0; c = 0 }) ≡ lengthIn s n e
@@ -28,38 +28,38 @@ module _ (s : List ℕ) (n e : ℕ) {len : ℕ} (q : len ≡ lengthOf s n e) whe
   unfolding lengthIn
   length-count h = rw (← q) (simp (le-ltb _ _ h))
 
-pub all-below : (k j n c : ℕ) → lettersBelow j j n c ≡ true → lettersBelow k j n c ≡ true
-unfolding lettersBelow
+pub all-below : (k j n c : ℕ) → lettersInBelow j j n c ≡ true → lettersInBelow k j n c ≡ true
+unfolding lettersInBelow
 all-below zero j n c h = refl
 all-below (suc k) zero n c h = refl
 all-below (suc k) (suc j) n c h =
-    rw (and-first (ltb (c % 8) n) (lettersBelow j j n (c / 8)) h) (all-below k j n (c / 8) (and-second (ltb (c % 8) n) (lettersBelow j j n (c / 8)) h))
+    rw (and-first (ltb (c % 8) n) (lettersInBelow j j n (c / 8)) h) (all-below k j n (c / 8) (and-second (ltb (c % 8) n) (lettersInBelow j j n (c / 8)) h))
 
-pub below-five : (n c : ℕ) → c % 8 < n → c / 8 % 8 < n → c / 8 / 8 % 8 < n → c / 8 / 8 / 8 % 8 < n → c / 8 / 8 / 8 / 8 % 8 < n → lettersBelow 5 5 n c ≡ true
-unfolding lettersBelow
+pub below-five : (n c : ℕ) → c % 8 < n → c / 8 % 8 < n → c / 8 / 8 % 8 < n → c / 8 / 8 / 8 % 8 < n → c / 8 / 8 / 8 / 8 % 8 < n → lettersInBelow 5 5 n c ≡ true
+unfolding lettersInBelow
 below-five n c a b d e f = simp (lt-ltb _ _ a, lt-ltb _ _ b, lt-ltb _ _ d, lt-ltb _ _ e, lt-ltb _ _ f)
 
 -- Letter by letter: none of the word is left, or none of the number.
 module _ (n c word here : ℕ) where
-  pub below-word : word ≡ 0 → true ≡ lettersBelow word here n c
-  unfolding lettersBelow
+  pub below-word : word ≡ 0 → true ≡ lettersInBelow word here n c
+  unfolding lettersInBelow
   below-word h = rw h
 
-  pub below-here : here ≤ 0 → true ≡ lettersBelow word here n c
-  unfolding lettersBelow
+  pub below-here : here ≤ 0 → true ≡ lettersInBelow word here n c
+  unfolding lettersInBelow
   below-here h = let d : here ≡ 0 = omega arith in sym (rw d (all-below word 0 n c refl))
 
   module _ (w : word ≡ 0 → ⊥) (h : 0 < here) where
-    pub below-no : n ≤ c % 8 → false ≡ lettersBelow word here n c
-    unfolding lettersBelow
+    pub below-no : n ≤ c % 8 → false ≡ lettersInBelow word here n c
+    unfolding lettersInBelow
     below-no l = let d : word ≡ suc (word - 1) = omega (arith, w) in let e : here ≡ suc (here - 1) = omega arith in rw (d, e) (simp (le-ltb _ _ l))
 
-    pub below-on : c % 8 < n → lettersBelow (word - 1) (here - 1) n (c / 8) ≡ lettersBelow word here n c
-    unfolding lettersBelow
+    pub below-on : c % 8 < n → lettersInBelow (word - 1) (here - 1) n (c / 8) ≡ lettersInBelow word here n c
+    unfolding lettersInBelow
     below-on l =
         let d : word ≡ suc (word - 1) = omega (arith, w) in
         let e : here ≡ suc (here - 1) = omega arith in
-        sym (ap (λ (k : ℕ). lettersBelow k here n c) d ∙ ap (λ (j : ℕ). lettersBelow (suc (word - 1)) j n c) e ∙ simp (lt-ltb _ _ l))
+        sym (ap (λ (k : ℕ). lettersInBelow k here n c) d ∙ ap (λ (j : ℕ). lettersInBelow (suc (word - 1)) j n c) e ∙ simp (lt-ltb _ _ l))
 
 module _ (c start offset : ℕ) (out : List ℕ) (word here : ℕ) where
   pub put-word : word ≡ 0 → out ≡ lettersPut word here c start offset out
@@ -87,13 +87,13 @@ and-both false b d = refl
 
 -- The letters of one number are read, or written, and the rest of the word from what is above them.
 module _ (s : List ℕ) (n : ℕ) where
-  read-letters : (count k j c : ℕ) → readableBy k j s n count c ≡ lettersBelow k j n c && readableBy (k - j) 0 s n count (without j c)
-  unfolding readableBy lettersBelow without
+  read-letters : (count k j c : ℕ) → readableBy k j s n count c ≡ lettersInBelow k j n c && readableBy (k - j) 0 s n count (without j c)
+  unfolding readableBy lettersInBelow without
   read-letters count zero j c = let d : 0 - j ≡ 0 = omega arith in rw d
   read-letters count (suc k) zero c = let d : suc k - 0 ≡ suc k = omega arith in rw d
   read-letters count (suc k) (suc j) c =
       let d : suc k - suc j ≡ k - j = omega arith in
-      rw (d, and-both (ltb (c % 8) n) (lettersBelow k j n (c / 8)) (readableBy (k - j) 0 s n count (without j (c / 8))), ← read-letters count k j (c / 8))
+      rw (d, and-both (ltb (c % 8) n) (lettersInBelow k j n (c / 8)) (readableBy (k - j) 0 s n count (without j (c / 8))), ← read-letters count k j (c / 8))
 
   spell-letters : (k j c start offset : ℕ) (out : List ℕ)
       → spellBy k j s n c start offset out ≡ spellBy (k - j) 0 s n (without j c) start offset (lettersPut k j c start offset out)
@@ -144,7 +144,7 @@ pub readable-out : (s : List ℕ) (n count e : ℕ) {left : ℕ} → 0 < left �
 unfolding readableBy
 readable-out s n count e {left} k h = let d : left ≡ suc (left - 1) = omega arith in rw d (simp (le-ltb _ _ h))
 
-module _ (s : List ℕ) (n count e : ℕ) {left c : ℕ} (k : 0 < left) (i : e < count) (q : c ≡ hopOf s n e) {b : Bool} (p : b ≡ lettersBelow left 5 n c) where
+module _ (s : List ℕ) (n count e : ℕ) {left c : ℕ} (k : 0 < left) (i : e < count) (q : c ≡ hopOf s n e) {b : Bool} (p : b ≡ lettersInBelow left 5 n c) where
   readable-hop : readable left s n count e ≡ readableBy left 5 s n count c
   unfolding readableBy
   readable-hop = let d : left ≡ suc (left - 1) = omega arith in rw (d, q) (simp (lt-ltb _ _ i))
@@ -193,7 +193,7 @@ gathers-end {s} {n} {count} {e} {len} {held₀} {held} {at} w h =
     (sym (readable-end s n count at h ∙ w .reads), spell-end s n at 0 0 (drop 4 held) h ∙ w .spells)
 
 module _ {s : List ℕ} {n count e len : ℕ} {held₀ held : List ℕ} {at left : ℕ} (w : Gathering s n count e len held₀ held at left) {c : ℕ} (k : 0 < left)
-    (i : at < count) (q : c ≡ hopOf s n at) (p : lettersBelow 5 5 n c ≡ true) {held′ : List ℕ} (o : held′ ≡ lettersPut 5 5 c (left - 1) 0 held)
+    (i : at < count) (q : c ≡ hopOf s n at) (p : lettersInBelow 5 5 n c ≡ true) {held′ : List ℕ} (o : held′ ≡ lettersPut 5 5 c (left - 1) 0 held)
     (l : length held′ ≡ length held)
   where
     pub gathers-on : Gathering s n count e len held₀ held′ (c / 32768) (left - 5)

@@ -8,10 +8,10 @@ use lib.ListN.{set}
 use lib.Dec.{ltb}
 
 -- Each of them is a generator.
-unfoldable pub lettersBelow : (k j n c : ℕ) → Bool
-lettersBelow zero j n c = true
-lettersBelow (suc k) zero n c = true
-lettersBelow (suc k) (suc j) n c = ltb (c % 8) n && lettersBelow k j n (c / 8)
+unfoldable pub lettersInBelow : (k j n c : ℕ) → Bool
+lettersInBelow zero j n c = true
+lettersInBelow (suc k) zero n c = true
+lettersInBelow (suc k) (suc j) n c = ltb (c % 8) n && lettersInBelow k j n (c / 8)
 
 -- Each goes to its place, as in `spellBy`.
 unfoldable pub lettersPut : (k j c start offset : ℕ) (out : List ℕ) → List ℕ

@@ -5,7 +5,7 @@ ghost use Prim.Native.Nat.{_+_, _≤_};
 ghost use lib.ListN.{length, set, drop};
 ghost use Rattle.egg.specs.Table.{pick};
 ghost use Rattle.words.specs.Words.{lengthIn, readable, spellFrom, spell, writeIn, writtenBy};
-ghost use Rattle.words.specs.Letters.{lettersBelow, lettersPut};
+ghost use Rattle.words.specs.Letters.{lettersInBelow, lettersPut};
 use egg::Counted;
 use egg::GroupElementId;
 use egg::Refusal;
@@ -34,7 +34,7 @@ pub fn length_in(s: &[u32], n: u8, e: GroupElementId) -> Counted
 // Whether all five letters in a number are generators. Those before a word's first one are, in an accepted table: the
 // identity's row has zeros there, and where there is a word there is a generator 0.
 fn five_below(n: u8, c: u32) -> bool
-    ensures { λ r. ⌜ (r ≡ true → lettersBelow 5 5 n c ≡ true) ⌝ }
+    ensures { λ r. ⌜ (r ≡ true → lettersInBelow 5 5 n c ≡ true) ⌝ }
 {
     let m = n as u32;
     if m <= c % 8 {
@@ -54,7 +54,7 @@ fn five_below(n: u8, c: u32) -> bool
 
 // Whether those are that the word has: `left` letters, but no more than five.
 fn letters_below(n: u8, c: u32, left: u32) -> bool
-    ensures { λ r. ⌜ r ≡ lettersBelow left 5 n c ⌝ }
+    ensures { λ r. ⌜ r ≡ lettersInBelow left 5 n c ⌝ }
 {
     if five_below(n, c) {
         return true;
