@@ -1,6 +1,6 @@
 -- The written word is the recorded one: its letters are read from the last to the first, five from one row, and each is a generator's number and so a byte.
 -- Assumes nothing.
-use Prim.Native.Nat.{ℕ, zero, suc, _+_, _/_, _≤_, _<_}
+use Prim.Native.Nat.{ℕ, zero, suc, _+_, _≤_, _<_}
 use mathlib.Core.Path.{_≡_, refl, sym, ap, _∙_}
 use mathlib.Core.Bool.{true}
 use mathlib.Core.List.{List, [], _∷_, _++_, append-assoc}
@@ -9,7 +9,7 @@ use native.Mathlib.Omega.{arith}
 use borrow.Author.Tests.{le-ltb, lt-ltb}
 use lib.ListN.{length, drop, set, length-set}
 use Rattle.egg.specs.declared.Counted.the-variants.{Count}
-use Rattle.egg.specs.Table.{parentOf, hopOf, lastOf, lengthOf}
+use Rattle.egg.specs.Table.{parentOf, lastOf, lengthOf}
 use Rattle.words.specs.Words.{lengthIn, readableBy, readable, spellBy, spellFrom, spell, writeIn}
 use Rattle.words.proofs.Words.{drop-set-here}
 use Rattle.hops.specs.Hops.{hopFrom, Hops}
@@ -18,7 +18,7 @@ use Rattle.products.specs.Product.{shift}
 use Rattle.products.proofs.WordLaws.{shift-append, shift-zero}
 use Rattle.meaning.specs.Stored.{wordOf}
 use Rattle.meaning.specs.Sound.{Sound}
-use Rattle.answers.proofs.Steps.{no-letters, not-first, parent-length, parent-below}
+use Rattle.answers.proofs.Steps.{no-letters, rest-of, not-first, parent-length, parent-below}
 
 module _ {s : List ℕ} {n N : ℕ} (S : Sound s n N) where
   pub length-in : {e : ℕ} → e < N → lengthIn s n e ≡ Count (length (wordOf s n e))
@@ -27,16 +27,13 @@ module _ {s : List ℕ} {n N : ℕ} (S : Sound s n N) where
 
   -- Where the rows have five letters each.
   module _ (H : Hops s n N) (few : N ≤ 65536) where
-    rest-of : {e : ℕ} → e < N → hopOf s n e / 8 ≡ hopFrom 4 s n (parentOf s n e)
-    rest-of {e} he = ap (λ (c : ℕ). c / 8) (H .five he) ∙ hop-before 4 s n e
-
     readable-by : (k j : ℕ) {e : ℕ} → e < N → k ≡ length (wordOf s n e) → readableBy k j s n N (hopFrom j s n e) ≡ true
     unfolding readableBy
     readable-by zero j he q = refl
     readable-by (suc k) zero {e} he q =
         let pos = not-first S e q in
         rw (hop-element s n e (omega arith))
-        (simp (lt-ltb _ _ he, lt-ltb _ _ (S .parents .generator pos he), rest-of he, readable-by k 4 (parent-below S pos he) (parent-length S pos he q)))
+        (simp (lt-ltb _ _ he, lt-ltb _ _ (S .parents .generator pos he), rest-of H he, readable-by k 4 (parent-below S pos he) (parent-length S pos he q)))
     readable-by (suc k) (suc j) {e} he q =
         let pos = not-first S e q in
         rw (hop-letter j s n e, hop-before j s n e)
@@ -70,7 +67,7 @@ module _ {s : List ℕ} {n N : ℕ} (S : Sound s n N) where
           let pos = not-first S e q in
           let byte : o + lastOf s n e < 256 = omega (arith, S .parents .generator pos he) in
           one-spelled k out pos he room
-          (rw (hop-element s n e (omega arith), rest-of he, zero-add k, mod-eq-of-lt byte)
+          (rw (hop-element s n e (omega arith), rest-of H he, zero-add k, mod-eq-of-lt byte)
           (spelled-by k 4 (set out k (o + lastOf s n e)) (parent-below S pos he) (parent-length S pos he q) (rw (length-set out k (o + lastOf s n e)) (omega arith))))
       spelled-by (suc k) (suc j) {e} out he q room =
           let pos = not-first S e q in

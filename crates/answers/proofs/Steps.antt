@@ -41,6 +41,10 @@ inverse-of-rest {N} {op} {inv} G {x} {a} {b} hx ha hb e =
     let one : op x (op a b) ≡ 0 = sym (G .assoc hx ha hb) ∙ ap (λ (y : ℕ). op y b) e ∙ G .left-inverse hb in
     ap inv (inverse-unique G (G .op-closed ha hb) hx one) ∙ inv-inv G (G .op-closed ha hb)
 
+-- What an element's row has above its last letter: the letters before it.
+pub rest-of : {s : List ℕ} {n N e : ℕ} → Hops s n N → e < N → hopOf s n e / 8 ≡ hopFrom 4 s n (parentOf s n e)
+rest-of {s} {n} {e = e} H he = ap (λ (c : ℕ). c / 8) (H .five he) ∙ hop-before 4 s n e
+
 module _ {s : List ℕ} {n N : ℕ} (S : Sound s n N) where
   pub read-step : {e g : ℕ} → e < N → g < n → readStep s n N e g ≡ reach (stepOf s n e g)
   read-step {e} {g} he hg =
@@ -141,13 +145,12 @@ module _ {s : List ℕ} {n N : ℕ} (S : Sound s n N) where
     back-by (suc k) zero a {e} ha he q =
         let pos = not-first e q in
         let last = S .parents .generator pos he in
-        let more : hopOf s n e / 8 ≡ hopFrom 4 s n (parentOf s n e) = ap (λ (c : ℕ). c / 8) (H .five he) ∙ hop-before 4 s n e in
         rw (hop-element s n e (omega arith))
         (simp (
           lt-leb _ _ he,
           lt-leb _ _ last,
           read-back ha last,
-          more,
+          rest-of H he,
           back-by k 4 (backOf s n a (lastOf s n e)) (S .columns .closed ha last) (parent-below pos he) (parent-length pos he q),
         )
         (ap reach (sym (retrace-grow (S .recorded) (backOf s n) a pos he))))
