@@ -1,8 +1,8 @@
 -- Laws of the product of two, one for each answer.
 -- Assumes nothing.
 use Prim.Native.Nat.{ℕ, _+_, _-_, _≤_, _<_}
-use mathlib.Core.Path.{_≡_, refl, ap, _∙_}
-use mathlib.Core.Bool.{Bool, true, false, _&&_}
+use mathlib.Core.Path.{_≡_, refl, sym, ap, _∙_}
+use mathlib.Core.Bool.{Bool, true, false, _&&_, and-assoc}
 use mathlib.Core.List.{List, [], _∷_, _++_}
 use borrow.Author.Tests.{le-leb, lt-leb}
 use lib.ListN.{length, replicate}
@@ -20,14 +20,7 @@ use Rattle.handles.proofs.Sums.{both-length}
 
 pub fit-both : (len : ℕ) (xs ys : List Factor) → allFit len (xs ++ ys) ≡ allFit len xs && allFit len ys
 fit-both len [] ys = refl
-fit-both len (x ∷ xs) ys = ap (λ (b : Bool). fitsIn len x && b) (fit-both len xs ys) ∙ assoc (fitsIn len x) (allFit len xs) (allFit len ys) where
-  assoc : (a b c : Bool) → a && (b && c) ≡ (a && b) && c
-  assoc true b c = refl
-  assoc false b c = refl
-
-pub and-no : (a : Bool) → a && false ≡ false
-and-no true = refl
-and-no false = refl
+fit-both len (x ∷ xs) ys = ap (λ (b : Bool). fitsIn len x && b) (fit-both len xs ys) ∙ sym (and-assoc (fitsIn len x) (allFit len xs) (allFit len ys))
 
 pub handles-of : (hs : List Factor) → handles (groupOf hs) ≡ hs
 handles-of hs = take-append-seam hs (replicate (8 - length hs) noFactor)

@@ -2,7 +2,7 @@
 -- Assumes nothing.
 use Prim.Native.Nat.{ℕ, zero, suc, _+_, _*_, _-_, _≤_, _<_}
 use mathlib.Core.Path.{_≡_, refl, sym, ap, _∙_}
-use mathlib.Core.Bool.{Bool, true, false, _&&_}
+use mathlib.Core.Bool.{Bool, true, _&&_, and-true, and-assoc}
 use mathlib.Core.List.{List, [], _∷_, _++_}
 use native.Mathlib.Nat.{add-assoc}
 use native.Mathlib.Omega.{arith}
@@ -42,24 +42,16 @@ pub record Looking (len : ℕ) (hs : List Factor) (f : ℕ) (fit : Bool) (elemen
 pub looking : (len : ℕ) (hs : List Factor) → Looking len hs 0 true 1 0
 looking len hs = record { fits = refl; caps = capping hs; adds = adding hs }
 
-and-and : (a b c : Bool) → (a && b) && c ≡ a && (b && c)
-and-and true b c = refl
-and-and false b c = refl
-
 pub looks-on : {len : ℕ} {hs : List Factor} {f : ℕ} {fit : Bool} {elements generators : ℕ} {h : Factor}
     → Looking len hs f fit elements generators → drop f hs ≡ h ∷ drop (f + 1) hs
     → {b x : Bool} → b ≡ fitsIn len h → x ≡ fit && b → {r : ℕ} → r ≡ capped (elements * h .elements) → h .generators < 256
     → Looking len hs (f + 1) x r (generators + h .generators)
 looks-on {len} {hs} {f} {fit} {h = h} w d {b} {x} p q u k = record {
   fits =
-      rw (q, p) (and-and fit (fitsIn len h) (allFit len (drop (f + 1) hs)) ∙ ap (λ (l : List Factor). fit && allFit len l) (sym d) ∙ w .fits);
+      rw (q, p) (and-assoc fit (fitsIn len h) (allFit len (drop (f + 1) hs)) ∙ ap (λ (l : List Factor). fit && allFit len l) (sym d) ∙ w .fits);
   caps = caps-on (w .caps) d u;
   adds = adds-on (w .adds) d k;
 }
-
-and-true : (a : Bool) → a && true ≡ a
-and-true true = refl
-and-true false = refl
 
 pub looks-end : {len : ℕ} {hs : List Factor} {f : ℕ} {fit : Bool} {elements generators : ℕ} → Looking len hs f fit elements generators → drop f hs ≡ []
     → _≡_ {A = Seen} (record { fit = fit; elements = elements; generators = generators }) (seen len hs)

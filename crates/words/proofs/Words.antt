@@ -2,7 +2,7 @@
 -- Assumes nothing.
 use Prim.Native.Nat.{ℕ, zero, suc, _+_, _-_, _/_, _%_, _≤_, _<_}
 use mathlib.Core.Path.{_≡_, refl, sym, ap, _∙_}
-use mathlib.Core.Bool.{Bool, true, false, _&&_}
+use mathlib.Core.Bool.{Bool, true, false, _&&_, and-assoc}
 use mathlib.Core.List.{List, [], _∷_, _++_, append-assoc}
 use native.Mathlib.Omega.{arith}
 use borrow.Author.Tests.{lt-ltb, le-ltb, ltb-true, ltb-false}
@@ -81,10 +81,6 @@ module _ (c start offset : ℕ) (out : List ℕ) (word here : ℕ) where
       let e : here ≡ suc (here - 1) = omega arith in
       sym (ap (λ (k : ℕ). lettersPut k here c start offset out) d ∙ ap (λ (j : ℕ). lettersPut (suc (word - 1)) j c start offset out) e ∙ rw q)
 
-and-both : (a b d : Bool) → (a && b) && d ≡ a && (b && d)
-and-both true b d = refl
-and-both false b d = refl
-
 -- The letters of one number are read, or written, and the rest of the word from what is above them.
 module _ (s : List ℕ) (n : ℕ) where
   read-letters : (count k j c : ℕ) → readableBy k j s n count c ≡ lettersInBelow k j n c && readableBy (k - j) 0 s n count (without j c)
@@ -93,7 +89,7 @@ module _ (s : List ℕ) (n : ℕ) where
   read-letters count (suc k) zero c = let d : suc k - 0 ≡ suc k = omega arith in rw d
   read-letters count (suc k) (suc j) c =
       let d : suc k - suc j ≡ k - j = omega arith in
-      rw (d, and-both (ltb (c % 8) n) (lettersInBelow k j n (c / 8)) (readableBy (k - j) 0 s n count (without j (c / 8))), ← read-letters count k j (c / 8))
+      rw (d, and-assoc (ltb (c % 8) n) (lettersInBelow k j n (c / 8)) (readableBy (k - j) 0 s n count (without j (c / 8))), ← read-letters count k j (c / 8))
 
   spell-letters : (k j c start offset : ℕ) (out : List ℕ)
       → spellBy k j s n c start offset out ≡ spellBy (k - j) 0 s n (without j c) start offset (lettersPut k j c start offset out)
