@@ -15,7 +15,7 @@ use Rattle.egg.proofs.Cells.{put-same, put-other, put-length, cell-inside, othe
 use Rattle.egg.proofs.Laws.{putAt-out}
 
 -- Five letters and an element's number have 31 bits: so they are stored wherever their cell is in the list.
-pub hop-small : (t : List ℕ) (n e : ℕ) → hopFrom 5 t n e < 2147483648
+hop-small : (t : List ℕ) (n e : ℕ) → hopFrom 5 t n e < 2147483648
 unfolding hopFrom
 hop-small t n e = omega arith
 
@@ -90,7 +90,7 @@ unfolding withHops
 hops-last zero t n e = refl
 hops-last (suc k) t n e = hops-last k _ n e ∙ put-last t n k e
 
-pub hops-from : (k : ℕ) (t : List ℕ) (n j e : ℕ) → hopFrom j (withHops k t n) n e ≡ hopFrom j t n e
+hops-from : (k : ℕ) (t : List ℕ) (n j e : ℕ) → hopFrom j (withHops k t n) n e ≡ hopFrom j t n e
 unfolding withHops
 hops-from zero t n j e = refl
 hops-from (suc k) t n j e = hops-from k _ n j e ∙ put-from t n k j e

@@ -7,7 +7,7 @@ use egg::GroupElementId;
 use egg::Reached;
 
 // From an element along the last `left` letters of the word that ends at e.
-pub fn along(
+fn along(
     s: &[u32],
     n: u8,
     count: u32,
@@ -35,7 +35,7 @@ pub fn along(
 }
 
 // The step back in the stretch of a factor, or 17.
-pub fn previous(s: &[u32], n: u8, count: u32, e: GroupElementId, g: GeneratorId) -> Reached
+fn previous(s: &[u32], n: u8, count: u32, e: GroupElementId, g: GeneratorId) -> Reached
     ensures { λ r. ⌜ r ≡ readBack (now (s .entry)) n count (e .0) (g .0) ⌝ }
 {
     let x = egg::inner::get(s, egg::inner::predecessor_at(n, e, g));
@@ -97,7 +97,7 @@ fn letters_back(
 
 // From an element back along the last `letters` letters of the word that ends at e, five for each row that is read. (`&s[..]`:
 // a slice that is itself passed on is copied at the start of its function, and a call would wait there for the one before it.)
-pub fn back_along(
+fn back_along(
     s: &[u32],
     n: u8,
     count: u32,
