@@ -5,7 +5,6 @@ use mathlib.Core.Path.{_≡_, refl, sym, _∙_}
 use mathlib.Core.Logic.{_↔_}
 use mathlib.Core.Bool.{true}
 use mathlib.Core.List.{List, _++_}
-use native.Mathlib.Omega.{arith}
 use borrow.Author.Tests.{lt-leb}
 use lib.ListN.{length, drop}
 use lib.Seq.{take-append-seam}
@@ -16,7 +15,7 @@ use Rattle.egg.specs.declared.Counted.the-variants.{Count}
 use Rattle.egg.specs.Pairs.{ordersRight}
 use Rattle.egg.specs.Factor.{fitsIn, stretch, stepAnswer}
 use Rattle.egg.proofs.Answers.{step-read}
-use Rattle.egg.proofs.Rooms.{has, few, room-enough, limited}
+use Rattle.lending.proofs.Fits.{fits-small}
 use Rattle.factor.specs.Questions.{admits, composeAnswer, inverseAnswer, conjugateAnswer, countAnswer, generatorAnswer, lengthAnswer, writeAnswer, written, wordPart}
 use Rattle.relations.specs.Relations.{relations}
 use Rattle.factor.specs.Relations.{checkAnswer}
@@ -36,12 +35,11 @@ module _ {t : List ℕ} {f : Factor} (A : Accepted t f) where
   origin : 0 < f .elements
   origin = A .sound .table .origin
 
-  few-generators : f .generators ≤ 8
-  few-generators = few (length t) (f .start) (f .room) (f .generators) (has (length t) f (A .fits))
+  pub few-generators : f .generators ≤ 8
+  few-generators = fits-small (length t) f (A .fits) .0
 
-  -- Their numbers have 16 bits.
-  pub few-elements : f .elements ≤ 65536
-  few-elements = omega (arith, room-enough (length t) f (A .fits), limited (length t) (f .start) (f .room) (f .generators) (has (length t) f (A .fits)))
+  pub few-elements : f .elements ≤ 65535
+  few-elements = fits-small (length t) f (A .fits) .1
 
   module _ {e : ℕ} (he : e < f .elements) where
     pub step-answer : {g : ℕ} → g < f .generators

@@ -26,7 +26,7 @@ module _ {s : List ℕ} {n N : ℕ} (S : Sound s n N) where
   length-in {e} he = simp (le-ltb _ _ (S .short he)) (ap Count (S .stored .lengths he))
 
   -- Where the rows have five letters each.
-  module _ (H : Hops s n N) (few : N ≤ 65536) where
+  module _ (H : Hops s n N) (few : N ≤ 65535) where
     readable-by : (k j : ℕ) {e : ℕ} → e < N → k ≡ length (wordOf s n e) → readableBy k j s n N (hopFrom j s n e) ≡ true
     unfolding readableBy
     readable-by zero j he q = refl

@@ -136,7 +136,7 @@ module _ {s : List ℕ} {n N : ℕ} (S : Sound s n N) where
       inverse-of-rest G y ha hb forth
 
   -- Where the rows have five letters each.
-  module _ (H : Hops s n N) (few : N ≤ 65536) where
+  module _ (H : Hops s n N) (few : N ≤ 65535) where
     -- Back along a word of which j letters stand in the number at hand.
     back-by : (k j a : ℕ) {e : ℕ} → a < N → e < N → k ≡ length (wordOf s n e)
         → backBy k j s n N a (hopFrom j s n e) ≡ reach (retrace (backOf s n) a (wordOf s n e))

@@ -10,13 +10,14 @@ use Rattle.egg.specs.declared.Factor.{Factor}
 use Rattle.egg.specs.Factor.{countedPaper}
 use Rattle.lending.specs.Lending.{lentRight}
 use Rattle.answers.specs.Accepted.{Accepted, factorStep}
+use Rattle.answers.proofs.Handles.{few-generators}
 use Rattle.image_rows.specs.Written.{imageSize, imageOf}
 use Rattle.image.specs.Read.{readImage}
 use Rattle.image_rows.proofs.Bytes.{image-length}
 use Rattle.images.specs.Images.{Bytes, CameBack, RoundTrip}
 use Rattle.images.proofs.Heads.{image-bytes}
 use Rattle.images.proofs.Back.{number-exactly}
-use Rattle.images.proofs.Rounds.{few-generators, image-generators, image-elements, written-group, written-count, written-is, read-written}
+use Rattle.images.proofs.Rounds.{image-generators, image-elements, written-group, written-count, written-is, read-written}
 use Rattle.images.proofs.SameTable.{same-table}
 
 module _ {t : List ℕ} {f : Factor} (A : Accepted t f) where

@@ -16,7 +16,6 @@ use Rattle.egg.specs.Factor.{stretch, countedPaper}
 use Rattle.egg.proofs.Scans.{scan-fine}
 use Rattle.egg.proofs.Rooms.{some}
 use Rattle.lending.specs.Lending.{lentRight, making}
-use Rattle.lending.proofs.Fits.{fits-small}
 use Rattle.cells.specs.Cells.{halves}
 use Rattle.theory.specs.Table.{Table}
 use Rattle.theory.specs.Words.{Word, empty, letter, walk}
@@ -29,6 +28,7 @@ use Rattle.meaning.proofs.Accepted.{sound-regular}
 use Rattle.meaning.proofs.Refused.{regular-same}
 use Rattle.answers.specs.Accepted.{Accepted, factorStep, factorWord}
 use Rattle.answers.proofs.Steps.{read-step}
+use Rattle.answers.proofs.Handles.{few-generators, few-elements}
 use Rattle.promises.specs.Composed.{Taken, Given}
 use Rattle.image.specs.Image.{generatorsOf, elementsOf}
 use Rattle.image_rows.specs.Written.{rowsOf, imageSize, imageOf, stepRead, knownRow, allKnown}
@@ -48,14 +48,8 @@ walk-same {step′ = step′} T same {e} he (letter {g = g} {w = w} hg ws) =
     walk-same T same (T .closed he hg) ws ∙ ap (λ (x : ℕ). walk step′ x w) (same e g he hg)
 
 module _ {t : List ℕ} {f : Factor} (A : Accepted t f) where
-  pub few-generators : f .generators ≤ 8
-  few-generators = fits-small (length t) f (A .fits) .0
-
   some-elements : 1 ≤ f .elements
   some-elements = some (length t) f (A .fits)
-
-  few-elements : f .elements ≤ 65535
-  few-elements = fits-small (length t) f (A .fits) .1
 
   -- Every stored step of an accepted factor can be read.
   all-known : allKnown (stretch t f) (f .generators) (f .elements) ≡ verdict.Fine
@@ -81,19 +75,19 @@ module _ {t : List ℕ} {f : Factor} (A : Accepted t f) where
         (image-length (factorStep t f) (f .generators) (f .elements))
 
   small-steps : (e g : ℕ) → e < f .elements → g < f .generators → factorStep t f e g < 65536
-  small-steps e g he hg = omega (arith, A .sound .table .closed he hg, few-elements)
+  small-steps e g he hg = omega (arith, A .sound .table .closed he hg, few-elements A)
 
   abbrev image : List ℕ
   image = imageOf (factorStep t f) (f .generators) (f .elements)
 
   pub image-elements : elementsOf (imageOf (factorStep t f) (f .generators) (f .elements)) ≡ f .elements
-  image-elements = written-elements (factorStep t f) (f .generators) (f .elements) few-generators some-elements few-elements
+  image-elements = written-elements (factorStep t f) (f .generators) (f .elements) (few-generators A) some-elements (few-elements A)
 
   pub image-generators : generatorsOf (imageOf (factorStep t f) (f .generators) (f .elements)) ≡ f .generators
-  image-generators = written-generators (factorStep t f) (f .generators) (f .elements) few-generators some-elements few-elements
+  image-generators = written-generators (factorStep t f) (f .generators) (f .elements) (few-generators A) some-elements (few-elements A)
 
   pub image-rows : halves (drop 8 (imageOf (factorStep t f) (f .generators) (f .elements))) ≡ rowsOf (f .elements) (factorStep t f) (f .generators) 0
-  image-rows = written-rows (factorStep t f) (f .generators) (f .elements) few-generators some-elements few-elements small-steps
+  image-rows = written-rows (factorStep t f) (f .generators) (f .elements) (few-generators A) some-elements (few-elements A) small-steps
 
   -- The written image's steps are the factor's.
   pub image-steps : {e g : ℕ} → e < f .elements → g < f .generators
@@ -127,7 +121,7 @@ module _ {t : List ℕ} {f : Factor} (A : Accepted t f) where
   -- What is written of an accepted factor is a group's image.
   pub written-group : GroupImage (imageOf (factorStep t f) (f .generators) (f .elements))
   written-group = record {
-    formed = written-formed (factorStep t f) (f .generators) (f .elements) few-generators some-elements few-elements;
+    formed = written-formed (factorStep t f) (f .generators) (f .elements) (few-generators A) some-elements (few-elements A);
     taken = at image-generators image-elements image-taken;
   } where
     at : {n n′ N N′ : ℕ} {src : ℕ → ℕ → ℕ} → n ≡ n′ → N ≡ N′ → Taken src n′ N′ N′ → Taken src n N N
@@ -139,7 +133,7 @@ module _ {t : List ℕ} {f : Factor} (A : Accepted t f) where
       → MadeWith start (f .generators) (f .elements) (factorStep t f)
       (readImage (imageOf (factorStep t f) (f .generators) (f .elements)) table start work)
   read-written table start work lent =
-      let B = image-bytes (factorStep t f) (f .generators) (f .elements) few-generators in
+      let B = image-bytes (factorStep t f) (f .generators) (f .elements) (few-generators A) in
       let l : lentRight (length table) start (length work) (elementsOf image) (generatorsOf image) ≡ true = rw (image-elements, image-generators) lent in
       let a = group-read image B table start work written-group l in
       let b = read-given image B table start work (a .3) in

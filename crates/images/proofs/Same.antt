@@ -20,6 +20,7 @@ use Rattle.factor.specs.Composed.{composedAt, composedIn, composed}
 use Rattle.cells.specs.Cells.{halves}
 use Rattle.theory.proofs.Reading.{numbered-once}
 use Rattle.answers.specs.Accepted.{factorStep}
+use Rattle.answers.proofs.Handles.{few-generators}
 use Rattle.promises.specs.Composed.{Taken, Given}
 use Rattle.promises.proofs.Composed.{begun, composed-exactly, composed-given}
 use Rattle.promises.proofs.Roomier.{composed-roomier}
@@ -29,7 +30,7 @@ use Rattle.image_rows.proofs.Bytes.{rows-length}
 use Rattle.images.proofs.Spelling.{rows-entry}
 use Rattle.images.proofs.Heads.{image-bytes}
 use Rattle.images.proofs.Back.{group-composed}
-use Rattle.images.proofs.Rounds.{few-generators, written-group, image-elements, image-generators, image-rows}
+use Rattle.images.proofs.Rounds.{written-group, image-elements, image-generators, image-rows}
 
 -- Only the rows within the room are read.
 module _ (src src′ : ℕ → ℕ → ℕ) (n room : ℕ) (same : (e g : ℕ) → e < room → g < n → src e g ≡ src′ e g) where

@@ -17,7 +17,6 @@ use Rattle.egg.specs.Table.{pick, stepOf}
 use Rattle.egg.specs.Scan.{refusedOf, scan}
 use Rattle.egg.specs.Pairs.{pairCode, pairCount, orderAt, ordersRight}
 use Rattle.egg.specs.Factor.{Paper, verdictPaper}
-use Rattle.egg.proofs.Rooms.{few, has}
 use Rattle.egg.proofs.Scans.{refused-fine, scan-fine}
 use Rattle.reading.specs.Build.{numbered}
 use Rattle.relations.specs.Relations.{relationAt, doubledRow, pairsRow, relations}
@@ -29,7 +28,7 @@ use Rattle.meaning.specs.Sound.{Sound}
 use Rattle.answers.specs.Accepted.{Accepted, factorStep}
 use Rattle.answers.proofs.Codes.{code-first, code-second, pair-count}
 use Rattle.answers.proofs.Relators.{turned-is, doubled-row, relations-identity}
-use Rattle.answers.proofs.Handles.{admits-fine, check-is, check-answer}
+use Rattle.answers.proofs.Handles.{few-generators, admits-fine, check-is, check-answer}
 use Rattle.refusals.specs.Firsts.{FirstOf}
 use Rattle.refusals.specs.Orders.{OrderRight, OrdersRight, OrdersFault, wrong-length, wrong-order, FirstPair, RelationFault, doubled, paired}
 use Rattle.refusals.specs.Orders.{CheckPaper, wrong-orders, fails, holds}
@@ -165,9 +164,6 @@ module _ {s : List ℕ} {n N : ℕ} (S : Sound s n N) (few : n ≤ 8) (o : List 
 
 -- What the check of an accepted factor answers.
 module _ {t : List ℕ} {f : Factor} (A : Accepted t f) (o : List ℕ) where
-  few-generators : f .generators ≤ 8
-  few-generators = few (length t) (f .start) (f .room) (f .generators) (has (length t) f (A .fits))
-
   check-wrong : {r : Refusal} → ordersRight o (f .generators) ≡ Refused r → checkAnswer t f o ≡ Refused r
   unfolding checkAnswer
   check-wrong q = rw (admits-fine (length t) f (A .fits) (A .sound .table .origin) (A .sound .table .origin), q)
@@ -175,7 +171,7 @@ module _ {t : List ℕ} {f : Factor} (A : Accepted t f) (o : List ℕ) where
   some-relations : OrdersRight o (f .generators) → (right : ordersRight o (f .generators) ≡ Fine) → (v : Verdict) → checkAnswer t f o ≡ v
       → CheckPaper (f .generators) (f .elements) (factorStep t f) o (verdictPaper v)
   some-relations R right Fine h = holds R (check-answer A o right .0 h)
-  some-relations R right (Refused r) h = fails R (relations-found (A .sound) few-generators o (R .long) (sym (check-is A o right) ∙ h))
+  some-relations R right (Refused r) h = fails R (relations-found (A .sound) (few-generators A) o (R .long) (sym (check-is A o right) ∙ h))
 
   pub check-some : CheckPaper (f .generators) (f .elements) (factorStep t f) o (verdictPaper (checkAnswer t f o))
   check-some = ⊎-elim
@@ -186,7 +182,7 @@ module _ {t : List ℕ} {f : Factor} (A : Accepted t f) (o : List ℕ) where
   pub check-given : {p : Paper} → CheckPaper (f .generators) (f .elements) (factorStep t f) o p → verdictPaper (checkAnswer t f o) ≡ p
   check-given (wrong-orders F) = ap verdictPaper (check-wrong (fault-orders o (f .generators) F))
   check-given (fails R F) =
-      ap verdictPaper (check-is A o (right-orders o (f .generators) R) ∙ relations-refused (A .sound) few-generators o (R .long) F)
+      ap verdictPaper (check-is A o (right-orders o (f .generators) R) ∙ relations-refused (A .sound) (few-generators A) o (R .long) F)
   check-given (holds R H) = ap verdictPaper (check-answer A o (right-orders o (f .generators) R) .1 H)
 
   -- 2, 3 and 13 exactly where document 01 says, with their first places; and no other number.
