@@ -14,6 +14,7 @@ pub mod Never
 pub mod Stops
 pub mod Unaltered
 pub mod NoneTwice
+pub mod SameRows
 pub mod Roomier
 pub mod Invented
 pub mod Papers

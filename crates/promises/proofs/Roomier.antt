@@ -1,11 +1,11 @@
 -- "More room never changes an accepted table": at any larger room, in longer stretches, the same table is accepted, with zeros behind it. A build in a longer
 -- stretch goes as in the shorter one; a call is a build put back into its buffers.
 -- Assumes nothing.
-use Prim.Native.Nat.{ℕ, zero, suc, _+_, _*_, _-_, _≤_, _<_, _/_, _%_}
+use Prim.Native.Nat.{ℕ, zero, suc, _+_, _*_, _-_, _≤_, _<_}
 use mathlib.Core.Path.{_≡_, refl, sym, ap, _∙_}
 use mathlib.Core.Bool.{Bool, true, false}
 use mathlib.Core.List.{List}
-use native.Mathlib.Nat.{mul-le-mul, le-refl, div-add-mod', mod-lt, div-lt-iff-lt-mul}
+use native.Mathlib.Nat.{mul-le-mul, le-refl}
 use native.Mathlib.Omega.{arith}
 use borrow.Author.Tests.{ltb-true, ltb-false}
 use lib.ListN.{length, getD, take, replicate, List·getD-eq-default}
@@ -36,7 +36,7 @@ use Rattle.enumeration.specs.Calls.{enumeratedIn, enumerates}
 use Rattle.theory.specs.Table.{Columns}
 use Rattle.theory.proofs.AnyCarrier.{any-carrier}
 use Rattle.theory.proofs.Complete.{columns}
-use Rattle.theory.proofs.FirstPlaces.{first-unique}
+use Rattle.theory.proofs.FirstPlaces.{parent-unique, last-unique}
 use Rattle.meaning.specs.Stored.{Stored, wordOf}
 use Rattle.meaning.proofs.Inverses.{kept-turned, stored-kept}
 use Rattle.meaning.proofs.Accepted.{checks-kept, accepted-filled, sound-regular}
@@ -49,6 +49,7 @@ use Rattle.roomier.specs.Longer.{longer}
 use Rattle.roomier.proofs.Stores.{longer-get, longer-put, longer-length}
 use Rattle.roomier.proofs.Roomier.{more-room}
 use Rattle.promises.specs.Roomier.{Roomier}
+use Rattle.promises.proofs.SameRows.{SameRows, same-cells}
 use Rattle.promises.proofs.Lent.{handle, lentTable, by-build, stretch-cell}
 use Rattle.promises.proofs.Derived.{steps-enumerated, enumerated-steps, enumerated-related}
 use Rattle.promises.proofs.Enumerated.{enumerates-is-build}
@@ -198,48 +199,20 @@ module _ (table : List ℕ) (start : ℕ) (work orders : List ℕ) (n room : ℕ
 -- Composed rows: two readings of the same numbers, within any rooms, leave the same in every cell.
 module _ {src back : ℕ → ℕ → ℕ} {n room size room′ size′ N : ℕ} {t t′ : List ℕ} (R : Read src n room size N t) (R′ : Read src n room′ size′ N t′)
     (C : Columns n N src back) where
-  at : {i : ℕ} (j : ℕ) → i ≡ j → getD t′ j 0 ≡ getD t j 0 → getD t′ i 0 ≡ getD t i 0
-  at j q h = rw q h
-
-  first-same : (e : ℕ) → 0 < e → e < N → (parentOf t′ n e ≡ parentOf t n e) × (lastOf t′ n e ≡ lastOf t n e)
-  first-same e pos he = first-unique (R′ .appearance .first pos he) (R .appearance .first pos he)
-
-  parent-same : (e : ℕ) → e < N → parentOf t′ n e ≡ parentOf t n e
-  parent-same zero he = R′ .no-parent ∙ sym (R .no-parent)
-  parent-same (suc e) he = first-same (suc e) (omega arith) he .0
-
-  last-same : (e : ℕ) → e < N → lastOf t′ n e ≡ lastOf t n e
-  last-same zero he = R′ .no-last ∙ sym (R .no-last)
-  last-same (suc e) he = first-same (suc e) (omega arith) he .1
-
-  -- The four numbers at a row's end, then the others.
-  end-same : (e : ℕ) → e < N → (k : ℕ) → k < 4 → getD t′ (startOf n e + 2 * n + k) 0 ≡ getD t (startOf n e + 2 * n + k) 0
-  end-same e he zero hk = at (startOf n e + 2 * n) (omega arith) (parent-same e he)
-  end-same e he (suc zero) hk = at (startOf n e + 2 * n + 1) (omega arith) (R′ .one-letter he ∙ last-same e he ∙ sym (R .one-letter he))
-  end-same e he (suc (suc zero)) hk = at (startOf n e + 2 * n + 2) (omega arith) (read-letters R′ e he ∙ sym (read-letters R e he))
-  end-same e he (suc (suc (suc zero))) hk = at (startOf n e + 2 * n + 3) (omega arith) (R′ .no-inverse he ∙ sym (R .no-inverse he))
-  end-same e he (suc (suc (suc (suc k)))) hk = absurd (omega arith)
-
-  row-same : (e j : ℕ) → e < N → j < 2 * n + 4 → getD t′ (startOf n e + j) 0 ≡ getD t (startOf n e + j) 0
-  row-same e j he hj = by (ltb j n) refl (ltb j (2 * n)) refl where
-    by : (a : Bool) → ltb j n ≡ a → (b : Bool) → ltb j (2 * n) ≡ b → getD t′ (startOf n e + j) 0 ≡ getD t (startOf n e + j) 0
-    by true p b q = let hg = ltb-true j n p in R′ .successor he hg ∙ sym (R .successor he hg)
-    by false p true q =
-        let lo = ltb-false j n p in
-        let hg : j - n < n = omega (arith, ltb-true j (2 * n) q) in
-        at (startOf n e + n + (j - n)) (omega arith) (read-stored R′ C .predecessor he hg ∙ sym (read-stored R C .predecessor he hg))
-    by false p false q =
-        let lo = ltb-false j (2 * n) q in
-        at (startOf n e + 2 * n + (j - 2 * n)) (omega arith) (end-same e he (j - 2 * n) (omega arith))
+  same-rows : SameRows t t′ n N
+  same-rows = record {
+    successors = λ e g he hg. R′ .successor he hg ∙ sym (R .successor he hg);
+    predecessors = λ e g he hg. read-stored R′ C .predecessor he hg ∙ sym (read-stored R C .predecessor he hg);
+    parents = parent-unique (R .appearance) (R′ .appearance) (R′ .no-parent ∙ sym (R .no-parent));
+    hops = λ e he. R′ .one-letter he ∙ last-unique (R .appearance) (R′ .appearance) (R′ .no-last ∙ sym (R .no-last)) e he ∙ sym (R .one-letter he);
+    lengths = λ e he. read-letters R′ e he ∙ sym (read-letters R e he);
+    inverses = λ e he. R′ .no-inverse he ∙ sym (R .no-inverse he);
+  }
 
   cells-same : (i : ℕ) → getD t′ i 0 ≡ getD t i 0
-  unfolding startOf
   cells-same i = by (ltb i (N * (2 * n + 4))) refl where
     by : (b : Bool) → ltb i (N * (2 * n + 4)) ≡ b → getD t′ i 0 ≡ getD t i 0
-    by true q =
-        let pos : 0 < 2 * n + 4 = omega arith in
-        at (startOf n (i / (2 * n + 4)) + i % (2 * n + 4)) (sym (div-add-mod' i (2 * n + 4)))
-        (row-same (i / (2 * n + 4)) (i % (2 * n + 4)) (div-lt-iff-lt-mul pos .1 (ltb-true i (N * (2 * n + 4)) q)) (mod-lt i pos))
+    by true q = same-cells same-rows i (ltb-true i (N * (2 * n + 4)) q)
     by false q = let h = ltb-false i (N * (2 * n + 4)) q in R′ .beyond h ∙ sym (R .beyond h)
 
   read-longer-same : size ≤ size′ → t′ ≡ longer (size′ - size) t

@@ -2,7 +2,7 @@
 -- Assumes nothing.
 use mathlib.Core.Path.{_≡_, refl, sym, _∙_}
 use mathlib.Core.List.{List}
-use Prim.Native.Nat.{ℕ, _<_}
+use Prim.Native.Nat.{ℕ, zero, suc, _<_}
 use native.Mathlib.Nat.{lt-irrefl}
 use native.Mathlib.Omega.{arith}
 use lib.Dec.{ltb→lt, lt→ltb, eqb→eq}
@@ -35,6 +35,17 @@ module _ {n : ℕ} {step : ℕ → ℕ → ℕ} {e y h : ℕ} (F : First n step 
 -- Two first places of one element are the same place.
 pub first-unique : {n : ℕ} {step : ℕ → ℕ → ℕ} {e y h y′ h′ : ℕ} → First n step e y h → First n step e y′ h′ → (y ≡ y′) × (h ≡ h′)
 first-unique F F′ = (sym (parent-found F) ∙ parent-found F′, sym (last-found F) ∙ last-found F′)
+
+-- So parents and last generators from there are the same, where the identity has the same.
+module _ {n N : ℕ} {step : ℕ → ℕ → ℕ} {parent last parent′ last′ : ℕ → ℕ} (F : FirstAppearance n N step parent last)
+    (F′ : FirstAppearance n N step parent′ last′) where
+  pub parent-unique : parent′ 0 ≡ parent 0 → (e : ℕ) → e < N → parent′ e ≡ parent e
+  parent-unique z zero h = z
+  parent-unique z (suc e) h = first-unique (F′ .first (omega arith) h) (F .first (omega arith) h) .0
+
+  pub last-unique : last′ 0 ≡ last 0 → (e : ℕ) → e < N → last′ e ≡ last e
+  last-unique z zero h = z
+  last-unique z (suc e) h = first-unique (F′ .first (omega arith) h) (F .first (omega arith) h) .1
 
 module _ {n N : ℕ} {step : ℕ → ℕ → ℕ} where
   pub first-parents : {parent last : ℕ → ℕ} → FirstAppearance n N step parent last → Parents n N step parent last
