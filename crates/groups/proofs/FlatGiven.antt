@@ -1,7 +1,7 @@
 -- A flattened product of accepted factors is the product: the same elements, steps, composition and inverses.
 -- Assumes nothing.
 use Prim.Native.Nat.{ℕ, _-_, _<_}
-use mathlib.Core.Path.{_≡_, refl, sym, ap, _∙_, subst}
+use mathlib.Core.Path.{_≡_, sym, ap, _∙_, subst}
 use mathlib.Core.List.{List}
 use native.Mathlib.Omega.{arith}
 use lib.ListN.{length}
@@ -10,9 +10,9 @@ use Rattle.egg.specs.declared.Verdict.the-variants.{Fine}
 use Rattle.egg.proofs.Rooms.{room-enough}
 use Rattle.lending.specs.Lending.{making}
 use Rattle.theory.specs.Table.{Table}
-use Rattle.theory.specs.Words.{Word, empty, letter, walk, Spelled}
+use Rattle.theory.specs.Words.{Spelled}
 use Rattle.theory.specs.Group.{GroupOn, RightSteps}
-use Rattle.theory.proofs.Walking.{walk-closed}
+use Rattle.theory.proofs.Walking.{walk-closed, walk-agree}
 use Rattle.answers.specs.Accepted.{Accepted, factorStep, reach}
 use Rattle.answers.proofs.Answers.{accepted-answers}
 use Rattle.promises.proofs.Composed.{composed-given}
@@ -27,19 +27,15 @@ use Rattle.groups.proofs.Parts.{all-worded, parts-generators}
 use Rattle.groups.proofs.Flattened.{row-at, flat-composed}
 
 -- Two tables with words, one of which has the other's steps, have the same elements.
-module _ {n N M : ℕ} {step₁ step₂ : ℕ → ℕ → ℕ} (T₁ : Table n N step₁) (T₂ : Table n M step₂) (agree : (e g : ℕ) → e < N → g < n → step₁ e g ≡ step₂ e g) where
-  same-walk : {w : List ℕ} (e : ℕ) → e < N → Word n w → walk step₁ e w ≡ walk step₂ e w
-  same-walk e h empty = refl
-  same-walk e h (letter {g} {w} k r) = same-walk (step₁ e g) (T₁ .closed h k) r ∙ ap (λ (x : ℕ). walk step₂ x w) (agree e g h k)
-
+module _ {n N M : ℕ} {step₁ step₂ : ℕ → ℕ → ℕ} (T₁ : Table n N step₁) (T₂ : Table n M step₂) (agree : (e g : ℕ) → e < N → g < n → step₂ e g ≡ step₁ e g) where
   module _ {w₁ w₂ : ℕ → List ℕ} (S₁ : Spelled n N step₁ w₁) (S₂ : Spelled n M step₂ w₂) where
     first-in-second : (e : ℕ) → e < N → e < M
     first-in-second e h =
-        subst (λ (x : ℕ). x < M) (sym (same-walk 0 (T₁ .origin) (S₁ .over h)) ∙ S₁ .spells h) (walk-closed T₂ (T₂ .origin) (S₁ .over h))
+        subst (λ (x : ℕ). x < M) (walk-agree T₁ agree (T₁ .origin) (S₁ .over h) ∙ S₁ .spells h) (walk-closed T₂ (T₂ .origin) (S₁ .over h))
 
     second-in-first : (e : ℕ) → e < M → e < N
     second-in-first e h =
-        subst (λ (x : ℕ). x < N) (same-walk 0 (T₁ .origin) (S₂ .over h) ∙ S₂ .spells h) (walk-closed T₁ (T₁ .origin) (S₂ .over h))
+        subst (λ (x : ℕ). x < N) (sym (walk-agree T₁ agree (T₁ .origin) (S₂ .over h)) ∙ S₂ .spells h) (walk-closed T₁ (T₁ .origin) (S₂ .over h))
 
     pub same-count : N ≡ M
     same-count =
@@ -62,7 +58,7 @@ is-part : {p : Part} → Worded p → {t : List ℕ} {f : Factor} → Accepted t
 is-part {p} W {t} {f} A gens agree =
     let T : Table (f .generators) (p .elements) (p .step) = subst (λ (n : ℕ). Table n (p .elements) (p .step)) (sym gens) (part-table W) in
     let S : Spelled (f .generators) (p .elements) (p .step) (p .word) = subst (λ (n : ℕ). Spelled n (p .elements) (p .step) (p .word)) (sym gens) (W .spelled) in
-    let count : f .elements ≡ p .elements = same-count (A .sound .table) T agree (A .sound .spelled) S in
+    let count : f .elements ≡ p .elements = same-count (A .sound .table) T (λ e x he hx. sym (agree e x he hx)) (A .sound .spelled) S in
     let G : GroupOn (f .elements) (p .op) (p .inv) = subst (λ (N : ℕ). GroupOn N (p .op) (p .inv)) (sym count) (W .stepped .group .laws) in
     let R : RightSteps (f .generators) (f .elements) (factorStep t f) (p .op) = right-steps T G agree (same-gens gens) (subst (λ (N : ℕ). (e g : ℕ) → e < N → g < p .generators → p .step e g ≡ p .op e (p .step 0 g)) (sym count) (λ e g he hg. W .stepped .steps .step-is he hg)) in
     let (op, inv, Q) = accepted-answers A in

@@ -1,7 +1,7 @@
 -- Demand 2: "Images written and read back are the same table, and read and written again the same bytes."
 -- Assumes nothing.
 use Prim.Native.Nat.{ℕ, _+_, _≤_, _<_}
-use mathlib.Core.Path.{_≡_, refl, sym, ap, _∙_, subst}
+use mathlib.Core.Path.{_≡_, sym, ap, _∙_, subst}
 use mathlib.Core.Bool.{true}
 use mathlib.Core.List.{List, _++_}
 use native.Mathlib.Nat.{le-refl}
@@ -17,10 +17,10 @@ use Rattle.egg.proofs.Scans.{scan-fine}
 use Rattle.egg.proofs.Rooms.{some}
 use Rattle.lending.specs.Lending.{lentRight, making}
 use Rattle.cells.specs.Cells.{halves}
-use Rattle.theory.specs.Table.{Table}
-use Rattle.theory.specs.Words.{Word, empty, letter, walk}
+use Rattle.theory.specs.Words.{walk}
 use Rattle.theory.specs.Numbering.{Numbered}
 use Rattle.theory.specs.Appearance.{recorded}
+use Rattle.theory.proofs.Walking.{walk-agree}
 use Rattle.theory.proofs.RuleLaws.{numbered-agree}
 use Rattle.theory.proofs.Shortest.{recorded-best}
 use Rattle.theory.proofs.AnyCarrier.{any-carrier}
@@ -39,13 +39,6 @@ use Rattle.images.specs.Images.{Bytes, imageStep, GroupImage, MadeWith, 
 use Rattle.images.proofs.Spelling.{rows-entry, rows-same}
 use Rattle.images.proofs.Heads.{written-generators, written-elements, written-formed, written-rows, image-again, image-bytes}
 use Rattle.images.proofs.Back.{read-given, group-read}
-
--- Two tables that agree walk alike.
-pub walk-same : {n N : ℕ} {step step′ : ℕ → ℕ → ℕ} → Table n N step → ((e g : ℕ) → e < N → g < n → step e g ≡ step′ e g)
-    → {e : ℕ} {w : List ℕ} → e < N → Word n w → walk step e w ≡ walk step′ e w
-walk-same T same he empty = refl
-walk-same {step′ = step′} T same {e} he (letter {g = g} {w = w} hg ws) =
-    walk-same T same (T .closed he hg) ws ∙ ap (λ (x : ℕ). walk step′ x w) (same e g he hg)
 
 module _ {t : List ℕ} {f : Factor} (A : Accepted t f) where
   some-elements : 1 ≤ f .elements
@@ -103,7 +96,7 @@ module _ {t : List ℕ} {f : Factor} (A : Accepted t f) where
   short-words R {e} he =
       let S = A .sound in
       let w = S .spelled .over he in
-      let q : walk (imageStep image) 0 (factorWord t f e) ≡ e = sym (walk-same (S .table) same-steps (S .table .origin) w) ∙ S .spelled .spells he in
+      let q : walk (imageStep image) 0 (factorWord t f e) ≡ e = walk-agree (S .table) (λ x g hx hg. image-steps hx hg) (S .table .origin) w ∙ S .spelled .spells he in
       let b : length (recorded (f .generators) (imageStep image) (walk (imageStep image) 0 (factorWord t f e))) ≤ length (factorWord t f e) = recorded-best R w .0 in
       let c : length (recorded (f .generators) (imageStep image) e) ≤ length (factorWord t f e)
       = subst (λ (x : ℕ). length (recorded (f .generators) (imageStep image) x) ≤ length (factorWord t f e)) q b in

@@ -8,9 +8,8 @@ use native.Mathlib.Omega.{arith}
 use lib.ListN.{length}
 use Rattle.egg.specs.Table.{parentOf, lastOf, inverseOf, stepOf, backOf}
 use Rattle.hops.specs.Hops.{hopFrom, Hops}
-use Rattle.theory.specs.Table.{Columns}
-use Rattle.theory.specs.Words.{Word, empty, letter, retrace}
-use Rattle.theory.proofs.Walking.{retrace-closed}
+use Rattle.theory.specs.Words.{retrace}
+use Rattle.theory.proofs.Walking.{retrace-agree}
 use Rattle.theory.proofs.FirstPlaces.{parent-unique, last-unique}
 use Rattle.theory.proofs.Recording.{recorded-once}
 use Rattle.theory.proofs.RuleLaws.{appearance-agree}
@@ -18,13 +17,6 @@ use Rattle.meaning.specs.Stored.{wordOf}
 use Rattle.meaning.specs.Sound.{Sound, Ruled}
 use Rattle.promises.proofs.SameRows.{SameRows, same-cells}
 use Rattle.images.specs.Images.{SameTable}
-
--- Steps back that agree lead back alike.
-retrace-same : {n N : ℕ} {step back back′ : ℕ → ℕ → ℕ} → Columns n N step back → ((e g : ℕ) → e < N → g < n → back′ e g ≡ back e g)
-    → {e : ℕ} {w : List ℕ} → e < N → Word n w → retrace back′ e w ≡ retrace back e w
-retrace-same C same he empty = refl
-retrace-same {back = back} {back′} C same {e} he (letter {g = g} {w = w} hg ws) =
-    ap (λ (x : ℕ). back′ x g) (retrace-same C same he ws) ∙ same (retrace back e w) g (retrace-closed C he ws) hg
 
 module _ {n N : ℕ} {s s′ : List ℕ} (S : Sound s n N) (S′ : Sound s′ n N) (R : Ruled s n N) (R′ : Ruled s′ n N) (H : Hops s n N) (H′ : Hops s′ n N)
     (same : (e g : ℕ) → e < N → g < n → stepOf s′ n e g ≡ stepOf s n e g) where
@@ -58,7 +50,7 @@ module _ {n N : ℕ} {s s′ : List ℕ} (S : Sound s n N) (S′ : Sound s′ n 
   inverse-same : (e : ℕ) → e < N → inverseOf s′ n e ≡ inverseOf s n e
   inverse-same e he =
       S′ .inverses he ∙ ap (λ (w : List ℕ). retrace (backOf s′ n) 0 w) (word-same e he)
-      ∙ retrace-same (S .columns) back-same (S .table .origin) (S .spelled .over he) ∙ sym (S .inverses he)
+      ∙ retrace-agree (S .columns) back-same (S .table .origin) (S .spelled .over he) ∙ sym (S .inverses he)
 
   same-rows : SameRows s s′ n N
   same-rows = record {

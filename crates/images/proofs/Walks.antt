@@ -21,7 +21,7 @@ use Rattle.theory.specs.Table.{Table}
 use Rattle.theory.specs.Words.{Word, empty, letter, walk}
 use Rattle.theory.proofs.Counting.{numbered-table}
 use Rattle.theory.proofs.Complete.{walk-is-op}
-use Rattle.theory.proofs.Walking.{walk-closed, walk-append, word-append}
+use Rattle.theory.proofs.Walking.{walk-closed, walk-append, walk-agree, word-append}
 use Rattle.meaning.proofs.Accepted.{sound-group, sound-right-steps}
 use Rattle.answers.specs.Accepted.{factorStep, reach}
 use Rattle.answers.proofs.Handles.{compose-answer}
@@ -32,7 +32,6 @@ use Rattle.image.specs.Walked.{walkNumber}
 use Rattle.images.specs.Images.{Bytes, imageStep, WellFormed, GroupImage}
 use Rattle.images.proofs.Heads.{formed-head}
 use Rattle.images.proofs.Back.{number-exactly, read-given}
-use Rattle.images.proofs.Rounds.{walk-same}
 
 -- The letters' test is the word's.
 letters-to : (n : ℕ) (w : List ℕ) → lettersBelow n w ≡ true → Word n w
@@ -112,11 +111,11 @@ module _ (l : List ℕ) (B : Bytes l) (table : List ℕ) (start : ℕ) (work : L
       let gens : generatorsOf l ≡ f .generators = sym (ap (λ (x : Factor). x .generators) (G .handle)) in
       let ws′ : Word (f .generators) word = rw gens at ws in
       let h′ : from < f .elements = rw (g .2) h in
-      let same : (e x : ℕ) → e < f .elements → x < f .generators → factorStep t f e x ≡ imageStep l e x = λ e x he hx. G .steps he (rw gens hx) in
+      let same : (e x : ℕ) → e < f .elements → x < f .generators → imageStep l e x ≡ factorStep t f e x = λ e x he hx. sym (G .steps he (rw gens hx)) in
       let zero-in : 0 < elementsOf l = T .origin in
       let here : walkNumber l 0 word ≡ walk (factorStep t f) 0 word
-      = walk-group-image l 0 word (g .0) zero-in ws ∙ sym (walk-same (S .table) same (S .table .origin) ws′) in
-      let there : walkNumber l from word ≡ walk (factorStep t f) from word = walk-group-image l from word (g .0) h ws ∙ sym (walk-same (S .table) same h′ ws′) in
+      = walk-group-image l 0 word (g .0) zero-in ws ∙ walk-agree (S .table) same (S .table .origin) ws′ in
+      let there : walkNumber l from word ≡ walk (factorStep t f) from word = walk-group-image l from word (g .0) h ws ∙ walk-agree (S .table) same h′ ws′ in
       let b : walk (factorStep t f) 0 word < f .elements = walk-closed (S .table) (S .table .origin) ws′ in
       ap (λ (x : ℕ). composeAnswer t f (record { 0 = from }) (record { 0 = x })) here
       ∙ compose-answer A h′ b

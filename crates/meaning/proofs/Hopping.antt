@@ -50,7 +50,9 @@ module _ {t t₁ : List ℕ} {n N : ℕ} (K : Kept t t₁ n N) (inverse-same : (
           let y = stepOf t n x g in
           let hy : y < N = S .table .closed hx hg in
           let z = stepOf t n 0 s in
-          rw (A x g hg, words y hy, words x hx, A 0 s hs, walk-agree A z (S .spelled .over hy), walk-agree A z (S .spelled .over hx))
+          let hz : z < N = S .table .closed (S .table .origin) hs in
+          let B : (e g : ℕ) → e < N → g < n → stepOf t₁ n e g ≡ stepOf t n e g = λ e g _ h. A e g h in
+          rw (A x g hg, words y hy, words x hx, A 0 s hs, walk-agree (S .table) B hz (S .spelled .over hy), walk-agree (S .table) B hz (S .spelled .over hx))
           (S .check .commutes hs hg hx ∙ sym (A (walk (stepOf t n) z (wordOf t n x)) g hg));
     };
     identity-row = λ {g} hg. K .step-same 0 hg ∙ S .identity-row hg;
@@ -62,7 +64,7 @@ module _ {t t₁ : List ℕ} {n N : ℕ} (K : Kept t t₁ n N) (inverse-same : (
       lengths = λ {e} he. K .length-same e ∙ S .stored .lengths he ∙ ap length (sym (words e he));
     };
     short = λ {e} he. rw (K .length-same e) (S .short he);
-    inverses = λ {e} he. rw (inverse-same e, words e he, retrace-agree (λ x g hg. K .back-same x hg) 0 (S .spelled .over he)) (S .inverses he);
+    inverses = λ {e} he. rw (inverse-same e, words e he, retrace-agree (S .columns) (λ x g _ hg. K .back-same x hg) (S .table .origin) (S .spelled .over he)) (S .inverses he);
   }
 
 pub hopping-sound : {t : List ℕ} {n N : ℕ} → Sound t n N → Sound (withHops N t n) n N

@@ -197,7 +197,7 @@ module _ (o : List ℕ) (n room lt lw : ℕ) (L : run.Limits n o room lt lw) (ri
       let E = settle (C .2) in
       let K = settled-kept T W E in
       let S = settled-sound T W E fits (F .run .some) small in
-      let H : Holds n N (order-of o) (stepOf t n) = record { holds = λ {e} he R. walk-agree (λ x g hg. K .step-same x hg) e (relator-word R) ∙ holds F D .holds he R } in
+      let H : Holds n N (order-of o) (stepOf t n) = record { holds = λ {e} he R. walk-agree (table F D) (λ x g _ hg. K .step-same x hg) he (relator-word R) ∙ holds F D .holds he R } in
       let long = orders-long o n right in
       let fine = sym (relations-identity S (L .few) o long) ∙ relations-exact S (L .few) o long .1 H in
       (t, zeroed (C .1), steps-enumerated o n room lt lw L right finish refl refl E fine)

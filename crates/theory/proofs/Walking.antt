@@ -41,12 +41,13 @@ module _ {n N : ℕ} {step back : ℕ → ℕ → ℕ} (B : Columns n N step bac
   walk-retrace e empty = refl
   walk-retrace e (letter g w) = rw (B .step-back (retrace-closed e w) g) (walk-retrace e w)
 
--- What leads the same way by each generator leads the same way along a word.
-module _ {n : ℕ} {step step′ : ℕ → ℕ → ℕ} (agree : (e g : ℕ) → g < n → step′ e g ≡ step e g) where
-  pub walk-agree : (e : ℕ) {u : List ℕ} → Word n u → walk step′ e u ≡ walk step e u
+-- What leads the same way by each generator leads the same way along a word, and back along it.
+module _ {n N : ℕ} {step step′ : ℕ → ℕ → ℕ} (T : Table n N step) (agree : (e g : ℕ) → e < N → g < n → step′ e g ≡ step e g) where
+  pub walk-agree : {e : ℕ} {w : List ℕ} → e < N → Word n w → walk step′ e w ≡ walk step e w
   walk-agree e empty = refl
-  walk-agree e (letter {g = g} h u) = rw (agree e g h) (walk-agree (step e g) u)
+  walk-agree {e} h (letter {g = g} k w) = rw (agree e g h k) (walk-agree (T .closed h k) w)
 
-  pub retrace-agree : (e : ℕ) {u : List ℕ} → Word n u → retrace step′ e u ≡ retrace step e u
+module _ {n N : ℕ} {step back back′ : ℕ → ℕ → ℕ} (B : Columns n N step back) (agree : (e g : ℕ) → e < N → g < n → back′ e g ≡ back e g) where
+  pub retrace-agree : {e : ℕ} {w : List ℕ} → e < N → Word n w → retrace back′ e w ≡ retrace back e w
   retrace-agree e empty = refl
-  retrace-agree e (letter {g = g} {w = w} h u) = rw (retrace-agree e u) (agree (retrace step e w) g h)
+  retrace-agree {e} h (letter {g = g} {w = u} k w) = rw (retrace-agree h w) (agree (retrace back e u) g (retrace-closed B h w) k)
