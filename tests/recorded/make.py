@@ -127,6 +127,9 @@ def enumerations():
     yield "# Two generators, longer orders."
     for m in (7, 12, 31, 64, 97):
         yield from around(2, [m], 300, ())
+    yield "# Longer relations among more generators, and eight generators."
+    for n, orders in ((3, [2, 31, 2]), (4, [9, 2, 2, 2, 2, 8]), (4, [20, 2, 2, 2, 2, 20]), (8, [2] * 28)):
+        yield from around(n, orders, 1700, ())
     yield "# Lists that are refused before a run."
     yield "room 100"
     yield from ["enum 9 " + spaced(*[2] * 36), "enum 9 2", "enum 2", "enum 2 3 3", "enum 3 1 2"]

@@ -262,6 +262,39 @@ fn builds() {
     }
 }
 
+/// Enumerations into garbage, and into what an earlier factor has left: the same table as from zeros, with as much room as there are elements, with more, and the
+/// same refusal with less; zeros beyond the last element and in the work, and the excess as it was.
+#[test]
+fn enumerations_into_anything() {
+    let mut r = Random(9);
+    let groups: [(u8, &[u32], u32); 7] =
+        [(0, &[], 1), (1, &[], 2), (2, &[3], 6), (2, &[31], 62), (3, &[5, 2, 3], 120), (4, &[9, 2, 2, 2, 2, 8], 288), (8, &[2; 28], 256)];
+    let (mut table, mut work) = (Vec::new(), Vec::new());
+    for _ in 0..3 {
+        for (n, orders, count) in groups {
+            for room in [count.saturating_sub(1).max(1), count, count + 1] {
+                let (need, used) = (raw::table_need(n, room), raw::work_need(n, room));
+                let (mut clean, mut spare) = (vec![0; need], vec![0; used]);
+                let wanted = raw::enumerate(&mut clean, 0, &mut spare, orders, n, room);
+                assert_eq!(wanted.is_ok(), room >= count);
+                // What the last turn has left is there again, longer by garbage where this one needs more.
+                let start = r.below(9) as usize;
+                table.resize_with(table.len().max(start + need + 5), || r.number());
+                work.resize_with(work.len().max(used + 5), || r.number());
+                if r.below(2) == 0 {
+                    table.iter_mut().chain(&mut work).for_each(|x| *x = r.number());
+                }
+                let (before, lent) = (table.clone(), work.clone());
+                let answer = raw::enumerate(&mut table, start, &mut work, orders, n, room);
+                assert_eq!(answer, wanted.map(|h| Handle { start, ..h }));
+                assert!(around(&before, &table, start..start + need) && cleared(&lent, &work, 0..used));
+                assert_eq!(table[start..start + need], clean);
+                assert!(spare.iter().all(|&x| x == 0));
+            }
+        }
+    }
+}
+
 /// Builds element by element, by the builder that is handed back or a forged one, in a table that is altered now and then.
 #[test]
 fn builders() {

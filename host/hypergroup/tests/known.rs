@@ -42,6 +42,9 @@ fn edges_of_pair_orders() {
     assert_eq!(refused(Factor::from_orders(3, &[5, 2, 3], 119)).0, 5);
     assert_eq!(refused(Factor::from_orders(2, &[4097], 8194)).0, 6);
     assert_eq!(refused(Factor::from_orders(2, &[4097], 8193)).0, 5);
+    // The product of a line that is too long and a pair: 4 * 4,096 elements come before its word.
+    assert_eq!(refused(Factor::from_orders(3, &[32_767, 2, 2], 65_535)), (6, [16_380, 0, 0]));
+    assert_eq!(refused(Factor::from_orders(3, &[32_767, 2, 2], 16_383)).0, 5);
 }
 
 #[test]
