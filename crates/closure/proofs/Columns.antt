@@ -12,7 +12,7 @@ use Rattle.rows.specs.declared.inner.SideOfGap.{SideOfGap}
 use Rattle.rows.specs.declared.inner.SideOfGap.the-variants.{Left, Right}
 use Rattle.rows.specs.Rows.{readRow}
 use Rattle.derived.specs.Invariant.{Known}
-use Rattle.rings.specs.Rings.{turn, ring, first, second, Looped, Told, Column}
+use Rattle.rings.specs.Rings.{turn, ring, first, second, Told, Column}
 use Rattle.queues.specs.Queues.{copyAt, Held}
 use Rattle.closure.specs.Closure.{Rowed, Awaits, listed, in-hand, Open, Whole, none, Closed}
 use Rattle.rings.proofs.Letters.{turn-below}
@@ -50,10 +50,10 @@ module _ {n count : ℕ} (o : List ℕ) {step : ℕ → ℕ → ℕ} {t : List �
     by (yes q) = not-known (O .right-waits) refl (column-back (O .r) (others (O .r) (omega (arith, r-is, B .within)) (omega (arith, O .gap))))
     by (no d) = not-known (O .left-waits) refl (others (O .l) (omega (arith, l-is, A .ordered, A .within)) d)
 
-pub column-known : {n N : ℕ} {o : List ℕ} {step : ℕ → ℕ → ℕ} {count lt lw : ℕ} {Live : ℕ → ℕ → Type 0} {t w : List ℕ} → Looped n N o step → count ≤ N → n ≤ 8
+pub column-known : {n : ℕ} {o : List ℕ} {step : ℕ → ℕ → ℕ} {count lt lw : ℕ} {Live : ℕ → ℕ → Type 0} {t w : List ℕ} → n ≤ 8
     → length o ≡ pairs-below n → Closed n o step Live count lt lw t w → (u k c : ℕ) → u < count → k < length o → Live u k → c < 2 * getD o k 0
     → ((j : ℕ) → j < 2 * getD o k 0 → (j ≡ c → ⊥) → Column n t step u k j) → Column n t step u k c
-column-known {n} {o = o} {step} {count} {t = t} {w} L fits few full C u k c hu hk live hc others = by (C .machine .live u k hu hk live) where
+column-known {n} {o = o} {step} {count} {t = t} {w} few full C u k c hu hk live hc others = by (C .machine .live u k hu hk live) where
   by : Whole n step o t u k ⊎ Open n step t w (C .held) [] none u k → Column n t step u k c
   by (inl whole) = whole c hc
   by (inr O) = absurd (open-known o few full (C .machine .told) u k hk (C .machine .rows u k Left hu hk) (C .machine .rows u k Right hu hk) O c others)

@@ -11,7 +11,7 @@ use Rattle.theory.proofs.BoundedTests.{below-suc}
 use Rattle.egg.specs.declared.GroupElementId.{GroupElementId}
 use Rattle.egg.specs.declared.GeneratorId.{GeneratorId}
 use Rattle.egg.specs.Pairs.{pairCode}
-use Rattle.egg.specs.Table.{putAt, startOf, succAt}
+use Rattle.egg.specs.Table.{putAt, succAt}
 use Rattle.egg.proofs.Cells.{cell-inside, put-same}
 use Rattle.reading.specs.Build.{setStep, setWord}
 use Rattle.rows.specs.declared.inner.SideOfGap.{SideOfGap}
@@ -38,8 +38,8 @@ use Rattle.queues.proofs.Lists.{in-none}
 use Rattle.closure.proofs.Ground.{Ground, ground, sized, letter-below}
 use Rattle.closure.proofs.Carrying.{More, awaits-more, column-more, rowed-more, open-more}
 use Rattle.closure.proofs.NewRows.{new-rowed, new-open}
-use Rattle.closure.proofs.Updating.{Kept}
-use Rattle.closure.proofs.Settling.{settle-kept, kept-closed}
+use Rattle.closure.proofs.Updating.{Idle}
+use Rattle.closure.proofs.Settling.{settle-idle, idle-closed}
 
 -- The table with the word of a new element, the step to it, and the step back.
 abbrev worded : (n : ℕ) (t : List ℕ) (count e g len : ℕ) → List ℕ
@@ -175,8 +175,8 @@ module _ {n N : ℕ} {o : List ℕ} {room : ℕ} {step : ℕ → ℕ → ℕ} {c
       new-open count G k hk (λ sd. new-row k sd hk) (B .left k hk) (B .right k hk) (new-unknown (first k) (letter-below G k hk 0) (fresh k hk v .0))
       (new-unknown (second k) (letter-below G k hk 1) (fresh k hk v .1))
 
-  begun-kept : Kept n o step Live (count + 1) lt lw (state table linked (link n (record { 0 = e }) (record { 0 = g })))
-  begun-kept = record {
+  begun-idle : Idle n o step Live (count + 1) lt lw (state table linked (link n (record { 0 = e }) (record { 0 = g })))
+  begun-idle = record {
     held = B .held′;
     facts = placeOf n e g ∷ [];
     machine = record {
@@ -192,11 +192,11 @@ module _ {n N : ℕ} {o : List ℕ} {room : ℕ} {step : ℕ → ℕ → ℕ} {c
   }
 
 pub discovers : {n N : ℕ} {o : List ℕ} {room : ℕ} {step : ℕ → ℕ → ℕ} {count lt lw : ℕ} {Live : ℕ → ℕ → Type 0} {t w : List ℕ} → Limits n o room lt lw
-    → Looped n N o step → Closed n o step Live count lt lw t w → count < room → count < N → (e g : ℕ) → e < count → g < n → getD t (startOf n e + g) 0 ≡ 0 → step e g ≡ count
+    → Looped n N o step → Closed n o step Live count lt lw t w → count < room → count < N → (e g : ℕ) → e < count → g < n → step e g ≡ count
     → ((k : ℕ) → k < length o → Live count k → (g ≡ first k → ⊥) × (g ≡ second k → ⊥)) → (len : ℕ)
     → let x : GroupElementId = record { 0 = count } in
     let s = discovered n o (record { 0 = e }) (record { 0 = g }) x (setStep (setWord t n x (record { 0 = e }) (record { 0 = g }) len) n (record { 0 = e }) (record { 0 = g }) x) w in
     s .top ≡ 0 → Closed n o step Live (count + 1) lt lw (s .table) (s .work)
 unfolding discovered
-discovers {w = w} L looped C hr hN e g he hg z leads fresh len top =
-    kept-closed (settle-kept (G L looped C hr hN e g he hg leads fresh len) _ _ (begun-kept L looped C hr hN e g he hg leads fresh len)) top
+discovers {w = w} L looped C hr hN e g he hg leads fresh len top =
+    idle-closed (settle-idle (G L looped C hr hN e g he hg leads fresh len) _ _ (begun-idle L looped C hr hN e g he hg leads fresh len)) top

@@ -1,14 +1,11 @@
 -- The rows of a new element: each stands at all columns of its loop, and where its first and last column are not known, it is open.
 -- Assumes nothing.
-use Prim.Native.Nat.{ℕ, suc, _+_, _*_, _-_, _%_, _<_}
+use Prim.Native.Nat.{ℕ, suc, _+_, _*_, _-_, _<_}
 use mathlib.Core.Path.{_≡_, ap, _∙_}
-use mathlib.Core.Bool.{Bool, true, false}
 use mathlib.Core.List.{List}
 use native.Mathlib.Omega.{arith}
 use lib.ListN.{getD, length}
-use lib.Dec.{eqb}
 use Rattle.egg.specs.Pairs.{pairCode}
-use Rattle.egg.specs.Table.{pick}
 use Rattle.rows.specs.declared.inner.SideOfGap.{SideOfGap}
 use Rattle.rows.specs.declared.inner.SideOfGap.the-variants.{Left, Right}
 use Rattle.rows.specs.Rows.{genOf, readRow, newRow}
@@ -16,15 +13,9 @@ use Rattle.derived.specs.Invariant.{Known}
 use Rattle.rings.specs.Rings.{turn, ring, first, second}
 use Rattle.queues.specs.Queues.{In, copyAt, Held}
 use Rattle.closure.specs.Closure.{Rowed, listed, Open}
+use Rattle.rings.proofs.Turns.{turn-in}
 use Rattle.rings.proofs.Letters.{gen-turn, new-row-at}
 use Rattle.closure.proofs.Ground.{Ground}
-
--- What holds of both letters holds of each of those in turn.
-turn-each : (P : ℕ → Type 0) (a b : ℕ) → P a → P b → (j : ℕ) → P (turn a b j)
-turn-each P a b x y j = by (eqb (j % 2) 0) where
-  by : (c : Bool) → P (pick c a b)
-  by true = x
-  by false = y
 
 module _ {n N : ℕ} {o : List ℕ} {step : ℕ → ℕ → ℕ} (count : ℕ) {lt lw : ℕ} (G : Ground n N o step (count + 1) lt lw) (k : ℕ) (hk : k < length o) where
   last : suc (2 * getD o k 0 - 1) ≡ 2 * getD o k 0
@@ -53,7 +44,7 @@ module _ {n N : ℕ} {o : List ℕ} {step : ℕ → ℕ → ℕ} (count : ℕ) {
   new-open {t} {w} {held} {facts} {hand} stored left right a b =
       let m = getD o k 0 in
       let q : m * 2 - 1 ≡ 2 * m - 1 = omega arith in
-      let unknown = turn-each (λ x. Known n t count x → ⊥) (first k) (second k) a b in
+      let unknown = turn-in (λ x. Known n t count x → ⊥) a b in
       let at-right : In (copyAt n count k Right) (held Right count (turn (first k) (second k) (2 * m - 1))) = rw (gen-turn k (2 * m - 1)) at (rw q at right) in
       record {
         l = 0;

@@ -25,7 +25,7 @@ use Rattle.closure.proofs.Carrying.{rowed-more, open-more}
 use Rattle.closure.proofs.WakingAll.{sided, Rousing, rouse-all}
 
 -- The machine with nothing in hand, whatever waits and whatever is on the stack.
-pub record Kept (n : ℕ) (o : List ℕ) (step : ℕ → ℕ → ℕ) (Live : ℕ → ℕ → Type 0) (count lt lw : ℕ) (s : State) : Type 0 where
+pub record Idle (n : ℕ) (o : List ℕ) (step : ℕ → ℕ → ℕ) (Live : ℕ → ℕ → Type 0) (count lt lw : ℕ) (s : State) : Type 0 where
   pub held : Held
   pub facts : List ℕ
   pub machine : Machine n o step Live count lt lw held facts none s
@@ -104,7 +104,7 @@ module _ {n N : ℕ} {o : List ℕ} {step : ℕ → ℕ → ℕ} {count lt lw : 
       same Left = refl
       same Right = refl
 
-    ended : {s′ : State} → Rousing n o step Live count lt lw e g Right 0 [] 0 [] s′ → Kept n o step Live count lt lw s′
+    ended : {s′ : State} → Rousing n o step Live count lt lw e g Right 0 [] 0 [] s′ → Idle n o step Live count lt lw s′
     ended {s′} I = record {
       held = I .held;
       facts = I .facts;
@@ -114,9 +114,9 @@ module _ {n N : ℕ} {o : List ℕ} {step : ℕ → ℕ → ℕ} {count lt lw : 
       same Left = refl
       same Right = refl
 
-    pub updated-kept : Kept n o step Live count lt lw (updated n (placeOf n e g) (state (s .table) (s .work) under))
+    pub updated-idle : Idle n o step Live count lt lw (updated n (placeOf n e g) (state (s .table) (s .work) under))
     unfolding updated
-    updated-kept =
+    updated-idle =
         let five : placeOf n e g + 3 + 2 ≡ placeOf n e g + 5 = omega arith in
         let lefts = rouse-all G he hg (getD (s .work) (placeOf n e g + 2) 0) (held Left e g) (taken .counts Left) begin in
         ended (rouse-all G he hg (getD (s .work) (placeOf n e g + 5) 0) (held Right e g) (rw five at (taken .counts Right)) (turned lefts))

@@ -100,5 +100,5 @@ module _ {n N : ℕ} {o : List ℕ} {step : ℕ → ℕ → ℕ} {count lt lw : 
   unfolding wakes
   wakes-woke =
       let W = M .rows u k side hu hk in
-      let F = fills (G .few) (G .full) (G .looped) (G .fits) (M .told) u k (W .left) (W .right) (lt-of-lt-of-le hu (G .fits)) hk (W .ordered) (W .from-below) (W .to-below) in
+      let F = fills (G .few) (G .full) (G .looped) (M .told) u k (W .left) (W .right) (lt-of-lt-of-le hu (G .fits)) hk (W .ordered) (W .from-below) (W .to-below) in
       rw (W .is, F .is) (woken-woke (fill-row W F))

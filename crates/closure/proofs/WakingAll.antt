@@ -21,7 +21,7 @@ use Rattle.closure.proofs.Ground.{Ground, paired, left-right}
 use Rattle.closure.proofs.Waking.{Woke, wakes-woke}
 
 -- The other side.
-abbrev pub opposite : SideOfGap → SideOfGap
+abbrev opposite : SideOfGap → SideOfGap
 opposite Left = Right
 opposite Right = Left
 

@@ -1,13 +1,12 @@
 -- What the enumeration's machine has closed: when no fact is left, a row that lacks one step has been given it.
 -- Assumes nothing.
-use Prim.Native.Nat.{ℕ, suc, _+_, _*_, _<_, _≤_}
+use Prim.Native.Nat.{ℕ, suc, _*_, _<_, _≤_}
 use mathlib.Core.Path.{_≡_}
 use mathlib.Core.Logic.{_⊎_}
 use mathlib.Core.List.{List, []}
 use lib.ListN.{getD, length}
 use Rattle.rows.specs.declared.inner.SideOfGap.{SideOfGap}
 use Rattle.rows.specs.declared.inner.SideOfGap.the-variants.{Left, Right}
-use Rattle.egg.specs.Table.{startOf}
 use Rattle.rows.specs.Rows.{workWidth, readRow}
 use Rattle.facts.specs.Facts.{State, state}
 use Rattle.derived.specs.Invariant.{Known}

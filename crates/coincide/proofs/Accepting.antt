@@ -2,15 +2,13 @@
 -- Assumes nothing.
 use Prim.Native.Nat.{ℕ, zero, suc, _+_, _*_, _%_, _≤_, _<_}
 use mathlib.Core.Path.{_≡_, refl, sym, ap, _∙_, subst}
-use mathlib.Core.Bool.{Bool, true, false}
 use mathlib.Core.List.{List}
 use native.Mathlib.Nat.{mul-le-mul, le-refl}
 use native.Mathlib.Omega.{arith}
 use lib.ListN.{length, getD}
-use lib.Dec.{eqb}
 use Rattle.egg.specs.declared.Verdict.the-variants as verdict
 use Rattle.egg.specs.declared.Counted.the-variants.{Count}
-use Rattle.egg.specs.Table.{pick, stepOf, parentOf, lastOf}
+use Rattle.egg.specs.Table.{stepOf, parentOf, lastOf}
 use Rattle.lending.specs.Finish.{built, finished}
 use Rattle.relations.specs.Relations.{relationsRow}
 use Rattle.theory.specs.Words.{walk, Parents}
@@ -23,6 +21,8 @@ use Rattle.answers.proofs.Relators.{relations-exact, relations-first}
 use Rattle.answers.proofs.Settled.{by-count, settled-kept, settled-sound}
 use Rattle.derived.specs.Recorded.{Limits}
 use Rattle.rings.specs.Rings.{turn, ring, first, second, Looped}
+use Rattle.rings.proofs.Letters.{turn-low}
+use Rattle.rings.proofs.Walking.{ring-suc}
 
 -- Steps that agree on the letters lead the same way round.
 ring-agree : {n : ℕ} (a b : ℕ) {step step′ : ℕ → ℕ → ℕ} → ((e g : ℕ) → g < n → step′ e g ≡ step e g) → ((j : ℕ) → turn a b j < n)
@@ -31,25 +31,12 @@ ring-agree a b same in-range u zero = refl
 ring-agree a b {step} {step′} same in-range u (suc j) =
     same (ring step′ a b u j) (turn a b j) (in-range j) ∙ ap (λ (x : ℕ). step x (turn a b j)) (ring-agree a b same in-range u j)
 
--- The first two letters taken off.
-ring-two : (step : ℕ → ℕ → ℕ) (a b u j : ℕ) → ring step a b u (suc (suc j)) ≡ ring step a b (step (step u a) b) j
-ring-two step a b u zero = refl
-ring-two step a b u (suc j) =
-    let even : suc (suc j) % 2 ≡ j % 2 = omega arith in
-    rw (even, ring-two step a b u j)
-
 -- All the way round is the walk of the pair's relator.
 ring-walk : (step : ℕ → ℕ → ℕ) (a b m u : ℕ) → ring step a b u (2 * m) ≡ walk step u (alternate a b m)
 ring-walk step a b zero u = refl
 ring-walk step a b (suc m) u =
     let two : 2 * suc m ≡ suc (suc (2 * m)) = omega arith in
-    rw two (ring-two step a b u (2 * m) ∙ ring-walk step a b m (step (step u a) b))
-
-turn-range : {n a b : ℕ} → a < n → b < n → (j : ℕ) → turn a b j < n
-turn-range {n} {a} {b} ha hb j = go (eqb (j % 2) 0) where
-  go : (v : Bool) → pick v a b < n
-  go true = ha
-  go false = hb
+    rw two (ring-suc step a b u (suc (2 * m)) ∙ ring-suc step b a (step u a) (2 * m) ∙ ring-walk step a b m (step (step u a) b))
 
 module _ (o : List ℕ) {n N : ℕ} {t F : List ℕ} (few : n ≤ 8) (long : length o ≡ pairs-below n) (S : Sound t n N) (K : Kept F t n N) (H : Holds n N (order-of o) (stepOf t n)) where
   same : (e g : ℕ) → g < n → stepOf F n e g ≡ stepOf t n e g
@@ -61,7 +48,7 @@ module _ (o : List ℕ) {n N : ℕ} {t F : List ℕ} (few : n ≤ 8) (long : len
       let small : j < 8 = omega arith in
       let low : i % 8 ≡ i = omega arith in
       rw (code-first hi small, code-second hi small, low)
-      (ring-agree i j same (turn-range (omega arith) hj) e (2 * order-of o i j) ∙ ring-walk (stepOf t n) i j (order-of o i j) e ∙ H .holds he (pair hi hj))
+      (ring-agree i j same (turn-low (omega arith) hj) e (2 * order-of o i j) ∙ ring-walk (stepOf t n) i j (order-of o i j) e ∙ H .holds he (pair hi hj))
 
   round : {e k : ℕ} → e < N → k < length o → ring (stepOf F n) (first k) (second k) e (2 * getD o k 0) ≡ e
   round {e} {k} he hk =

@@ -27,7 +27,7 @@ use Rattle.rings.specs.Rings.{first, second, Looped}
 use Rattle.coincide.specs.Sweeping.{Fair, Grows}
 use Rattle.closure.proofs.Discovering.{discovers}
 use Rattle.coincide.proofs.Alike.{word-alike, set-rest, set-splits}
-use Rattle.coincide.proofs.Kept.{stepped, discovered-kept, stepped-more, stepped-here, stepped-new}
+use Rattle.coincide.proofs.Lasting.{stepped, discovered-lasts, stepped-more, stepped-here, stepped-new}
 use Rattle.coincide.proofs.Beside.{Live, Beside}
 use Rattle.coincide.proofs.Linking.{Linked, linked}
 use Rattle.coincide.proofs.Placing.{Came}
@@ -101,14 +101,14 @@ module _ {n N : ℕ} {o : List ℕ} (F : List ℕ) (looped : Looped n N o (stepO
     pub came-new : Came n o room lt lw F x g c t w (c + 1) q′
     came-new =
         let s = after n o room c e γ t w len in
-        let K = discovered-kept L I e γ hx hg h len in
+        let K = discovered-lasts L I e γ hx hg h len in
         record {
           table = s .table;
           work = s .work;
           is = makes n o room c e γ t w len unknown h (omega (arith, lengths)) (omega (arith, lengths));
           beside = record {
             fair = fair;
-            closed = discovers L looped (B .closed) h (omega (arith, grows .more)) x g hx hg unknown (link .leads) dead len
+            closed = discovers L looped (B .closed) h (omega (arith, grows .more)) x g hx hg (link .leads) dead len
                 (discovered-empty L I e γ hx hg h len);
             known = λ y k hk d. K .more y k hk
                 (⊎-elim (λ p. rw (p .0, p .1) (stepped-new L I e γ hx hg h len))

@@ -1,20 +1,15 @@
 -- A step that is set both ways, between elements whose steps by that letter are not known, leaves a fair table fair and all that it knew.
 -- Assumes nothing.
 use Prim.Native.Nat.{ℕ, suc, _+_, _*_, _<_, _≤_}
-use mathlib.Core.Path.{_≡_, sym, ap, _∙_}
-use mathlib.Core.Logic.{_⊎_, inl, inr, ⊎-elim}
+use mathlib.Core.Path.{_≡_, sym, _∙_}
+use mathlib.Core.Logic.{⊎-elim}
 use mathlib.Core.List.{List}
-use native.Mathlib.Decide.{ℕ-discrete}
 use native.Mathlib.Omega.{arith}
-use lib.ListN.{getD, length}
+use lib.ListN.{getD}
 use Rattle.egg.specs.declared.GroupElementId.{GroupElementId}
 use Rattle.egg.specs.declared.GeneratorId.{GeneratorId}
-use Rattle.egg.specs.Table.{putAt, startOf, succAt, predAt}
-use Rattle.egg.proofs.Cells.{cell-inside, put-same, put-other, put-length}
-use Rattle.reading.specs.Build.{setStep}
+use Rattle.egg.specs.Table.{startOf}
 use Rattle.derived.specs.Invariant.{Known}
-use Rattle.derived.proofs.Marking.{cell-is, set-length}
-use Rattle.derived.proofs.Since.{set-other}
 use Rattle.rings.proofs.Joining.{Joined, joined, Side, here, there, elsewhere, side, step-other, back-other}
 use Rattle.loops.specs.Loops.{setBoth}
 use Rattle.coincide.specs.Sweeping.{Fair, Grows}

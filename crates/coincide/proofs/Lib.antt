@@ -3,7 +3,7 @@ pub mod Saying
 pub mod Sweeping
 pub mod Pairing
 pub mod Alike
-pub mod Kept
+pub mod Lasting
 pub mod Beside
 pub mod Finding
 pub mod Looping

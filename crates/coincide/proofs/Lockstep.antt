@@ -4,7 +4,6 @@ use Prim.Native.Nat.{ℕ, zero, suc, _+_, _<_, _≤_}
 use mathlib.Core.Path.{_≡_, refl, sym, ap, _∙_, subst}
 use mathlib.Core.Bool.{Bool, true, false}
 use mathlib.Core.List.{List}
-use native.Mathlib.Nat.{le-refl}
 use native.Mathlib.Omega.{arith}
 use borrow.Author.Tests.{ltb-true, ltb-false, eqb-false}
 use lib.ListN.{replicate, length-replicate}
@@ -90,7 +89,7 @@ module _ {n : ℕ} {o : List ℕ} {room lt lw : ℕ} (L : Limits n o room lt lw)
     slow = visits n o room (at .count) (record { 0 = at .element }) (record { 0 = at .generator }) t w
 
     whole : Fair n N lt F × Grows n (at .count) N q F × (N ≤ room)
-    whole = sweep-fair o (L .few) (L .limit) (L .table-room) (suc k) at hg (A .going .run .some) (A .going .run .fits) (A .beside .fair) p
+    whole = sweep-fair o (L .limit) (L .table-room) (suc k) at hg (A .going .run .fits) (A .beside .fair) p
 
     later : Visit → Outcome
     later v = after v (λ c t₁ w₁. runs k n o room (advanced n at c) t₁ w₁) (λ why t₁ w₁. outcome (ran.Refused why) t₁ w₁)
@@ -104,10 +103,10 @@ module _ {n : ℕ} {o : List ℕ} {room lt lw : ℕ} (L : Limits n o room lt lw)
         → Comes F looped parents L (whole .2) (A .beside) (whole .1) (A .going .run) hx hg a q₁
         → onSwept a q₁ (λ c q₂. sweepFrom k n o room (advanced n at c) q₂) (λ why q₂. sweep (ran.Refused why) q₂) ≡ sweep (ran.Done N) F → Same (later slow)
     go rest hx (counted.Count c) q₁ e come p =
-        let f = sweeps-fair o (L .few) (L .limit) (L .table-room) (A .going .run .some) (A .going .run .fits) (record { 0 = at .element }) (record { 0 = at .generator }) hx hg (A .beside .fair) e in
+        let f = sweeps-fair o (L .limit) (L .table-room) (A .going .run .fits) (record { 0 = at .element }) (record { 0 = at .generator }) hx hg (A .beside .fair) e in
         let y = next n at c hg in
         let fair : Fair n (advanced n at c .count) lt q₁ = rw (y .1) (f .0) in
-        let z = sweep-fair o (L .few) (L .limit) (L .table-room) k (advanced n at c) (y .0) (omega (arith, y .1, f .1 .more, A .going .run .some)) (omega (arith, y .1, f .2)) fair p in
+        let z = sweep-fair o (L .limit) (L .table-room) k (advanced n at c) (y .0) (omega (arith, y .1, f .2)) fair p in
         carry rest hx c q₁ (come (f .0) (rw (y .1) at (z .1))) (f .1) p
     go rest hx (counted.Refused r) q₁ e come p = absurd (subst (λ (s : Sweep). IsDone (s .answer)) (sym p) tt)
 
@@ -144,5 +143,5 @@ module _ {n : ℕ} {o : List ℕ} {room lt lw : ℕ} (L : Limits n o room lt lw)
     by false b p =
         let d : n ≡ 0 → ⊥ = eqb-false _ _ b in
         let hg : 0 < n = omega arith in
-        let f = sweep-fair o (L .few) (L .limit) (L .table-room) 18446744073709551615 first hg (le-refl 1) (L .some) (blank-fair n lt) p in
+        let f = sweep-fair o (L .limit) (L .table-room) 18446744073709551615 first hg (L .some) (blank-fair n lt) p in
         lock 18446744073709551615 first hg (first-abreast (f .1 .more)) p

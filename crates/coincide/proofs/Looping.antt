@@ -1,32 +1,24 @@
 -- Where the quick run closes a loop, the other has closed it already.
 -- Assumes nothing.
-use Prim.Native.Nat.{ℕ, suc, _+_, _*_, _-_, _%_, _<_, _≤_}
+use Prim.Native.Nat.{ℕ, suc, _+_, _*_, _-_, _<_, _≤_}
 use mathlib.Core.Path.{_≡_, sym, ap, _∙_}
-use mathlib.Core.Bool.{Bool, true, false}
 use mathlib.Core.List.{List}
 use native.Mathlib.Omega.{arith}
 use lib.ListN.{getD, length}
-use lib.Dec.{eqb}
 use Rattle.theory.specs.Presentation.{pairs-below}
 use Rattle.theory.specs.Words.{Parents}
-use Rattle.egg.specs.Table.{pick, startOf, stepOf, parentOf, lastOf}
+use Rattle.egg.specs.Table.{startOf, stepOf, parentOf, lastOf}
 use Rattle.derived.specs.Invariant.{Known}
 use Rattle.rings.specs.Rings.{turn, ring, first, second, Looped, Rooted}
 use Rattle.loops.specs.Loops.{orderFor}
 use Rattle.coincide.specs.Sweeping.{Grows}
-use Rattle.rings.proofs.Letters.{ring-below}
+use Rattle.rings.proofs.Letters.{turn-low, ring-below}
 use Rattle.rings.proofs.Walking.{walk-ring}
 use Rattle.rings.proofs.Rooting.{rooted}
 use Rattle.closure.proofs.Columns.{column-known}
 use Rattle.coincide.proofs.Pairing.{PairOf, pair-of}
 use Rattle.coincide.proofs.Beside.{Live, Beside, grown-step}
 use Rattle.coincide.proofs.Finding.{Found}
-
-turn-low : {n a b : ℕ} → a < n → b < n → (j : ℕ) → turn a b j < n
-turn-low {n} {a} {b} ha hb j = by (eqb (j % 2) 0) where
-  by : (c : Bool) → pick c a b < n
-  by true = ha
-  by false = hb
 
 module _ {n N : ℕ} {o : List ℕ} (F : List ℕ) (looped : Looped n N o (stepOf F n)) (parents : Parents n N (stepOf F n) (parentOf F n) (lastOf F n)) where
   -- The step back from an element leads to one below it.
@@ -64,7 +56,7 @@ module _ {n N : ℕ} {o : List ℕ} (F : List ℕ) (looped : Looped n N o (stepO
     loop-known =
         let y = root in
         y .tells
-        (column-known looped (G .more) few full (B .closed) (y .root) (pair .place) (y .column) (y .root-below) (pair .below)
+        (column-known few full (B .closed) (y .root) (pair .place) (y .column) (y .root-below) (pair .below)
         (least-live (pair .place) (omega (arith, y .root-below, G .more)) (y .first-up) (y .second-up)) (y .column-below) (y .others))
 
     -- Where it leads is an element.

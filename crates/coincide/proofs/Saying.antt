@@ -19,7 +19,7 @@ pub data Said (n count g : ℕ) (t : List ℕ) (v : ℕ) : Type 0 where
   leads : (r : ℕ) → v ≡ suc r → r < count → getD t (startOf n r + g) 0 ≡ 0 → Said n count g t v
 
 module _ {n count lt : ℕ} {t : List ℕ} (F : Fair n count lt t) where
-  pub walk-below : (k e a b : ℕ) → a < n → b < n → e < count → walkFrom k t n e a b .element .0 < count
+  walk-below : (k e a b : ℕ) → a < n → b < n → e < count → walkFrom k t n e a b .element .0 < count
   unfolding walkFrom
   walk-below zero e a b ha hb he = he
   walk-below (suc k) e a b ha hb he =

@@ -33,7 +33,7 @@ use Rattle.coincide.proofs.Saying.{Said, nothing, leads, loops-said}
 grows-same : {n count : ℕ} (t : List ℕ) → Grows n count count t t
 grows-same t = record { more = omega arith; known = λ e g h k. refl; rest = λ e k h l m. refl }
 
-pub grows-on : {n a b c : ℕ} {r s t : List ℕ} → Grows n a b r s → Grows n b c s t → Grows n a c r t
+grows-on : {n a b c : ℕ} {r s t : List ℕ} → Grows n a b r s → Grows n b c s t → Grows n a c r t
 grows-on {n} {r = r} {s} A B = record {
   more = omega (arith, A .more, B .more);
   known = λ e g h k. B .known e g h (rw (A .known e g h k) k) ∙ A .known e g h k;
@@ -163,14 +163,14 @@ module _ (n : ℕ) {room lt : ℕ} (o : List ℕ) (small : room ≤ 65535) (fits
         by true q rest = go rest (here .answer) (here .table) (sweeps-counts low (record { 0 = at .element }) (record { 0 = at .generator }) (ltb-true _ _ q) hg F)
         by false q rest = (F, grows-same t, low)
 
-pub sweeps-fair : {n room lt : ℕ} (o : List ℕ) → n ≤ 8 → room ≤ 65535 → room * (2 * n + 4) ≤ lt → {count : ℕ} {t : List ℕ} → 1 ≤ count → count ≤ room
+pub sweeps-fair : {n room lt : ℕ} (o : List ℕ) → room ≤ 65535 → room * (2 * n + 4) ≤ lt → {count : ℕ} {t : List ℕ} → count ≤ room
     → (e : GroupElementId) (g : GeneratorId) → e .0 < count → g .0 < n → Fair n count lt t → {c : ℕ} {t′ : List ℕ} → sweeps n o room count e g t ≡ swept (counted.Count c) t′
     → Fair n c lt t′ × Grows n count c t t′ × (c ≤ room)
-sweeps-fair {n} {room} {lt} o few small fits {count} {t} some low e g he hg F q =
+sweeps-fair {n} {room} {lt} o small fits {count} {t} low e g he hg F q =
     subst (λ (v : Swept). Counts n room lt count t (v .answer) (v .table)) q (sweeps-counts n o small fits low e g he hg F)
 
-pub sweep-fair : {n room lt : ℕ} (o : List ℕ) → n ≤ 8 → room ≤ 65535 → room * (2 * n + 4) ≤ lt → (k : ℕ) (at : Run) {t : List ℕ} → at .generator < n → 1 ≤ at .count
+pub sweep-fair : {n room lt : ℕ} (o : List ℕ) → room ≤ 65535 → room * (2 * n + 4) ≤ lt → (k : ℕ) (at : Run) {t : List ℕ} → at .generator < n
     → at .count ≤ room → Fair n (at .count) lt t → {N : ℕ} {F : List ℕ} → sweepFrom k n o room at t ≡ sweep (ran.Done N) F
     → Fair n N lt F × Grows n (at .count) N t F × (N ≤ room)
-sweep-fair {n} {room} {lt} o few small fits k at {t} hg some low G q =
+sweep-fair {n} {room} {lt} o small fits k at {t} hg low G q =
     subst (λ (x : Sweep). Ends n room lt (at .count) t (x .answer) (x .table)) q (sweep-ends n o small fits k at hg low G)

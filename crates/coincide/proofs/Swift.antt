@@ -16,6 +16,7 @@ use Rattle.relations.specs.Relations.{relationsRow}
 use Rattle.running.specs.declared.inner.Ran.the-variants as ran
 use Rattle.running.specs.Run.{first, enumerated}
 use Rattle.derived.specs.Recorded.{Limits}
+use Rattle.derived.proofs.Visiting.{doneOf}
 use Rattle.derived.proofs.Derivation.{work-long}
 use Rattle.answers.proofs.AnyWork.{any-work}
 use Rattle.loops.specs.Loops.{Sweep, sweep, sweepFrom, swiftly}
@@ -23,11 +24,8 @@ use Rattle.coincide.proofs.Sweeping.{sweep-fair}
 use Rattle.coincide.proofs.Lockstep.{blank-fair, coincides}
 use Rattle.coincide.proofs.Accepting.{accepted-looped}
 
-same-count : {N M : ℕ} → ran.Done N ≡ ran.Done M → N ≡ M
-same-count q = cc
-
 -- A quick run that is done has some elements, no more than there is room for, in a table as long as its stretch.
-pub swiftly-fits : {n : ℕ} {o : List ℕ} {room lt lw : ℕ} → Limits n o room lt lw → {N : ℕ} {F : List ℕ} → swiftly n o room lt ≡ sweep (ran.Done N) F
+swiftly-fits : {n : ℕ} {o : List ℕ} {room lt lw : ℕ} → Limits n o room lt lw → {N : ℕ} {F : List ℕ} → swiftly n o room lt ≡ sweep (ran.Done N) F
     → (1 ≤ N) × (N ≤ room) × (length F ≡ lt)
 unfolding swiftly
 swiftly-fits {n} {o} {room} {lt} L {N} {F} q = by (eqb n 0) refl q where
@@ -35,11 +33,11 @@ swiftly-fits {n} {o} {room} {lt} L {N} {F} q = by (eqb n 0) refl q where
       → pick b (sweep (ran.Done 1) (replicate lt 0)) (sweepFrom 18446744073709551615 n o room first (replicate lt 0)) ≡ sweep (ran.Done N) F
       → (1 ≤ N) × (N ≤ room) × (length F ≡ lt)
   by true e h =
-      let one : 1 ≡ N = same-count (ap (λ (s : Sweep). s .answer) h) in
+      let one : 1 ≡ N = ap (λ (s : Sweep). doneOf (s .answer)) h in
       (omega arith, omega (arith, L .some), sym (ap (λ (s : Sweep). length (s .table)) h) ∙ length-replicate lt 0)
   by false e h =
       let some = eqb-false n 0 e in
-      let (fair, grows, within) = sweep-fair o (L .few) (L .limit) (L .table-room) 18446744073709551615 first (omega arith) (omega arith) (L .some) (blank-fair n lt) h in
+      let (fair, grows, within) = sweep-fair o (L .limit) (L .table-room) 18446744073709551615 first (omega arith) (L .some) (blank-fair n lt) h in
       (grows .more, within, fair .size)
 
 pub swift : {n : ℕ} {o : List ℕ} {room lt lw : ℕ} → Limits n o room lt lw → {N : ℕ} (F : List ℕ) → swiftly n o room lt ≡ sweep (ran.Done N) F

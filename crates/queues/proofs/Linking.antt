@@ -23,7 +23,7 @@ module _ {n count pairs : ℕ} {w : List ℕ} (S : Sized n count pairs w) where
   pub waiter-below : {side : SideOfGap} {list p : ℕ} → Waiter n count pairs side w list p → p + 5 < count * workWidth n
   waiter-below {side} W = rw (W .stands) (copy-below S (W .element-below) (W .number-below) side 5 (omega arith))
 
-  pub waiter-side : {side s : SideOfGap} {list list′ p : ℕ} → Waiter n count pairs side w list p → Waiter n count pairs s w list′ p → side ≡ s
+  waiter-side : {side s : SideOfGap} {list list′ p : ℕ} → Waiter n count pairs side w list p → Waiter n count pairs s w list′ p → side ≡ s
   waiter-side {side} {s} W W′ =
       copy-apart n (W .number) (W′ .number) (S .paired) (W .number-below) (W′ .number-below) (W .element) (W′ .element) side s (sym (W .stands) ∙ W′ .stands) .2
 

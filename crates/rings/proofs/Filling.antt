@@ -181,7 +181,7 @@ module _ {n count N : ℕ} {o : List ℕ} {step : ℕ → ℕ → ℕ} {t : List
         to-below = b .to-below;
       })
 
-pub fills : {n count N : ℕ} {o : List ℕ} {step : ℕ → ℕ → ℕ} {t : List ℕ} → n ≤ 8 → length o ≡ pairs-below n → Looped n N o step → count ≤ N → Told n count step t
+pub fills : {n count N : ℕ} {o : List ℕ} {step : ℕ → ℕ → ℕ} {t : List ℕ} → n ≤ 8 → length o ≡ pairs-below n → Looped n N o step → Told n count step t
     → (u k l r : ℕ) → u < N → k < length o → l ≤ r → ring step (first k) (second k) u l < count → ring step (first k) (second k) u (suc r) < count
     → Fills n count t step u k l r (filled t n (rowAt step u k l r))
-fills few full L known T u k l r hu hk = filled-to few full L T u k hu hk l r
+fills few full L T u k l r hu hk = filled-to few full L T u k hu hk l r

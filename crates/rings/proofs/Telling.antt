@@ -1,21 +1,17 @@
 -- A step of the loops, set both ways, leaves a table that knows only such steps; so does a new element with the step that leads to it.
 -- Assumes nothing.
 use Prim.Native.Nat.{ℕ, suc, _+_, _*_, _<_, _≤_}
-use mathlib.Core.Path.{_≡_, refl, sym, ap, _∙_}
+use mathlib.Core.Path.{_≡_, sym, ap, _∙_}
 use mathlib.Core.List.{List}
-use native.Mathlib.Decide.{ℕ-discrete}
 use native.Mathlib.Omega.{arith}
 use lib.ListN.{getD, length}
 use Rattle.egg.specs.declared.GroupElementId.{GroupElementId}
 use Rattle.egg.specs.declared.GeneratorId.{GeneratorId}
-use Rattle.egg.specs.Table.{putAt, startOf, succAt, predAt}
-use Rattle.egg.proofs.Cells.{cell-inside, put-same, put-other, put-length}
+use Rattle.egg.specs.Table.{startOf}
 use Rattle.reading.specs.Build.{setStep, setWord}
 use Rattle.derived.specs.Invariant.{Known}
-use Rattle.derived.proofs.Cells.{put-keeps}
-use Rattle.derived.proofs.Marking.{row-is, cell-is, set-length}
 use Rattle.derived.proofs.Knowing.{set-keeps}
-use Rattle.derived.proofs.Since.{set-other, word-step}
+use Rattle.derived.proofs.Since.{word-step}
 use Rattle.derived.proofs.Growing.{word-length}
 use Rattle.rings.specs.Rings.{Looped, Told}
 use Rattle.rings.proofs.Joining.{Joined, joined, Side, here, there, elsewhere, side, step-other, back-other}

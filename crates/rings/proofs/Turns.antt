@@ -11,7 +11,7 @@ use lib.Dec.{eqb}
 use Rattle.egg.specs.Table.{pick}
 use Rattle.rings.specs.Rings.{turn, ring}
 
-pub turn-even : (a b j : ℕ) → j % 2 ≡ 0 → turn a b j ≡ a
+turn-even : (a b j : ℕ) → j % 2 ≡ 0 → turn a b j ≡ a
 turn-even a b j q = rw (eq-eqb (j % 2) 0 q)
 
 pub turn-odd : (a b j : ℕ) → (j % 2 ≡ 0 → ⊥) → turn a b j ≡ b

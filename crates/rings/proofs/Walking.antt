@@ -14,11 +14,11 @@ use Rattle.derived.specs.Invariant.{Known}
 use Rattle.rings.proofs.Turns.{turn-other}
 use Rattle.rings.specs.Rings.{turn, ring}
 
--- After the first letter the letters come in turn from the second.
+-- After the first letter the letters come in turn from the second, and so do the elements.
 turn-suc : (a b j : ℕ) → turn a b (suc j) ≡ turn b a j
 turn-suc a b j = turn-other a b (suc j) j refl
 
-ring-suc : (step : ℕ → ℕ → ℕ) (a b u j : ℕ) → ring step a b u (suc j) ≡ ring step b a (step u a) j
+pub ring-suc : (step : ℕ → ℕ → ℕ) (a b u j : ℕ) → ring step a b u (suc j) ≡ ring step b a (step u a) j
 ring-suc step a b u zero = refl
 ring-suc step a b u (suc j) = rw (← ring-suc step a b u j, ← turn-suc a b j)
 

@@ -23,12 +23,12 @@ use Rattle.derived.proofs.Running.{new-state}
 use Rattle.derived.proofs.Since.{word-step}
 use Rattle.coincide.proofs.Alike.{set-rest}
 
-pub record Kept (n : ℕ) (t₀ t : List ℕ) : Type 0 where
+pub record Lasting (n : ℕ) (t₀ t : List ℕ) : Type 0 where
   pub more : (x h : ℕ) → h < n → Known n t₀ x h → Known n t x h
   pub rest : (x k : ℕ) → 2 * n ≤ k → k < 2 * n + 4 → getD t (startOf n x + k) 0 ≡ getD t₀ (startOf n x + k) 0
 
-kept-both : {n count lt : ℕ} (t₀ : List ℕ) → Both n count lt (Kept n t₀)
-kept-both {n} t₀ = record {
+lasts-both : {n count lt : ℕ} (t₀ : List ℕ) → Both n count lt (Lasting n t₀)
+lasts-both {n} t₀ = record {
   both = λ t e g r long he hg hr K.
       let once = setStep t n e g r in
       record {
@@ -59,11 +59,11 @@ module _ {n : ℕ} {o : List ℕ} {room lt lw : ℕ} (L : Limits n o room lt lw)
   inside : (x : ℕ) → x < c + 1 → startOf n x + g .0 < lt
   inside x hx = let low : g .0 < 2 * n + 4 = omega arith in omega (arith, rows-fit, cell-inside n low hx)
 
-  pub discovered-kept : Kept n (stepped t n c e g len) (discovered n o e g new (setStep word n e g new) w .table)
+  pub discovered-lasts : Lasting n (stepped t n c e g len) (discovered n o e g new (setStep word n e g new) w .table)
   unfolding discovered
-  discovered-kept =
-      let now : Kept n (stepped t n c e g len) (stepped t n c e g len) = record { more = λ x h hh k. k; rest = λ x k low high. refl } in
-      settle-keeps (L .few) (omega (arith, L .limit)) (Kept n (stepped t n c e g len)) (kept-both {count = c + 1} (stepped t n c e g len)) _ (new-state L I e g he hg h len) now
+  discovered-lasts =
+      let now : Lasting n (stepped t n c e g len) (stepped t n c e g len) = record { more = λ x h hh k. k; rest = λ x k low high. refl } in
+      settle-keeps (L .few) (omega (arith, L .limit)) (Lasting n (stepped t n c e g len)) (lasts-both {count = c + 1} (stepped t n c e g len)) _ (new-state L I e g he hg h len) now
 
   -- What was known, the step and the step back are known then.
   pub stepped-more : (x k : ℕ) → k < n → Known n t x k → Known n (stepped t n c e g len) x k
