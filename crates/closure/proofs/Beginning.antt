@@ -1,4 +1,4 @@
--- Of the identity alone nothing is known, and its rows are open.
+-- The machine at the start of a run is `Closed`: there is only the identity, nothing is known, and its rows are open.
 -- Assumes nothing.
 use Prim.Native.Nat.{ℕ, _+_, _<_, _≤_}
 use mathlib.Core.Path.{_≡_, refl, sym, _∙_}

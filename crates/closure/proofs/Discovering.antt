@@ -1,4 +1,4 @@
--- A new element: its rows begin, and what follows from the step to it is found.
+-- `Closed` holds again after a new element has been made, its rows have begun, and all facts have been taken.
 -- Assumes nothing.
 use Prim.Native.Nat.{ℕ, _+_, _*_, _<_, _≤_}
 use mathlib.Core.Path.{_≡_, refl, sym, _∙_}

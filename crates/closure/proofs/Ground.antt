@@ -18,6 +18,7 @@ use Rattle.rings.specs.Rings.{turn, ring, first, second, Looped, rowAt}
 use Rattle.queues.specs.Queues.{placeOf, listOf, Sized, Small}
 use Rattle.rings.proofs.Letters.{gen-turn, turn-below}
 
+-- At most 8 generators, an order for each pair, steps in which the relations hold, and stretches with room for `count` of their elements.
 pub record Ground (n N : ℕ) (o : List ℕ) (step : ℕ → ℕ → ℕ) (count lt lw : ℕ) : Type 0 where
   pub few : n ≤ 8
   pub full : length o ≡ pairs-below n

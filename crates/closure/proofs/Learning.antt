@@ -1,4 +1,4 @@
--- A step that is learnt: what is known grows by facts of the stack only, and the waiting lists, the rows and the copies in hand stay.
+-- A step is learnt (`learns`): it becomes a fact on the stack if it was not known, and the waiting lists, the rows and the copies in hand stay.
 -- Assumes nothing.
 use Prim.Native.Nat.{ℕ, _+_, _*_, _<_}
 use mathlib.Core.Path.{_≡_, refl, _∙_}
@@ -29,6 +29,7 @@ use Rattle.queues.specs.Queues.{In, here, there, placeOf, Hand, Held, Queues, S
 use Rattle.queues.proofs.Taking.{pushes}
 use Rattle.closure.proofs.Ground.{Ground, sized}
 
+-- From the state s to s′: all that was known is known, and what is known anew is on the stack; lists, rows and copies in hand are as they were.
 pub record Learnt (n count pairs : ℕ) (held : Held) (facts : List ℕ) (s s′ : State) : Type 0 where
   pub facts′ : List ℕ
   pub stack : Stack n count (s′ .table) (s′ .work) (s′ .top) facts′

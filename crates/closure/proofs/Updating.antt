@@ -24,7 +24,7 @@ use Rattle.closure.proofs.Ground.{Ground, sized, letter-below}
 use Rattle.closure.proofs.Carrying.{rowed-more, open-more}
 use Rattle.closure.proofs.WakingAll.{sided, Rousing, rouse-all}
 
--- The machine with nothing in hand, whatever waits and whatever is on the stack.
+-- The machine between two facts: no copy is in hand, whatever waits and whatever is on the stack.
 pub record Idle (n : ℕ) (o : List ℕ) (step : ℕ → ℕ → ℕ) (Live : ℕ → ℕ → Type 0) (count lt lw : ℕ) (s : State) : Type 0 where
   pub held : Held
   pub facts : List ℕ

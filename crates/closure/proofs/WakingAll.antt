@@ -1,4 +1,4 @@
--- All copies of a list that has been taken are woken, one after the other.
+-- All copies of a list that has been taken are woken, one after the other, and the machine stays right.
 -- Assumes nothing.
 use Prim.Native.Nat.{ℕ, zero, suc, _+_, _-_, _<_}
 use mathlib.Core.Path.{_≡_, refl, sym, _∙_}
@@ -21,7 +21,7 @@ use Rattle.closure.proofs.Ground.{Ground, paired, left-right}
 use Rattle.closure.proofs.Waking.{Woke, wakes-woke}
 
 -- The other side.
-abbrev opposite : SideOfGap → SideOfGap
+abbrev pub opposite : SideOfGap → SideOfGap
 opposite Left = Right
 opposite Right = Left
 

@@ -1,4 +1,5 @@
--- What the enumeration's machine has closed: when no fact is left, a row that lacks one step has been given it.
+-- What the machine of 000 keeps true of its waiting rows, beside steps that are known beforehand (`step`, as in `rings`): no row is forgotten. So when no fact is
+-- left, a row of which all columns but one are known has given that one too (`column-known`). `t` and `w` are the table and the work.
 -- Assumes nothing.
 use Prim.Native.Nat.{ℕ, suc, _*_, _<_, _≤_}
 use mathlib.Core.Path.{_≡_}
@@ -14,7 +15,8 @@ use Rattle.derived.specs.Stack.{Stack}
 use Rattle.rings.specs.Rings.{turn, ring, first, second, Told, Column, rowAt}
 use Rattle.queues.specs.Queues.{In, placeOf, copyAt, Held, Queues}
 
--- A copy stands at columns of its loop, both ends at elements below the count, with every column outside of them known.
+-- The copy on a side of the row of u and the pair at place k: its ends are at columns of the row's loop, with elements below the count there, and every column
+-- outside of them is known.
 pub record Rowed (count : ℕ) (step : ℕ → ℕ → ℕ) (o t w : List ℕ) (n u k : ℕ) (side : SideOfGap) : Type 0 where
   pub left : ℕ
   pub right : ℕ
@@ -26,12 +28,13 @@ pub record Rowed (count : ℕ) (step : ℕ → ℕ → ℕ) (o t w : List ℕ) (
   pub before : (j : ℕ) → j < left → Column n t step u k j
   pub behind : (j : ℕ) → right < j → j < 2 * getD o k 0 → Column n t step u k j
 
--- The copy p waits for the step from e by g, which is not known or is a fact on the stack; or it is in hand.
+-- The copy p waits for the step from e by g, and will be woken: that step is not known yet, or it is a fact on the stack, still to be taken. Or p is in hand, taken
+-- from its list and to be woken next.
 pub data Awaits (n : ℕ) (t : List ℕ) (held : Held) (facts : List ℕ) (hand : SideOfGap → List ℕ) (side : SideOfGap) (p e g : ℕ) : Type 0 where
   listed : In p (held side e g) → (Known n t e g → In (placeOf n e g) facts) → Awaits n t held facts hand side p e g
   in-hand : In p (hand side) → Awaits n t held facts hand side p e g
 
--- The left copy's left end and the right copy's right end are apart, and both copies wait.
+-- The row has a gap: the left end of its left copy is before the right end of its right copy, and each of the two copies waits for the step at that end.
 pub record Open (n : ℕ) (step : ℕ → ℕ → ℕ) (t w : List ℕ) (held : Held) (facts : List ℕ) (hand : SideOfGap → List ℕ) (u k : ℕ) : Type 0 where
   pub l : ℕ
   pub r : ℕ
@@ -41,12 +44,14 @@ pub record Open (n : ℕ) (step : ℕ → ℕ → ℕ) (t w : List ℕ) (held : 
   pub left-waits : Awaits n t held facts hand Left (copyAt n u k Left) (ring step (first k) (second k) u l) (turn (first k) (second k) l)
   pub right-waits : Awaits n t held facts hand Right (copyAt n u k Right) (ring step (first k) (second k) u (suc r)) (turn (first k) (second k) r)
 
--- Every column of the row is known.
+-- Every column of the row of u and the pair at place k is known.
 abbrev pub Whole : (n : ℕ) (step : ℕ → ℕ → ℕ) (o t : List ℕ) (u k : ℕ) → Type 0
 Whole n step o t u k = (j : ℕ) → j < 2 * getD o k 0 → Column n t step u k j
 
--- The machine with so many elements, beside steps that are known beforehand: `held` says which copies wait where, `facts` what is on the stack, and `hand` which
--- copies are taken from their lists and still to be woken. `Live` are the rows of whose element neither generator of the pair is the step back.
+-- The machine at any moment, with `count` elements: `held` says which copies wait where, `facts` what is on the stack, and `hand` which copies have been taken from
+-- their lists and are still to be woken. Every live row is whole or open. Which rows are live the reader of this chooses; it cannot be all, since "a new element
+-- also gets its step back, which is no fact", and so never wakes the rows of that element that begin or end with it. `lt` and `lw` are the lengths of the stretches,
+-- and the work beyond its elements is blank.
 pub record Machine (n : ℕ) (o : List ℕ) (step : ℕ → ℕ → ℕ) (Live : ℕ → ℕ → Type 0) (count lt lw : ℕ) (held : Held) (facts : List ℕ) (hand : SideOfGap → List ℕ) (s : State) : Type 0 where
   pub told : Told n count step (s .table)
   pub stack : Stack n count (s .table) (s .work) (s .top) facts
@@ -57,11 +62,11 @@ pub record Machine (n : ℕ) (o : List ℕ) (step : ℕ → ℕ → ℕ) (Live :
   pub table-length : length (s .table) ≡ lt
   pub work-length : length (s .work) ≡ lw
 
--- Nothing is in hand.
+-- No copy is in hand.
 abbrev pub none : SideOfGap → List ℕ
 none s = []
 
--- Between two places: no fact is left.
+-- The machine between two places that are visited: no fact is left, and no copy is in hand.
 pub record Closed (n : ℕ) (o : List ℕ) (step : ℕ → ℕ → ℕ) (Live : ℕ → ℕ → Type 0) (count lt lw : ℕ) (t w : List ℕ) : Type 0 where
   pub held : Held
   pub machine : Machine n o step Live count lt lw held [] none (state t w 0)

@@ -1,4 +1,4 @@
--- What stores leave alike: the words of two tables, and what one table knows.
+-- A word that is written into two tables leaves alike what was alike; a step that is set leaves the words, and makes no other step known.
 -- Assumes nothing.
 use Prim.Native.Nat.{ℕ, _+_, _*_, _<_, _≤_}
 use mathlib.Core.Path.{_≡_}

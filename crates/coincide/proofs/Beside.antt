@@ -13,11 +13,12 @@ use Rattle.rings.specs.Rings.{first, second}
 use Rattle.closure.specs.Closure.{Closed}
 use Rattle.coincide.specs.Sweeping.{Fair, Grows}
 
--- Neither generator of the pair at place k is the step back from u.
+-- The rows that are live for `Machine`: those of the identity, and of an element whose last letter is neither generator of the pair at place k. By that letter it
+-- has its step back, "which is no fact".
 abbrev pub Live : ℕ → List ℕ → ℕ → ℕ → Type 0
 Live n F u k = 0 < u → (lastOf F n u ≡ first k → ⊥) × (lastOf F n u ≡ second k → ⊥)
 
--- All that the quick run knows the other knows, and the words are the same.
+-- Between two places: the quick run's table is fair, the other run is closed, it knows all that the quick run knows, and the words are the same.
 pub record Beside (n : ℕ) (o : List ℕ) (lt lw : ℕ) (F : List ℕ) (c : ℕ) (q t w : List ℕ) : Type 0 where
   pub fair : Fair n c lt q
   pub closed : Closed n o (stepOf F n) (Live n F) c lt lw t w

@@ -1,4 +1,4 @@
--- A step that is set both ways, between elements whose steps by that letter are not known, leaves a fair table fair and all that it knew.
+-- `Fair` stays true, and `Grows` holds, where a step is set both ways between elements whose steps by that letter were not known.
 -- Assumes nothing.
 use Prim.Native.Nat.{ℕ, suc, _+_, _*_, _<_, _≤_}
 use mathlib.Core.Path.{_≡_, sym, _∙_}

@@ -1,4 +1,4 @@
--- What the facts after a new element keep of the table: what is known, and all words.
+-- The facts that are taken after a new element leave all that is known in 000's table known, and its words as they are.
 -- Assumes nothing.
 use Prim.Native.Nat.{ℕ, _+_, _*_, _<_, _≤_}
 use mathlib.Core.Path.{_≡_, refl, _∙_}
@@ -23,6 +23,7 @@ use Rattle.derived.proofs.Running.{new-state}
 use Rattle.derived.proofs.Since.{word-step}
 use Rattle.coincide.proofs.Alike.{set-rest}
 
+-- From the table t₀ to t: all that was known is known, and the words are as they were.
 pub record Lasting (n : ℕ) (t₀ t : List ℕ) : Type 0 where
   pub more : (x h : ℕ) → h < n → Known n t₀ x h → Known n t x h
   pub rest : (x k : ℕ) → 2 * n ≤ k → k < 2 * n + 4 → getD t (startOf n x + k) 0 ≡ getD t₀ (startOf n x + k) 0

@@ -1,4 +1,4 @@
--- A step that the quick run sets is a step of the table that it will leave.
+-- A step that the quick run sets both ways is known at once, and leads in the table that the run will leave where it was set to lead.
 -- Assumes nothing.
 use Prim.Native.Nat.{ℕ, _+_, _*_, _<_, _≤_}
 use mathlib.Core.Path.{_≡_}
@@ -12,6 +12,7 @@ use Rattle.derived.specs.Invariant.{Known}
 use Rattle.coincide.specs.Sweeping.{Fair, Grows}
 use Rattle.rings.proofs.Joining.{set-succ}
 
+-- The step from x by g is known in q, and in F it leads to r.
 pub record Linked (n : ℕ) (q F : List ℕ) (x g r : ℕ) : Type 0 where
   pub here : Known n q x g
   pub leads : stepOf F n x g ≡ r

@@ -14,6 +14,7 @@ use Rattle.rows.specs.Walk.{walkOf, walkFrom}
 use Rattle.loops.specs.Loops.{orderFor, endBy, loopBy, loopFrom}
 use Rattle.coincide.specs.Sweeping.{Fair}
 
+-- The answer v of `loopFrom`: 0, or the number + 1 of such an element.
 pub data Said (n count g : ℕ) (t : List ℕ) (v : ℕ) : Type 0 where
   nothing : v ≡ 0 → Said n count g t v
   leads : (r : ℕ) → v ≡ suc r → r < count → getD t (startOf n r + g) 0 ≡ 0 → Said n count g t v

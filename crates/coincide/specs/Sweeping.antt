@@ -1,4 +1,4 @@
--- What the run by closed loops keeps true of its table.
+-- What the run by closed loops keeps true of its table, and how one table of that run goes over into a later one.
 -- Assumes nothing.
 use Prim.Native.Nat.{ℕ, suc, _+_, _*_, _<_, _≤_}
 use mathlib.Core.Path.{_≡_}
@@ -7,14 +7,15 @@ use lib.ListN.{getD, length}
 use Rattle.egg.specs.Table.{startOf}
 use Rattle.derived.specs.Invariant.{Known}
 
--- A step back stands as the step does, a known step leads to an element below the count and is known the other way, and rows from the count on are blank.
+-- A table of so many numbers with `count` elements: each row holds the same numbers for its steps back as for its steps, a known step leads to an element below
+-- the count whose step by the same letter leads back, and rows from the count on are blank.
 pub record Fair (n count lt : ℕ) (t : List ℕ) : Type 0 where
   pub back : (e g : ℕ) → g < n → getD t (startOf n e + (n + g)) 0 ≡ getD t (startOf n e + g) 0
   pub turned : (e g r : ℕ) → g < n → getD t (startOf n e + g) 0 ≡ suc r → (r < count) × (getD t (startOf n r + g) 0 ≡ suc e)
   pub blank : (e k : ℕ) → count ≤ e → k < 2 * n + 4 → getD t (startOf n e + k) 0 ≡ 0
   pub size : length t ≡ lt
 
--- The later table has every known step of the earlier one, and the same words.
+-- From t to the later table t′: it has no fewer elements, every step that was known is as it was, and so are the words of the elements that there were.
 pub record Grows (n count count′ : ℕ) (t t′ : List ℕ) : Type 0 where
   pub more : count ≤ count′
   pub known : (e g : ℕ) → g < n → Known n t e g → getD t′ (startOf n e + g) 0 ≡ getD t (startOf n e + g) 0

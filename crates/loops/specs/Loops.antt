@@ -1,6 +1,6 @@
--- The enumeration by closed loops, which is quicker than 000's and gives the same table wherever it gives one that passes the checks (`coincide`). At a place
--- whose step is not known, a pair relation through it of which all other steps are known says where the step leads; where there is none, it leads to a new
--- element. No row waits for anything.
+-- The enumeration by closed loops, which is quicker than 000's and gives the same table wherever it gives one that passes the checks (`coincide`). The places of
+-- the table are visited in the same order. At one whose step is not known, a pair relation through it of which all other steps are known, a closed loop, says
+-- where the step leads; where there is none, it leads to a new element. No row waits for anything, and no step is found before its place is visited.
 -- Assumes nothing.
 use Prim.Native.Nat.{ℕ, zero, suc, _+_, _*_, _-_, _/_}
 use mathlib.Core.List.{List}
@@ -20,7 +20,7 @@ use Rattle.running.specs.declared.inner.Ran.{Ran}
 use Rattle.running.specs.declared.inner.Ran.the-variants as ran
 use Rattle.running.specs.Run.{onAdds, advanced, first}
 
--- The order of the pair of two generators, from the list in the order (0,1),(0,2),(1,2),(0,3)..
+-- The order of the pair of two generators, from the list of "Pairs in the order (0,1),(0,2),(1,2),(0,3)..".
 unfoldable pub orderFor : List ℕ → ℕ → ℕ → ℕ
 orderFor o g h = pick (ltb g h) (getD o (h * (h - 1) / 2 + g) 0) (getD o (g * (g - 1) / 2 + h) 0)
 

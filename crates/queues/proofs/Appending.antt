@@ -1,4 +1,4 @@
--- A copy that is put at the end of its list: that list has one more, and every other is as it was.
+-- `Appended` holds after `waits`: the copy's list has it for its last, and every other list is as it was.
 -- Assumes nothing.
 use Prim.Native.Nat.{ℕ, suc, _+_, _*_, _-_, _<_, _≤_}
 use mathlib.Core.Path.{_≡_, refl, sym, ap, _∙_}

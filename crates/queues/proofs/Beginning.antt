@@ -1,4 +1,4 @@
--- The rows of a new element: each of its copies waits in the element's own list, and the lists of the others are as they were.
+-- `Begun` holds after `addedRows`: each copy of the new element waits in one of the element's own lists, and the lists of the others are as they were.
 -- Assumes nothing.
 use Prim.Native.Nat.{ℕ, zero, suc, _+_, _*_, _-_, _<_, _≤_}
 use mathlib.Core.Path.{_≡_, refl, sym, _∙_}

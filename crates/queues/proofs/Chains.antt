@@ -1,4 +1,4 @@
--- Lists of copies in the work: the first is taken off, and a list is as it was where its cells are.
+-- Lists in the work: the first copy is taken off, one is put at the end, and where the cells of a list are as they were, the list is.
 -- Assumes nothing.
 use Prim.Native.Nat.{ℕ, suc, _+_, _<_, _≤_}
 use mathlib.Core.Path.{_≡_, refl, _∙_}

@@ -1,4 +1,4 @@
--- What the stores of a copy that is put at the end of a list leave in each cell.
+-- `waits` store by store: what each cell of the work holds after a copy has been put at the end of a list.
 -- Assumes nothing.
 use Prim.Native.Nat.{ℕ, suc, _+_, _<_, _≤_}
 use mathlib.Core.Path.{_≡_, refl, sym, _∙_}
@@ -27,7 +27,7 @@ linked list tail (p ∷ ps) e =
     let d : tail ≡ 0 → ⊥ = omega arith in
     after q l (simp (ne-eqb _ _ d) (omega arith))
 
--- The cells that are stored do not meet.
+-- The cells in which it stores are apart.
 pub record Apart (list p link : ℕ) : Type 0 where
   pub copy-link : (d : ℕ) → d < 6 → p + d ≡ link → ⊥
   pub copy-tail : (d : ℕ) → d < 6 → p + d ≡ list + 1 → ⊥
@@ -35,7 +35,7 @@ pub record Apart (list p link : ℕ) : Type 0 where
   pub link-tail : link ≡ list + 1 → ⊥
   pub link-count : link ≡ list + 2 → ⊥
 
--- They stand in the work, and what is stored has 32 bits.
+-- They are inside the work, and what is stored has 32 bits.
 pub record Within (list p link v len : ℕ) : Type 0 where
   pub copy-within : p + 6 ≤ len
   pub link-within : link < len

@@ -1,4 +1,4 @@
--- A store in the stack's link of a place changes no list, and emptying a place takes its two lists.
+-- `Pushed` holds after a store in the cell of a place that links the stack, and `Taken` after a place has been emptied.
 -- Assumes nothing.
 use Prim.Native.Nat.{ℕ, suc, _+_, _*_, _-_, _<_, _≤_}
 use mathlib.Core.Path.{_≡_, refl, sym, _∙_}

@@ -1,11 +1,12 @@
--- The waiting lists in the work, as lists of copies: what is in which list, and what each store of the enumeration changes of that.
+-- The waiting lists of the enumeration, "one pool with links in the work buffer, keeping waiting order", as lists of addresses: which copies of rows wait in
+-- which list, and what each store of the machine changes of that. A row waits twice, so it has a left copy and a right copy; a copy is named by its address, the
+-- place in the work at which it is stored, and its link to the next copy is the cell five further on. A list is named by the address of its head, which its tail
+-- and its count follow. A link is an address + 1, or 0 for none.
 -- Assumes nothing.
-use Prim.Native.Nat.{ℕ, zero, suc, _+_, _*_, _-_, _<_, _≤_}
+use Prim.Native.Nat.{ℕ, suc, _+_, _*_, _-_, _<_, _≤_}
 use mathlib.Core.Path.{_≡_}
 use mathlib.Core.List.{List, [], _∷_}
 use lib.ListN.{getD, length}
-use Rattle.egg.specs.declared.GroupElementId.{GroupElementId}
-use Rattle.egg.specs.declared.GeneratorId.{GeneratorId}
 use Rattle.egg.specs.Pairs.{pairCode}
 use Rattle.rows.specs.declared.inner.RelationTableRow.{RelationTableRow}
 use Rattle.rows.specs.declared.inner.SideOfGap.{SideOfGap}
@@ -19,30 +20,32 @@ pub data In (p : ℕ) : List ℕ → Type 0 where
   here : {q : ℕ} {ps : List ℕ} → q ≡ p → In p (q ∷ ps)
   there : {q : ℕ} {ps : List ℕ} → In p ps → In p (q ∷ ps)
 
--- None of these stands twice.
+-- None of these is there twice.
 abbrev pub Once : List ℕ → Type 0
 Once [] = Unit {0}
 Once (p ∷ ps) = Absent p ps × Once ps
 
--- The place of an element and a generator, by their numbers, and its list on a side.
+-- The place of an element and a generator, by their numbers: there the step from e by g has its two lists, and its link of the stack of facts.
 abbrev pub placeOf : ℕ → ℕ → ℕ → ℕ
 placeOf n e g = placeAt n (record { 0 = e }) (record { 0 = g })
 
+-- The list of that place on a side.
 abbrev pub listOf : ℕ → SideOfGap → ℕ → ℕ → ℕ
 listOf n Left e g = placeOf n e g
 listOf n Right e g = placeOf n e g + 3
 
--- Where the copies of the row of the pair at place k that starts at u stand.
+-- The copy on a side of the row that element u has for the pair at place k.
 abbrev pub copyAt : ℕ → ℕ → ℕ → SideOfGap → ℕ
 copyAt n u k Left = rowsAt n (record { 0 = u }) + 12 * k
 copyAt n u k Right = rowsAt n (record { 0 = u }) + 12 * k + 6
 
--- From the link `at` on stand these copies, and no other: the last one's link is 0.
+-- The copies to which the links lead from the link `at` on are these, in this order; the link of the last one is 0.
 pub data Chain (w : List ℕ) : ℕ → List ℕ → Type 0 where
   end : {at : ℕ} → at ≡ 0 → Chain w at []
   next : {at p : ℕ} {ps : List ℕ} → at ≡ suc p → Chain w (getD w (p + 5) 0) ps → Chain w at (p ∷ ps)
 
--- p is the copy on that side of a row that has begun, and its row waits in that list.
+-- p is the copy on that side of a row of an element below the count, and the row that is stored there is one that waits in that list (`listAt`). So the row
+-- itself names its list, and no copy can be in two lists of a side.
 pub record Waiter (n count pairs : ℕ) (side : SideOfGap) (w : List ℕ) (list p : ℕ) : Type 0 where
   pub element : ℕ
   pub number : ℕ
@@ -51,48 +54,50 @@ pub record Waiter (n count pairs : ℕ) (side : SideOfGap) (w : List ℕ) (list 
   pub stands : p ≡ copyAt n element number side
   pub waits-in : listAt n (readRow w p) side ≡ list
 
--- The copies ps of a list, from the link `at` on, each once.
+-- The copies ps hang together from the link `at` on, each is one that waits in that list, and none is there twice. This holds of a list that has been taken from
+-- its place too.
 pub record Hand (n count pairs : ℕ) (side : SideOfGap) (w : List ℕ) (list at : ℕ) (ps : List ℕ) : Type 0 where
   pub chain : Chain w at ps
   pub mine : (p : ℕ) → In p ps → Waiter n count pairs side w list p
   pub once : Once ps
 
--- The link of the last of these, 0 if there is none.
+-- The link to the last of these, 0 if there is none.
 abbrev pub lastLink : List ℕ → ℕ
 lastLink [] = 0
 lastLink (p ∷ []) = suc p
 lastLink (p ∷ q ∷ ps) = lastLink (q ∷ ps)
 
--- A whole list, with its tail and its count.
+-- The list with that head has these copies: they hang together from its head on, its tail is the link to the last one, and its count is how many there are.
 pub record Queue (n count pairs : ℕ) (side : SideOfGap) (w : List ℕ) (list : ℕ) (ps : List ℕ) : Type 0 where
   pub hand : Hand n count pairs side w list (getD w list 0) ps
   pub tail : getD w (list + 1) 0 ≡ lastLink ps
   pub counted : getD w (list + 2) 0 ≡ length ps
 
--- Which copies wait in the list of a side, an element and a generator.
+-- Which copies wait in each list: that of a side, an element and a generator.
 abbrev pub Held : Type 0
 Held = SideOfGap → ℕ → ℕ → List ℕ
 
+-- Each list of an element below the count has the copies that `held` says.
 pub record Queues (n count pairs : ℕ) (w : List ℕ) (held : Held) : Type 0 where
   pub queue : (side : SideOfGap) (e g : ℕ) → e < count → g < n → Queue n count pairs side w (listOf n side e g) (held side e g)
 
--- The stretch has room for so many elements with so many pairs.
+-- The work has room for so many elements, with a row for each pair of the n generators.
 pub record Sized (n count pairs : ℕ) (w : List ℕ) : Type 0 where
   pub few : n ≤ 8
   pub limit : count ≤ 65535
   pub paired : 2 * pairs ≡ n * (n - 1)
   pub room : count * workWidth n ≤ length w
 
--- What every store below the count leaves: the length, and what is beyond.
+-- The work is as long as it was, and all that is beyond the stretch of the first `count` elements is as it was.
 pub record Beyond (n count : ℕ) (w w′ : List ℕ) : Type 0 where
   pub long : length w′ ≡ length w
   pub beyond : (i : ℕ) → count * workWidth n ≤ i → getD w′ i 0 ≡ getD w i 0
 
--- The rows of all copies are as they were.
+-- The row that is stored in each copy is as it was.
 pub record SameRows (n count pairs : ℕ) (w w′ : List ℕ) : Type 0 where
   pub same : (u k : ℕ) (side : SideOfGap) → u < count → k < pairs → readRow w′ (copyAt n u k side) ≡ readRow w (copyAt n u k side)
 
--- The numbers of a row have 32 bits.
+-- Each number of a row fits a cell of 32 bits.
 pub record Small (r : RelationTableRow) : Type 0 where
   pub pair-small : r .pair < 4294967296
   pub left-small : r .left < 4294967296
@@ -100,7 +105,8 @@ pub record Small (r : RelationTableRow) : Type 0 where
   pub from-small : r .from .0 < 4294967296
   pub to-small : r .to .0 < 4294967296
 
--- After `waits`: the copy p has the row r, and is the last of the list of e and g on its side.
+-- After `waits`, by which a copy that was in no list begins to wait: p holds the row r and is in the list of e and g on its side. Every copy that waited waits
+-- still; the other lists, the rows of the other copies, the cells that link the stack, and the lists in hand to which p does not belong are as they were.
 pub record Appended (n count pairs : ℕ) (w w′ : List ℕ) (held : Held) (side : SideOfGap) (e g p : ℕ) (r : RelationTableRow) : Type 0 where
   pub held′ : Held
   pub queues : Queues n count pairs w′ held′
@@ -114,7 +120,8 @@ pub record Appended (n count pairs : ℕ) (w w′ : List ℕ) (held : Held) (sid
   pub hands : (s : SideOfGap) (list at : ℕ) (ps : List ℕ) → Hand n count pairs s w list at ps → Absent p ps → (list ≡ listOf n side e g → ⊥)
       → Hand n count pairs s w′ list at ps
 
--- After `emptied`: both lists of the place of e and g are in hand, and the place has none.
+-- After `emptied`, by which a fact takes both lists from the place of e and g: the copies that waited there hang together as before, from the heads as they
+-- were; the place has none now. The other lists and all rows are as they were, and so are the cells that link the stack, but for the place's own.
 pub record Taken (n count pairs : ℕ) (w w′ : List ℕ) (held : Held) (e g : ℕ) : Type 0 where
   pub held′ : Held
   pub queues : Queues n count pairs w′ held′
@@ -126,14 +133,15 @@ pub record Taken (n count pairs : ℕ) (w w′ : List ℕ) (held : Held) (e g : 
   pub six : (i : ℕ) → Spot n i 6 → (i ≡ placeOf n e g + 6 → ⊥) → getD w′ i 0 ≡ getD w i 0
   pub beyond : Beyond n count w w′
 
--- After a store in the stack's link of a place: every list, in hand or not, is as it was.
+-- After a store in the cell of a place that links the stack of facts: every list and every row is as it was, and so is every list in hand.
 pub record Pushed (n count pairs : ℕ) (w w′ : List ℕ) (held : Held) : Type 0 where
   pub queues : Queues n count pairs w′ held
   pub rows : SameRows n count pairs w w′
   pub beyond : Beyond n count w w′
   pub hands : (s : SideOfGap) (list at : ℕ) (ps : List ℕ) → Hand n count pairs s w list at ps → Hand n count pairs s w′ list at ps
 
--- After `addedRows` for the element that has the count for its number: its rows wait in its own lists.
+-- After `addedRows`, by which a new element "starts a row per pair, waiting twice: on the left under (element, first generator), on the right under (element,
+-- second)". The element's number is the count as it was; the lists and rows of the elements before it are as they were.
 pub record Begun (n count pairs : ℕ) (o w w′ : List ℕ) (held : Held) : Type 0 where
   pub held′ : Held
   pub queues : Queues n (count + 1) pairs w′ held′

@@ -19,7 +19,7 @@ use Rattle.derived.specs.Invariant.{Known}
 use Rattle.rings.specs.Rings.{turn, ring, first, second, Looped, Told, Column, rowAt, Fills}
 use Rattle.rings.proofs.Letters.{letters-below, turn-below, gen-turn, ring-back}
 
--- What a row comes to when its right end goes back, and when its left end goes forward.
+-- What a row comes to when its right end goes back.
 record Back (n count : ℕ) (t : List ℕ) (step : ℕ → ℕ → ℕ) (u k l r : ℕ) (row : RelationTableRow) : Type 0 where
   right : ℕ
   is : row ≡ rowAt step u k l right
@@ -29,6 +29,7 @@ record Back (n count : ℕ) (t : List ℕ) (step : ℕ → ℕ → ℕ) (u k l r
   right-end : l < right → Known n t (ring step (first k) (second k) u (suc right)) (turn (first k) (second k) right) → ⊥
   to-below : ring step (first k) (second k) u (suc right) < count
 
+-- And when its left end goes forward.
 record Forth (n count : ℕ) (t : List ℕ) (step : ℕ → ℕ → ℕ) (u k l r : ℕ) (row : RelationTableRow) : Type 0 where
   left : ℕ
   is : row ≡ rowAt step u k left r
@@ -181,6 +182,7 @@ module _ {n count N : ℕ} {o : List ℕ} {step : ℕ → ℕ → ℕ} {t : List
         to-below = b .to-below;
       })
 
+-- `filled` of a row at columns of its loop.
 pub fills : {n count N : ℕ} {o : List ℕ} {step : ℕ → ℕ → ℕ} {t : List ℕ} → n ≤ 8 → length o ≡ pairs-below n → Looped n N o step → Told n count step t
     → (u k l r : ℕ) → u < N → k < length o → l ≤ r → ring step (first k) (second k) u l < count → ring step (first k) (second k) u (suc r) < count
     → Fills n count t step u k l r (filled t n (rowAt step u k l r))

@@ -1,4 +1,4 @@
--- The cells of a table in which a step has been set both ways.
+-- What each cell of a table holds after a step has been set both ways: the four cells of the step and of its step back, and all others as they were.
 -- Assumes nothing.
 use Prim.Native.Nat.{ℕ, suc, _+_, _*_, _<_, _≤_}
 use mathlib.Core.Path.{_≡_, ap, _∙_}
@@ -15,7 +15,7 @@ use Rattle.reading.specs.Build.{setStep}
 use Rattle.derived.proofs.Marking.{cell-is, set-length}
 use Rattle.derived.proofs.Since.{set-other}
 
--- The two cells of a step.
+-- The two cells in which one store of a step writes: the step, and the step back in the row to which it leads.
 module _ (n : ℕ) (t : List ℕ) (e : GroupElementId) (g : GeneratorId) (r : GroupElementId) (hg : g .0 < n) where
   pub set-succ : startOf n (e .0) + g .0 < length t → r .0 < 65535 → getD (setStep t n e g r) (startOf n (e .0) + g .0) 0 ≡ suc (r .0)
   unfolding setStep
@@ -84,7 +84,7 @@ module _ {n count : ℕ} (t : List ℕ) (e : GroupElementId) (g : GeneratorId) (
         set-other n once r g e hg (r .0) (n + g .0) (omega arith) (λ p q. omega arith) (λ p _. d p)
         ∙ set-pred n t e g r hg (within (r .0) (n + g .0) hr (omega arith)) (omega arith)
 
--- A place is one of the two, or another.
+-- The place of x and h is that of the step, that of its step back, or another.
 pub data Side (e g r x h : ℕ) : Type 0 where
   here : x ≡ e → h ≡ g → Side e g r x h
   there : x ≡ r → h ≡ g → Side e g r x h

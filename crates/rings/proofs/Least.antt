@@ -7,6 +7,7 @@ use native.Mathlib.Decide.{decLt}
 use native.Mathlib.Omega.{arith}
 use Rattle.theory.proofs.BoundedTests.{below-suc}
 
+-- The place of the least of the first so many values.
 pub record Least (f : ℕ → ℕ) (limit : ℕ) : Type 0 where
   pub place : ℕ
   pub inside : place < limit

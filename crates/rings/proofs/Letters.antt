@@ -1,4 +1,4 @@
--- The two letters of a pair are generators in order, and the elements to which they lead in turn are in the table.
+-- The two letters of a pair are generators, the lesser first, and the elements to which they lead in turn are below N.
 -- Assumes nothing.
 use Prim.Native.Nat.{ℕ, zero, suc, _*_, _-_, _%_, _<_, _≤_}
 use mathlib.Core.Path.{_≡_, refl, sym, ap, _∙_}
@@ -17,7 +17,7 @@ use Rattle.rows.specs.Rows.{genOf, rowOf, newRow}
 use Rattle.rings.specs.Rings.{turn, ring, first, second, Looped, rowAt}
 use Rattle.rings.proofs.Turns.{turn-in}
 
--- One test over the pairs of up to 8 generators.
+-- That the letters are in order is computed for all pairs of up to 8 generators.
 abbrev in-order : ℕ → ℕ → Bool
 in-order n k = ltb (first k) (second k) && ltb (second k) n
 

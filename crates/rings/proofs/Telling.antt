@@ -1,4 +1,4 @@
--- A step of the loops, set both ways, leaves a table that knows only such steps; so does a new element with the step that leads to it.
+-- `Told` stays true of a table in which a step is set both ways, and of one that gets a new element and the step to it.
 -- Assumes nothing.
 use Prim.Native.Nat.{ℕ, suc, _+_, _*_, _<_, _≤_}
 use mathlib.Core.Path.{_≡_, sym, ap, _∙_}

@@ -1,6 +1,6 @@
--- A walk that goes all its way along known steps goes round the loop.
+-- A walk in the table that goes all its way follows the loop, and all its steps are known.
 -- Assumes nothing.
-use Prim.Native.Nat.{ℕ, zero, suc, _+_, _-_, _%_, _<_}
+use Prim.Native.Nat.{ℕ, zero, suc, _+_, _-_, _<_}
 use mathlib.Core.Path.{_≡_, refl}
 use mathlib.Core.Bool.{Bool, true, false}
 use mathlib.Core.List.{List}
