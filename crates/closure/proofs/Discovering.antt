@@ -11,8 +11,8 @@ use Rattle.theory.proofs.BoundedTests.{below-suc}
 use Rattle.egg.specs.declared.GroupElementId.{GroupElementId}
 use Rattle.egg.specs.declared.GeneratorId.{GeneratorId}
 use Rattle.egg.specs.Pairs.{pairCode}
-use Rattle.egg.specs.Table.{putAt, succAt}
-use Rattle.egg.proofs.Cells.{cell-inside, put-same}
+use Rattle.egg.specs.Table.{putAt}
+use Rattle.egg.proofs.Cells.{put-same}
 use Rattle.reading.specs.Build.{setStep, setWord}
 use Rattle.rows.specs.declared.inner.SideOfGap.{SideOfGap}
 use Rattle.rows.specs.declared.inner.SideOfGap.the-variants.{Left, Right}
@@ -23,10 +23,6 @@ use Rattle.derived.specs.Recorded.{Limits}
 use Rattle.derived.specs.Invariant.{Known}
 use Rattle.derived.specs.Stack.{Stack, bottom, above}
 use Rattle.derived.proofs.Spots.{place-link}
-use Rattle.derived.proofs.Marking.{set-length}
-use Rattle.derived.proofs.Growing.{word-length}
-use Rattle.derived.proofs.Knowing.{set-more, set-known}
-use Rattle.derived.proofs.Since.{set-other, word-step}
 use Rattle.derived.proofs.Stacking.{place-within}
 use Rattle.rings.specs.Rings.{first, second, Looped}
 use Rattle.queues.specs.Queues.{In, here, placeOf, copyAt, Pushed, Begun}
@@ -34,6 +30,7 @@ use Rattle.closure.specs.Closure.{Rowed, Open, Whole, Machine, none, Clo
 use Rattle.queues.proofs.Beginning.{begins}
 use Rattle.queues.proofs.Taking.{pushes}
 use Rattle.rings.proofs.Telling.{told-new}
+use Rattle.rings.proofs.Stepping.{stepped, stepped-length, stepped-more, stepped-only, stepped-here}
 use Rattle.queues.proofs.Lists.{in-none}
 use Rattle.closure.proofs.Ground.{Ground, ground, sized, letter-below}
 use Rattle.closure.proofs.Carrying.{More, awaits-more, column-more, rowed-more, open-more}
@@ -41,50 +38,7 @@ use Rattle.closure.proofs.NewRows.{new-rowed, new-open}
 use Rattle.closure.proofs.Updating.{Idle}
 use Rattle.closure.proofs.Settling.{settle-idle, idle-closed}
 
--- The table with the word of a new element, the step to it, and the step back.
-abbrev worded : (n : ℕ) (t : List ℕ) (count e g len : ℕ) → List ℕ
-worded n t count e g len = setWord t n (record { 0 = count }) (record { 0 = e }) (record { 0 = g }) len
-
-abbrev forth : (n : ℕ) (t : List ℕ) (count e g len : ℕ) → List ℕ
-forth n t count e g len = setStep (worded n t count e g len) n (record { 0 = e }) (record { 0 = g }) (record { 0 = count })
-
-abbrev both : (n : ℕ) (t : List ℕ) (count e g len : ℕ) → List ℕ
-both n t count e g len = setStep (forth n t count e g len) n (record { 0 = count }) (record { 0 = g }) (record { 0 = e })
-
--- These two steps are known now, and no others that were not.
-module _ (n : ℕ) (t : List ℕ) (count e g len : ℕ) (he : e < count) (hg : g < n) where
-  abbrev new : GroupElementId
-  new = record { 0 = count }
-
-  abbrev by : GeneratorId
-  by = record { 0 = g }
-
-  abbrev old : GroupElementId
-  old = record { 0 = e }
-
-  both-length : length (both n t count e g len) ≡ length t
-  both-length = set-length (forth n t count e g len) n new by old ∙ set-length (worded n t count e g len) n old by new ∙ word-length t n count old by len
-
-  known-more : More n t (both n t count e g len)
-  known-more = record {
-    more = λ y h hh z.
-        set-more n (forth n t count e g len) new by old y h hh (set-more n (worded n t count e g len) old by new y h hh (rw (word-step n t count old by len y h (omega arith)) z));
-  }
-
-  known-only : (y h : ℕ) → h < n → (y ≡ e → h ≡ g → ⊥) → (y ≡ count → h ≡ g → ⊥) → Known n (both n t count e g len) y h → Known n t y h
-  known-only y h hh d d′ z =
-      rw (
-        set-other n (forth n t count e g len) new by old hg y h (omega arith) d′ (λ a b. omega arith),
-        set-other n (worded n t count e g len) old by new hg y h (omega arith) d (λ a b. omega arith),
-        word-step n t count old by len y h (omega arith),
-      ) at z
-
-  known-here : (count + 1) * (2 * n + 4) ≤ length t → count < 65535 → Known n (both n t count e g len) e g
-  known-here enough limit =
-      let low : g < 2 * n + 4 = omega arith in
-      let within : succAt n old by < length (worded n t count e g len) = rw (word-length t n count old by len) (omega (arith, cell-inside n low he)) in
-      set-more n (forth n t count e g len) new by old e g hg (set-known n (worded n t count e g len) old by new within (omega arith))
-
+-- The state after the rows of a new element have begun and its steps are set, with the step to it as the one fact.
 module _ {n N : ℕ} {o : List ℕ} {room : ℕ} {step : ℕ → ℕ → ℕ} {count lt lw : ℕ} (L : Limits n o room lt lw) (looped : Looped n N o step)
     {Live : ℕ → ℕ → Type 0} {t w : List ℕ} (C : Closed n o step Live count lt lw t w) (hr : count < room) (hN : count < N)
     (e g : ℕ) (he : e < count) (hg : g < n) (leads : step e g ≡ count)
@@ -101,8 +55,17 @@ module _ {n N : ℕ} {o : List ℕ} {room : ℕ} {step : ℕ → ℕ → ℕ} {c
   abbrev linked : List ℕ
   linked = putAt begun (belowAt (placeOf n e g)) 0
 
+  abbrev old : GroupElementId
+  old = record { 0 = e }
+
+  abbrev by : GeneratorId
+  by = record { 0 = g }
+
   abbrev table : List ℕ
-  table = both n t count e g len
+  table = stepped t n count old by len
+
+  known-more : More n t table
+  known-more = record { more = stepped-more t n count old by len }
 
   B : Begun n count (length o) o w begun (C .held)
   B = begins (sized G w (M .work-length)) (G .full) (G .orders) (M .queues) (M .blank)
@@ -116,11 +79,9 @@ module _ {n N : ℕ} {o : List ℕ} {room : ℕ} {step : ℕ → ℕ → ℕ} {c
   limit : count < 65535
   limit = omega (arith, L .limit)
 
-  begun-stack : Stack n (count + 1) table linked (link n (record { 0 = e }) (record { 0 = g })) (placeOf n e g ∷ [])
+  begun-stack : Stack n (count + 1) table linked (link n old by) (placeOf n e g ∷ [])
   unfolding placeAt
   begun-stack =
-      let old : GroupElementId = record { 0 = e } in
-      let by : GeneratorId = record { 0 = g } in
       let within = place-within (G .few) (G .limit) (G .table-room) (G .work-room) old by (omega arith) hg in
       above {fs = []} (place-link (G .few) old by (omega (arith, limit)) hg)
       (record {
@@ -129,7 +90,7 @@ module _ {n N : ℕ} {o : List ℕ} {room : ℕ} {step : ℕ → ℕ → ℕ} {c
         element-below = omega arith;
         generator-below = hg;
         stands = refl;
-        known = known-here n t count e g len he hg enough limit;
+        known = stepped-here t n count old by len he hg enough limit;
       }) tt
       (bottom (put-same begun (placeOf n e g + 6) 0 (rw (B .beyond .long ∙ M .work-length) within) (omega arith)))
 
@@ -143,13 +104,13 @@ module _ {n N : ℕ} {o : List ℕ} {room : ℕ} {step : ℕ → ℕ → ℕ} {c
   all-rowed : (u k : ℕ) (sd : SideOfGap) → u < count + 1 → k < length o → Rowed (count + 1) step o table linked n u k sd
   all-rowed u k sd hu hk =
       ⊎-elim (λ q. rw q (new-rowed count G k hk sd (new-row k sd hk)))
-      (λ h. rowed-more step (known-more n t count e g len he hg) u k (letter-below G k hk) (omega arith) (M .rows u k sd h hk) (old-row u k sd h hk)) (below-suc (omega arith))
+      (λ h. rowed-more step known-more u k (letter-below G k hk) (omega arith) (M .rows u k sd h hk) (old-row u k sd h hk)) (below-suc (omega arith))
 
   -- Of an old element only the step to the new one has become known.
   old-new : (x h : ℕ) → x < count → h < n → Known n table x h → Known n t x h ⊎ In (placeOf n x h) (placeOf n e g ∷ [])
   old-new x h hx hh z = go (ℕ-discrete x e) (ℕ-discrete h g) where
     elsewhere : (x ≡ e → h ≡ g → ⊥) → Known n t x h
-    elsewhere d = known-only n t count e g len he hg x h hh d (λ a b. omega arith) z
+    elsewhere d = stepped-only t n count old by len he hg x h hh d (λ a b. omega arith) z
 
     go : Dec (x ≡ e) → Dec (h ≡ g) → Known n t x h ⊎ In (placeOf n x h) (placeOf n e g ∷ [])
     go (yes a) (yes b) = let q : placeOf n e g ≡ placeOf n x h = rw (a, b) in inr (here q)
@@ -159,13 +120,13 @@ module _ {n N : ℕ} {o : List ℕ} {room : ℕ} {step : ℕ → ℕ → ℕ} {c
   -- Of the new one only the step back is known.
   new-unknown : (h : ℕ) → h < n → (g ≡ h → ⊥) → Known n table count h → ⊥
   new-unknown h hh d z =
-      let known = known-only n t count e g len he hg count h hh (λ a b. omega arith) (λ a b. d (sym b)) z in
+      let known = stepped-only t n count old by len he hg count h hh (λ a b. omega arith) (λ a b. d (sym b)) z in
       let low = M .told .from-below count h hh known in
       omega arith
 
   old-live : (u k : ℕ) → u < count → k < length o → Live u k → Whole n step o table u k ⊎ Open n step table linked (B .held′) (placeOf n e g ∷ []) none u k
   old-live u k hu hk v =
-      ⊎-elim (λ whole. inl (λ j hj. column-more step (known-more n t count e g len he hg) u k (letter-below G k hk) j (whole j hj)))
+      ⊎-elim (λ whole. inl (λ j hj. column-more step known-more u k (letter-below G k hk) j (whole j hj)))
       (λ O. inr (open-more (letter-below G k hk) (M .rows u k Left hu hk) (M .rows u k Right hu hk) (λ sd. old-row u k sd hu hk)
       (λ sd x h hx hh a. awaits-more a (λ i. rw (B .old sd x h hx) i) (old-new x h hx hh) (λ q i. absurd (in-none i)) (λ i. i)) O))
       (M .live u k hu hk v)
@@ -175,18 +136,18 @@ module _ {n N : ℕ} {o : List ℕ} {room : ℕ} {step : ℕ → ℕ → ℕ} {c
       new-open count G k hk (λ sd. new-row k sd hk) (B .left k hk) (B .right k hk) (new-unknown (first k) (letter-below G k hk 0) (fresh k hk v .0))
       (new-unknown (second k) (letter-below G k hk 1) (fresh k hk v .1))
 
-  begun-idle : Idle n o step Live (count + 1) lt lw (state table linked (link n (record { 0 = e }) (record { 0 = g })))
+  begun-idle : Idle n o step Live (count + 1) lt lw (state table linked (link n old by))
   begun-idle = record {
     held = B .held′;
     facts = placeOf n e g ∷ [];
     machine = record {
-      told = told-new (M .told) looped hN (record { 0 = e }) (record { 0 = g }) he hg leads len enough limit;
+      told = told-new (M .told) looped hN old by he hg leads len enough limit;
       stack = begun-stack;
       queues = P .queues;
       rows = all-rowed;
       live = λ u k hu hk v. ⊎-elim (λ q. rw q (inr (new-live k hk (rw q at v)))) (λ h. old-live u k h hk v) (below-suc (omega arith));
       blank = λ i h. P .beyond .beyond i h ∙ B .beyond .beyond i h ∙ M .blank i (omega arith);
-      table-length = both-length n t count e g len he hg ∙ M .table-length;
+      table-length = stepped-length t n count old by len ∙ M .table-length;
       work-length = P .beyond .long ∙ B .beyond .long ∙ M .work-length;
     };
   }

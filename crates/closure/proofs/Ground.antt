@@ -1,7 +1,7 @@
 -- The limits within which the machine runs, and what they give at each step.
 -- Assumes nothing.
 use Prim.Native.Nat.{ℕ, suc, _+_, _*_, _-_, _<_, _≤_}
-use mathlib.Core.Path.{_≡_, ap, subst}
+use mathlib.Core.Path.{_≡_, ap}
 use mathlib.Core.List.{List, []}
 use native.Mathlib.Nat.{mul-le-mul, le-refl}
 use native.Mathlib.Omega.{arith}
@@ -17,6 +17,7 @@ use Rattle.derived.proofs.Running.{pairs-full, work-room}
 use Rattle.rings.specs.Rings.{turn, ring, first, second, Looped, rowAt}
 use Rattle.queues.specs.Queues.{placeOf, listOf, Sized, Small}
 use Rattle.rings.proofs.Letters.{gen-turn, turn-below}
+use Rattle.queues.proofs.Places.{bit}
 
 -- At most 8 generators, an order for each pair, steps in which the relations hold, and stretches with room for `count` of their elements.
 pub record Ground (n N : ℕ) (o : List ℕ) (step : ℕ → ℕ → ℕ) (count lt lw : ℕ) : Type 0 where
@@ -76,9 +77,5 @@ list-at n step u k l r Left = ap (λ (x : ℕ). placeOf n (ring step (first k) (
 list-at n step u k l r Right = ap (λ (x : ℕ). placeOf n (ring step (first k) (second k) u (suc r)) x + 3) (gen-turn k r)
 
 -- The sides are two.
-abbrev isLeft : SideOfGap → Type 0
-isLeft Left = Unit {0}
-isLeft Right = ⊥
-
 pub left-right : Left ≡ Right → ⊥
-left-right q = subst isLeft q tt
+left-right q = omega (arith, ap bit q)

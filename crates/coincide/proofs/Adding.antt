@@ -25,9 +25,10 @@ use Rattle.derived.proofs.Settled.{discovered-empty}
 use Rattle.derived.proofs.Since.{word-step}
 use Rattle.rings.specs.Rings.{first, second, Looped}
 use Rattle.coincide.specs.Sweeping.{Fair, Grows}
+use Rattle.rings.proofs.Stepping.{stepped, stepped-more, stepped-here, stepped-new}
 use Rattle.closure.proofs.Discovering.{discovers}
 use Rattle.coincide.proofs.Alike.{word-alike, set-rest, set-splits}
-use Rattle.coincide.proofs.Lasting.{stepped, discovered-lasts, stepped-more, stepped-here, stepped-new}
+use Rattle.coincide.proofs.Lasting.{discovered-lasts}
 use Rattle.coincide.proofs.Beside.{Live, Beside}
 use Rattle.coincide.proofs.Linking.{Linked, linked}
 use Rattle.coincide.proofs.Placing.{Came}
@@ -65,6 +66,12 @@ module _ {n N : ℕ} {o : List ℕ} (F : List ℕ) (looped : Looped n N o (stepO
 
   long : length t ≡ length q
   long = I .table-length ∙ sym (B .fair .size)
+
+  small : c < 65535
+  small = omega (arith, L .limit)
+
+  rows-fit : (c + 1) * (2 * n + 4) ≤ length t
+  rows-fit = rw (I .table-length) (omega (arith, L .table-room, mul-le-mul-right (2 * n + 4) h))
 
   lengths : lengthOf q n x ≡ lengthOf t n x
   lengths =
@@ -111,9 +118,9 @@ module _ {n N : ℕ} {o : List ℕ} (F : List ℕ) (looped : Looped n N o (stepO
             closed = discovers L looped (B .closed) h (omega (arith, grows .more)) x g hx hg (link .leads) dead len
                 (discovered-empty L I e γ hx hg h len);
             known = λ y k hk d. K .more y k hk
-                (⊎-elim (λ p. rw (p .0, p .1) (stepped-new L I e γ hx hg h len))
-                (λ d. ⊎-elim (λ p. rw (p .0, p .1) (stepped-here L I e γ hx hg h len))
-                (λ d. stepped-more L I e γ hx hg h len y k hk (B .known y k hk (rw (word-step n q c e γ len y k (omega arith)) at d)))
+                (⊎-elim (λ p. rw (p .0, p .1) (stepped-new t n c e γ len hx hg rows-fit small))
+                (λ d. ⊎-elim (λ p. rw (p .0, p .1) (stepped-here t n c e γ len hx hg rows-fit small))
+                (λ d. stepped-more t n c e γ len y k hk (B .known y k hk (rw (word-step n q c e γ len y k (omega arith)) at d)))
                 (set-splits n (setWord q n new e γ len) e γ new hg y k hk d))
                 (set-splits n once new γ e hg y k hk d));
             rest = λ y k low high.

@@ -2,6 +2,7 @@ pub mod Turns
 pub mod Letters
 pub mod Walking
 pub mod Joining
+pub mod Stepping
 pub mod Telling
 pub mod Filling
 pub mod Least

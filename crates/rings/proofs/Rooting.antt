@@ -10,8 +10,8 @@ use lib.ListN.{getD, length}
 use Rattle.theory.specs.Presentation.{pairs-below}
 use Rattle.derived.specs.Invariant.{Known}
 use Rattle.rings.specs.Rings.{turn, ring, first, second, Looped, Told, Rooted}
-use Rattle.rings.proofs.Turns.{turn-odd, turn-same, turn-in, turn-begins, turn-shift, turn-back, ring-is}
-use Rattle.rings.proofs.Letters.{letters-below, ring-back}
+use Rattle.rings.proofs.Turns.{turn-odd, turn-same, turn-begins, turn-shift, turn-back, ring-is}
+use Rattle.rings.proofs.Letters.{letters-below, turn-low, ring-back}
 use Rattle.rings.proofs.Least.{least-of}
 use Rattle.rings.proofs.Reversing.{ring-reverse, ring-swapped, ring-again}
 
@@ -28,7 +28,7 @@ module _ {n count N : ℕ} {o t : List ℕ} {step : ℕ → ℕ → ℕ} (G : Lo
   forth-known p i (inr q) b = rw (q, ring-again G hh hg hx l even round i, turn-same h g (l + i) i (omega arith)) (given i b)
 
   back-known : (p i : ℕ) → (p ≡ i) ⊎ (p ≡ l + i) → suc i < l → Known n t (at (suc p)) (turn h g p)
-  back-known p i w b = T .both (at p) (turn h g p) (turn-in (λ c. c < n) hh hg p) (forth-known p i w b)
+  back-known p i w b = T .both (at p) (turn h g p) (turn-low hh hg p) (forth-known p i w b)
 
   -- The last step has the letter g.
   last-letter : (p : ℕ) → suc p ≡ l → turn h g p ≡ g
@@ -76,7 +76,7 @@ module _ {n count N : ℕ} {o t : List ℕ} {step : ℕ → ℕ → ℕ} (G : Lo
         Known n t (ring step (turn h g s) (turn h g (suc s)) (at s) j) (turn (turn h g s) (turn h g (suc s)) j) → Known n t x g
     forward-tells k =
         let p : s + (l - suc s) ≡ l - 1 = omega arith in
-        last-known (l - 1) (omega arith) (T .both (at (l - 1)) (turn h g (l - 1)) (turn-in (λ c. c < n) hh hg (l - 1))
+        last-known (l - 1) (omega arith) (T .both (at (l - 1)) (turn h g (l - 1)) (turn-low hh hg (l - 1))
         (rw (forward (l - suc s), turn-shift h g s (l - suc s), p) at k))
 
     -- With the letters swapped it goes back.

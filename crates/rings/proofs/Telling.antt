@@ -14,6 +14,7 @@ use Rattle.derived.proofs.Knowing.{set-keeps}
 use Rattle.derived.proofs.Since.{word-step}
 use Rattle.derived.proofs.Growing.{word-length}
 use Rattle.rings.specs.Rings.{Looped, Told}
+use Rattle.rings.proofs.Stepping.{stepped}
 use Rattle.rings.proofs.Joining.{Joined, joined, Side, here, there, elsewhere, side, step-other, back-other}
 
 module _ {n count N : ℕ} {o : List ℕ} {step : ℕ → ℕ → ℕ} {t : List ℕ} (T : Told n count step t) (L : Looped n N o step) (known : count ≤ N)
@@ -82,6 +83,6 @@ told-word {n} {count} {step} {t} T e g len = record {
 
 pub told-new : {n count N : ℕ} {o : List ℕ} {step : ℕ → ℕ → ℕ} {t : List ℕ} → Told n count step t → Looped n N o step → count < N → (e : GroupElementId) (g : GeneratorId)
     → e .0 < count → g .0 < n → step (e .0) (g .0) ≡ count → (len : ℕ) → (count + 1) * (2 * n + 4) ≤ length t → count < 65535
-    → let x : GroupElementId = record { 0 = count } in Told n (count + 1) step (setStep (setStep (setWord t n x e g len) n e g x) n x g e)
+    → Told n (count + 1) step (stepped t n count e g len)
 told-new {n} {count} {t = t} T L known e g he hg leads len fits limit =
     told-both (told-word T e g len) L (omega arith) e g (record { 0 = count }) (omega arith) hg (omega arith) leads (rw (word-length t n count e g len) fits) (omega arith)
