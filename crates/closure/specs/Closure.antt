@@ -49,9 +49,9 @@ abbrev pub Whole : (n : ℕ) (step : ℕ → ℕ → ℕ) (o t : List ℕ) (u k 
 Whole n step o t u k = (j : ℕ) → j < 2 * getD o k 0 → Column n t step u k j
 
 -- The machine at any moment, with `count` elements: `held` says which copies wait where, `facts` what is on the stack, and `hand` which copies have been taken from
--- their lists and are still to be woken. Every live row is whole or open. Which rows are live the reader of this chooses; it cannot be all, since "a new element
--- also gets its step back, which is no fact", and so never wakes the rows of that element that begin or end with it. `lt` and `lw` are the lengths of the stretches,
--- and the work beyond its elements is blank.
+-- their lists and are still to be woken. Every live row is whole or open. `Live` says which rows are live, and a theorem that uses this chooses it; it cannot be all
+-- rows: "A new element also gets its step back, which is no fact", so no fact wakes the rows of that element that begin or end with the step back. `lt` and `lw` are
+-- the lengths of the two stretches, and the work beyond the elements is blank.
 pub record Machine (n : ℕ) (o : List ℕ) (step : ℕ → ℕ → ℕ) (Live : ℕ → ℕ → Type 0) (count lt lw : ℕ) (held : Held) (facts : List ℕ) (hand : SideOfGap → List ℕ) (s : State) : Type 0 where
   pub told : Told n count step (s .table)
   pub stack : Stack n count (s .table) (s .work) (s .top) facts
