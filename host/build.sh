@@ -5,7 +5,7 @@ set -eu
 cd "$(dirname "$0")/.."
 . tools/machine.sh
 to_build
-archives="bridge_factor bridge_builder bridge_image bridge_group bridge_subgroup exports"
+archives=$(cat host/hypergroup/archives.txt)
 mkdir -p target/lanes target/staticlib
 # shellcheck disable=SC2086
 rt check $archives >target/lanes/log 2>&1 || { cat target/lanes/log >&2; exit 1; }

@@ -71,6 +71,11 @@ uint64_t hg_set(uint32_t *table, size_t table_len, size_t start, uint32_t room, 
 void hg_build(uint32_t *table, size_t table_len, size_t start, uint32_t room, uint8_t n,
     uint32_t count, uint32_t *work, size_t work_len, uint32_t *out, size_t out_len);
 
+/* libbridge_compose.a */
+
+uint64_t hg_compose(const uint32_t *table, size_t table_len, size_t start, uint32_t room, uint8_t n,
+    uint32_t count, uint32_t a, uint32_t b);
+
 /* libbridge_factor.a */
 
 uint64_t hg_count(const uint32_t *table, size_t table_len, size_t start, uint32_t room, uint8_t n,
@@ -82,24 +87,11 @@ uint64_t hg_step(const uint32_t *table, size_t table_len, size_t start, uint32_t
 uint64_t hg_generator(const uint32_t *table, size_t table_len, size_t start, uint32_t room,
     uint8_t n, uint32_t count, uint8_t g);
 
-uint64_t hg_compose(const uint32_t *table, size_t table_len, size_t start, uint32_t room, uint8_t n,
-    uint32_t count, uint32_t a, uint32_t b);
-
 uint64_t hg_conjugate(const uint32_t *table, size_t table_len, size_t start, uint32_t room,
     uint8_t n, uint32_t count, uint32_t a, uint32_t b);
 
 uint64_t hg_inverse(const uint32_t *table, size_t table_len, size_t start, uint32_t room, uint8_t n,
     uint32_t count, uint32_t a);
-
-uint64_t hg_length(const uint32_t *table, size_t table_len, size_t start, uint32_t room, uint8_t n,
-    uint32_t count, uint32_t e);
-
-uint64_t hg_word(const uint32_t *table, size_t table_len, size_t start, uint32_t room, uint8_t n,
-    uint32_t count, uint32_t e, uint8_t *out, size_t out_len);
-
-/* The word by the call that hands back the filled part of a buffer: its k-th letter, or, from its end on, 256 and its length. */
-uint64_t hg_part(const uint32_t *table, size_t table_len, size_t start, uint32_t room, uint8_t n,
-    uint32_t count, uint32_t e, size_t k);
 
 void hg_check(const uint32_t *table, size_t table_len, size_t start, uint32_t room, uint8_t n,
     uint32_t count, const uint32_t *orders, size_t orders_len, uint32_t *out, size_t out_len);
@@ -206,6 +198,18 @@ void hg_subgroup_left(const uint32_t *from, size_t from_len, const uint32_t *tab
 void hg_subgroup_right(const uint32_t *from, size_t from_len, const uint32_t *table,
     size_t table_len, const uint32_t *sub, size_t sub_len, const uint32_t *handles,
     size_t handles_len, uint8_t count, uint32_t *out, size_t out_len);
+
+/* libbridge_words.a */
+
+uint64_t hg_length(const uint32_t *table, size_t table_len, size_t start, uint32_t room, uint8_t n,
+    uint32_t count, uint32_t e);
+
+uint64_t hg_word(const uint32_t *table, size_t table_len, size_t start, uint32_t room, uint8_t n,
+    uint32_t count, uint32_t e, uint8_t *out, size_t out_len);
+
+/* The word by the call that hands back the filled part of a buffer: its k-th letter, or, from its end on, 256 and its length. */
+uint64_t hg_part(const uint32_t *table, size_t table_len, size_t start, uint32_t room, uint8_t n,
+    uint32_t count, uint32_t e, size_t k);
 
 /* libexports.a */
 

@@ -6,7 +6,7 @@ cd "$(dirname "$0")/.."
 machine=$(uname -m)
 kit=$(dirname "$(dirname "$(rt doc)")")
 here=$PWD/target/here
-archives="bridge_factor bridge_builder bridge_image bridge_group bridge_subgroup exports"
+archives=$(cat host/hypergroup/archives.txt)
 rm -rf "$here"
 mkdir -p "$here/kit/on/$machine/toolchain/bin" "$here/target"
 for f in "$kit"/*; do [ "${f##*/}" = on ] || ln -s "$f" "$here/kit"; done

@@ -4,7 +4,8 @@
 use std::path::{Path, PathBuf};
 use std::process::Command;
 
-const ARCHIVES: [&str; 6] = ["bridge_factor", "bridge_builder", "bridge_image", "bridge_group", "bridge_subgroup", "exports"];
+/// A name on each line: the crates whose archives are linked.
+const ARCHIVES: &str = include_str!("archives.txt");
 
 fn main() {
     let machine = std::env::var("CARGO_CFG_TARGET_ARCH").unwrap_or_default();
@@ -18,7 +19,7 @@ fn main() {
     let root = Path::new(env!("CARGO_MANIFEST_DIR")).join("../..");
     let made = given.is_none();
     let folder = given.unwrap_or_else(|| root.join("target/staticlib"));
-    for name in ARCHIVES {
+    for name in ARCHIVES.lines() {
         let archive = folder.join(format!("lib{name}.a"));
         if made && !archive.exists() {
             make(&root, name);

@@ -4,10 +4,11 @@ ghost use mathlib.Core.Path.{_≡_};
 ghost use mathlib.Core.Bool.{true};
 ghost use Prim.Native.Nat.{_+_, _*_, _-_, _<_, _≤_};
 ghost use lib.ListN.{length, getD};
-ghost use lib.Dec.{ltb, leb};
-ghost use Rattle.egg.specs.Table.{pick, startOf};
+ghost use lib.Dec.{ltb};
+ghost use Rattle.egg.specs.Table.{startOf};
 ghost use Rattle.walks.specs.Walks.{ahead, backAlong, composeIn, conjugateIn};
 ghost use Rattle.walks.specs.Letters.{LettersBack};
+ghost use Rattle.compose.specs.Letters.{OneLetter, Onward, Backward};
 use egg::GroupElementId;
 use egg::Reached;
 
@@ -26,73 +27,146 @@ fn recorded(s: &[u32], n: u8, count: u32, e: GroupElementId, k: usize) -> u32
     egg::inner::read(s, egg::inner::start(n, e) + 2 * (n as usize) + k)
 }
 
-// The step from the element that is stored as y, one more than its number, and the step back: the next row need not wait
-// for the 1 to be taken off. What the letter takes off is reckoned in 32 bits, so that the compiler leaves it whole, and
+// The step from the element that is stored as y, one more than its number, or for `shift` n the step back: the next row need not
+// wait for the 1 to be taken off. What the letter takes off is reckoned in 32 bits, so that the compiler leaves it whole, and
 // nothing but one sum waits for the row.
-fn stored_step(s: &[u32], n: u8, count: u32, y: u32, letter: u32) -> u32
-    requires { ⌜ (count * (2 * n + 4) ≤ length (now s)) × ((0 < y) × ((y ≤ count) × (letter < n))) ⌝ }
-    ensures { λ r. ⌜ r ≡ getD (now (s .entry)) (startOf n (y - 1) + letter) 0 ⌝ }
+fn stored_step(s: &[u32], n: u8, count: u32, shift: u8, y: u32, letter: u32) -> u32
+    requires { ⌜ (count * (2 * n + 4) ≤ length (now s)) × ((0 < y) × ((y ≤ count) × ((letter < n) × (shift ≤ n)))) ⌝ }
+    ensures { λ r. ⌜ r ≡ getD (now (s .entry)) (startOf n (y - 1) + shift + letter) 0 ⌝ }
 {
-    let behind = 2 * (n as u32) + 4 - letter;
+    let behind = 2 * (n as u32) + 4 - (shift as u32) - letter;
     egg::inner::read(
         s,
         egg::inner::start(n, GroupElementId(y)) - (behind as usize),
     )
 }
 
-fn stored_back(s: &[u32], n: u8, count: u32, y: u32, letter: u32) -> u32
-    requires { ⌜ (count * (2 * n + 4) ≤ length (now s)) × ((0 < y) × ((y ≤ count) × (letter < n))) ⌝ }
-    ensures { λ r. ⌜ r ≡ getD (now (s .entry)) (startOf n (y - 1) + n + letter) 0 ⌝ }
+fn fewer(own: u32, len: u32) -> bool
+    ensures { λ r. ⌜ r ≡ ltb own len ⌝ }
 {
-    let behind = (n as u32) + 4 - letter;
-    egg::inner::read(
-        s,
-        egg::inner::start(n, GroupElementId(y)) - (behind as usize),
-    )
+    own < len
 }
 
-// From an element along the letters in a cell, the first of them first, with one test for each number that is read; the
-// count where one is out of range.
+// One letter of a cell, the k-th from below, from the element that is stored as y: what is stored for the element that it
+// leads to, or y again where the word has not so many letters; 0 where a number is out of range. Both are worked out, so that no
+// branch has to guess how long the word is. (Above a short word an accepted table has letters 0.)
+fn one_letter(
+    s: &[u32],
+    n: u8,
+    count: u32,
+    shift: u8,
+    y: u32,
+    cell: u32,
+    k: u32,
+    letters: u32,
+) -> u32
+    requires { ⌜ (count * (2 * n + 4) ≤ length (now s)) × ((0 < y) × ((y ≤ count) × ((k < 5) × (shift ≤ n)))) ⌝ }
+    ensures { λ r. ⌜ (0 < r → OneLetter (now (s .entry)) n count shift cell letters k y r) ⌝ }
+{
+    let letter = (cell >> (3 * k)) % 8;
+    if (n as u32) <= letter {
+        return 0;
+    }
+    let x = stored_step(s, n, count, shift, y, letter);
+    if x == 0 {
+        return 0;
+    }
+    if count < x {
+        return 0;
+    }
+    egg::inner::chosen(fewer(k, letters), x, y)
+}
+
+// The first two of five letters. Few words have more than three, or nearly all: that is a branch.
+fn advance_two(s: &[u32], n: u8, count: u32, y: u32, cell: u32, letters: u32) -> u32
+    requires { ⌜ (count * (2 * n + 4) ≤ length (now s)) × ((0 < y) × (y ≤ count)) ⌝ }
+    ensures { λ r. ⌜ (0 < r → Onward (now (s .entry)) n count cell letters 5 y 3 r) ⌝ }
+{
+    if letters <= 3 {
+        return y;
+    }
+    let x = one_letter(s, n, count, 0, y, cell, 4, letters);
+    if x == 0 {
+        return 0;
+    }
+    one_letter(s, n, count, 0, x, cell, 3, letters)
+}
+
+// From an element along the letters in a cell, the first of them first; the count where a number is out of range.
 fn advance(s: &[u32], n: u8, count: u32, from: GroupElementId, cell: u32, letters: u32) -> u32
     requires { ⌜ (count * (2 * n + 4) ≤ length (now s)) × ((from .0 < count) × (letters ≤ 5)) ⌝ }
     ensures { λ r. ⌜ (r < count → ahead letters (now (s .entry)) n count (from .0) cell ≡ Reached.Element (record { 0 = r })) ⌝ }
 {
     let start = from.0;
-    let mut y = start + 1;
-    let mut left = letters;
-    while 0 < left {
-        left -= 1;
-        let letter = (cell >> (3 * left)) % 8;
-        if (n as u32) <= letter {
-            return count;
-        }
-        let x = stored_step(s, n, count, y, letter);
-        if x == 0 {
-            return count;
-        }
-        if count < x {
-            return count;
-        }
-        y = x;
+    let x = advance_two(s, n, count, start + 1, cell, letters);
+    if x == 0 {
+        return count;
     }
-    y - 1
+    let y = one_letter(s, n, count, 0, x, cell, 2, letters);
+    if y == 0 {
+        return count;
+    }
+    let z = one_letter(s, n, count, 0, y, cell, 1, letters);
+    if z == 0 {
+        return count;
+    }
+    let last = one_letter(s, n, count, 0, z, cell, 0, letters);
+    if last == 0 {
+        return count;
+    }
+    last - 1
 }
 
-// From the element that is stored as `from` back along the letters lowest in a cell: what is stored for the element that they
-// lead to, or 0 where a number is out of range.
-fn retrace_letters(s: &[u32], n: u8, count: u32, from: u32, cell: u32, letters: u32) -> u32
-    requires { ⌜ (count * (2 * n + 4) ≤ length (now s)) × ((0 < from) × (from ≤ count)) ⌝ }
+// The last two of five letters that are walked back.
+fn retrace_two(s: &[u32], n: u8, count: u32, y: u32, cell: u32, letters: u32) -> u32
+    requires { ⌜ (count * (2 * n + 4) ≤ length (now s)) × ((0 < y) × (y ≤ count)) ⌝ }
+    ensures { λ r. ⌜ (0 < r → Backward (now (s .entry)) n count cell letters 3 y 5 r) ⌝ }
+{
+    if letters <= 3 {
+        return y;
+    }
+    let x = one_letter(s, n, count, n, y, cell, 3, letters);
+    if x == 0 {
+        return 0;
+    }
+    one_letter(s, n, count, n, x, cell, 4, letters)
+}
+
+// From the element that is stored as `from` back along the last letters of a word, which are lowest in a cell: what is stored
+// for the element that they lead to, or 0 where a number is out of range.
+fn retrace_rest(s: &[u32], n: u8, count: u32, from: u32, cell: u32, letters: u32) -> u32
+    requires { ⌜ (count * (2 * n + 4) ≤ length (now s)) × ((0 < from) × ((from ≤ count) × (letters ≤ 5))) ⌝ }
     ensures { λ r. ⌜ (0 < r → (r ≤ count) × LettersBack (now (s .entry)) n count (from - 1) cell letters (Reached.Element (record { 0 = r - 1 }))) ⌝ }
+{
+    let x = one_letter(s, n, count, n, from, cell, 0, letters);
+    if x == 0 {
+        return 0;
+    }
+    let y = one_letter(s, n, count, n, x, cell, 1, letters);
+    if y == 0 {
+        return 0;
+    }
+    let z = one_letter(s, n, count, n, y, cell, 2, letters);
+    if z == 0 {
+        return 0;
+    }
+    retrace_two(s, n, count, z, cell, letters)
+}
+
+// The same along all five letters of a cell.
+fn retrace_five(s: &[u32], n: u8, count: u32, from: u32, cell: u32) -> u32
+    requires { ⌜ (count * (2 * n + 4) ≤ length (now s)) × ((0 < from) × (from ≤ count)) ⌝ }
+    ensures { λ r. ⌜ (0 < r → (r ≤ count) × LettersBack (now (s .entry)) n count (from - 1) cell 5 (Reached.Element (record { 0 = r - 1 }))) ⌝ }
 {
     let mut y = from;
     let mut c = cell;
-    let mut left = letters;
+    let mut left: u32 = 5;
     while 0 < left {
         let letter = c % 8;
         if (n as u32) <= letter {
             return 0;
         }
-        let x = stored_back(s, n, count, y, letter);
+        let x = stored_step(s, n, count, n, y, letter);
         if x == 0 {
             return 0;
         }
@@ -104,13 +178,6 @@ fn retrace_letters(s: &[u32], n: u8, count: u32, from: u32, cell: u32, letters: 
         left -= 1;
     }
     y
-}
-
-// As many letters as are left, and at most the five of a cell.
-fn in_cell(left: u32) -> u32
-    ensures { λ r. ⌜ r ≡ pick (leb left 5) left 5 ⌝ }
-{
-    if left <= 5 { left } else { 5 }
 }
 
 // From an element back along a word, five letters for each cell that is read; the count where a number is out of range.
@@ -129,27 +196,28 @@ fn retrace(
     let mut y = start + 1;
     let mut at = e.0;
     let mut left = letters;
-    while 0 < left {
+    while 5 < left {
         if count <= at {
             return count;
         }
         let c = recorded(s, n, count, GroupElementId(at), 1);
-        let some = in_cell(left);
-        let x = retrace_letters(s, n, count, y, c, some);
+        let x = retrace_five(s, n, count, y, c);
         if x == 0 {
             return count;
         }
         y = x;
         at = c / 32768;
-        left -= some;
+        left -= 5;
     }
-    y - 1
-}
-
-fn shorter(own: u32, len: u32) -> bool
-    ensures { λ r. ⌜ r ≡ ltb own len ⌝ }
-{
-    own < len
+    if count <= at {
+        return count;
+    }
+    let c = recorded(s, n, count, GroupElementId(at), 1);
+    let x = retrace_rest(s, n, count, y, c, left);
+    if x == 0 {
+        return count;
+    }
+    x - 1
 }
 
 // The product of two elements by the numbers in their rows, where each is in range and the second's inverse has no longer word
@@ -187,7 +255,7 @@ fn product_number(s: &[u32], n: u8, count: u32, a: GroupElementId, b: GroupEleme
     if len < other {
         return count;
     }
-    let inverted = shorter(own, len);
+    let inverted = fewer(own, len);
     let letters = egg::inner::chosen(inverted, own, other);
     let from = egg::inner::chosen(inverted, i, first);
     let word = egg::inner::chosen(inverted, first, i);

@@ -1,74 +1,69 @@
--- The letters before those that are left lead to what is stored; a number out of range is answered by the count, of which nothing is said.
 use native.Mathlib.Omega.{arith}
+use Rattle.compose.proofs.Numbers.{onward-letter, onward-on, onward-whole}
 use borrow.Author.Needs.{needs}
-use Rattle.compose.proofs.Numbers.{Advancing, advancing, advances, advanced}
 use Rattle.compose.proofs.inner.advance.Statement.{statement}
 use Rattle.compose.proofs.inner.advance.Tie as tie
 use Rattle.compose.proofs.inner.advance.Reads as reads
 use Rattle.compose.proofs.inner.advance.Lts as lts
-use Rattle.compose.proofs.inner.stored_step.Reads as stored-step-reads
+use Rattle.compose.proofs.inner.advance_two.Reads as advance-two-reads
+use Rattle.compose.proofs.inner.one_letter.Reads as one-letter-reads
 
-abbrev Inv-loop : tie.InvT-loop
-Inv-loop s n count cell letters start y₀ left₀ y left = Advancing s n count start cell letters left y
+-- src/inner.rt:101:38
+add-advance-two : tie.Need-add-advance-two
+add-advance-two c = search needs
 
-abbrev μ-loop : tie.MeasureT-loop
-μ-loop s n count cell letters start y₀ left₀ y left = left
+-- src/inner.rt:101:9
+advance-two-requires : tie.Need-advance-two-requires
+advance-two-requires c κs = search needs
 
-add-y : tie.Need-add-y Inv-loop μ-loop
-add-y c = omega (arith, (c .before .pre .1 .0), (c .before .fits .count .fits))
-
-loop-holds : tie.Need-loop-holds Inv-loop μ-loop
-loop-holds c = advancing (c .before .args .s .now) (c .before .args .n) (c .before .args .count) (c .before .args .from .0) (c .before .args .cell) (c .before .args .letters) (c .before .pre .1 .0)
-
-sub-left : tie.Need-sub-left Inv-loop μ-loop
-sub-left c = search needs
-
-mul-letter : tie.Need-mul-letter Inv-loop μ-loop
-mul-letter c = omega (arith, (c .before .loop .inv .few), (c .before .before .before .pre .1 .1))
-
-shr-letter : tie.Need-shr-letter Inv-loop μ-loop
-shr-letter c = omega (arith, (c .before .loop .inv .few), (c .before .before .before .pre .1 .1))
-
-returns : tie.Need-returns Inv-loop μ-loop
+-- src/inner.rt:103:9
+returns : tie.Need-returns
 returns c = λ h. absurd (omega arith)
 
-stored-step-requires : tie.Need-stored-step-requires Inv-loop μ-loop
-stored-step-requires c κs = ((c .before .before .before .before .pre .0), ((c .before .before .loop .inv .known), ((c .before .before .loop .inv .small), (c .if1 .left))))
+-- src/inner.rt:105:9
+one-letter-requires : tie.Need-one-letter-requires
+one-letter-requires c κs = ((c .before .before .before .pre .0), (omega (arith, (c .if1 .left)), (((c .before .advance-two .ensures)) (omega (arith, (c .if1 .left))) .small, (omega arith, omega arith))))
 
-returns-2 : tie.Need-returns-2 Inv-loop μ-loop
+-- src/inner.rt:107:9
+returns-2 : tie.Need-returns-2
 returns-2 c = λ h. absurd (omega arith)
 
-returns-3 : tie.Need-returns-3 Inv-loop μ-loop
+-- src/inner.rt:109:9
+one-letter-requires-2 : tie.Need-one-letter-requires-2
+one-letter-requires-2 c κs = ((c .before .before .before .before .before .pre .0), (omega (arith, (c .if2 .left)), (((c .before .one-letter .ensures)) (omega (arith, (c .if2 .left))) .small, (omega arith, omega arith))))
+
+-- src/inner.rt:111:9
+returns-3 : tie.Need-returns-3
 returns-3 c = λ h. absurd (omega arith)
 
-loop-less : tie.Need-loop-less Inv-loop μ-loop
-loop-less c = search needs
+-- src/inner.rt:113:9
+one-letter-requires-3 : tie.Need-one-letter-requires-3
+one-letter-requires-3 c κs = ((c .before .before .before .before .before .before .before .pre .0), (omega (arith, (c .if3 .left)), (((c .before .one-letter2 .ensures)) (omega (arith, (c .if3 .left))) .small, (omega arith, omega arith))))
 
-loop-again : tie.Need-loop-again Inv-loop μ-loop
-loop-again c = advances (c .before .before .before .before .before .loop .inv) (c .before .before .before .before .loop-test .taken) (c .before .before .before .if1 .left) (c .before .before .stored-step .ensures) (c .before .if2 .left) (c .if3 .left)
+-- src/inner.rt:115:9
+returns-4 : tie.Need-returns-4
+returns-4 c = λ h. absurd (omega arith)
 
-sub-result : tie.Need-sub-result Inv-loop μ-loop
-sub-result c = omega (arith, (c .before .loop .inv .known))
+-- src/inner.rt:117:5
+sub-result : tie.Need-sub-result
+sub-result c = search needs
 
-returns-4 : tie.Need-returns-4 Inv-loop μ-loop
-returns-4 c = λ h. advanced (c .before .loop .inv) (c .loop-test .left)
+-- src/inner.rt:96:1
+returns-5 : tie.Need-returns-5
+returns-5 c = λ h. let i = ((c .before .before .before .before .before .before .before .advance-two .ensures)) (omega (arith, (c .before .before .before .before .before .before .if1 .left))) in let j = ((c .before .before .before .before .before .one-letter .ensures)) (omega (arith, (c .before .before .before .before .if2 .left))) in let k = ((c .before .before .before .one-letter2 .ensures)) (omega (arith, (c .before .before .if3 .left))) in onward-whole ((c .before .before .before .before .before .before .before .before .before .args .from .0)) ((c .before .before .before .before .before .before .before .before .before .pre .1 .1)) (onward-on i (onward-on (onward-letter (i .small) (omega (arith, (c .before .before .before .before .if2 .left))) j) (onward-on (onward-letter (j .small) (omega (arith, (c .before .before .if3 .left))) k) (onward-letter (k .small) (omega (arith, (c .if4 .left))) (((c .before .one-letter3 .ensures)) (omega (arith, (c .if4 .left))))))))
 
 pub advance-spec : {M : Type 1} → statement M
 advance-spec =
     tie.close
     (tie.spec
-    Inv-loop
-    μ-loop
-    add-y
-    loop-holds
-    sub-left
-    mul-letter
-    shr-letter
+    add-advance-two
+    advance-two-requires
     returns
-    stored-step-requires
+    one-letter-requires
     returns-2
+    one-letter-requires-2
     returns-3
-    loop-less
-    loop-again
+    one-letter-requires-3
+    returns-4
     sub-result
-    returns-4)
+    returns-5)

@@ -14,7 +14,7 @@ use Rattle.compose.proofs.inner.advance.Reads as advance-reads
 use Rattle.compose.proofs.inner.recorded.Reads as recorded-reads
 use Rattle.compose.proofs.inner.retrace.Reads as retrace-reads
 use Rattle.compose.proofs.inner.rows_within.Reads as rows-within-reads
-use Rattle.compose.proofs.inner.shorter.Reads as shorter-reads
+use Rattle.compose.proofs.inner.fewer.Reads as fewer-reads
 use Rattle.egg.proofs.inner.chosen.Reads as chosen-reads
 
 rows-within-requires : tie.Need-rows-within-requires
@@ -59,8 +59,8 @@ recorded-requires-5 c κs = ((c .before .before .before .before .before .before 
 returns-7 : tie.Need-returns-7
 returns-7 c = λ h. absurd (omega arith)
 
-shorter-requires : tie.Need-shorter-requires
-shorter-requires c κs = search needs
+fewer-requires : tie.Need-fewer-requires
+fewer-requires c κs = search needs
 
 chosen-requires : tie.Need-chosen-requires
 chosen-requires c κs = search needs
@@ -72,7 +72,7 @@ chosen-requires-3 : tie.Need-chosen-requires-3
 chosen-requires-3 c κs = search needs
 
 retrace-requires : tie.Need-retrace-requires
-retrace-requires c κs = ((c .before .before .before .before .before .before .before .before .before .before .before .before .before .before .before .rows-within .ensures) (not-false _ (c .before .before .before .before .before .before .before .before .before .before .before .before .before .before .if1 .left)), chosen-inside (c .before .before .before .shorter .result) (c .before .chosen2 .ensures) (c .before .before .before .before .before .before .before .if6 .left) (c .before .before .before .before .before .before .before .before .before .before .before .before .before .if2 .left))
+retrace-requires c κs = ((c .before .before .before .before .before .before .before .before .before .before .before .before .before .before .before .rows-within .ensures) (not-false _ (c .before .before .before .before .before .before .before .before .before .before .before .before .before .before .if1 .left)), chosen-inside (c .before .before .before .fewer .result) (c .before .chosen2 .ensures) (c .before .before .before .before .before .before .before .if6 .left) (c .before .before .before .before .before .before .before .before .before .before .before .before .before .if2 .left))
 
 returns-8 : tie.Need-returns-8
 returns-8 c = λ h. absurd (omega arith)
@@ -87,7 +87,7 @@ chosen-requires-4 : tie.Need-chosen-requires-4
 chosen-requires-4 c κs = search needs
 
 returns-10 : tie.Need-returns-10
-returns-10 c = λ h. product-reached (c .before .before .before .before .before .before .before .before .before .before .before .before .before .before .before .before .before .before .before .before .before .before .args .s .now) (c .before .before .before .before .before .before .before .before .before .before .before .before .before .before .before .before .before .before .before .before .before .before .args .n) (c .before .before .before .before .before .before .before .before .before .before .before .before .before .before .before .before .before .before .before .before .before .before .args .count) (c .before .before .before .before .before .before .before .before .before .before .before .before .before .before .before .before .before .before .before .before .before .before .args .a .0) (c .before .before .before .before .before .before .before .before .before .before .before .before .before .before .before .before .before .before .before .before .before .before .args .b .0) (c .before .before .before .before .before .before .before .before .before .before .before .before .before .before .before .before .recorded .ensures) (c .before .before .before .before .before .before .before .before .before .before .before .before .before .before .before .if4 .left) (c .before .before .before .before .before .before .before .before .before .before .before .before .before .before .if5 .left) (c .before .before .before .before .before .before .before .before .before .before .before .before .before .recorded3 .ensures) (c .before .before .before .before .before .before .before .before .before .before .before .before .if6 .left) (c .before .before .before .before .before .before .before .before .before .before .before .recorded4 .ensures) (c .before .before .before .before .before .before .before .before .before .before .recorded5 .ensures) (c .before .before .before .before .before .before .before .before .before .if7 .left) (c .before .before .before .before .before .before .before .before .shorter .ensures) (c .before .before .before .before .before .before .before .chosen .ensures) (c .before .before .before .before .before .before .chosen2 .ensures) (c .before .before .before .before .before .chosen3 .ensures) ((c .before .before .before .before .retrace .ensures) (c .before .before .before .if8 .left)) (c .before .before .recorded6 .ensures) (c .chosen4 .ensures) h
+returns-10 c = λ h. product-reached (c .before .before .before .before .before .before .before .before .before .before .before .before .before .before .before .before .before .before .before .before .before .before .args .s .now) (c .before .before .before .before .before .before .before .before .before .before .before .before .before .before .before .before .before .before .before .before .before .before .args .n) (c .before .before .before .before .before .before .before .before .before .before .before .before .before .before .before .before .before .before .before .before .before .before .args .count) (c .before .before .before .before .before .before .before .before .before .before .before .before .before .before .before .before .before .before .before .before .before .before .args .a .0) (c .before .before .before .before .before .before .before .before .before .before .before .before .before .before .before .before .before .before .before .before .before .before .args .b .0) (c .before .before .before .before .before .before .before .before .before .before .before .before .before .before .before .before .recorded .ensures) (c .before .before .before .before .before .before .before .before .before .before .before .before .before .before .before .if4 .left) (c .before .before .before .before .before .before .before .before .before .before .before .before .before .before .if5 .left) (c .before .before .before .before .before .before .before .before .before .before .before .before .before .recorded3 .ensures) (c .before .before .before .before .before .before .before .before .before .before .before .before .if6 .left) (c .before .before .before .before .before .before .before .before .before .before .before .recorded4 .ensures) (c .before .before .before .before .before .before .before .before .before .before .recorded5 .ensures) (c .before .before .before .before .before .before .before .before .before .if7 .left) (c .before .before .before .before .before .before .before .before .fewer .ensures) (c .before .before .before .before .before .before .before .chosen .ensures) (c .before .before .before .before .before .before .chosen2 .ensures) (c .before .before .before .before .before .chosen3 .ensures) ((c .before .before .before .before .retrace .ensures) (c .before .before .before .if8 .left)) (c .before .before .recorded6 .ensures) (c .chosen4 .ensures) h
 
 pub product-number-spec : {M : Type 1} → statement M
 product-number-spec =
@@ -107,7 +107,7 @@ product-number-spec =
     recorded-requires-4
     recorded-requires-5
     returns-7
-    shorter-requires
+    fewer-requires
     chosen-requires
     chosen-requires-2
     chosen-requires-3

@@ -1,11 +1,11 @@
 -- A place of the part that is handed back.
 use borrow.Author.Needs.{needs}
-use Rattle.bridge_factor.proofs.hg_part.Statement.{statement}
-use Rattle.bridge_factor.proofs.hg_part.Tie as tie
-use Rattle.bridge_factor.proofs.hg_part.Reads as reads
-use Rattle.bridge_factor.proofs.hg_part.Lts as lts
+use Rattle.bridge_words.proofs.hg_part.Statement.{statement}
+use Rattle.bridge_words.proofs.hg_part.Tie as tie
+use Rattle.bridge_words.proofs.hg_part.Reads as reads
+use Rattle.bridge_words.proofs.hg_part.Lts as lts
 use Rattle.bridge.proofs.inner.factor_of.Reads as factor-of-reads
-use Rattle.bridge_factor.proofs.letter_of.Reads as letter-of-reads
+use Rattle.bridge_words.proofs.letter_of.Reads as letter-of-reads
 use Rattle.factor.proofs.word.Reads as word-reads
 
 factor-of-requires : tie.Need-factor-of-requires

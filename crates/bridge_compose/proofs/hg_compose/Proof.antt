@@ -1,9 +1,9 @@
 -- The call's own answer, as one number.
 use borrow.Author.Needs.{needs}
-use Rattle.bridge_factor.proofs.hg_compose.Statement.{statement}
-use Rattle.bridge_factor.proofs.hg_compose.Tie as tie
-use Rattle.bridge_factor.proofs.hg_compose.Reads as reads
-use Rattle.bridge_factor.proofs.hg_compose.Lts as lts
+use Rattle.bridge_compose.proofs.hg_compose.Statement.{statement}
+use Rattle.bridge_compose.proofs.hg_compose.Tie as tie
+use Rattle.bridge_compose.proofs.hg_compose.Reads as reads
+use Rattle.bridge_compose.proofs.hg_compose.Lts as lts
 use Rattle.bridge.proofs.inner.factor_of.Reads as factor-of-reads
 use Rattle.bridge.proofs.inner.reached_code.Reads as reached-code-reads
 use Rattle.factor.proofs.compose.Reads as compose-reads

@@ -1,9 +1,9 @@
 -- The call's own answer, as one number.
 use borrow.Author.Needs.{needs}
-use Rattle.bridge_factor.proofs.hg_length.Statement.{statement}
-use Rattle.bridge_factor.proofs.hg_length.Tie as tie
-use Rattle.bridge_factor.proofs.hg_length.Reads as reads
-use Rattle.bridge_factor.proofs.hg_length.Lts as lts
+use Rattle.bridge_words.proofs.hg_length.Statement.{statement}
+use Rattle.bridge_words.proofs.hg_length.Tie as tie
+use Rattle.bridge_words.proofs.hg_length.Reads as reads
+use Rattle.bridge_words.proofs.hg_length.Lts as lts
 use Rattle.bridge.proofs.inner.counted_code.Reads as counted-code-reads
 use Rattle.bridge.proofs.inner.factor_of.Reads as factor-of-reads
 use Rattle.factor.proofs.word_length.Reads as word-length-reads

@@ -3,10 +3,10 @@ use native.Mathlib.Omega.{arith}
 use borrow.Author.Tests.{lt-ltb, le-ltb}
 use Rattle.bridge.specs.Bridge.{letterOf}
 use borrow.Author.Needs.{needs}
-use Rattle.bridge_factor.proofs.letter_of.Statement.{statement}
-use Rattle.bridge_factor.proofs.letter_of.Tie as tie
-use Rattle.bridge_factor.proofs.letter_of.Reads as reads
-use Rattle.bridge_factor.proofs.letter_of.Lts as lts
+use Rattle.bridge_words.proofs.letter_of.Statement.{statement}
+use Rattle.bridge_words.proofs.letter_of.Tie as tie
+use Rattle.bridge_words.proofs.letter_of.Reads as reads
+use Rattle.bridge_words.proofs.letter_of.Lts as lts
 
 shared-slice-read-result : tie.Need-shared-slice-read-result
 shared-slice-read-result c = search needs

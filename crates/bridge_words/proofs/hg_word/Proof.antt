@@ -1,10 +1,10 @@
 -- The call's own answer, as one number, and its buffer.
 use mathlib.Core.Path.{_≡_, refl, sym, ap, _∙_}
 use borrow.Author.Needs.{needs}
-use Rattle.bridge_factor.proofs.hg_word.Statement.{statement}
-use Rattle.bridge_factor.proofs.hg_word.Tie as tie
-use Rattle.bridge_factor.proofs.hg_word.Reads as reads
-use Rattle.bridge_factor.proofs.hg_word.Lts as lts
+use Rattle.bridge_words.proofs.hg_word.Statement.{statement}
+use Rattle.bridge_words.proofs.hg_word.Tie as tie
+use Rattle.bridge_words.proofs.hg_word.Reads as reads
+use Rattle.bridge_words.proofs.hg_word.Lts as lts
 use Rattle.bridge.proofs.inner.counted_code.Reads as counted-code-reads
 use Rattle.bridge.proofs.inner.factor_of.Reads as factor-of-reads
 use Rattle.factor.proofs.write_word.Reads as write-word-reads
