@@ -1,6 +1,7 @@
 //! `bench ..`: the least seconds of three, and a number that the same work gives again, as the oracle's `bench` does.
 use super::*;
 use hypergroup::raw::SubgroupBuffers;
+use std::cell::Cell;
 
 /// Arguments for questions, the same each time and the same as the oracle's.
 fn pairs(count: usize) -> Vec<(u32, u32)> {
@@ -24,13 +25,22 @@ impl Room {
     }
 }
 
-/// The sum of the answers to one question, over many arguments. The call is chosen before, as in the oracle.
-pub(crate) fn summed(asked: &[(u32, u32)], ask: &mut dyn FnMut(u32, u32) -> Answer<u32>) -> Result<u32, No> {
-    let mut sum = 0u32;
-    for &(a, b) in asked {
-        sum = sum.wrapping_add(ask(a, b)?);
+/// One number for each question, as the oracle's loop has it; a refusal is looked for at each answer and kept aside.
+fn plain<'a, A: 'a>(refused: &'a Cell<Option<Refusal>>, mut ask: impl FnMut(A) -> Answer<u32> + 'a) -> impl FnMut(A) -> u32 + 'a {
+    move |x| {
+        ask(x).unwrap_or_else(|no| {
+            refused.set(Some(no));
+            0
+        })
     }
-    Ok(sum)
+}
+
+/// The sum of the answers to one question, over many arguments. The call is chosen before, as in the oracle.
+pub(crate) fn summed(asked: &[(u32, u32)], mut ask: impl FnMut(u32, u32) -> Answer<u32>) -> Result<u32, No> {
+    let refused = Cell::new(None);
+    let chosen: &mut dyn FnMut((u32, u32)) -> u32 = &mut plain(&refused, |(a, b)| ask(a, b));
+    let sum = asked.iter().fold(0u32, |sum, &pair| sum.wrapping_add(chosen(pair)));
+    refused.get().map_or(Ok(sum), |no| Err(no.into()))
 }
 
 /// One question to one factor; what its answer is times in the product's, and what is added.
@@ -70,27 +80,26 @@ impl Product {
     }
 
     /// The factors one after another, each by its own calls: what the same answers cost with no product.
-    fn ask_alone(&self, name: &str, parts: &[Part]) -> Result<u32, No> {
+    fn ask_alone<'p>(&self, name: &str, parts: &'p [Part]) -> Result<u32, No> {
         let (t, hs) = (&self.table, &self.factors);
         let ones: Vec<Product> = hs.iter().map(|&h| Product::of(Vec::new(), vec![h])).collect();
         let mut word = vec![0; if name == "word" { 4096 } else { 0 }];
         let mut spelled = |h: Handle, e: u32, before: u32| {
             raw::word(t, h, e, &mut word).map(|k| word[..k as usize].iter().map(|&g| u32::from(g) + before + 1).sum())
         };
-        let mut ask: Box<dyn FnMut(&Part) -> Answer<u32>> = match name {
-            "step" => Box::new(|p| raw::step(t, hs[p.factor], p.a, p.b as u8)),
-            "compose" => Box::new(|p| raw::compose(t, hs[p.factor], p.a, p.b)),
-            "conjugate" => Box::new(|p| raw::conjugate(t, hs[p.factor], p.a, p.b)),
-            "inverse" => Box::new(|p| raw::inverse(t, hs[p.factor], p.a)),
-            "word" => Box::new(|p| spelled(hs[p.factor], p.a, p.b)),
-            "powi" => Box::new(|p| raw::product_powi(t, &ones[p.factor].handles, p.a, p.b as i32)),
+        let refused = Cell::new(None);
+        let mut ask: Box<dyn FnMut(&'p Part) -> u32 + '_> = match name {
+            "step" => Box::new(plain(&refused, |p: &Part| raw::step(t, hs[p.factor], p.a, p.b as u8))),
+            "compose" => Box::new(plain(&refused, |p: &Part| raw::compose(t, hs[p.factor], p.a, p.b))),
+            "conjugate" => Box::new(plain(&refused, |p: &Part| raw::conjugate(t, hs[p.factor], p.a, p.b))),
+            "inverse" => Box::new(plain(&refused, |p: &Part| raw::inverse(t, hs[p.factor], p.a))),
+            "word" => Box::new(plain(&refused, |p: &Part| spelled(hs[p.factor], p.a, p.b))),
+            "powi" => Box::new(plain(&refused, |p: &Part| raw::product_powi(t, &ones[p.factor].handles, p.a, p.b as i32))),
             _ => return unsupported(),
         };
-        let mut sum = 0u32;
-        for p in parts {
-            sum = sum.wrapping_add(p.rest.wrapping_add(p.stride.wrapping_mul(ask(p)?)));
-        }
-        Ok(sum)
+        let sum = parts.iter().fold(0u32, |sum, p| sum.wrapping_add(p.rest.wrapping_add(p.stride.wrapping_mul(ask(p)))));
+        drop(ask);
+        refused.get().map_or(Ok(sum), |no| Err(no.into()))
     }
 
     /// By the calls on one factor if it is given, else by those on products.
@@ -104,19 +113,19 @@ impl Product {
         let mut word = vec![0; if name == "word" { 8 * 4096 } else { 0 }];
         let letters = |word: &[u8]| word.iter().map(|&g| u32::from(g) + 1).sum();
         match (name, single) {
-            ("step", Some(h)) => summed(asked, &mut |a, b| raw::step(t, h, e(a), g(b))),
-            ("step", None) => summed(asked, &mut |a, b| raw::product_step(t, p, e(a), g(b))),
-            ("compose", Some(h)) => summed(asked, &mut |a, b| raw::compose(t, h, e(a), e(b))),
-            ("compose", None) => summed(asked, &mut |a, b| raw::product_compose(t, p, e(a), e(b))),
-            ("conjugate", Some(h)) => summed(asked, &mut |a, b| raw::conjugate(t, h, e(a), e(b))),
-            ("conjugate", None) => summed(asked, &mut |a, b| raw::product_conjugate(t, p, e(a), e(b))),
-            ("inverse", Some(h)) => summed(asked, &mut |a, _| raw::inverse(t, h, e(a))),
-            ("inverse", None) => summed(asked, &mut |a, _| raw::product_inverse(t, p, e(a))),
-            ("word", Some(h)) => summed(asked, &mut |a, _| raw::word(t, h, e(a), &mut word).map(|k| letters(&word[..k as usize]))),
-            ("word", None) => summed(asked, &mut |a, _| raw::product_word(t, p, e(a), &mut word).map(|k| letters(&word[..k as usize]))),
-            ("powi", _) => summed(asked, &mut |a, b| raw::product_powi(t, p, e(a), b as i32)),
-            ("period", _) => summed(asked, &mut |a, _| raw::product_period(t, p, e(a))),
-            ("project", _) => summed(asked, &mut |a, b| raw::product_project(t, p, f(b), e(a))),
+            ("step", Some(h)) => summed(asked, |a, b| raw::step(t, h, e(a), g(b))),
+            ("step", None) => summed(asked, |a, b| raw::product_step(t, p, e(a), g(b))),
+            ("compose", Some(h)) => summed(asked, |a, b| raw::compose(t, h, e(a), e(b))),
+            ("compose", None) => summed(asked, |a, b| raw::product_compose(t, p, e(a), e(b))),
+            ("conjugate", Some(h)) => summed(asked, |a, b| raw::conjugate(t, h, e(a), e(b))),
+            ("conjugate", None) => summed(asked, |a, b| raw::product_conjugate(t, p, e(a), e(b))),
+            ("inverse", Some(h)) => summed(asked, |a, _| raw::inverse(t, h, e(a))),
+            ("inverse", None) => summed(asked, |a, _| raw::product_inverse(t, p, e(a))),
+            ("word", Some(h)) => summed(asked, |a, _| raw::word(t, h, e(a), &mut word).map(|k| letters(&word[..k as usize]))),
+            ("word", None) => summed(asked, |a, _| raw::product_word(t, p, e(a), &mut word).map(|k| letters(&word[..k as usize]))),
+            ("powi", _) => summed(asked, |a, b| raw::product_powi(t, p, e(a), b as i32)),
+            ("period", _) => summed(asked, |a, _| raw::product_period(t, p, e(a))),
+            ("project", _) => summed(asked, |a, b| raw::product_project(t, p, f(b), e(a))),
             _ => unsupported(),
         }
     }

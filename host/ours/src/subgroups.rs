@@ -55,8 +55,8 @@ impl Sub {
         let out = |e| raw::subgroup_over(&self.from, &self.table, &sides, &self.outward, e);
         let back = |x| raw::subgroup_back(&self.from, &self.table, &sides, &self.inward, x);
         match name {
-            "s2o" => bench::summed(asked, &mut |a, _| out(a % elements)),
-            _ => bench::summed(asked, &mut |a, _| back(a % over)),
+            "s2o" => bench::summed(asked, |a, _| out(a % elements)),
+            _ => bench::summed(asked, |a, _| back(a % over)),
         }
     }
 }
