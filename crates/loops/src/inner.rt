@@ -15,13 +15,15 @@ use running::inner::Ran;
 use running::inner::Run;
 
 // The order of the pair of two generators.
-pub fn order_for(orders: &[u32], g: u8, h: u8) -> u32
-    ensures { λ r. ⌜ r ≡ orderFor (now (orders .entry)) g h ⌝ }
+pub fn order_for(orders: &[u32], g: GeneratorId, h: GeneratorId) -> u32
+    ensures { λ r. ⌜ r ≡ orderFor (now (orders .entry)) (g .0) (h .0) ⌝ }
 {
-    if g < h {
-        egg::inner::get(orders, (egg::inner::pair_count(h) as usize) + (g as usize))
+    let a = g.0;
+    let b = h.0;
+    if a < b {
+        egg::inner::get(orders, (egg::inner::pair_count(b) as usize) + (a as usize))
     } else {
-        egg::inner::get(orders, (egg::inner::pair_count(g) as usize) + (h as usize))
+        egg::inner::get(orders, (egg::inner::pair_count(a) as usize) + (b as usize))
     }
 }
 
@@ -88,40 +90,42 @@ pub fn loop_by(
     orders: &[u32],
     n: u8,
     e: GroupElementId,
-    g: u8,
-    h: u8,
+    g: GeneratorId,
+    h: GeneratorId,
     length: u32,
 ) -> u32
     requires { ⌜ Orders (now orders) × ((e .0 < 4294967295) × (length ≡ lengthOf (now t) n (e .0))) ⌝ }
-    ensures { λ r. ⌜ r ≡ loopBy (now (t .entry)) (now (orders .entry)) n (e .0) g h ⌝ }
+    ensures { λ r. ⌜ r ≡ loopBy (now (t .entry)) (now (orders .entry)) n (e .0) (g .0) (h .0) ⌝ }
 {
-    if h == g {
+    let a = g.0;
+    let b = h.0;
+    if b == a {
         return 0;
     }
     let order = order_for(&orders[..], g, h);
     if (length as usize) + 1 < (order as usize) {
         return 0;
     }
-    let end = loop_end(&t[..], n, e, h as usize, g as usize, letters(order));
+    let end = loop_end(&t[..], n, e, b as usize, a as usize, letters(order));
     if end.left != 0 {
         return 0;
     }
     let last = end.element;
-    if egg::inner::get(t, egg::inner::start(n, last) + (g as usize)) != 0 {
+    if egg::inner::get(t, egg::inner::start(n, last) + (a as usize)) != 0 {
         return 0;
     }
     last.0 + 1
 }
 
 // The same by the first relation of g that says it.
-pub fn loop_from(t: &[u32], orders: &[u32], n: u8, e: GroupElementId, g: u8) -> u32
+pub fn loop_from(t: &[u32], orders: &[u32], n: u8, e: GroupElementId, g: GeneratorId) -> u32
     requires { ⌜ Orders (now orders) × (e .0 < 4294967295) ⌝ }
-    ensures { λ r. ⌜ r ≡ loopFrom n (now (t .entry)) (now (orders .entry)) n (e .0) g 0 ⌝ }
+    ensures { λ r. ⌜ r ≡ loopFrom n (now (t .entry)) (now (orders .entry)) n (e .0) (g .0) 0 ⌝ }
 {
     let length = egg::inner::word_length(&t[..], n, e);
     let mut h: u8 = 0;
     while h < n {
-        let found = loop_by(&t[..], &orders[..], n, e, g, h, length);
+        let found = loop_by(&t[..], &orders[..], n, e, g, GeneratorId(h), length);
         if found != 0 {
             return found;
         }
@@ -173,8 +177,7 @@ pub fn sweep_place(
     if egg::inner::get(&t[..], egg::inner::successor_at(n, e, g)) != 0 {
         return Counted::Count(count);
     }
-    let k = g.0;
-    let found = loop_from(&t[..], &orders[..], n, e, k);
+    let found = loop_from(&t[..], &orders[..], n, e, g);
     settle_step(t, n, room, count, e, g, found)
 }
 
