@@ -15,7 +15,7 @@ use running::inner::Ran;
 use running::inner::Run;
 
 // The order of the pair of two generators.
-pub fn order_for(orders: &[u32], g: GeneratorId, h: GeneratorId) -> u32
+fn order_for(orders: &[u32], g: GeneratorId, h: GeneratorId) -> u32
     ensures { λ r. ⌜ r ≡ orderFor (now (orders .entry)) (g .0) (h .0) ⌝ }
 {
     let a = g.0;
@@ -28,7 +28,7 @@ pub fn order_for(orders: &[u32], g: GeneratorId, h: GeneratorId) -> u32
 }
 
 // The letters of a relation but one.
-pub fn letters(order: u32) -> u32
+fn letters(order: u32) -> u32
     requires { ⌜ order < 32768 ⌝ }
     ensures { λ r. ⌜ r ≡ 2 * order - 1 ⌝ }
 {
@@ -40,7 +40,7 @@ pub fn letters(order: u32) -> u32
 }
 
 // A walk along two columns of the table's rows in turn. Most are of a few steps, so there is nothing to guess.
-pub fn loop_end(
+fn loop_end(
     t: &[u32],
     n: u8,
     element: GroupElementId,
@@ -85,7 +85,7 @@ pub fn loop_end(
 }
 
 // Where the relation of g and h says that e·g leads, as the number + 1; 0 where it says nothing. `length` is that of e's word.
-pub fn loop_by(
+fn loop_by(
     t: &[u32],
     orders: &[u32],
     n: u8,
@@ -118,7 +118,7 @@ pub fn loop_by(
 }
 
 // The same by the first relation of g that says it.
-pub fn loop_from(t: &[u32], orders: &[u32], n: u8, e: GroupElementId, g: GeneratorId) -> u32
+fn loop_from(t: &[u32], orders: &[u32], n: u8, e: GroupElementId, g: GeneratorId) -> u32
     requires { ⌜ Orders (now orders) × (e .0 < 4294967295) ⌝ }
     ensures { λ r. ⌜ r ≡ loopFrom n (now (t .entry)) (now (orders .entry)) n (e .0) (g .0) 0 ⌝ }
 {
@@ -135,7 +135,7 @@ pub fn loop_from(t: &[u32], orders: &[u32], n: u8, e: GroupElementId, g: Generat
 }
 
 // A step that is not known, by what the loops say of it: the element count after it, or 5 or 6.
-pub fn settle_step(
+fn settle_step(
     t: &mut [u32],
     n: u8,
     room: u32,
@@ -162,7 +162,7 @@ pub fn settle_step(
 }
 
 // One place: a known step is skipped.
-pub fn sweep_place(
+fn sweep_place(
     t: &mut [u32],
     orders: &[u32],
     n: u8,
@@ -182,7 +182,7 @@ pub fn sweep_place(
 }
 
 // At most `allowance` places, in order.
-pub fn sweep(t: &mut [u32], orders: &[u32], n: u8, room: u32, from: Run, allowance: u64) -> Ran
+fn sweep(t: &mut [u32], orders: &[u32], n: u8, room: u32, from: Run, allowance: u64) -> Ran
     requires { ⌜ Orders (now orders) × (from .generator < n) ⌝ }
     ensures { λ r. ⌜ sweep r (now (t .exit)) ≡ sweepFrom allowance n (now (orders .entry)) room from (now (t .entry)) ⌝ }
 {
