@@ -13,12 +13,13 @@ use Rattle.lending.specs.Finish.{built, finished}
 use Rattle.relations.specs.Relations.{relationsRow}
 use Rattle.theory.specs.Words.{walk, Parents}
 use Rattle.theory.specs.Presentation.{pairs-below, pair-place, order-of, alternate, double, pair, Holds}
-use Rattle.theory.proofs.Pairs.{pairs-length, pair-at}
+use Rattle.theory.proofs.Pairs.{pair-at}
 use Rattle.meaning.specs.Stored.{Kept}
 use Rattle.meaning.specs.Sound.{Sound}
 use Rattle.answers.proofs.Codes.{code-first, code-second}
 use Rattle.answers.proofs.Relators.{relations-exact, relations-first}
 use Rattle.answers.proofs.Settled.{by-count, settled-kept, settled-sound}
+use Rattle.derived.proofs.Running.{pairs-full}
 use Rattle.derived.specs.Recorded.{Limits}
 use Rattle.rings.specs.Rings.{turn, ring, first, second, Looped}
 use Rattle.rings.proofs.Letters.{turn-low}
@@ -80,7 +81,7 @@ accepted-looped {n} {o} {room} {lt} L {N} some within F whole w {M} {t} {w′} q
     let fits : M * (2 * n + 4) ≤ length F = omega (arith, L .table-room, mul-le-mul within (le-refl (2 * n + 4)), ap (λ (x : ℕ). x * (2 * n + 4)) same) in
     let S = settled-sound F w E fits (omega arith) (omega (arith, L .limit)) in
     let K = settled-kept F w E in
-    let long = L .full ∙ pairs-length n in
+    let long = pairs-full L in
     let H = relations-exact S (L .few) o long .0 (relations-first S (L .few) o long identity) in
     subst (λ (x : ℕ). Looped n x o (stepOf F n) × Parents n x (stepOf F n) (parentOf F n) (lastOf F n)) (sym same)
     (looped o (L .few) long S K H, parents o (L .few) long S K H) where

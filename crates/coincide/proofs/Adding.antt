@@ -24,12 +24,12 @@ use Rattle.derived.proofs.Marking.{set-length}
 use Rattle.derived.proofs.Settled.{discovered-empty}
 use Rattle.derived.proofs.Since.{word-step}
 use Rattle.rings.specs.Rings.{first, second, Looped}
-use Rattle.coincide.specs.Sweeping.{Fair, Grows}
+use Rattle.coincide.specs.Sweeping.{Live, Fair, Grows}
 use Rattle.rings.proofs.Stepping.{stepped, stepped-more, stepped-here, stepped-new}
 use Rattle.closure.proofs.Discovering.{discovers}
 use Rattle.coincide.proofs.Alike.{word-alike, set-rest, set-splits}
 use Rattle.coincide.proofs.Lasting.{discovered-lasts}
-use Rattle.coincide.proofs.Beside.{Live, Beside}
+use Rattle.coincide.proofs.Beside.{Beside}
 use Rattle.coincide.proofs.Linking.{Linked, linked}
 use Rattle.coincide.proofs.Placing.{Came}
 

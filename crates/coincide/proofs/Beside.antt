@@ -5,18 +5,12 @@ use mathlib.Core.Path.{_≡_}
 use mathlib.Core.List.{List}
 use native.Mathlib.Omega.{arith}
 use lib.ListN.{getD}
-use Rattle.egg.specs.Table.{startOf, stepOf, lastOf}
+use Rattle.egg.specs.Table.{startOf, stepOf}
 use Rattle.coincide.proofs.Ahead.{Before}
 use Rattle.derived.specs.Invariant.{Known}
 use Rattle.derived.specs.Going.{Going}
-use Rattle.rings.specs.Rings.{first, second}
 use Rattle.closure.specs.Closure.{Closed}
-use Rattle.coincide.specs.Sweeping.{Fair, Grows}
-
--- The rows that are live for `Machine`: those of the identity, and of an element whose last letter is neither generator of the pair at place k. By that letter it
--- has its step back, "which is no fact".
-abbrev pub Live : ℕ → List ℕ → ℕ → ℕ → Type 0
-Live n F u k = 0 < u → (lastOf F n u ≡ first k → ⊥) × (lastOf F n u ≡ second k → ⊥)
+use Rattle.coincide.specs.Sweeping.{Live, Fair, Grows}
 
 -- Between two places: the quick run's table is fair, the other run is closed, it knows all that the quick run knows, and the words are the same.
 pub record Beside (n : ℕ) (o : List ℕ) (lt lw : ℕ) (F : List ℕ) (c : ℕ) (q t w : List ℕ) : Type 0 where

@@ -16,3 +16,4 @@ pub mod Ahead
 pub mod Lockstep
 pub mod Accepting
 pub mod Swift
+pub mod Sample

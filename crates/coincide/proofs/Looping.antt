@@ -11,13 +11,13 @@ use Rattle.egg.specs.Table.{startOf, stepOf, parentOf, lastOf}
 use Rattle.derived.specs.Invariant.{Known}
 use Rattle.rings.specs.Rings.{turn, ring, first, second, Looped, Rooted}
 use Rattle.loops.specs.Loops.{orderFor}
-use Rattle.coincide.specs.Sweeping.{Grows}
+use Rattle.coincide.specs.Sweeping.{Live, Grows}
 use Rattle.rings.proofs.Letters.{turn-low, ring-below}
 use Rattle.rings.proofs.Walking.{walk-ring}
 use Rattle.rings.proofs.Rooting.{rooted}
 use Rattle.closure.proofs.Columns.{column-known}
 use Rattle.coincide.proofs.Pairing.{PairOf, pair-of}
-use Rattle.coincide.proofs.Beside.{Live, Beside, grown-step}
+use Rattle.coincide.proofs.Beside.{Beside, grown-step}
 use Rattle.coincide.proofs.Finding.{Found}
 
 module _ {n N : ℕ} {o : List ℕ} (F : List ℕ) (looped : Looped n N o (stepOf F n)) (parents : Parents n N (stepOf F n) (parentOf F n) (lastOf F n)) where
@@ -32,7 +32,7 @@ module _ {n N : ℕ} {o : List ℕ} (F : List ℕ) (looped : Looped n N o (stepO
       omega arith
 
   -- So the least element of a loop has a live row.
-  least-live : {u : ℕ} (k : ℕ) → u < N → u ≤ stepOf F n u (first k) → u ≤ stepOf F n u (second k) → Live n F u k
+  pub least-live : {u : ℕ} (k : ℕ) → u < N → u ≤ stepOf F n u (first k) → u ≤ stepOf F n u (second k) → Live n F u k
   least-live {u} k hu a b pos = (λ q. goes-down pos hu (first k) q a, λ q. goes-down pos hu (second k) q b)
 
   module _ (few : n ≤ 8) (full : length o ≡ pairs-below n) (orders : (k : ℕ) → k < length o → 1 ≤ getD o k 0)

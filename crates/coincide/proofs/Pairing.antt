@@ -8,6 +8,7 @@ use native.Mathlib.Omega.{arith}
 use native.Mathlib.Decide.{decLt}
 use borrow.Author.Tests.{lt-ltb, le-ltb}
 use lib.ListN.{getD, length}
+use Rattle.egg.specs.Pairs.{pairCount}
 use Rattle.theory.specs.Presentation.{pairs-below, pair-place}
 use Rattle.theory.proofs.Pairs.{pairs-length, pair-inside}
 use Rattle.answers.proofs.Codes.{code-first, code-second}
@@ -30,7 +31,7 @@ module _ {i j : ℕ} (hi : i < j) (hj : j < 8) where
 
 module _ {n : ℕ} {o : List ℕ} (few : n ≤ 8) (full : length o ≡ pairs-below n) where
   pub pair-of : {g h : ℕ} → g < n → h < n → (h ≡ g → ⊥) → PairOf o g h
-  unfolding orderFor
+  unfolding orderFor pairCount
   pair-of {g} {h} hg hh d = by (decLt g h) where
     by : Dec (g < h) → PairOf o g h
     by (yes l) = record {

@@ -7,7 +7,6 @@ use mathlib.Core.List.{List}
 use native.Mathlib.Omega.{arith}
 use borrow.Author.Tests.{ne-eqb}
 use Rattle.theory.specs.Words.{Parents}
-use Rattle.theory.proofs.Pairs.{pairs-length}
 use Rattle.egg.specs.declared.GroupElementId.{GroupElementId}
 use Rattle.egg.specs.declared.GeneratorId.{GeneratorId}
 use Rattle.egg.specs.declared.Counted.the-variants as counted
@@ -17,6 +16,7 @@ use Rattle.running.specs.Run.{visit, visits}
 use Rattle.derived.specs.Invariant.{Known}
 use Rattle.derived.specs.Recorded.{Limits}
 use Rattle.derived.proofs.Marking.{set-length}
+use Rattle.derived.proofs.Running.{pairs-full}
 use Rattle.rings.specs.Rings.{Looped}
 use Rattle.loops.specs.Loops.{setBoth, loopFrom}
 use Rattle.coincide.specs.Sweeping.{Fair, Grows}
@@ -66,10 +66,10 @@ module _ {n N : ℕ} {o : List ℕ} (F : List ℕ) (looped : Looped n N o (stepO
   around = found q o n x g n 0 r (omega arith) loop
 
   knows : Known n t x g
-  knows = loop-known F looped parents (L .few) (L .full ∙ pairs-length n) (λ k hk. L .orders k hk .0) B G hx hg around
+  knows = loop-known F looped parents (L .few) (pairs-full L) (λ k hk. L .orders k hk .0) B G hx hg around
 
   below : r < N
-  below = loop-below F looped parents (L .few) (L .full ∙ pairs-length n) (λ k hk. L .orders k hk .0) B G hx hg around
+  below = loop-below F looped parents (L .few) (pairs-full L) (λ k hk. L .orders k hk .0) B G hx hg around
 
   pub came-loop : Fair n c lt (setBoth q n e γ to) → Grows n c N (setBoth q n e γ to) F → Came n o room lt lw F x g c t w c (setBoth q n e γ to)
   came-loop fair grows =

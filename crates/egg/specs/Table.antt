@@ -5,11 +5,9 @@ use mathlib.Core.Path.{_≡_}
 use mathlib.Core.List.{List}
 use mathlib.Core.Bool.{Bool, true, false}
 use lib.ListN.{getD, set}
-use lib.Dec.{ltb, eqb}
+use lib.Dec.{ltb}
 use Rattle.egg.specs.declared.GroupElementId.{GroupElementId}
 use Rattle.egg.specs.declared.GeneratorId.{GeneratorId}
-use Rattle.egg.specs.declared.inner.Found.{Found}
-use Rattle.egg.specs.declared.inner.Found.the-variants.{Element, Unknown}
 
 -- The first where the test holds, else the second.
 abbrev pub pick : {A : Type 0} → Bool → A → A → A
@@ -40,10 +38,6 @@ succAt n e g = startOf n (e .0) + g .0
 
 abbrev pub predAt : ℕ → GroupElementId → GeneratorId → ℕ
 predAt n e g = startOf n (e .0) + n + g .0
-
--- A stored step, read.
-abbrev pub foundOf : ℕ → Found
-foundOf x = pick (eqb x 0) Unknown (Element (record { 0 = x - 1 }))
 
 -- The cells of an element's row, by name.
 abbrev pub parentOf : List ℕ → ℕ → ℕ → ℕ

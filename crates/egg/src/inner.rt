@@ -7,7 +7,7 @@ ghost use mathlib.Core.Path.{_≡_};
 ghost use mathlib.Core.Bool.{true};
 ghost use Prim.Native.Nat.{_+_, _*_, _<_, _-_};
 ghost use lib.ListN.{length, getD, replicate};
-ghost use Rattle.egg.specs.Table.{pick, putAt, startOf, succAt, predAt, foundOf, hopOf, lastOf, stepOf, backOf, workOf, Place};
+ghost use Rattle.egg.specs.Table.{pick, putAt, startOf, succAt, predAt, hopOf, lastOf, stepOf, backOf, workOf, Place};
 ghost use Rattle.egg.specs.Pairs.{pairCode, pairCount, ordersRight};
 ghost use Rattle.egg.specs.Scan.{refusedOf};
 ghost use Rattle.egg.specs.Factor.{fitsIn, stretch, refusedReach, readStep};
@@ -17,12 +17,6 @@ use super::GroupElementId;
 use super::Reached;
 use super::Refusal;
 use super::Verdict;
-
-// A stored step: the element, or not known yet.
-pub enum Found {
-    Element(GroupElementId),
-    Unknown,
-}
 
 // What stands at i, and 0 past the end.
 pub fn get(s: &[u32], i: usize) -> u32
@@ -106,28 +100,6 @@ pub fn predecessor_at(n: u8, e: GroupElementId, g: GeneratorId) -> usize
 {
     let k = g.0;
     start(n, e) + (n as usize) + (k as usize)
-}
-
-pub fn known(x: u32) -> Found
-    ensures { λ r. ⌜ r ≡ foundOf x ⌝ }
-{
-    if x == 0 {
-        Found::Unknown
-    } else {
-        Found::Element(GroupElementId(x - 1))
-    }
-}
-
-pub fn successor(t: &[u32], n: u8, e: GroupElementId, g: GeneratorId) -> Found
-    ensures { λ r. ⌜ r ≡ foundOf (getD (now (t .entry)) (succAt n e g) 0) ⌝ }
-{
-    known(get(t, successor_at(n, e, g)))
-}
-
-pub fn predecessor(t: &[u32], n: u8, e: GroupElementId, g: GeneratorId) -> Found
-    ensures { λ r. ⌜ r ≡ foundOf (getD (now (t .entry)) (predAt n e g) 0) ⌝ }
-{
-    known(get(t, predecessor_at(n, e, g)))
 }
 
 // A number of the row of e: the k-th from `shift` on.

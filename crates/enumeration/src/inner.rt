@@ -1,4 +1,4 @@
-// The end of an enumeration: the checks and the relations after its run.
+// A build from pair orders: the quick way, else the run of 000; the checks and the relations after either.
 ghost use mathlib.Core.Path.{_≡_};
 ghost use Prim.Native.Nat.{_≤_};
 ghost use lib.ListN.{length};
@@ -12,7 +12,7 @@ use egg::Verdict;
 use running::inner::Ran;
 
 // How a run ended, as a count or a refusal. With the largest allowance none is paused.
-pub fn counted(r: Ran) -> Counted
+fn counted(r: Ran) -> Counted
     ensures { λ x. ⌜ x ≡ ranCount r ⌝ }
 {
     match r {
@@ -23,7 +23,7 @@ pub fn counted(r: Ran) -> Counted
 }
 
 // 13, at the identity: of a table that has passed 8 to 12 that is as good as at every element. A failure zeroes the table.
-pub fn relate(t: &mut [u32], orders: &[u32], n: u8, read: Counted) -> Counted
+fn relate(t: &mut [u32], orders: &[u32], n: u8, read: Counted) -> Counted
     requires { ⌜ length (now orders) ≤ 28 ⌝ }
     ensures { λ r. ⌜ Relating.relating r (now (t .exit)) ≡ relates n (now (orders .entry)) read (now (t .entry)) ⌝ }
 {
@@ -47,7 +47,7 @@ pub fn relate(t: &mut [u32], orders: &[u32], n: u8, read: Counted) -> Counted
 
 // The quick way: the run by closed loops, 8 to 12, then 13. What it accepts is what the build below gives (`coincide`): the
 // element count. 0 where it accepts nothing, which says nothing of the build below.
-pub fn enumerate_swiftly(t: &mut [u32], w: &mut [u32], orders: &[u32], n: u8, room: u32) -> u32
+fn enumerate_swiftly(t: &mut [u32], w: &mut [u32], orders: &[u32], n: u8, room: u32) -> u32
     requires { ⌜ Limits n (now orders) room (length (now t)) (length (now w)) ⌝ }
     ensures { λ r. ⌜ Quick (length (now (t .entry))) (length (now (w .entry))) (now (orders .entry)) n room r (now (t .exit)) (now (w .exit)) ⌝ }
 {
@@ -63,7 +63,7 @@ pub fn enumerate_swiftly(t: &mut [u32], w: &mut [u32], orders: &[u32], n: u8, ro
     elements
 }
 
-// The whole build in its stretches: the run, 8 to 12, then 13.
+// The whole build in its stretches: what the quick way accepts, else the run of 000, 8 to 12, then 13.
 pub fn enumerate_in(t: &mut [u32], w: &mut [u32], orders: &[u32], n: u8, room: u32) -> Counted
     requires { ⌜ Limits n (now orders) room (length (now t)) (length (now w)) ⌝ }
     ensures { λ r. ⌜ Built.built r (now (t .exit)) (now (w .exit)) ≡ enumeratedIn (length (now (t .entry))) (length (now (w .entry))) (now (orders .entry)) n room ⌝ }

@@ -19,11 +19,11 @@ use Rattle.loops.specs.Loops.{orderFor, loopBy, loopFrom}
 
 module _ (o : List ℕ) (g h : ℕ) where
   pub order-low : {x p : ℕ} → g < h → x ≡ getD o (p + g) 0 → p ≡ pairCount h → x ≡ orderFor o g h
-  unfolding orderFor pairCount
+  unfolding orderFor
   order-low l q e = rw (q, e, lt-ltb _ _ l)
 
   pub order-high : {x p : ℕ} → h ≤ g → x ≡ getD o (p + h) 0 → p ≡ pairCount g → x ≡ orderFor o g h
-  unfolding orderFor pairCount
+  unfolding orderFor
   order-high l q e = rw (q, e, le-ltb _ _ l)
 
 -- Past the list an order counts as 0.

@@ -1,8 +1,8 @@
 -- The enumeration by closed loops, which is quicker than 000's and gives the same table wherever it gives one that passes the checks (`coincide`). The places of
 -- the table are visited in the same order. At one whose step is not known, a pair relation through it of which all other steps are known, a closed loop, says
--- where the step leads; where there is none, it leads to a new element. No row waits for anything, and no step is found before its place is visited.
+-- where the step leads; where there is none, it leads to a new element. No row waits for anything, and but for steps back no step is found before its place is visited.
 -- Assumes nothing.
-use Prim.Native.Nat.{ℕ, zero, suc, _+_, _*_, _-_, _/_}
+use Prim.Native.Nat.{ℕ, zero, suc, _+_, _*_, _-_}
 use mathlib.Core.List.{List}
 use lib.ListN.{getD, replicate}
 use lib.Dec.{ltb, eqb}
@@ -12,6 +12,7 @@ use Rattle.egg.specs.declared.Refusal.{Refusal}
 use Rattle.egg.specs.declared.Counted.{Counted}
 use Rattle.egg.specs.declared.Counted.the-variants as counted
 use Rattle.egg.specs.Table.{pick, startOf, lengthOf}
+use Rattle.egg.specs.Pairs.{pairCount}
 use Rattle.reading.specs.Build.{isNew, setStep, adds}
 use Rattle.rows.specs.declared.inner.Walked.{Walked}
 use Rattle.rows.specs.Walk.{walkFrom}
@@ -22,14 +23,14 @@ use Rattle.running.specs.Run.{onAdds, advanced, first}
 
 -- The order of the pair of two generators, from the list of "Pairs in the order (0,1),(0,2),(1,2),(0,3)..".
 unfoldable pub orderFor : List ℕ → ℕ → ℕ → ℕ
-orderFor o g h = pick (ltb g h) (getD o (h * (h - 1) / 2 + g) 0) (getD o (g * (g - 1) / 2 + h) 0)
+orderFor o g h = pick (ltb g h) (getD o (pairCount h + g) 0) (getD o (pairCount g + h) 0)
 
 -- A walk that went all its way to an element whose step by g is not known: that element's number + 1, else 0.
 abbrev pub endBy : (t : List ℕ) (n g : ℕ) → Walked → ℕ
 endBy t n g x = pick (eqb (x .left) 0) (pick (eqb (getD t (startOf n (x .element .0) + g) 0) 0) (x .element .0 + 1) 0) 0
 
--- Where the relation of g and h says that e·g leads: to the end of h g h .. from e, all letters of the relation but one. A relation of order m cannot say it of
--- an element whose word has fewer than m - 1 letters; this is tested first, since it saves long walks.
+-- Where the relation of g and h says that e·g leads: to the end of h g h .. from e, all letters of the relation but one. Of an element whose word has fewer than
+-- m - 1 letters a relation of order m is not asked, which saves long walks. It should not be able to say it there; that is no theorem, and only time rests on it.
 unfoldable pub loopBy : (t o : List ℕ) (n e g h : ℕ) → ℕ
 loopBy t o n e g h =
     pick (eqb h g) 0

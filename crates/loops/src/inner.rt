@@ -15,18 +15,20 @@ use running::inner::Ran;
 use running::inner::Run;
 
 // The order of the pair of two generators.
-pub fn order_for(orders: &[u32], g: u8, h: u8) -> u32
-    ensures { λ r. ⌜ r ≡ orderFor (now (orders .entry)) g h ⌝ }
+fn order_for(orders: &[u32], g: GeneratorId, h: GeneratorId) -> u32
+    ensures { λ r. ⌜ r ≡ orderFor (now (orders .entry)) (g .0) (h .0) ⌝ }
 {
-    if g < h {
-        egg::inner::get(orders, (egg::inner::pair_count(h) as usize) + (g as usize))
+    let a = g.0;
+    let b = h.0;
+    if a < b {
+        egg::inner::get(orders, (egg::inner::pair_count(b) as usize) + (a as usize))
     } else {
-        egg::inner::get(orders, (egg::inner::pair_count(g) as usize) + (h as usize))
+        egg::inner::get(orders, (egg::inner::pair_count(a) as usize) + (b as usize))
     }
 }
 
 // The letters of a relation but one.
-pub fn letters(order: u32) -> u32
+fn letters(order: u32) -> u32
     requires { ⌜ order < 32768 ⌝ }
     ensures { λ r. ⌜ r ≡ 2 * order - 1 ⌝ }
 {
@@ -38,7 +40,7 @@ pub fn letters(order: u32) -> u32
 }
 
 // A walk along two columns of the table's rows in turn. Most are of a few steps, so there is nothing to guess.
-pub fn loop_end(
+fn loop_end(
     t: &[u32],
     n: u8,
     element: GroupElementId,
@@ -83,45 +85,47 @@ pub fn loop_end(
 }
 
 // Where the relation of g and h says that e·g leads, as the number + 1; 0 where it says nothing. `length` is that of e's word.
-pub fn loop_by(
+fn loop_by(
     t: &[u32],
     orders: &[u32],
     n: u8,
     e: GroupElementId,
-    g: u8,
-    h: u8,
+    g: GeneratorId,
+    h: GeneratorId,
     length: u32,
 ) -> u32
     requires { ⌜ Orders (now orders) × ((e .0 < 4294967295) × (length ≡ lengthOf (now t) n (e .0))) ⌝ }
-    ensures { λ r. ⌜ r ≡ loopBy (now (t .entry)) (now (orders .entry)) n (e .0) g h ⌝ }
+    ensures { λ r. ⌜ r ≡ loopBy (now (t .entry)) (now (orders .entry)) n (e .0) (g .0) (h .0) ⌝ }
 {
-    if h == g {
+    let a = g.0;
+    let b = h.0;
+    if b == a {
         return 0;
     }
     let order = order_for(&orders[..], g, h);
     if (length as usize) + 1 < (order as usize) {
         return 0;
     }
-    let end = loop_end(&t[..], n, e, h as usize, g as usize, letters(order));
+    let end = loop_end(&t[..], n, e, b as usize, a as usize, letters(order));
     if end.left != 0 {
         return 0;
     }
     let last = end.element;
-    if egg::inner::get(t, egg::inner::start(n, last) + (g as usize)) != 0 {
+    if egg::inner::get(t, egg::inner::start(n, last) + (a as usize)) != 0 {
         return 0;
     }
     last.0 + 1
 }
 
 // The same by the first relation of g that says it.
-pub fn loop_from(t: &[u32], orders: &[u32], n: u8, e: GroupElementId, g: u8) -> u32
+fn loop_from(t: &[u32], orders: &[u32], n: u8, e: GroupElementId, g: GeneratorId) -> u32
     requires { ⌜ Orders (now orders) × (e .0 < 4294967295) ⌝ }
-    ensures { λ r. ⌜ r ≡ loopFrom n (now (t .entry)) (now (orders .entry)) n (e .0) g 0 ⌝ }
+    ensures { λ r. ⌜ r ≡ loopFrom n (now (t .entry)) (now (orders .entry)) n (e .0) (g .0) 0 ⌝ }
 {
     let length = egg::inner::word_length(&t[..], n, e);
     let mut h: u8 = 0;
     while h < n {
-        let found = loop_by(&t[..], &orders[..], n, e, g, h, length);
+        let found = loop_by(&t[..], &orders[..], n, e, g, GeneratorId(h), length);
         if found != 0 {
             return found;
         }
@@ -131,7 +135,7 @@ pub fn loop_from(t: &[u32], orders: &[u32], n: u8, e: GroupElementId, g: u8) -> 
 }
 
 // A step that is not known, by what the loops say of it: the element count after it, or 5 or 6.
-pub fn settle_step(
+fn settle_step(
     t: &mut [u32],
     n: u8,
     room: u32,
@@ -158,7 +162,7 @@ pub fn settle_step(
 }
 
 // One place: a known step is skipped.
-pub fn sweep_place(
+fn sweep_place(
     t: &mut [u32],
     orders: &[u32],
     n: u8,
@@ -173,13 +177,12 @@ pub fn sweep_place(
     if egg::inner::get(&t[..], egg::inner::successor_at(n, e, g)) != 0 {
         return Counted::Count(count);
     }
-    let k = g.0;
-    let found = loop_from(&t[..], &orders[..], n, e, k);
+    let found = loop_from(&t[..], &orders[..], n, e, g);
     settle_step(t, n, room, count, e, g, found)
 }
 
 // At most `allowance` places, in order.
-pub fn sweep(t: &mut [u32], orders: &[u32], n: u8, room: u32, from: Run, allowance: u64) -> Ran
+fn sweep(t: &mut [u32], orders: &[u32], n: u8, room: u32, from: Run, allowance: u64) -> Ran
     requires { ⌜ Orders (now orders) × (from .generator < n) ⌝ }
     ensures { λ r. ⌜ sweep r (now (t .exit)) ≡ sweepFrom allowance n (now (orders .entry)) room from (now (t .entry)) ⌝ }
 {

@@ -75,7 +75,7 @@ pub fn beside(pair: u32, index: u32) -> GeneratorId
     generator(pair, index % 2 + 1)
 }
 
-// One test for the whole row, on the way that every run takes.
+// One test for the whole row, on the way that every run of 000 takes.
 pub fn read_row(w: &[u32], at: usize) -> RelationTableRow
     requires { ⌜ at < 36028797018963968 ⌝ }
     ensures { λ r. ⌜ r ≡ readRow (now (w .entry)) at ⌝ }

@@ -25,7 +25,7 @@ pub enum Ran {
 }
 
 // What follows from a new element: its step back, which is no fact, its rows, and all that the step to it settles.
-pub fn discover(
+fn discover(
     t: &mut [u32],
     w: &mut [u32],
     orders: &[u32],
@@ -46,7 +46,7 @@ pub fn discover(
 }
 
 // One place (element, generator) of the inner loop of 000: the element count after it, or 5 or 6.
-pub fn visit_place(
+fn visit_place(
     t: &mut [u32],
     w: &mut [u32],
     orders: &[u32],
@@ -92,7 +92,7 @@ pub fn advance(n: u8, at: Run, count: u32) -> Run
 }
 
 // At most `allowance` places, in order.
-pub fn go(
+fn go(
     t: &mut [u32],
     w: &mut [u32],
     orders: &[u32],

@@ -1,5 +1,5 @@
 use Rattle.egg.proofs.Laws.{putAt-out}
-use Rattle.egg.specs.Table.{putAt, pick, foundOf, startOf}
+use Rattle.egg.specs.Table.{putAt, pick, startOf}
 use borrow.Author.Tests.{lt-ltb, le-ltb, eq-eqb, ne-eqb}
 use mathlib.Core.Path.{_≡_, refl, sym, ap, _∙_}
 use borrow.Author.Needs.{needs}

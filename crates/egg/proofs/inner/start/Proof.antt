@@ -1,7 +1,7 @@
 use Rattle.egg.proofs.Laws.{product-small}
 use lib.Dec.{lit<}
 use native.Mathlib.Nat.{lt-trans}
-use Rattle.egg.specs.Table.{putAt, pick, foundOf, startOf}
+use Rattle.egg.specs.Table.{putAt, pick, startOf}
 use native.Mathlib.Omega.{arith}
 use mathlib.Core.Path.{_≡_, refl, sym, ap, _∙_}
 use borrow.Author.Needs.{needs}
