@@ -1,15 +1,15 @@
 -- The table is zeroed, read into, and finished.
-use Rattle.factor.proofs.Composing.{composed-in}
+use Rattle.composed_rows.proofs.Composing.{composed-in}
 use mathlib.Core.Path.{_≡_, sym, _∙_}
 use lib.ListN.{length}
 use borrow.Author.Needs.{needs}
-use Rattle.factor.proofs.inner.compose_in.Statement.{statement}
-use Rattle.factor.proofs.inner.compose_in.Tie as tie
-use Rattle.factor.proofs.inner.compose_in.Reads as reads
-use Rattle.factor.proofs.inner.compose_in.Lts as lts
+use Rattle.composed_rows.proofs.inner.compose_in.Statement.{statement}
+use Rattle.composed_rows.proofs.inner.compose_in.Tie as tie
+use Rattle.composed_rows.proofs.inner.compose_in.Reads as reads
+use Rattle.composed_rows.proofs.inner.compose_in.Lts as lts
 use Rattle.lending.proofs.inner.finish.Reads as finish-reads
 use Rattle.egg.proofs.inner.clear.Reads as clear-reads
-use Rattle.factor.proofs.inner.read_rows.Reads as read-rows-reads
+use Rattle.composed_rows.proofs.inner.read_rows.Reads as read-rows-reads
 
 clear-requires : tie.Need-clear-requires
 clear-requires c κs = search needs

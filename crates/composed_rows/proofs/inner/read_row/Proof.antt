@@ -6,10 +6,10 @@ use borrow.Author.Needs.{needs}
 use lib.ListN.{length}
 use Rattle.egg.proofs.Laws.{product-small}
 use Rattle.reading.specs.Reading.{readRow}
-use Rattle.factor.specs.Composed.{composedAt}
+use Rattle.composed_rows.specs.Rows.{composedAt}
 use Rattle.reading.proofs.Readings.{row-next, row-stop, row-end}
-use Rattle.factor.proofs.inner.read_row.Statement.{statement}
-use Rattle.factor.proofs.inner.read_row.Tie as tie
+use Rattle.composed_rows.proofs.inner.read_row.Statement.{statement}
+use Rattle.composed_rows.proofs.inner.read_row.Tie as tie
 
 abbrev Inv-loop : tie.InvT-loop
 Inv-loop t₀ rows n room e first row g₀ count₀ t g count = (length t ≡ length t₀) × (g ≤ n) × (readRow (n - g) (composedAt rows n) n room (e .0) g count t ≡ readRow n (composedAt rows n) n room (e .0) 0 first t₀)

@@ -5,10 +5,10 @@ use native.Mathlib.Omega.{arith}
 use borrow.Author.Needs.{needs}
 use lib.ListN.{length}
 use Rattle.reading.specs.Reading.{readFrom}
-use Rattle.factor.specs.Composed.{composedAt}
+use Rattle.composed_rows.specs.Rows.{composedAt}
 use Rattle.reading.proofs.Readings.{rows-done, rows-next, rows-stop, rows-end}
-use Rattle.factor.proofs.inner.read_rows.Statement.{statement}
-use Rattle.factor.proofs.inner.read_rows.Tie as tie
+use Rattle.composed_rows.proofs.inner.read_rows.Statement.{statement}
+use Rattle.composed_rows.proofs.inner.read_rows.Tie as tie
 
 abbrev Inv-loop : tie.InvT-loop
 Inv-loop t₀ rows n room e₀ count₀ t e count = (length t ≡ length t₀) × (e ≤ room) × (readFrom (room - e) (composedAt rows n) n room e count t ≡ readFrom room (composedAt rows n) n room 0 1 t₀)
