@@ -1,8 +1,8 @@
 -- One law for each answer.
-use Rattle.builder.proofs.Calls.{long-full, long-read}
+use Rattle.places.proofs.Places.{long-full, long-read}
 use borrow.Author.Needs.{needs}
-use Rattle.builder.proofs.inner.over_long.Statement.{statement}
-use Rattle.builder.proofs.inner.over_long.Tie as tie
+use Rattle.places.proofs.inner.over_long.Statement.{statement}
+use Rattle.places.proofs.inner.over_long.Tie as tie
 
 returns : tie.Need-returns
 returns c = long-full ((c .before .before .before .args .t .now)) ((c .before .before .before .args .f)) ((c .before .before .before .args .e)) ((c .if1 .taken))

@@ -1,10 +1,10 @@
 -- One law for each answer, from what `place` ensures and the last test.
 use mathlib.Core.Path.{_∙_}
 use lib.ListN.{length}
-use Rattle.builder.proofs.Calls.{end-refused, end-out, end-fine}
+use Rattle.places.proofs.Places.{end-refused, end-out, end-fine}
 use borrow.Author.Needs.{needs}
-use Rattle.builder.proofs.inner.place_step.Statement.{statement}
-use Rattle.builder.proofs.inner.place_step.Tie as tie
+use Rattle.places.proofs.inner.place_step.Statement.{statement}
+use Rattle.places.proofs.inner.place_step.Tie as tie
 
 place-requires : tie.Need-place-requires
 place-requires c κs = search needs

@@ -2,10 +2,10 @@
 use borrow.Author.Tests.{not-true, not-false}
 use mathlib.Core.Path.{sym, _∙_}
 use lib.ListN.{length}
-use Rattle.builder.proofs.Calls.{place-handle, place-element, place-generator, place-fine}
+use Rattle.places.proofs.Places.{place-handle, place-element, place-generator, place-fine}
 use borrow.Author.Needs.{needs}
-use Rattle.builder.proofs.inner.place.Statement.{statement}
-use Rattle.builder.proofs.inner.place.Tie as tie
+use Rattle.places.proofs.inner.place.Statement.{statement}
+use Rattle.places.proofs.inner.place.Tie as tie
 
 fits-requires : tie.Need-fits-requires
 fits-requires c κs = search needs
