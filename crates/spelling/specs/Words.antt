@@ -9,7 +9,7 @@ use Rattle.egg.specs.declared.Counted.{Counted}
 use Rattle.egg.specs.declared.Counted.the-variants.{Count, Refused}
 use Rattle.egg.specs.Table.{pick, lengthOf}
 use Rattle.egg.specs.Factor.{stretch}
-use Rattle.letters.specs.Spell.{readable, spellFrom}
+use Rattle.gathering.specs.Spell.{readable, spellFrom}
 use Rattle.words.specs.Words.{lengthIn}
 use Rattle.handles.specs.Counts.{onCounted}
 

@@ -13,7 +13,7 @@ use Rattle.egg.specs.declared.Refusal.{Refusal}
 use Rattle.egg.specs.declared.Counted.{Counted}
 use Rattle.egg.specs.declared.Counted.the-variants as counted
 use Rattle.egg.specs.Table.{hopOf, lengthOf}
-use Rattle.letters.specs.Spell.{readable, spellBy, spell}
+use Rattle.gathering.specs.Spell.{readable, spellBy, spell}
 use Rattle.words.specs.Words.{lengthIn, writeIn, writtenBy}
 
 module _ (s : List ℕ) (n e : ℕ) {len : ℕ} (q : len ≡ lengthOf s n e) where

@@ -6,8 +6,8 @@ use lib.Dec.{ltb}
 use Rattle.egg.specs.declared.Counted.{Counted}
 use Rattle.egg.specs.declared.Counted.the-variants as counted
 use Rattle.egg.specs.Table.{pick, lengthOf}
-pub use Rattle.letters.specs.Spell.{readable, spellFrom, spell}
-unfoldable pub use Rattle.letters.specs.Spell.{readableBy, spellBy}
+pub use Rattle.gathering.specs.Spell.{readable, spellFrom, spell}
+unfoldable pub use Rattle.gathering.specs.Spell.{readableBy, spellBy}
 
 -- The recorded length of a word.
 unfoldable pub lengthIn : List ℕ → ℕ → ℕ → Counted

@@ -3,7 +3,7 @@ ghost use mathlib.Core.Path.{_≡_};
 ghost use Prim.Native.Nat.{_≤_};
 ghost use lib.ListN.{length};
 ghost use Rattle.egg.specs.Table.{pick};
-ghost use Rattle.letters.specs.Spell.{readable, spell};
+ghost use Rattle.gathering.specs.Spell.{readable, spell};
 ghost use Rattle.words.specs.Words.{lengthIn, writeIn, writtenBy};
 use egg::Counted;
 use egg::GroupElementId;
@@ -41,10 +41,10 @@ fn write_with_care(
 ) -> bool
     ensures { λ r. ⌜ (r ≡ readable len (now (s .entry)) n count (e .0)) × (now (out .exit) ≡ pick r (spell len (now (s .entry)) n (e .0) (now (out .entry))) (now (out .entry))) ⌝ }
 {
-    if !letters::inner::readable(&s[..], n, count, e, len) {
+    if !gathering::inner::readable(&s[..], n, count, e, len) {
         return false;
     }
-    letters::inner::spell_from(&s[..], n, e, len, 0, 0, out);
+    gathering::inner::spell_from(&s[..], n, e, len, 0, 0, out);
     true
 }
 
@@ -55,7 +55,7 @@ fn write_short(s: &[u32], n: u8, count: u32, e: GroupElementId, len: u32, out: &
     ensures { λ r. ⌜ (r ≡ readable len (now (s .entry)) n count (e .0)) × (now (out .exit) ≡ pick r (spell len (now (s .entry)) n (e .0) (now (out .entry))) (now (out .entry))) ⌝ }
 {
     let mut held = [0; 68];
-    if !letters::inner::gather(&s[..], n, count, e, len, &mut held) {
+    if !gathering::inner::gather(&s[..], n, count, e, len, &mut held) {
         return write_with_care(&s[..], n, count, e, len, out);
     }
     bytes::copy(&held[4..(len as usize) + 4], out);
@@ -67,7 +67,7 @@ fn write_long(s: &[u32], n: u8, count: u32, e: GroupElementId, len: u32, out: &m
     ensures { λ r. ⌜ (r ≡ readable len (now (s .entry)) n count (e .0)) × (now (out .exit) ≡ pick r (spell len (now (s .entry)) n (e .0) (now (out .entry))) (now (out .entry))) ⌝ }
 {
     let mut held = [0; 4100];
-    if !letters::inner::gather(&s[..], n, count, e, len, &mut held) {
+    if !gathering::inner::gather(&s[..], n, count, e, len, &mut held) {
         return write_with_care(&s[..], n, count, e, len, out);
     }
     bytes::copy(&held[4..(len as usize) + 4], out);

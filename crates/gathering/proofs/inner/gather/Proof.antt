@@ -4,9 +4,9 @@ use native.Mathlib.Omega.{arith}
 use borrow.Author.Needs.{needs}
 use borrow.Author.Tests.{not-false}
 use Rattle.egg.proofs.Rooms.{false-true}
-use Rattle.letters.proofs.Letters.{Gathering, gathering, gathers-on, gathers-end}
-use Rattle.letters.proofs.inner.gather.Statement.{statement}
-use Rattle.letters.proofs.inner.gather.Tie as tie
+use Rattle.gathering.proofs.Letters.{Gathering, gathering, gathers-on, gathers-end}
+use Rattle.gathering.proofs.inner.gather.Statement.{statement}
+use Rattle.gathering.proofs.inner.gather.Tie as tie
 
 abbrev Inv-loop : tie.InvT-loop
 Inv-loop s n count len held₀ at₀ left₀ held at left = Gathering s n count at₀ left₀ held₀ held at left

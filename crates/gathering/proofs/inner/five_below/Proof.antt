@@ -1,9 +1,9 @@
 -- Where a test fails nothing is said.
 use borrow.Author.Tests.{ltb-true}
 use Rattle.egg.proofs.Rooms.{false-true}
-use Rattle.letters.proofs.Letters.{below-five}
-use Rattle.letters.proofs.inner.five_below.Statement.{statement}
-use Rattle.letters.proofs.inner.five_below.Tie as tie
+use Rattle.gathering.proofs.Letters.{below-five}
+use Rattle.gathering.proofs.inner.five_below.Statement.{statement}
+use Rattle.gathering.proofs.inner.five_below.Tie as tie
 
 returns : tie.Need-returns
 returns c = λ h. absurd (false-true h)

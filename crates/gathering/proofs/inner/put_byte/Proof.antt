@@ -2,8 +2,8 @@
 use mathlib.Core.Path.{sym}
 use lib.Seq.{set-out}
 use borrow.Author.Needs.{needs}
-use Rattle.letters.proofs.inner.put_byte.Statement.{statement}
-use Rattle.letters.proofs.inner.put_byte.Tie as tie
+use Rattle.gathering.proofs.inner.put_byte.Statement.{statement}
+use Rattle.gathering.proofs.inner.put_byte.Tie as tie
 
 slice-write-out : tie.Need-slice-write-out
 slice-write-out c = search needs

@@ -13,8 +13,8 @@ use Rattle.egg.specs.Table.{hopOf}
 use Rattle.egg.proofs.Rooms.{and-first, and-second}
 use Rattle.hops.specs.Hops.{without}
 use Rattle.hops.proofs.Hops.{five-off}
-use Rattle.letters.specs.Spell.{readableBy, readable, spellBy, spellFrom, spell}
-use Rattle.letters.specs.Letters.{lettersInBelow, lettersPut}
+use Rattle.gathering.specs.Spell.{readableBy, readable, spellBy, spellFrom, spell}
+use Rattle.gathering.specs.Letters.{lettersInBelow, lettersPut}
 
 pub all-below : (k j n c : ℕ) → lettersInBelow j j n c ≡ true → lettersInBelow k j n c ≡ true
 unfolding lettersInBelow

@@ -3,8 +3,8 @@ ghost use mathlib.Core.Path.{_≡_};
 ghost use mathlib.Core.Bool.{true};
 ghost use Prim.Native.Nat.{_+_, _≤_};
 ghost use lib.ListN.{length, set, drop};
-ghost use Rattle.letters.specs.Spell.{readable, spellFrom, spell};
-ghost use Rattle.letters.specs.Letters.{lettersInBelow, lettersPut};
+ghost use Rattle.gathering.specs.Spell.{readable, spellFrom, spell};
+ghost use Rattle.gathering.specs.Letters.{lettersInBelow, lettersPut};
 use egg::GroupElementId;
 
 // Whether all five letters in a number are generators. Those before a word's first one are, in an accepted table: the

@@ -3,10 +3,10 @@ use mathlib.Core.Path.{_≡_, refl, _∙_}
 use native.Mathlib.Omega.{arith}
 use borrow.Author.Needs.{needs}
 use lib.ListN.{length}
-use Rattle.letters.specs.Spell.{spellFrom}
-use Rattle.letters.proofs.Letters.{spell-end, spell-more, spell-last}
-use Rattle.letters.proofs.inner.spell_from.Statement.{statement}
-use Rattle.letters.proofs.inner.spell_from.Tie as tie
+use Rattle.gathering.specs.Spell.{spellFrom}
+use Rattle.gathering.proofs.Letters.{spell-end, spell-more, spell-last}
+use Rattle.gathering.proofs.inner.spell_from.Statement.{statement}
+use Rattle.gathering.proofs.inner.spell_from.Tie as tie
 
 abbrev Inv-loop : tie.InvT-loop
 Inv-loop s n len start offset out₀ at₀ left₀ out at left = (length out ≡ length out₀) × (spellFrom left s n at start offset out ≡ spellFrom left₀ s n at₀ start offset out₀)

@@ -3,10 +3,10 @@ use mathlib.Core.Path.{_≡_, refl, _∙_}
 use native.Mathlib.Omega.{arith}
 use borrow.Author.Needs.{needs}
 use borrow.Author.Tests.{not-true, not-false}
-use Rattle.letters.specs.Spell.{readable}
-use Rattle.letters.proofs.Letters.{readable-end, readable-out, readable-no, readable-more, readable-last}
-use Rattle.letters.proofs.inner.readable.Statement.{statement}
-use Rattle.letters.proofs.inner.readable.Tie as tie
+use Rattle.gathering.specs.Spell.{readable}
+use Rattle.gathering.proofs.Letters.{readable-end, readable-out, readable-no, readable-more, readable-last}
+use Rattle.gathering.proofs.inner.readable.Statement.{statement}
+use Rattle.gathering.proofs.inner.readable.Tie as tie
 
 abbrev Inv-loop : tie.InvT-loop
 Inv-loop s n count len at₀ left₀ at left = readable left s n count at ≡ readable left₀ s n count at₀

@@ -4,10 +4,10 @@ use mathlib.Core.Path.{_≡_, refl, _∙_}
 use native.Mathlib.Omega.{arith}
 use borrow.Author.Needs.{needs}
 use lib.ListN.{length}
-use Rattle.letters.specs.Letters.{lettersPut}
-use Rattle.letters.proofs.Letters.{put-word, put-here, put-on}
-use Rattle.letters.proofs.inner.put_letters.Statement.{statement}
-use Rattle.letters.proofs.inner.put_letters.Tie as tie
+use Rattle.gathering.specs.Letters.{lettersPut}
+use Rattle.gathering.proofs.Letters.{put-word, put-here, put-on}
+use Rattle.gathering.proofs.inner.put_letters.Statement.{statement}
+use Rattle.gathering.proofs.inner.put_letters.Tie as tie
 
 abbrev Inv-loop : tie.InvT-loop
 Inv-loop c left start offset out₀ rest₀ word₀ here₀ out rest word here = (length out ≡ length out₀) × (word ≤ word₀) × (lettersPut word here rest start offset out ≡ lettersPut word₀ here₀ rest₀ start offset out₀)

@@ -1,10 +1,10 @@
 -- The five stores are those of the definition.
 use lib.ListN.{length-set}
 use native.Mathlib.Omega.{arith}
-use Rattle.letters.proofs.Letters.{put-five}
+use Rattle.gathering.proofs.Letters.{put-five}
 use borrow.Author.Needs.{needs}
-use Rattle.letters.proofs.inner.put_five.Statement.{statement}
-use Rattle.letters.proofs.inner.put_five.Tie as tie
+use Rattle.gathering.proofs.inner.put_five.Statement.{statement}
+use Rattle.gathering.proofs.inner.put_five.Tie as tie
 
 cast-held : tie.Need-cast-held
 cast-held c = search needs

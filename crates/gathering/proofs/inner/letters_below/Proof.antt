@@ -1,10 +1,10 @@
 -- Where all five are generators those of the word are; else letter by letter, what is left to look at decides as all of it does.
 use mathlib.Core.Path.{_≡_, refl, sym, _∙_}
 use borrow.Author.Needs.{needs}
-use Rattle.letters.specs.Letters.{lettersInBelow}
-use Rattle.letters.proofs.Letters.{all-below, below-word, below-here, below-no, below-on}
-use Rattle.letters.proofs.inner.letters_below.Statement.{statement}
-use Rattle.letters.proofs.inner.letters_below.Tie as tie
+use Rattle.gathering.specs.Letters.{lettersInBelow}
+use Rattle.gathering.proofs.Letters.{all-below, below-word, below-here, below-no, below-on}
+use Rattle.gathering.proofs.inner.letters_below.Statement.{statement}
+use Rattle.gathering.proofs.inner.letters_below.Tie as tie
 
 abbrev Inv-loop : tie.InvT-loop
 Inv-loop n c left rest₀ word₀ here₀ rest word here = lettersInBelow word here n rest ≡ lettersInBelow word₀ here₀ n rest₀
