@@ -1,14 +1,13 @@
 -- One law for each answer of the builder's calls, by the tests that lead to it.
 -- Assumes nothing.
 use Prim.Native.Nat.{ℕ, _+_, _*_, _-_, _≤_, _<_}
-use mathlib.Core.Path.{_≡_, refl, sym, ap, _∙_}
+use mathlib.Core.Path.{_≡_, ap, _∙_}
 use mathlib.Core.Bool.{Bool, true, false}
 use mathlib.Core.List.{List, _++_}
 use native.Mathlib.Nat.{mul-le-mul}
 use native.Mathlib.Omega.{arith}
 use borrow.Author.Tests.{lt-ltb, le-ltb, le-leb, lt-leb}
 use borrow.Rule.Slice.PartMut.{midOf, putMid}
-use lib.Dec.{ltb}
 use lib.ListN.{length, take, drop, replicate}
 use lib.Seq.{length-take-le}
 use Rattle.egg.specs.declared.GroupElementId.{GroupElementId}
@@ -21,9 +20,6 @@ use Rattle.egg.specs.declared.Verdict.the-variants as verdict
 use Rattle.egg.specs.declared.Reached.{Reached}
 use Rattle.egg.specs.declared.Reached.the-variants as reached
 use Rattle.egg.specs.declared.Counted.{Counted}
-use Rattle.egg.specs.Scan.{refusedOf}
-use Rattle.egg.proofs.Scans.{andThen-fine}
-use Rattle.egg.specs.Table.{lengthOf}
 use Rattle.egg.specs.Factor.{hasRoom, fitsIn, stretch, refusedReach}
 use Rattle.egg.proofs.Rooms.{room-enough}
 use Rattle.builder.specs.declared.Builder.{Builder}
@@ -31,11 +27,12 @@ use Rattle.builder.specs.declared.Begun.{Begun}
 use Rattle.builder.specs.declared.Grown.{Grown}
 use Rattle.builder.specs.declared.Stored.{Stored}
 use Rattle.builder.specs.declared.Stored.the-variants as stored
+use Rattle.places.specs.Places.{placed, placedStep, overLong}
 use Rattle.reading.specs.Build.{isNew, setStep, adds}
 use Rattle.lending.specs.Finish.{built}
 use Rattle.rereading.specs.Own.{ownIn}
 use Rattle.lending.specs.Lending.{tableNeed, workNeed, within, Ends, noFactor, refusedMade, madeOf, making}
-use Rattle.builder.specs.Calls.{Leaving, leaving, builderOf, refusedBegun, begins, placed, placedStep, overLong, grown, growsBy, grows, newOr, stores, builds}
+use Rattle.builder.specs.Calls.{Leaving, leaving, builderOf, refusedBegun, begins, grown, growsBy, grows, newOr, stores, builds}
 use Rattle.lending.proofs.Lending.{part-length, part-back, stretch-lent, build-back}
 
 module _ (table : List ℕ) (start room n : ℕ) where
@@ -56,58 +53,6 @@ module _ (table : List ℕ) (start room n : ℕ) where
       (part-back table start (tableNeed n room) q p ∙ ap (λ (l : List ℕ). within table start (start + tableNeed n room) l)
       (z ∙ ap (λ (m : ℕ). replicate m 0) (part-length table start (tableNeed n room) q)))
       ∙ rw k (simp (le-ltb _ _ h))
-
-module _ (len : ℕ) (f : Factor) (e : GroupElementId) (g : GeneratorId) where
-  pub place-handle : fitsIn len f ≡ false → refusedOf 17 0 0 0 ≡ placed len f e g
-  unfolding placed
-  place-handle h = rw h
-
-  module _ (fits : fitsIn len f ≡ true) where
-    pub place-element : f .elements ≤ e .0 → refusedOf 14 0 0 0 ≡ placed len f e g
-    unfolding placed
-    place-element h = rw fits (simp (le-leb _ _ h))
-
-    pub place-generator : e .0 < f .elements → f .generators ≤ g .0 → refusedOf 14 1 0 0 ≡ placed len f e g
-    unfolding placed
-    place-generator h k = rw fits (simp (lt-leb _ _ h, le-leb _ _ k))
-
-    pub place-fine : e .0 < f .elements → g .0 < f .generators → verdict.Fine ≡ placed len f e g
-    unfolding placed
-    place-fine h k = rw fits (simp (lt-leb _ _ h, lt-leb _ _ k))
-
-  -- A place was found in a handle that fits.
-  pub place-fits : {v : Verdict} → v ≡ placed len f e g → v ≡ verdict.Fine → fitsIn len f ≡ true
-  place-fits {v} q h = by (fitsIn len f) refl where
-    by : (b : Bool) → fitsIn len f ≡ b → fitsIn len f ≡ true
-    by true p = p
-    by false p = let w : refusedOf 17 0 0 0 ≡ placed len f e g = place-handle p in let z : _≡_ {A = ℕ} 0 1 = cc in absurd (omega arith)
-
-  module _ (r : GroupElementId) {v : Verdict} (q : v ≡ placed len f e g) where
-    pub end-refused : {why : Refusal} → v ≡ verdict.Refused why → v ≡ placedStep len f e g r
-    unfolding placedStep
-    end-refused h = rw (← q, h)
-
-    pub end-out : v ≡ verdict.Fine → f .elements ≤ r .0 → refusedOf 14 2 0 0 ≡ placedStep len f e g r
-    unfolding placedStep
-    end-out h k = rw (← q, h) (simp (le-leb _ _ k))
-
-    pub end-fine : v ≡ verdict.Fine → r .0 < f .elements → verdict.Fine ≡ placedStep len f e g r
-    unfolding placedStep
-    end-fine h k = rw (← q, h) (simp (lt-leb _ _ k))
-
-pub end-fits : (len : ℕ) (f : Factor) (e : GroupElementId) (g : GeneratorId) (r : GroupElementId) {v : Verdict}
-    → v ≡ placedStep len f e g r → v ≡ verdict.Fine → fitsIn len f ≡ true
-unfolding placedStep
-end-fits len f e g r q h = place-fits len f e g refl (andThen-fine (placed len f e g) _ .0 (sym q ∙ h) .0)
-
-module _ (s : List ℕ) (f : Factor) (e : GroupElementId) where
-  pub long-full : f .room ≤ f .elements → false ≡ overLong s f e
-  unfolding overLong
-  long-full h = simp (le-ltb _ _ h)
-
-  pub long-read : {x : ℕ} → f .elements < f .room → x ≡ lengthOf s (f .generators) (e .0) → ltb 4096 x ≡ overLong s f e
-  unfolding overLong
-  long-read h q = rw q (simp (lt-ltb _ _ h))
 
 module _ (s : List ℕ) (f : Factor) (e : GroupElementId) (g : GeneratorId) {long : Bool} (o : long ≡ overLong s f e) where
   pub grow-altered : {x : Reached} {s₁ : List ℕ} {none : Factor} → long ≡ true → s₁ ≡ replicate (length s) 0 → x ≡ refusedReach 17 0 → none ≡ noFactor

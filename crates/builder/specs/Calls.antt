@@ -3,7 +3,7 @@
 -- Assumes nothing.
 use Prim.Native.Nat.{ℕ, _+_}
 use mathlib.Core.List.{List}
-use mathlib.Core.Bool.{Bool, true, false, _&&_}
+use mathlib.Core.Bool.{Bool, true, false}
 use lib.ListN.{length, take, replicate}
 use lib.Dec.{ltb, leb}
 use Rattle.egg.specs.declared.GroupElementId.{GroupElementId}
@@ -13,14 +13,15 @@ use Rattle.egg.specs.declared.Verdict.{Verdict}
 use Rattle.egg.specs.declared.Verdict.the-variants as verdict
 use Rattle.egg.specs.declared.Reached.{Reached}
 use Rattle.egg.specs.declared.Reached.the-variants as reached
-use Rattle.egg.specs.Table.{pick, lengthOf}
-use Rattle.egg.specs.Scan.{refusedOf, andThen}
+use Rattle.egg.specs.Table.{pick}
+use Rattle.egg.specs.Scan.{refusedOf}
 use Rattle.egg.specs.Factor.{Paper, refusalPaper, hasRoom, fitsIn, stretch, refusedReach}
 use Rattle.builder.specs.declared.Builder.{Builder}
 use Rattle.builder.specs.declared.Begun.{Begun}
 use Rattle.builder.specs.declared.Grown.{Grown}
 use Rattle.builder.specs.declared.Stored.{Stored}
 use Rattle.builder.specs.declared.Stored.the-variants as stored
+unfoldable pub use Rattle.places.specs.Places.{placed, placedStep, overLong}
 use Rattle.reading.specs.Build.{isNew, setStep, adds}
 use Rattle.lending.specs.Finish.{zeroed}
 use Rattle.rereading.specs.Own.{ownIn}
@@ -58,21 +59,6 @@ begins table start room n =
     (leaving (record { answer = verdict.Fine; builder = builderOf start room n 1 })
     (within table start (start + tableNeed n room) (replicate (tableNeed n room) 0)))
     (leaving (refusedBegun 4 0) table))
-
--- 17 in the handle, then 14 for an element and a generator.
-unfoldable pub placed : ℕ → Factor → GroupElementId → GeneratorId → Verdict
-placed len f e g =
-    pick (fitsIn len f)
-    (pick (leb (f .elements) (e .0)) (refusedOf 14 0 0 0) (pick (leb (f .generators) (g .0)) (refusedOf 14 1 0 0) verdict.Fine))
-    (refusedOf 17 0 0 0)
-
--- The same, then 14 for a second element.
-unfoldable pub placedStep : (len : ℕ) (f : Factor) (e : GroupElementId) (g : GeneratorId) (r : GroupElementId) → Verdict
-placedStep len f e g r = andThen (placed len f e g) (pick (leb (f .elements) (r .0)) (refusedOf 14 2 0 0) verdict.Fine)
-
--- 17, "a number read from it is out of range": there is room, since 5 comes before, and the recorded word of e is longer than any word may be.
-unfoldable pub overLong : List ℕ → Factor → GroupElementId → Bool
-overLong s f e = ltb (f .elements) (f .room) && ltb 4096 (lengthOf s (f .generators) (e .0))
 
 -- A new element's builder knows one element more; a refusal ends the build: zeros in its stretch, and no builder.
 abbrev pub grownBy : Factor → Reached → List ℕ → Leaving Grown

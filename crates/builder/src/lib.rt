@@ -62,7 +62,7 @@ pub fn add_successor(table: &mut [u32], b: Builder, e: GroupElementId, g: Genera
     ensures { λ r. ⌜ Leaving.leaving r (now (table .exit)) ≡ grows (now (table .entry)) b e g ⌝ }
 {
     let f = b.0;
-    match inner::place(&table[..], f, e, g) {
+    match places::inner::place(&table[..], f, e, g) {
         Verdict::Refused(why) => Grown {
             answer: Reached::Refused(why),
             builder: b,
@@ -86,7 +86,7 @@ pub fn set_successor(
     ensures { λ x. ⌜ Leaving.leaving x (now (table .exit)) ≡ stores (now (table .entry)) b e g r ⌝ }
 {
     let f = b.0;
-    match inner::place_step(&table[..], f, e, g, r) {
+    match places::inner::place_step(&table[..], f, e, g, r) {
         Verdict::Refused(why) => Stored::Refused(why),
         Verdict::Fine => {
             let a = f.start;

@@ -19,8 +19,8 @@ use Rattle.reading.specs.Build.{isNew, adds}
 use Rattle.builder.specs.declared.Builder.{Builder}
 use Rattle.lending.specs.Lending.{tableNeed, within}
 use Rattle.builder.specs.Calls.{Leaving, leaving, withStretch, builderOf, begins, placed, overLong, grown, growsBy, grows, newOr, stores}
-use Rattle.builder.proofs.Calls.{begin-many, begin-short, place-handle, place-element, place-generator, place-fine}
-use Rattle.builder.proofs.Calls.{end-refused, end-out, end-fine, grows-refused, stores-refused}
+use Rattle.places.proofs.Places.{place-handle, place-element, place-generator, place-fine, end-refused, end-out, end-fine}
+use Rattle.builder.proofs.Calls.{begin-many, begin-short, grows-refused, stores-refused}
 use Rattle.promises.proofs.Unaltered.{stretch-long}
 use Rattle.builders.specs.Own.{ownAt}
 use Rattle.builders.specs.Calls.{Handed, begunPaper, grownPaper, notedPaper, withStep, ownLength, zeroStretch, RightPlace}

@@ -29,7 +29,7 @@ use Rattle.builder.specs.declared.Grown.{Grown}
 use Rattle.builder.specs.declared.Stored.the-variants as stored
 use Rattle.lending.specs.Lending.{tableNeed, workNeed, refusedMade, Making, making}
 use Rattle.builder.specs.Calls.{leaving, builderOf, refusedBegun, begins, placed, placedStep, overLong, grownBy, grown, growsBy, grows, storesBy, stores, builds}
-use Rattle.builder.proofs.Calls.{place-fits}
+use Rattle.places.proofs.Places.{place-fits}
 use Rattle.meaning.specs.Numbers.{In, lateNumbers}
 use Rattle.promises.specs.Leaves.{Leaves, untouched, zeros, tableFor, lentFor}
 use Rattle.promises.proofs.ReadLengths.{adds-length}

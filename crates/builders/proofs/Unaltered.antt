@@ -21,7 +21,7 @@ use Rattle.builder.specs.declared.Builder.{Builder}
 use Rattle.builder.specs.declared.Grown.{Grown}
 use Rattle.lending.specs.Lending.{tableNeed, within, making}
 use Rattle.builder.specs.Calls.{Leaving, leaving, withStretch, builderOf, refusedBegun, begins, placed, placedStep, overLong, grownBy, grown, growsBy, grows, storesBy, stores, builds}
-use Rattle.builder.proofs.Calls.{place-fits, end-fits}
+use Rattle.places.proofs.Places.{place-fits, end-fits}
 use Rattle.derived.proofs.Marking.{set-length}
 use Rattle.answers.specs.Accepted.{Accepted}
 use Rattle.answers.specs.Unaltered.{Unaltered}

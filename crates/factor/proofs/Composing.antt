@@ -1,30 +1,21 @@
 -- One law for each answer of the call on composed rows.
 -- Assumes nothing.
-use Prim.Native.Nat.{ℕ, _+_, _*_, _-_, _≤_, _<_}
-use mathlib.Core.Path.{_≡_, refl, sym, ap, _∙_}
+use Prim.Native.Nat.{ℕ, _*_, _-_, _≤_, _<_}
+use mathlib.Core.Path.{_≡_, _∙_}
 use mathlib.Core.Bool.{true, false, _&&_}
 use mathlib.Core.List.{List, _++_}
 use native.Mathlib.Nat.{mul-le-mul}
 use native.Mathlib.Omega.{arith}
 use borrow.Author.Tests.{lt-ltb, le-ltb, le-leb, lt-leb}
 use borrow.Rule.Slice.PartMut.{midOf, putMid}
-use lib.ListN.{length, take, drop, replicate}
+use lib.ListN.{length, take, drop}
 use Rattle.egg.specs.declared.Made.{Made}
 use Rattle.egg.specs.declared.Counted.{Counted}
-use Rattle.egg.specs.Factor.{hasRoom}
-use Rattle.lending.specs.Finish.{Built, built, finished, finishedPlaced}
-use Rattle.lending.specs.Lending.{tableNeed, workNeed, lentRight, Ends, refusedMade, madeOf, Making, making, lentBack}
+use Rattle.lending.specs.Finish.{built}
+use Rattle.lending.specs.Lending.{tableNeed, workNeed, lentRight, Ends, refusedMade, madeOf, making}
 use Rattle.lending.proofs.Lending.{part-length, build-back}
-use Rattle.reading.specs.Reading.{Placed, placed, readAll}
-use Rattle.factor.specs.Composed.{composedAt, composedIn, composed}
-
--- The build: a zeroed table, read into, and finished.
-pub composed-in : (size : ℕ) (w rows : List ℕ) (n room : ℕ) {t₀ t : List ℕ} {c : Counted} {b : Built} → t₀ ≡ replicate size 0
-    → placed c t ≡ readAll (composedAt rows n) n room t₀ → b ≡ finished c n t w → b ≡ composedIn size w rows n room
-unfolding composedIn
-composed-in size w rows n room {t₀} {t} {c} a p q =
-    let e : placed c t ≡ readAll (composedAt rows n) n room (replicate size 0) = rw a at p in
-    q ∙ ap (λ (x : Placed). finishedPlaced x n w) e
+use Rattle.composed_rows.specs.Rows.{composedIn}
+use Rattle.factor.specs.Composed.{composed}
 
 -- A product of 32 and 8 bits fits.
 pub listed-small : {room n : ℕ} → room < 4294967296 → n < 256 → room * n < 18446744073709551616

@@ -1,23 +1,15 @@
 -- A factor from a lent list of composed numbers: the call, its refusals, and what every lent buffer holds. Document 01, module 3: "`from_compose_fn` becomes
 -- a lent table".
 -- Assumes nothing.
-use Prim.Native.Nat.{ℕ, _+_, _*_}
+use Prim.Native.Nat.{ℕ, _*_}
 use mathlib.Core.List.{List}
 use mathlib.Core.Bool.{_&&_}
-use lib.ListN.{length, getD, take, replicate}
+use lib.ListN.{length, take}
 use lib.Dec.{ltb, leb}
 use Rattle.egg.specs.Table.{pick}
-use Rattle.lending.specs.Finish.{Built, finishedPlaced}
 use Rattle.lending.specs.Lending.{tableNeed, workNeed, lentRight, refusedMade, Making, making, lentBack}
-use Rattle.reading.specs.Reading.{readAll}
-
--- The number at (e, g) of a list of rows of n numbers.
-abbrev pub composedAt : List ℕ → ℕ → ℕ → ℕ → ℕ
-composedAt rows n e g = getD rows (e * n + g) 0
-
--- The build in its stretches: the table's is zeroed first, and read into; then the checks.
-unfoldable pub composedIn : (size : ℕ) (w rows : List ℕ) (n room : ℕ) → Built
-composedIn size w rows n room = finishedPlaced (readAll (composedAt rows n) n room (replicate size 0)) n w
+pub use Rattle.composed_rows.specs.Rows.{composedAt}
+unfoldable pub use Rattle.composed_rows.specs.Rows.{composedIn}
 
 -- 1, then 4, with every buffer as it was; then the build. "A composed list needs Rn entries."
 unfoldable pub composed : (table : List ℕ) (start : ℕ) (work rows : List ℕ) (n room : ℕ) → Making

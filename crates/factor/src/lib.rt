@@ -39,7 +39,13 @@ pub fn from_composed(
     }
     let end = lending::inner::stretch_end(table.len(), start, room, n);
     let need = lending::inner::work_need(n, room);
-    let count = inner::compose_in(&mut table[start..end], &mut work[..need], rows, n, room);
+    let count = composed_rows::inner::compose_in(
+        &mut table[start..end],
+        &mut work[..need],
+        rows,
+        n,
+        room,
+    );
     lending::inner::made(start, room, n, count)
 }
 

@@ -15,7 +15,8 @@ use Rattle.egg.specs.declared.Counted.{Counted}
 use Rattle.egg.specs.declared.Counted.the-variants.{Count, Refused}
 use Rattle.egg.specs.Table.{pick, lengthOf}
 use Rattle.egg.specs.Factor.{stretch}
-use Rattle.words.specs.Words.{lengthIn, readable, spellFrom}
+use Rattle.gathering.specs.Spell.{readable, spellFrom}
+use Rattle.words.specs.Words.{lengthIn}
 use Rattle.words.proofs.Words.{never-both, same-count}
 use Rattle.handles.specs.Counts.{onCounted}
 use Rattle.spelling.specs.Words.{lengths, readables, spells, writesBy, writes, leaves}

@@ -9,7 +9,8 @@ use Rattle.egg.specs.declared.Counted.{Counted}
 use Rattle.egg.specs.declared.Counted.the-variants.{Count, Refused}
 use Rattle.egg.specs.Table.{pick, lengthOf}
 use Rattle.egg.specs.Factor.{stretch}
-use Rattle.words.specs.Words.{lengthIn, readable, spellFrom}
+use Rattle.gathering.specs.Spell.{readable, spellFrom}
+use Rattle.words.specs.Words.{lengthIn}
 use Rattle.handles.specs.Counts.{onCounted}
 
 -- The recorded lengths, added up; 17 where one is over 4,096.

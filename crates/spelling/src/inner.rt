@@ -49,7 +49,7 @@ fn readables(table: &[u32], g: Group, e: GroupElementId) -> bool
         let s = egg::inner::part(table, h);
         let d = rest % n;
         let len = egg::inner::word_length(s, h.generators, GroupElementId(d));
-        if !words::inner::readable(s, h.generators, n, GroupElementId(d), len) {
+        if !gathering::inner::readable(s, h.generators, n, GroupElementId(d), len) {
             return false;
         }
         rest /= n;
@@ -73,7 +73,7 @@ fn spells(table: &[u32], g: Group, e: GroupElementId, out: &mut [u8])
         let s = egg::inner::part(table, h);
         let d = rest % n;
         let len = egg::inner::word_length(s, h.generators, GroupElementId(d));
-        words::inner::spell_from(s, h.generators, GroupElementId(d), len, start, offset, out);
+        gathering::inner::spell_from(s, h.generators, GroupElementId(d), len, start, offset, out);
         start += len as usize;
         offset += h.generators as u32;
         rest /= n;

@@ -2,7 +2,8 @@
 use lib.ListN.{length}
 use Rattle.egg.proofs.Rooms.{has}
 use Rattle.lending.proofs.Fits.{fits-small}
-use Rattle.builder.proofs.Calls.{place-fits, grows-refused, grows-new}
+use Rattle.places.proofs.Places.{place-fits}
+use Rattle.builder.proofs.Calls.{grows-refused, grows-new}
 use borrow.Author.Needs.{needs}
 use Rattle.builder.proofs.add_successor.Statement.{statement}
 use Rattle.builder.proofs.add_successor.Tie as tie

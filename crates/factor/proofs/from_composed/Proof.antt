@@ -16,7 +16,7 @@ use Rattle.lending.proofs.inner.made.Reads as made-reads
 use Rattle.lending.proofs.inner.refused_made.Reads as refused-made-reads
 use Rattle.lending.proofs.inner.stretch_end.Reads as stretch-end-reads
 use Rattle.lending.proofs.inner.work_need.Reads as work-need-reads
-use Rattle.factor.proofs.inner.compose_in.Reads as compose-in-reads
+use Rattle.composed_rows.proofs.inner.compose_in.Reads as compose-in-reads
 
 refused-made-requires : tie.Need-refused-made-requires
 refused-made-requires c κs = search needs

@@ -1,0 +1,2 @@
+pub mod Spell
+pub mod Letters
