@@ -15,9 +15,11 @@ use Rattle.egg.specs.Table.{pick, startOf, hopOf, lengthOf, inverseOf}
 use Rattle.egg.proofs.Answers.{read-element}
 use Rattle.egg.proofs.Cells.{inside}
 use Rattle.hops.specs.Hops.{without}
-use Rattle.walks.specs.Letters.{LettersBack}
-use Rattle.walks.specs.Walks.{ahead, readBack, backBy, backAlong, composeIn, conjugateIn}
-use Rattle.walks.proofs.Walks.{ahead-none, ahead-more, back-element, letters-end, letters-more, row-last, compose-first, compose-back, inverse-element}
+use Rattle.letters.specs.Letters.{LettersBack}
+use Rattle.letters.specs.Walks.{ahead, readBack, backBy, backAlong}
+use Rattle.letters.proofs.Walks.{ahead-none, ahead-more, back-element, letters-end, letters-more, row-last}
+use Rattle.walks.specs.Walks.{composeIn, conjugateIn}
+use Rattle.walks.proofs.Walks.{compose-first, compose-back, inverse-element}
 use Rattle.compose.specs.Letters.{OneLetter, Onward, lowest, Backward}
 
 pub rows-small : (n : ℕ) {count w : ℕ} → w ≡ 2 * n + 4 → count < 4294967296 → n < 256 → count * w < 18446744073709551616

@@ -8,8 +8,8 @@ use lib.ListN.{getD}
 use lib.Dec.{leb}
 use Rattle.egg.specs.declared.Reached.the-variants.{Element}
 use Rattle.egg.specs.Table.{pick, startOf}
-use Rattle.walks.specs.Letters.{LettersBack}
-use Rattle.walks.specs.Walks.{ahead}
+use Rattle.letters.specs.Letters.{LettersBack}
+use Rattle.letters.specs.Walks.{ahead}
 
 -- Of a word of so many letters in a cell, the k-th from below leads from what is stored as y to what is stored as r; where the word has not so many, r is y again.
 -- The steps stand `shift` places into a row.

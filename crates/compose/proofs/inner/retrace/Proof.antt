@@ -2,8 +2,8 @@ use Prim.Native.Nat.{_-_, _≤_, _<_}
 use mathlib.Core.Path.{_≡_, refl, sym, _∙_}
 use native.Mathlib.Omega.{arith}
 use borrow.Author.Needs.{needs}
-use Rattle.walks.specs.Walks.{backAlong}
-use Rattle.walks.proofs.Walks.{row-more}
+use Rattle.letters.specs.Walks.{backAlong}
+use Rattle.letters.proofs.Walks.{row-more}
 use Rattle.compose.proofs.Numbers.{retrace-start, retrace-last}
 use Rattle.compose.proofs.inner.retrace.Statement.{statement}
 use Rattle.compose.proofs.inner.retrace.Tie as tie

@@ -4,8 +4,8 @@ use mathlib.Core.Path.{refl}
 use native.Mathlib.Omega.{arith}
 use borrow.Author.Needs.{needs}
 use Rattle.egg.specs.declared.Reached.{Reached}
-use Rattle.walks.specs.Letters.{LettersBack}
-use Rattle.walks.proofs.Walks.{back-element, letters-end, letters-more}
+use Rattle.letters.specs.Letters.{LettersBack}
+use Rattle.letters.proofs.Walks.{back-element, letters-end, letters-more}
 use Rattle.compose.proofs.inner.retrace_five.Statement.{statement}
 use Rattle.compose.proofs.inner.retrace_five.Tie as tie
 use Rattle.compose.proofs.inner.retrace_five.Reads as reads

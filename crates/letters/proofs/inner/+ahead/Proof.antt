@@ -7,12 +7,12 @@ use borrow.Fn.Kinds.{In}
 use borrow.Fn.PlainCycle.{Measures, is, falls, and}
 use Rattle.egg.proofs.inner.next.Reads as next-reads
 use Rattle.egg.proofs.inner.refuse.Reads as refuse-reads
-use Rattle.walks.proofs.Walks.{on-refused, on-element, ahead-none, ahead-letter, ahead-more}
-use Rattle.walks.proofs.inner.ahead.Reads as ahead
-use Rattle.walks.proofs.inner.ahead.Kinds as ahead-kinds
-use Rattle.walks.proofs.inner.+ahead.Lts-ahead as ahead-lts
-use Rattle.walks.proofs.inner.+ahead.{statement}
-use Rattle.walks.proofs.inner.+ahead.Tie.{close}
+use Rattle.letters.proofs.Walks.{on-refused, on-element, ahead-none, ahead-letter, ahead-more}
+use Rattle.letters.proofs.inner.ahead.Reads as ahead
+use Rattle.letters.proofs.inner.ahead.Kinds as ahead-kinds
+use Rattle.letters.proofs.inner.+ahead.Lts-ahead as ahead-lts
+use Rattle.letters.proofs.inner.+ahead.{statement}
+use Rattle.letters.proofs.inner.+ahead.Tie.{close}
 
 abbrev μ-ahead : Measures 1 ahead-kinds.ps ℕ
 μ-ahead κs a = a .1 .1 .1 .1 .1 .0

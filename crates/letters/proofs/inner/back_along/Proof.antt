@@ -2,15 +2,15 @@
 use mathlib.Core.Path.{_≡_, refl, _∙_}
 use native.Mathlib.Omega.{arith}
 use borrow.Author.Needs.{needs}
-use Rattle.walks.specs.Walks.{backAlong}
-use Rattle.walks.proofs.Walks.{back-end, back-outside, row-last, row-refused, row-more}
-use Rattle.walks.proofs.inner.back_along.Statement.{statement}
-use Rattle.walks.proofs.inner.back_along.Tie as tie
-use Rattle.walks.proofs.inner.back_along.Reads as reads
-use Rattle.walks.proofs.inner.back_along.Lts as lts
+use Rattle.letters.specs.Walks.{backAlong}
+use Rattle.letters.proofs.Walks.{back-end, back-outside, row-last, row-refused, row-more}
+use Rattle.letters.proofs.inner.back_along.Statement.{statement}
+use Rattle.letters.proofs.inner.back_along.Tie as tie
+use Rattle.letters.proofs.inner.back_along.Reads as reads
+use Rattle.letters.proofs.inner.back_along.Lts as lts
 use Rattle.egg.proofs.inner.hop.Reads as hop-reads
 use Rattle.egg.proofs.inner.refuse.Reads as refuse-reads
-use Rattle.walks.proofs.inner.letters_back.Reads as letters-back-reads
+use Rattle.letters.proofs.inner.letters_back.Reads as letters-back-reads
 
 abbrev Inv-loop : tie.InvT-loop
 Inv-loop s n count letters x₀ at₀ left₀ x at left = backAlong left s n count (x .0) at ≡ backAlong left₀ s n count (x₀ .0) at₀

@@ -2,14 +2,14 @@
 use native.Mathlib.Omega.{arith}
 use borrow.Author.Needs.{needs}
 use Rattle.egg.specs.declared.Reached.{Reached}
-use Rattle.walks.specs.Letters.{LettersBack}
-use Rattle.walks.proofs.Walks.{letters-end, letters-none, letters-refused, letters-more}
-use Rattle.walks.proofs.inner.letters_back.Statement.{statement}
-use Rattle.walks.proofs.inner.letters_back.Tie as tie
-use Rattle.walks.proofs.inner.letters_back.Reads as reads
-use Rattle.walks.proofs.inner.letters_back.Lts as lts
+use Rattle.letters.specs.Letters.{LettersBack}
+use Rattle.letters.proofs.Walks.{letters-end, letters-none, letters-refused, letters-more}
+use Rattle.letters.proofs.inner.letters_back.Statement.{statement}
+use Rattle.letters.proofs.inner.letters_back.Tie as tie
+use Rattle.letters.proofs.inner.letters_back.Reads as reads
+use Rattle.letters.proofs.inner.letters_back.Lts as lts
 use Rattle.egg.proofs.inner.refuse.Reads as refuse-reads
-use Rattle.walks.proofs.inner.previous.Reads as previous-reads
+use Rattle.letters.proofs.inner.previous.Reads as previous-reads
 
 abbrev Inv-loop : tie.InvT-loop
 Inv-loop s n count cell letters x₀ c₀ left₀ x c left = (r : Reached) → LettersBack s n count (x .0) c left r → LettersBack s n count (x₀ .0) c₀ left₀ r

@@ -5,7 +5,7 @@ use mathlib.Core.Path.{_≡_}
 use mathlib.Core.List.{List}
 use Rattle.egg.specs.declared.Reached.{Reached}
 use Rattle.hops.specs.Hops.{without}
-use Rattle.walks.specs.Walks.{onReached, backBy}
+use Rattle.letters.specs.Walks.{onReached, backBy}
 
 -- The k letters lowest in c lead back from an element to r, whatever is left of the word before them.
 pub record LettersBack (s : List ℕ) (n count from c k : ℕ) (r : Reached) : Type 0 where

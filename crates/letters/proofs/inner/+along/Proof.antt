@@ -9,12 +9,12 @@ use Rattle.egg.proofs.inner.last.Reads as last-reads
 use Rattle.egg.proofs.inner.next.Reads as next-reads
 use Rattle.egg.proofs.inner.parent.Reads as parent-reads
 use Rattle.egg.proofs.inner.refuse.Reads as refuse-reads
-use Rattle.walks.proofs.Walks.{letter-byte, on-refused, on-element, along-none, along-parent, along-letter, along-more}
-use Rattle.walks.proofs.inner.along.Reads as along
-use Rattle.walks.proofs.inner.along.Kinds as along-kinds
-use Rattle.walks.proofs.inner.+along.Lts-along as along-lts
-use Rattle.walks.proofs.inner.+along.{statement}
-use Rattle.walks.proofs.inner.+along.Tie.{close}
+use Rattle.letters.proofs.Walks.{letter-byte, on-refused, on-element, along-none, along-parent, along-letter, along-more}
+use Rattle.letters.proofs.inner.along.Reads as along
+use Rattle.letters.proofs.inner.along.Kinds as along-kinds
+use Rattle.letters.proofs.inner.+along.Lts-along as along-lts
+use Rattle.letters.proofs.inner.+along.{statement}
+use Rattle.letters.proofs.inner.+along.Tie.{close}
 
 abbrev μ-along : Measures 1 along-kinds.ps ℕ
 μ-along κs a = a .1 .1 .1 .1 .1 .0

@@ -1,12 +1,12 @@
 -- One law for each answer, from the number that was read.
 use mathlib.Core.Path.{_∙_}
 use Rattle.egg.proofs.Laws.{got}
-use Rattle.walks.proofs.Walks.{back-missing, back-beyond, back-element}
+use Rattle.letters.proofs.Walks.{back-missing, back-beyond, back-element}
 use borrow.Author.Needs.{needs}
-use Rattle.walks.proofs.inner.previous.Statement.{statement}
-use Rattle.walks.proofs.inner.previous.Tie as tie
-use Rattle.walks.proofs.inner.previous.Reads as reads
-use Rattle.walks.proofs.inner.previous.Lts as lts
+use Rattle.letters.proofs.inner.previous.Statement.{statement}
+use Rattle.letters.proofs.inner.previous.Tie as tie
+use Rattle.letters.proofs.inner.previous.Reads as reads
+use Rattle.letters.proofs.inner.previous.Lts as lts
 use Rattle.egg.proofs.inner.get.Reads as get-reads
 use Rattle.egg.proofs.inner.predecessor_at.Reads as predecessor-at-reads
 use Rattle.egg.proofs.inner.refuse.Reads as refuse-reads
