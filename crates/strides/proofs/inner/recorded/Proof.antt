@@ -1,11 +1,11 @@
 -- The cell is one of a row that stands in the stretch.
 use mathlib.Core.Path.{_∙_}
-use Rattle.compose.proofs.Numbers.{recorded-inside}
+use Rattle.strides.proofs.Numbers.{recorded-inside}
 use borrow.Author.Needs.{needs}
-use Rattle.compose.proofs.inner.recorded.Statement.{statement}
-use Rattle.compose.proofs.inner.recorded.Tie as tie
-use Rattle.compose.proofs.inner.recorded.Reads as reads
-use Rattle.compose.proofs.inner.recorded.Lts as lts
+use Rattle.strides.proofs.inner.recorded.Statement.{statement}
+use Rattle.strides.proofs.inner.recorded.Tie as tie
+use Rattle.strides.proofs.inner.recorded.Reads as reads
+use Rattle.strides.proofs.inner.recorded.Lts as lts
 use Rattle.egg.proofs.inner.start.Reads as start-reads
 use Rattle.egg.proofs.inner.read.Reads as read-reads
 

@@ -1,12 +1,12 @@
 use native.Mathlib.Omega.{arith}
-use Rattle.compose.proofs.Numbers.{onward-letter, onward-on, onward-whole}
+use Rattle.strides.proofs.Numbers.{onward-letter, onward-on, onward-whole}
 use borrow.Author.Needs.{needs}
-use Rattle.compose.proofs.inner.advance.Statement.{statement}
-use Rattle.compose.proofs.inner.advance.Tie as tie
-use Rattle.compose.proofs.inner.advance.Reads as reads
-use Rattle.compose.proofs.inner.advance.Lts as lts
-use Rattle.compose.proofs.inner.advance_two.Reads as advance-two-reads
-use Rattle.compose.proofs.inner.one_letter.Reads as one-letter-reads
+use Rattle.strides.proofs.inner.advance.Statement.{statement}
+use Rattle.strides.proofs.inner.advance.Tie as tie
+use Rattle.strides.proofs.inner.advance.Reads as reads
+use Rattle.strides.proofs.inner.advance.Lts as lts
+use Rattle.strides.proofs.inner.advance_two.Reads as advance-two-reads
+use Rattle.strides.proofs.inner.one_letter.Reads as one-letter-reads
 
 -- src/inner.rt:101:38
 add-advance-two : tie.Need-add-advance-two

@@ -1,11 +1,11 @@
 use native.Mathlib.Omega.{arith}
-use Rattle.compose.proofs.Numbers.{onward-stays, onward-letter, onward-on}
+use Rattle.strides.proofs.Numbers.{onward-stays, onward-letter, onward-on}
 use borrow.Author.Needs.{needs}
-use Rattle.compose.proofs.inner.advance_two.Statement.{statement}
-use Rattle.compose.proofs.inner.advance_two.Tie as tie
-use Rattle.compose.proofs.inner.advance_two.Reads as reads
-use Rattle.compose.proofs.inner.advance_two.Lts as lts
-use Rattle.compose.proofs.inner.one_letter.Reads as one-letter-reads
+use Rattle.strides.proofs.inner.advance_two.Statement.{statement}
+use Rattle.strides.proofs.inner.advance_two.Tie as tie
+use Rattle.strides.proofs.inner.advance_two.Reads as reads
+use Rattle.strides.proofs.inner.advance_two.Lts as lts
+use Rattle.strides.proofs.inner.one_letter.Reads as one-letter-reads
 
 -- src/inner.rt:86:9
 returns : tie.Need-returns

@@ -6,11 +6,11 @@ use borrow.Author.Needs.{needs}
 use Rattle.egg.specs.declared.Reached.{Reached}
 use Rattle.letters.specs.Letters.{LettersBack}
 use Rattle.letters.proofs.Walks.{back-element, letters-end, letters-more}
-use Rattle.compose.proofs.inner.retrace_five.Statement.{statement}
-use Rattle.compose.proofs.inner.retrace_five.Tie as tie
-use Rattle.compose.proofs.inner.retrace_five.Reads as reads
-use Rattle.compose.proofs.inner.retrace_five.Lts as lts
-use Rattle.compose.proofs.inner.stored_step.Reads as stored-step-reads
+use Rattle.strides.proofs.inner.retrace_five.Statement.{statement}
+use Rattle.strides.proofs.inner.retrace_five.Tie as tie
+use Rattle.strides.proofs.inner.retrace_five.Reads as reads
+use Rattle.strides.proofs.inner.retrace_five.Lts as lts
+use Rattle.strides.proofs.inner.stored_step.Reads as stored-step-reads
 
 abbrev Inv-loop : tie.InvT-loop
 Inv-loop s n count from cell y₀ c₀ left₀ y c left = (0 < y) × ((y ≤ count) × ((r : Reached) → LettersBack s n count (y - 1) c left r → LettersBack s n count (y₀ - 1) c₀ left₀ r))

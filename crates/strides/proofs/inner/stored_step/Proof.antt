@@ -1,11 +1,11 @@
 use native.Mathlib.Omega.{arith}
 use Rattle.egg.proofs.Laws.{got}
-use Rattle.compose.proofs.Numbers.{stored-before, stored-inside, stored-place}
+use Rattle.strides.proofs.Numbers.{stored-before, stored-inside, stored-place}
 use borrow.Author.Needs.{needs}
-use Rattle.compose.proofs.inner.stored_step.Statement.{statement}
-use Rattle.compose.proofs.inner.stored_step.Tie as tie
-use Rattle.compose.proofs.inner.stored_step.Reads as reads
-use Rattle.compose.proofs.inner.stored_step.Lts as lts
+use Rattle.strides.proofs.inner.stored_step.Statement.{statement}
+use Rattle.strides.proofs.inner.stored_step.Tie as tie
+use Rattle.strides.proofs.inner.stored_step.Reads as reads
+use Rattle.strides.proofs.inner.stored_step.Lts as lts
 use Rattle.egg.proofs.inner.read.Reads as read-reads
 use Rattle.egg.proofs.inner.start.Reads as start-reads
 

@@ -1,11 +1,11 @@
-use Rattle.compose.proofs.Numbers.{letter-walked}
+use Rattle.strides.proofs.Numbers.{letter-walked}
 use borrow.Author.Needs.{needs}
-use Rattle.compose.proofs.inner.one_letter.Statement.{statement}
-use Rattle.compose.proofs.inner.one_letter.Tie as tie
-use Rattle.compose.proofs.inner.one_letter.Reads as reads
-use Rattle.compose.proofs.inner.one_letter.Lts as lts
-use Rattle.compose.proofs.inner.fewer.Reads as fewer-reads
-use Rattle.compose.proofs.inner.stored_step.Reads as stored-step-reads
+use Rattle.strides.proofs.inner.one_letter.Statement.{statement}
+use Rattle.strides.proofs.inner.one_letter.Tie as tie
+use Rattle.strides.proofs.inner.one_letter.Reads as reads
+use Rattle.strides.proofs.inner.one_letter.Lts as lts
+use Rattle.strides.proofs.inner.fewer.Reads as fewer-reads
+use Rattle.strides.proofs.inner.stored_step.Reads as stored-step-reads
 use Rattle.egg.proofs.inner.chosen.Reads as chosen-reads
 
 -- src/inner.rt:66:28

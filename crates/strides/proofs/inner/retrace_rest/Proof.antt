@@ -1,12 +1,12 @@
 use native.Mathlib.Omega.{arith}
-use Rattle.compose.proofs.Numbers.{backward-letter, backward-on, backward-whole}
+use Rattle.strides.proofs.Numbers.{backward-letter, backward-on, backward-whole}
 use borrow.Author.Needs.{needs}
-use Rattle.compose.proofs.inner.retrace_rest.Statement.{statement}
-use Rattle.compose.proofs.inner.retrace_rest.Tie as tie
-use Rattle.compose.proofs.inner.retrace_rest.Reads as reads
-use Rattle.compose.proofs.inner.retrace_rest.Lts as lts
-use Rattle.compose.proofs.inner.one_letter.Reads as one-letter-reads
-use Rattle.compose.proofs.inner.retrace_two.Reads as retrace-two-reads
+use Rattle.strides.proofs.inner.retrace_rest.Statement.{statement}
+use Rattle.strides.proofs.inner.retrace_rest.Tie as tie
+use Rattle.strides.proofs.inner.retrace_rest.Reads as reads
+use Rattle.strides.proofs.inner.retrace_rest.Lts as lts
+use Rattle.strides.proofs.inner.one_letter.Reads as one-letter-reads
+use Rattle.strides.proofs.inner.retrace_two.Reads as retrace-two-reads
 
 -- src/inner.rt:141:9
 one-letter-requires : tie.Need-one-letter-requires

@@ -4,14 +4,14 @@ use native.Mathlib.Omega.{arith}
 use borrow.Author.Needs.{needs}
 use Rattle.letters.specs.Walks.{backAlong}
 use Rattle.letters.proofs.Walks.{row-more}
-use Rattle.compose.proofs.Numbers.{retrace-start, retrace-last}
-use Rattle.compose.proofs.inner.retrace.Statement.{statement}
-use Rattle.compose.proofs.inner.retrace.Tie as tie
-use Rattle.compose.proofs.inner.retrace.Reads as reads
-use Rattle.compose.proofs.inner.retrace.Lts as lts
-use Rattle.compose.proofs.inner.recorded.Reads as recorded-reads
-use Rattle.compose.proofs.inner.retrace_five.Reads as retrace-five-reads
-use Rattle.compose.proofs.inner.retrace_rest.Reads as retrace-rest-reads
+use Rattle.strides.proofs.Numbers.{retrace-start, retrace-last}
+use Rattle.strides.proofs.inner.retrace.Statement.{statement}
+use Rattle.strides.proofs.inner.retrace.Tie as tie
+use Rattle.strides.proofs.inner.retrace.Reads as reads
+use Rattle.strides.proofs.inner.retrace.Lts as lts
+use Rattle.strides.proofs.inner.recorded.Reads as recorded-reads
+use Rattle.strides.proofs.inner.retrace_five.Reads as retrace-five-reads
+use Rattle.strides.proofs.inner.retrace_rest.Reads as retrace-rest-reads
 
 abbrev Inv-loop : tie.InvT-loop
 Inv-loop s n count letters start y₀ at₀ left₀ y at left = (0 < y) × ((y ≤ count) × (backAlong left s n count (y - 1) at ≡ backAlong letters s n count start at₀))
