@@ -12,7 +12,7 @@ use Rattle.egg.specs.Table.{pick, parentOf, hopOf, lastOf, lengthOf, stepOf, ba
 use Rattle.egg.specs.declared.Reached.{Reached}
 use Rattle.egg.specs.Factor.{readStep}
 use Rattle.egg.proofs.Answers.{read-element}
-use Rattle.walks.proofs.Walks.{back-element}
+use Rattle.letters.proofs.Walks.{back-element}
 use Rattle.walks.specs.Walks.{along, readBack, ahead, backBy, backAlong, composeIn, inverseIn, conjugateIn, generatorIn}
 use Rattle.hops.specs.Hops.{hopFrom, Hops}
 use Rattle.hops.proofs.Hops.{hop-element, hop-letter, hop-before}

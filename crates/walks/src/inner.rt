@@ -1,143 +1,9 @@
-// Walks through a factor's own stretch, and what they answer; every number is looked at before it is used.
+// What is answered by walks through a factor's own stretch; every number is looked at before it is used.
 ghost use mathlib.Core.Path.{_≡_};
-ghost use Rattle.walks.specs.Walks.{along, readBack, ahead, backAlong, inverseIn, composeIn, conjugateIn, generatorIn};
-ghost use Rattle.walks.specs.Letters.{LettersBack};
+ghost use Rattle.walks.specs.Walks.{inverseIn, composeIn, conjugateIn, generatorIn};
 use egg::GeneratorId;
 use egg::GroupElementId;
 use egg::Reached;
-
-// From an element along the last `left` letters of the word that ends at e.
-fn along(
-    s: &[u32],
-    n: u8,
-    count: u32,
-    from: GroupElementId,
-    e: GroupElementId,
-    left: u32,
-) -> Reached
-    ensures { λ r. ⌜ r ≡ along left (now (s .entry)) n count (from .0) (e .0) ⌝ }
-{
-    if left == 0 {
-        return Reached::Element(from);
-    }
-    let p = egg::inner::parent(s, n, e);
-    if count <= p {
-        return egg::inner::refuse(17, 0);
-    }
-    let g = egg::inner::last(s, n, e);
-    if (n as u32) <= g {
-        return egg::inner::refuse(17, 0);
-    }
-    match along(&s[..], n, count, from, GroupElementId(p), left - 1) {
-        Reached::Refused(why) => Reached::Refused(why),
-        Reached::Element(x) => egg::inner::next(s, n, count, x, GeneratorId((g % 256) as u8)),
-    }
-}
-
-// The step back in the stretch of a factor, or 17.
-fn previous(s: &[u32], n: u8, count: u32, e: GroupElementId, g: GeneratorId) -> Reached
-    ensures { λ r. ⌜ r ≡ readBack (now (s .entry)) n count (e .0) (g .0) ⌝ }
-{
-    let x = egg::inner::get(s, egg::inner::predecessor_at(n, e, g));
-    if x == 0 {
-        return egg::inner::refuse(17, 0);
-    }
-    if count < x {
-        return egg::inner::refuse(17, 0);
-    }
-    Reached::Element(GroupElementId(x - 1))
-}
-
-// From an element along the k letters that stand in c, the last lowest.
-fn ahead(s: &[u32], n: u8, count: u32, from: GroupElementId, c: u32, k: u32) -> Reached
-    ensures { λ r. ⌜ r ≡ ahead k (now (s .entry)) n count (from .0) c ⌝ }
-{
-    if k == 0 {
-        return Reached::Element(from);
-    }
-    let g = c % 8;
-    if (n as u32) <= g {
-        return egg::inner::refuse(17, 0);
-    }
-    match ahead(&s[..], n, count, from, c / 8, k - 1) {
-        Reached::Refused(why) => Reached::Refused(why),
-        Reached::Element(x) => egg::inner::next(s, n, count, x, GeneratorId(g as u8)),
-    }
-}
-
-// From an element back along the letters that are lowest in a number, the last letter first.
-fn letters_back(
-    s: &[u32],
-    n: u8,
-    count: u32,
-    from: GroupElementId,
-    cell: u32,
-    letters: u32,
-) -> Reached
-    ensures { λ r. ⌜ LettersBack (now (s .entry)) n count (from .0) cell letters r ⌝ }
-{
-    let mut x = from;
-    let mut c = cell;
-    let mut left = letters;
-    while 0 < left {
-        let letter = c % 8;
-        if (n as u32) <= letter {
-            return egg::inner::refuse(17, 0);
-        }
-        let back = previous(s, n, count, x, GeneratorId(letter as u8));
-        let Reached::Element(y) = back else {
-            return back;
-        };
-        x = y;
-        c = c / 8;
-        left -= 1;
-    }
-    Reached::Element(x)
-}
-
-// From an element back along the last `letters` letters of the word that ends at e, five for each row that is read. (`&s[..]`:
-// a slice that is itself passed on is copied at the start of its function, and a call would wait there for the one before it.)
-fn back_along(
-    s: &[u32],
-    n: u8,
-    count: u32,
-    from: GroupElementId,
-    e: GroupElementId,
-    letters: u32,
-) -> Reached
-    ensures { λ r. ⌜ r ≡ backAlong letters (now (s .entry)) n count (from .0) (e .0) ⌝ }
-{
-    let mut x = from;
-    let mut at = e.0;
-    let mut left = letters;
-    while 5 < left {
-        if count <= at {
-            return egg::inner::refuse(17, 0);
-        }
-        let c = egg::inner::hop(s, n, GroupElementId(at));
-        let back = letters_back(&s[..], n, count, x, c, 5);
-        let Reached::Element(y) = back else {
-            return back;
-        };
-        x = y;
-        at = c / 32768;
-        left -= 5;
-    }
-    if left == 0 {
-        return Reached::Element(x);
-    }
-    if count <= at {
-        return egg::inner::refuse(17, 0);
-    }
-    letters_back(
-        &s[..],
-        n,
-        count,
-        x,
-        egg::inner::hop(s, n, GroupElementId(at)),
-        left,
-    )
-}
 
 // Along a word of at most five letters by the cell that has them all. Back along the word of the inverse the letters come in
 // the order in which they are walked, so that nothing waits for a return; where that word is longer, along the element's own.
@@ -154,7 +20,7 @@ pub fn compose_with_care(
 {
     let len = egg::inner::word_length(s, n, b);
     if len <= 5 {
-        return ahead(&s[..], n, count, a, egg::inner::hop(s, n, b), len);
+        return letters::inner::ahead(&s[..], n, count, a, egg::inner::hop(s, n, b), len);
     }
     if 4096 < len {
         return egg::inner::refuse(17, 0);
@@ -165,16 +31,16 @@ pub fn compose_with_care(
     }
     let own = egg::inner::word_length(s, n, a);
     if own < len {
-        return match back_along(&s[..], n, count, GroupElementId(i), a, own) {
+        return match letters::inner::back_along(&s[..], n, count, GroupElementId(i), a, own) {
             Reached::Refused(why) => Reached::Refused(why),
             Reached::Element(x) => inverse_in(s, n, count, x),
         };
     }
     let back = egg::inner::word_length(s, n, GroupElementId(i));
     if len < back {
-        return along(&s[..], n, count, a, b, len);
+        return letters::inner::along(&s[..], n, count, a, b, len);
     }
-    back_along(s, n, count, a, GroupElementId(i), back)
+    letters::inner::back_along(s, n, count, a, GroupElementId(i), back)
 }
 
 pub fn inverse_in(s: &[u32], n: u8, count: u32, a: GroupElementId) -> Reached

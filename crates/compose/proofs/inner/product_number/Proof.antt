@@ -10,11 +10,11 @@ use Rattle.compose.proofs.inner.product_number.Statement.{statement}
 use Rattle.compose.proofs.inner.product_number.Tie as tie
 use Rattle.compose.proofs.inner.product_number.Reads as reads
 use Rattle.compose.proofs.inner.product_number.Lts as lts
-use Rattle.compose.proofs.inner.advance.Reads as advance-reads
-use Rattle.compose.proofs.inner.recorded.Reads as recorded-reads
-use Rattle.compose.proofs.inner.retrace.Reads as retrace-reads
+use Rattle.strides.proofs.inner.advance.Reads as advance-reads
+use Rattle.strides.proofs.inner.recorded.Reads as recorded-reads
+use Rattle.strides.proofs.inner.retrace.Reads as retrace-reads
 use Rattle.compose.proofs.inner.rows_within.Reads as rows-within-reads
-use Rattle.compose.proofs.inner.fewer.Reads as fewer-reads
+use Rattle.strides.proofs.inner.fewer.Reads as fewer-reads
 use Rattle.egg.proofs.inner.chosen.Reads as chosen-reads
 
 rows-within-requires : tie.Need-rows-within-requires

@@ -2,7 +2,8 @@
 use mathlib.Core.Path.{_∙_}
 use Rattle.egg.proofs.Laws.{got}
 use Rattle.walks.specs.Walks.{inverseIn}
-use Rattle.walks.proofs.Walks.{on-refused, on-element, compose-ahead, compose-long, compose-beyond, compose-first, compose-along, compose-back}
+use Rattle.letters.proofs.Walks.{on-refused, on-element}
+use Rattle.walks.proofs.Walks.{compose-ahead, compose-long, compose-beyond, compose-first, compose-along, compose-back}
 use borrow.Author.Needs.{needs}
 use Rattle.walks.proofs.inner.compose_with_care.Statement.{statement}
 use Rattle.walks.proofs.inner.compose_with_care.Tie as tie
@@ -13,9 +14,9 @@ use Rattle.egg.proofs.inner.hop.Reads as hop-reads
 use Rattle.egg.proofs.inner.inverse_at.Reads as inverse-at-reads
 use Rattle.egg.proofs.inner.refuse.Reads as refuse-reads
 use Rattle.egg.proofs.inner.word_length.Reads as word-length-reads
-use Rattle.walks.proofs.inner.ahead.Reads as ahead-reads
-use Rattle.walks.proofs.inner.along.Reads as along-reads
-use Rattle.walks.proofs.inner.back_along.Reads as back-along-reads
+use Rattle.letters.proofs.inner.ahead.Reads as ahead-reads
+use Rattle.letters.proofs.inner.along.Reads as along-reads
+use Rattle.letters.proofs.inner.back_along.Reads as back-along-reads
 use Rattle.walks.proofs.inner.inverse_in.Reads as inverse-in-reads
 
 word-length-requires : tie.Need-word-length-requires

@@ -1,7 +1,7 @@
 -- Going on from what each call reached, by the laws of `onReached`.
 use mathlib.Core.Path.{_∙_}
 use Rattle.walks.specs.Walks.{conjugateIn}
-use Rattle.walks.proofs.Walks.{on-refused, on-element}
+use Rattle.letters.proofs.Walks.{on-refused, on-element}
 use borrow.Author.Needs.{needs}
 use Rattle.walks.proofs.inner.conjugate_with_care.Statement.{statement}
 use Rattle.walks.proofs.inner.conjugate_with_care.Tie as tie

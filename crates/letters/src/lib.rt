@@ -1,0 +1,2 @@
+// abstract_group.rs: walks along recorded words, letter by letter, forward and back.
+pub mod inner;
