@@ -10,7 +10,7 @@ use borrow.Author.Tests.{lt-ltb, le-ltb}
 use lib.ListN.{length, set, getD, drop, length-append, drop-of-length-le}
 use lib.Seq.{sets, set-out, length-sets, drop-cons}
 use Rattle.egg.specs.Table.{stepOf, inverseOf, lengthOf}
-use Rattle.page.specs.Text.{Writes, Ends, digits, decimal, spaced, stepsText, lineText, linesText, groupText, refusedText}
+use Rattle.lines.specs.Text.{Writes, Ends, digits, decimal, spaced, stepsText, lineText, linesText, groupText, refusedText}
 
 pub sets-append : (a b l : List ℕ) (i : ℕ) → sets l i (a ++ b) ≡ sets (sets l i a) (i + length a) b
 sets-append [] b l i = rw add-zero

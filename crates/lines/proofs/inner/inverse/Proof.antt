@@ -1,8 +1,8 @@
 -- The cell at the inverse's place.
 use mathlib.Core.Path.{_∙_}
 use borrow.Author.Needs.{needs}
-use Rattle.page.proofs.inner.inverse.Statement.{statement}
-use Rattle.page.proofs.inner.inverse.Tie as tie
+use Rattle.lines.proofs.inner.inverse.Statement.{statement}
+use Rattle.lines.proofs.inner.inverse.Tie as tie
 
 inverse-at-requires : tie.Need-inverse-at-requires
 inverse-at-requires c κs = search needs

@@ -3,9 +3,9 @@ use Prim.Native.Nat.{_≤_, _-_, _+_}
 use native.Mathlib.Omega.{arith}
 use borrow.Author.Needs.{needs}
 use lib.ListN.{length, drop}
-use Rattle.page.proofs.Laws.{Rest, begin, piece-ends, advance, finish, kept, drop-next, drop-end}
-use Rattle.page.proofs.inner.write_word.Statement.{statement}
-use Rattle.page.proofs.inner.write_word.Tie as tie
+use Rattle.lines.proofs.Laws.{Rest, begin, piece-ends, advance, finish, kept, drop-next, drop-end}
+use Rattle.lines.proofs.inner.write_word.Statement.{statement}
+use Rattle.lines.proofs.inner.write_word.Tie as tie
 
 abbrev Inv-loop : tie.InvT-loop
 Inv-loop out₀ at word next₀ i₀ out next i = (i ≤ length word) × Rest out₀ at word out next (drop i word)

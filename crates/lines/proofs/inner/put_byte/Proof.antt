@@ -1,9 +1,9 @@
 -- A byte that has a place is stored there; one past the end changes nothing.
 use mathlib.Core.Logic.{⊎-elim}
-use Rattle.page.proofs.Laws.{stored, dropped, kept}
+use Rattle.lines.proofs.Laws.{stored, dropped, kept}
 use borrow.Author.Needs.{needs}
-use Rattle.page.proofs.inner.put_byte.Statement.{statement}
-use Rattle.page.proofs.inner.put_byte.Tie as tie
+use Rattle.lines.proofs.inner.put_byte.Statement.{statement}
+use Rattle.lines.proofs.inner.put_byte.Tie as tie
 
 slice-write-out : tie.Need-slice-write-out
 slice-write-out c = search needs

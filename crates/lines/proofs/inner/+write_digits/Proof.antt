@@ -7,14 +7,14 @@ use borrow.Author.Needs.{needs}
 use borrow.Fn.Kinds.{In}
 use borrow.Fn.PlainCycle.{Measures, is, falls, and}
 use lib.Dec.{lit<}
-use Rattle.page.proofs.Laws.{joined, kept, nothing, first-ends, then-ends, digits-none, digits-one, digits-more}
-use Rattle.page.proofs.inner.write_digits.Reads as write-digits
-use Rattle.page.proofs.inner.write_digits.Kinds as write-digits-kinds
-use Rattle.page.proofs.inner.+write_digits.Lts-write_digits as lts
-use Rattle.page.proofs.inner.digit.Reads as digit
-use Rattle.page.proofs.inner.put_byte.Reads as put-byte
-use Rattle.page.proofs.inner.+write_digits.{statement}
-use Rattle.page.proofs.inner.+write_digits.Tie.{close}
+use Rattle.lines.proofs.Laws.{joined, kept, nothing, first-ends, then-ends, digits-none, digits-one, digits-more}
+use Rattle.lines.proofs.inner.write_digits.Reads as write-digits
+use Rattle.lines.proofs.inner.write_digits.Kinds as write-digits-kinds
+use Rattle.lines.proofs.inner.+write_digits.Lts-write_digits as lts
+use Rattle.lines.proofs.inner.digit.Reads as digit
+use Rattle.lines.proofs.inner.put_byte.Reads as put-byte
+use Rattle.lines.proofs.inner.+write_digits.{statement}
+use Rattle.lines.proofs.inner.+write_digits.Tie.{close}
 
 abbrev μ : Measures 1 write-digits-kinds.ps ℕ
 μ κs a = a .1 .1 .0

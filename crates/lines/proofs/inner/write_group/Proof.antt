@@ -1,8 +1,8 @@
 -- Five pieces in a row.
-use Rattle.page.proofs.Laws.{group-pieces, ends-2, ends-3, ends-4, ends-5, whole}
+use Rattle.lines.proofs.Laws.{group-pieces, ends-2, ends-3, ends-4, ends-5, whole}
 use borrow.Author.Needs.{needs}
-use Rattle.page.proofs.inner.write_group.Statement.{statement}
-use Rattle.page.proofs.inner.write_group.Tie as tie
+use Rattle.lines.proofs.inner.write_group.Statement.{statement}
+use Rattle.lines.proofs.inner.write_group.Tie as tie
 
 slice-aggregate-write-word : tie.Need-slice-aggregate-write-word
 slice-aggregate-write-word c = search needs

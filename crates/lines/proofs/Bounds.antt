@@ -8,7 +8,7 @@ use native.Mathlib.Omega.{arith}
 use lib.ListN.{length, length-append}
 use lib.Dec.{ltb}
 use Rattle.egg.specs.Table.{pick, lengthOf, inverseOf, stepOf}
-use Rattle.page.specs.Text.{Ends, digits, stepsText, lineText, linesText, groupText, refusedText}
+use Rattle.lines.specs.Text.{Ends, digits, stepsText, lineText, linesText, groupText, refusedText}
 
 digits-length : (k x : ℕ) → length (digits k x) ≤ k
 unfolding digits

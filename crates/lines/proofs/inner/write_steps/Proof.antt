@@ -3,10 +3,10 @@ use Prim.Native.Nat.{_≤_, _-_, _+_}
 use native.Mathlib.Omega.{arith}
 use native.Mathlib.Nat.{sub-zero}
 use borrow.Author.Needs.{needs}
-use Rattle.page.specs.Text.{stepsText}
-use Rattle.page.proofs.Laws.{Rest, begin, piece-ends, advance, finish, kept, steps-next, steps-end}
-use Rattle.page.proofs.inner.write_steps.Statement.{statement}
-use Rattle.page.proofs.inner.write_steps.Tie as tie
+use Rattle.lines.specs.Text.{stepsText}
+use Rattle.lines.proofs.Laws.{Rest, begin, piece-ends, advance, finish, kept, steps-next, steps-end}
+use Rattle.lines.proofs.inner.write_steps.Statement.{statement}
+use Rattle.lines.proofs.inner.write_steps.Tie as tie
 
 abbrev Inv-loop : tie.InvT-loop
 Inv-loop out₀ at t n e next₀ g₀ out next g = (g ≤ n) × Rest out₀ at (stepsText n t n (e .0) 0) out next (stepsText (n - g) t n (e .0) g)

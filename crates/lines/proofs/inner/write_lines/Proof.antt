@@ -3,10 +3,10 @@ use Prim.Native.Nat.{_≤_, _-_, _+_}
 use native.Mathlib.Omega.{arith}
 use native.Mathlib.Nat.{sub-zero}
 use borrow.Author.Needs.{needs}
-use Rattle.page.specs.Text.{linesText}
-use Rattle.page.proofs.Laws.{Rest, begin, piece-ends, advance, finish, kept, lines-next, lines-end}
-use Rattle.page.proofs.inner.write_lines.Statement.{statement}
-use Rattle.page.proofs.inner.write_lines.Tie as tie
+use Rattle.lines.specs.Text.{linesText}
+use Rattle.lines.proofs.Laws.{Rest, begin, piece-ends, advance, finish, kept, lines-next, lines-end}
+use Rattle.lines.proofs.inner.write_lines.Statement.{statement}
+use Rattle.lines.proofs.inner.write_lines.Tie as tie
 
 abbrev Inv-loop : tie.InvT-loop
 Inv-loop out₀ at t n count next₀ e₀ out next e = (e ≤ count) × Rest out₀ at (linesText count t n 0) out next (linesText (count - e) t n e)

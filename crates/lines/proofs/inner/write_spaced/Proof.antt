@@ -1,8 +1,8 @@
 -- A space, then the digits.
-use Rattle.page.proofs.Laws.{joined}
+use Rattle.lines.proofs.Laws.{joined}
 use borrow.Author.Needs.{needs}
-use Rattle.page.proofs.inner.write_spaced.Statement.{statement}
-use Rattle.page.proofs.inner.write_spaced.Tie as tie
+use Rattle.lines.proofs.inner.write_spaced.Statement.{statement}
+use Rattle.lines.proofs.inner.write_spaced.Tie as tie
 
 put-byte-requires : tie.Need-put-byte-requires
 put-byte-requires c κs = search needs

@@ -1,9 +1,9 @@
 -- Five pieces in a row.
 use mathlib.Core.Path.{refl}
-use Rattle.page.proofs.Laws.{line-pieces, ends-1, ends-2, ends-3, ends-4, ends-5, whole}
+use Rattle.lines.proofs.Laws.{line-pieces, ends-1, ends-2, ends-3, ends-4, ends-5, whole}
 use borrow.Author.Needs.{needs}
-use Rattle.page.proofs.inner.write_line.Statement.{statement}
-use Rattle.page.proofs.inner.write_line.Tie as tie
+use Rattle.lines.proofs.inner.write_line.Statement.{statement}
+use Rattle.lines.proofs.inner.write_line.Tie as tie
 
 write-decimal-requires : tie.Need-write-decimal-requires
 write-decimal-requires c κs = ends-1 (line-pieces (c .before .before .before .args .t .now) (c .before .before .before .args .n) (c .before .before .before .args .e .0) refl refl) (c .before .before .before .pre)

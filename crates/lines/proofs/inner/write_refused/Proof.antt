@@ -1,8 +1,8 @@
 -- Three pieces in a row.
-use Rattle.page.proofs.Laws.{refused-pieces, ends-2, ends-3, joined}
+use Rattle.lines.proofs.Laws.{refused-pieces, ends-2, ends-3, joined}
 use borrow.Author.Needs.{needs}
-use Rattle.page.proofs.inner.write_refused.Statement.{statement}
-use Rattle.page.proofs.inner.write_refused.Tie as tie
+use Rattle.lines.proofs.inner.write_refused.Statement.{statement}
+use Rattle.lines.proofs.inner.write_refused.Tie as tie
 
 slice-aggregate-write-word : tie.Need-slice-aggregate-write-word
 slice-aggregate-write-word c = search needs
