@@ -10,7 +10,7 @@ use lib.ListN.{length}
 use Rattle.cells.specs.Cells.{halves}
 use Rattle.packed.proofs.Parts.{rest-lent}
 use Rattle.image.specs.Image.{generatorsOf, elementsOf, headNumber}
-use Rattle.image_rows.specs.Walked.{lettersBelow, follow}
+use Rattle.image_walk.specs.Walked.{lettersBelow, follow}
 use Rattle.image.specs.Walked.{walkNumber}
 use Rattle.image.proofs.ReadLaws.{whole-image}
 

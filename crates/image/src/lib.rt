@@ -3,7 +3,7 @@ ghost use mathlib.Core.Path.{_≡_};
 ghost use Prim.Native.Nat.{_*_, _≤_};
 ghost use lib.ListN.{length, getD};
 ghost use Rattle.lending.specs.Lending.{tableNeed, Making};
-ghost use Rattle.image_rows.specs.Written.{imageSize};
+ghost use Rattle.image_bytes.specs.Written.{imageSize};
 ghost use Rattle.image.specs.Written.{writeCount, writtenImage};
 ghost use Rattle.image.specs.Read.{headPlace, readImage};
 ghost use Rattle.image.specs.Walked.{walkNumber};
@@ -13,9 +13,6 @@ use egg::Factor;
 use egg::GroupElementId;
 use egg::Made;
 use egg::Verdict;
-use image_rows::inner::taking;
-use image_rows::inner::walking;
-use image_rows::inner::writing;
 
 // The byte at i, and 0 past the end.
 fn byte(s: &[u8], i: usize) -> u8
@@ -142,11 +139,11 @@ pub fn write(table: &[u32], f: Factor, out: &mut [u8]) -> Counted
         return words::inner::refused_count(4);
     }
     let s = egg::inner::part(table, f);
-    match writing::all_known(s, n, count) {
+    match image_bytes::inner::all_known(s, n, count) {
         Verdict::Refused(why) => Counted::Refused(why),
         Verdict::Fine => {
-            writing::put_head(out, need - 4, n, count);
-            writing::put_rows(out, s, n, count);
+            image_bytes::inner::put_head(out, need - 4, n, count);
+            image_bytes::inner::put_rows(out, s, n, count);
             Counted::Count(need)
         }
     }
@@ -179,7 +176,7 @@ pub fn read(image: &[u8], table: &mut [u32], start: usize, work: &mut [u32]) -> 
     }
     let end = lending::inner::stretch_end(table.len(), start, count, n);
     let need = lending::inner::work_need(n, count);
-    let made = taking::read_in(
+    let made = image_rows::inner::read_in(
         &mut table[start..end],
         &mut work[..need],
         &image[8..],
@@ -203,8 +200,8 @@ pub fn walk(image: &[u8], start: GroupElementId, word: &[u8]) -> u32
     if count <= from {
         return 65550;
     }
-    if !walking::letters_below(n, word) {
+    if !image_walk::inner::letters_below(n, word) {
         return 65550;
     }
-    walking::follow(&image[8..], n, count, start, word)
+    image_walk::inner::follow(&image[8..], n, count, start, word)
 }

@@ -1,4 +1,1 @@
 pub mod ReadLaws
-pub mod WalkLaws
-pub mod WriteLaws
-pub mod Bytes

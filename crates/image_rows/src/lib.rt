@@ -1,2 +1,2 @@
-// The rows of a stored image, two bytes a successor: written from a factor's stretch, built from, and walked.
+// The rows of a stored image, two bytes a successor, read into a build. There are no calls of its own: `image` has them.
 pub mod inner;

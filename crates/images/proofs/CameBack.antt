@@ -11,9 +11,9 @@ use Rattle.egg.specs.Factor.{countedPaper}
 use Rattle.lending.specs.Lending.{lentRight}
 use Rattle.answers.specs.Accepted.{Accepted, factorStep}
 use Rattle.answers.proofs.Handles.{few-generators}
-use Rattle.image_rows.specs.Written.{imageSize, imageOf}
+use Rattle.image_bytes.specs.Written.{imageSize, imageOf}
 use Rattle.image.specs.Read.{readImage}
-use Rattle.image_rows.proofs.Bytes.{image-length}
+use Rattle.image_bytes.proofs.Bytes.{image-length}
 use Rattle.images.specs.Images.{Bytes, CameBack, RoundTrip}
 use Rattle.images.proofs.Heads.{image-bytes}
 use Rattle.images.proofs.Back.{number-exactly}

@@ -14,9 +14,9 @@ use Rattle.factor.specs.Composed.{composedAt}
 use Rattle.cells.specs.Cells.{spell2, spell4, halves}
 use Rattle.cells.proofs.Laws.{halves-length}
 use Rattle.image.specs.Image.{lengthOf, generatorsOf, elementsOf, headNumber}
-use Rattle.image_rows.specs.Written.{rowsOf, spelled, imageOf}
+use Rattle.image_bytes.specs.Written.{rowsOf, spelled, imageOf}
 use Rattle.image.proofs.Heads.{head-right, head-version, pick-first, pick-second, sixteen, unit}
-use Rattle.image_rows.proofs.Bytes.{image-length}
+use Rattle.image_bytes.proofs.Bytes.{image-length}
 use Rattle.images.specs.Images.{Bytes, WellFormed}
 use Rattle.images.proofs.Spelling.{halves-spelled, spelled-halves, rows-small, rows-again}
 

@@ -31,10 +31,10 @@ use Rattle.answers.proofs.Steps.{read-step}
 use Rattle.answers.proofs.Handles.{few-generators, few-elements}
 use Rattle.promises.specs.Composed.{Taken, Given}
 use Rattle.image.specs.Image.{generatorsOf, elementsOf}
-use Rattle.image_rows.specs.Written.{rowsOf, imageSize, imageOf, stepRead, knownRow, allKnown}
+use Rattle.image_bytes.specs.Written.{rowsOf, imageSize, imageOf, stepRead, knownRow, allKnown}
 use Rattle.image.specs.Written.{writeCount, writtenImage}
 use Rattle.image.specs.Read.{readImage}
-use Rattle.image_rows.proofs.Bytes.{image-length}
+use Rattle.image_bytes.proofs.Bytes.{image-length}
 use Rattle.images.specs.Images.{Bytes, imageStep, GroupImage, MadeWith, SameBytes}
 use Rattle.images.proofs.Spelling.{rows-entry, rows-same}
 use Rattle.images.proofs.Heads.{written-generators, written-elements, written-formed, written-rows, image-again, image-bytes}

@@ -24,9 +24,9 @@ use Rattle.answers.proofs.Handles.{few-generators}
 use Rattle.promises.specs.Composed.{Taken, Given}
 use Rattle.promises.proofs.Composed.{begun, composed-exactly, composed-given}
 use Rattle.promises.proofs.Roomier.{composed-roomier}
-use Rattle.image_rows.specs.Written.{rowsOf, imageOf}
+use Rattle.image_bytes.specs.Written.{rowsOf, imageOf}
 use Rattle.image.specs.Read.{readImage}
-use Rattle.image_rows.proofs.Bytes.{rows-length}
+use Rattle.image_bytes.proofs.Bytes.{rows-length}
 use Rattle.images.proofs.Spelling.{rows-entry}
 use Rattle.images.proofs.Heads.{image-bytes}
 use Rattle.images.proofs.Back.{group-composed}

@@ -9,8 +9,8 @@ use lib.ListN.{length, getD, drop, List·getD-append}
 use lib.Seq.{getD-append-add, drop-cons, drop-length}
 use Rattle.factor.specs.Composed.{composedAt}
 use Rattle.cells.specs.Cells.{spell2, halves}
-use Rattle.image_rows.specs.Written.{rowOf, rowsOf, spelled}
-use Rattle.image_rows.proofs.Bytes.{row-length}
+use Rattle.image_bytes.specs.Written.{rowOf, rowsOf, spelled}
+use Rattle.image_bytes.proofs.Bytes.{row-length}
 
 -- Numbers of 16 bits are read as they were spelled.
 pub halves-spelled : (l : List ℕ) → ((i : ℕ) → getD l i 0 < 65536) → halves (spelled l) ≡ l

@@ -9,7 +9,7 @@ use Rattle.egg.specs.declared.Factor.{Factor}
 use Rattle.lending.specs.Lending.{refusedMade, making}
 use Rattle.answers.specs.Accepted.{Accepted, factorStep}
 use Rattle.image.specs.Image.{lengthOf, generatorsOf, elementsOf, headNumber, imageNumber}
-use Rattle.image_rows.specs.Written.{imageOf}
+use Rattle.image_bytes.specs.Written.{imageOf}
 use Rattle.image.specs.Read.{readImage}
 use Rattle.image.specs.Walked.{walkNumber}
 use Rattle.images.specs.Images.{Bytes, imageStep}

@@ -27,7 +27,7 @@ use Rattle.answers.specs.Accepted.{factorStep, reach}
 use Rattle.answers.proofs.Handles.{compose-answer}
 use Rattle.image.specs.Image.{generatorsOf, elementsOf, headNumber, bytesNeed, imageNumber}
 use Rattle.image.specs.Read.{readImage}
-use Rattle.image_rows.specs.Walked.{lettersBelow, follow}
+use Rattle.image_walk.specs.Walked.{lettersBelow, follow}
 use Rattle.image.specs.Walked.{walkNumber}
 use Rattle.images.specs.Images.{Bytes, imageStep, WellFormed, GroupImage}
 use Rattle.images.proofs.Heads.{formed-head}

@@ -32,7 +32,7 @@ use Rattle.group.specs.Questions as group
 use Rattle.cells.specs.Cells as cells
 use Rattle.packed.specs.Short.{built}
 use Rattle.image.specs.Image.{headNumber, imageNumber}
-use Rattle.image_rows.specs.Written.{rowOf, rowsOf, spelled, imageOf, knownRow, allKnown}
+use Rattle.image_bytes.specs.Written.{rowOf, rowsOf, spelled, imageOf, knownRow, allKnown}
 use Rattle.image.specs.Written.{writeCount, writtenImage}
 use Rattle.image_rows.specs.Read.{imageIn}
 use Rattle.image.specs.Read.{readImage}

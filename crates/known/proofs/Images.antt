@@ -16,11 +16,11 @@ use Rattle.factor.specs.Composed.{composedIn, composed}
 use Rattle.cells.specs.Cells.{halves}
 use Rattle.packed.specs.Short.{built}
 use Rattle.image.specs.Image.{headNumber, imageNumber}
-use Rattle.image_rows.specs.Written.{rowOf, rowsOf, spelled, imageOf, knownRow, allKnown}
+use Rattle.image_bytes.specs.Written.{rowOf, rowsOf, spelled, imageOf, knownRow, allKnown}
 use Rattle.image.specs.Written.{writeCount, writtenImage}
 use Rattle.image_rows.specs.Read.{imageIn}
 use Rattle.image.specs.Read.{readImage}
-use Rattle.image_rows.specs.Walked.{lettersBelow, follow}
+use Rattle.image_walk.specs.Walked.{lettersBelow, follow}
 use Rattle.image.specs.Walked.{walkNumber}
 use Rattle.known.specs.Images.{KnownImages}
 

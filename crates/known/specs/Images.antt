@@ -11,7 +11,7 @@ use Rattle.lending.specs.Lending.{refusedMade, making}
 use Rattle.factor.specs.Composed.{composedAt, composed}
 use Rattle.refusals.specs.Papers.{paper}
 use Rattle.image.specs.Image.{imageNumber}
-use Rattle.image_rows.specs.Written.{imageOf}
+use Rattle.image_bytes.specs.Written.{imageOf}
 use Rattle.image.specs.Written.{writeCount, writtenImage}
 use Rattle.image.specs.Read.{readImage}
 use Rattle.image.specs.Walked.{walkNumber}

@@ -19,9 +19,9 @@ use Rattle.egg.proofs.Rooms.{room-enough}
 use Rattle.lending.specs.Lending.{Making, making}
 use Rattle.enumeration.specs.Calls.{enumerates}
 use Rattle.promises.proofs.Enumerated.{enumeration-accepted}
-use Rattle.page.specs.Text.{groupText, refusedText}
+use Rattle.lines.specs.Text.{groupText, refusedText}
 use Rattle.page.specs.Listing.{ordersIn, pageBy, pageOf, rightPage, listingOf}
-use Rattle.page.proofs.Bounds.{group-length, refused-length}
+use Rattle.lines.proofs.Bounds.{group-length, refused-length}
 
 -- 28 bytes of head and 120 lines of 33 + 11 · 4.
 pub record Fits (text : List ℕ) : Type 0 where

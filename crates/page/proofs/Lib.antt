@@ -1,4 +1,2 @@
-pub mod Laws
 pub mod Orders
-pub mod Bounds
 pub mod Pages

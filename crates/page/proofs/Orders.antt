@@ -6,7 +6,7 @@ use mathlib.Core.List.{List, [], _∷_, _++_}
 use native.Mathlib.Omega.{arith}
 use lib.ListN.{length, take, drop}
 use lib.Seq.{sets-eq, take-at}
-use Rattle.page.specs.Text.{Writes, Ends}
+use Rattle.lines.specs.Text.{Writes, Ends}
 use Rattle.page.specs.Listing.{orderIn, ordersIn}
 
 pub orders-count : (k : ℕ) (input : List ℕ) (i : ℕ) → length (ordersIn k input i) ≡ k

@@ -15,7 +15,7 @@ use Rattle.egg.specs.Table.{pick}
 use Rattle.egg.specs.Pairs.{pairCount, ordersRight}
 use Rattle.lending.specs.Lending.{making}
 use Rattle.enumeration.specs.Calls.{enumerates}
-use Rattle.page.specs.Text.{refusedText}
+use Rattle.lines.specs.Text.{refusedText}
 use Rattle.page.specs.Listing.{ordersIn, pageBy, pageOf, rightPage, listingOf}
 
 -- With as many orders as there are pairs.

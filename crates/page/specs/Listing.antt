@@ -11,7 +11,7 @@ use Rattle.egg.specs.Table.{pick}
 use Rattle.egg.specs.Pairs.{pairCount, ordersRight}
 use Rattle.lending.specs.Lending.{Making, making}
 use Rattle.enumeration.specs.Calls.{enumerates}
-use Rattle.page.specs.Text.{groupText, refusedText}
+use Rattle.lines.specs.Text.{groupText, refusedText}
 
 -- The orders that an input has after its first byte, k of them, two bytes each, the higher first.
 abbrev pub orderIn : List ℕ → ℕ → ℕ

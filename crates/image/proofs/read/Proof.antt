@@ -20,7 +20,7 @@ use Rattle.image.proofs.elements.Reads as elements-reads
 use Rattle.image.proofs.generators.Reads as generators-reads
 use Rattle.image.proofs.head.Reads as head-reads
 use Rattle.image.proofs.head_place.Reads as head-place-reads
-use Rattle.image_rows.proofs.inner.taking.read_in.Reads as read-in-reads
+use Rattle.image_rows.proofs.inner.read_in.Reads as read-in-reads
 
 head-requires : tie.Need-head-requires
 head-requires c κs = search needs

@@ -13,8 +13,8 @@ use Rattle.image.proofs.walk.Lts as lts
 use Rattle.image.proofs.elements.Reads as elements-reads
 use Rattle.image.proofs.generators.Reads as generators-reads
 use Rattle.image.proofs.head.Reads as head-reads
-use Rattle.image_rows.proofs.inner.walking.follow.Reads as follow-reads
-use Rattle.image_rows.proofs.inner.walking.letters_below.Reads as letters-below-reads
+use Rattle.image_walk.proofs.inner.follow.Reads as follow-reads
+use Rattle.image_walk.proofs.inner.letters_below.Reads as letters-below-reads
 
 head-requires : tie.Need-head-requires
 head-requires c κs = search needs

@@ -14,9 +14,9 @@ use Rattle.egg.proofs.fits.Reads as fits-reads
 use Rattle.egg.proofs.inner.part.Reads as part-reads
 use Rattle.words.proofs.inner.refused_count.Reads as refused-count-reads
 use Rattle.image.proofs.size.Reads as size-reads
-use Rattle.image_rows.proofs.inner.writing.all_known.Reads as all-known-reads
-use Rattle.image_rows.proofs.inner.writing.put_head.Reads as put-head-reads
-use Rattle.image_rows.proofs.inner.writing.put_rows.Reads as put-rows-reads
+use Rattle.image_bytes.proofs.inner.all_known.Reads as all-known-reads
+use Rattle.image_bytes.proofs.inner.put_head.Reads as put-head-reads
+use Rattle.image_bytes.proofs.inner.put_rows.Reads as put-rows-reads
 
 fits-requires : tie.Need-fits-requires
 fits-requires c κs = search needs

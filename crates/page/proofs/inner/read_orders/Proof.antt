@@ -6,7 +6,7 @@ use native.Mathlib.Nat.{sub-zero}
 use borrow.Author.Needs.{needs}
 use lib.ListN.{length, length-set}
 use Rattle.page.specs.Listing.{ordersIn}
-use Rattle.page.proofs.Laws.{Rest, begin, stored, advance, finish}
+use Rattle.lines.proofs.Laws.{Rest, begin, stored, advance, finish}
 use Rattle.page.proofs.Orders.{orders-count, orders-ends, orders-next, orders-end, front}
 use Rattle.page.proofs.inner.read_orders.Statement.{statement}
 use Rattle.page.proofs.inner.read_orders.Tie as tie

@@ -1,5 +1,5 @@
 -- One arm writes the lines, the other the refusal; either text ends where a usize can name it.
-use Rattle.page.proofs.Bounds.{group-ends, refused-ends}
+use Rattle.lines.proofs.Bounds.{group-ends, refused-ends}
 use borrow.Author.Needs.{needs}
 use Rattle.page.proofs.inner.write_answer.Statement.{statement}
 use Rattle.page.proofs.inner.write_answer.Tie as tie

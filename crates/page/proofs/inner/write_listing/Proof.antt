@@ -2,7 +2,7 @@
 use native.Mathlib.Omega.{arith}
 use mathlib.Core.Path.{sym}
 use lib.Seq.{length-take-le}
-use Rattle.page.proofs.Bounds.{refused-ends}
+use Rattle.lines.proofs.Bounds.{refused-ends}
 use Rattle.page.proofs.Pages.{listing-empty, listing-generators, listing-bytes, listing-orders}
 use Rattle.egg.proofs.Orders.{pairs-few}
 use borrow.Author.Needs.{needs}

@@ -1,5 +1,5 @@
 -- One law for each way that the tests lead.
-use Rattle.page.proofs.Bounds.{refused-ends}
+use Rattle.lines.proofs.Bounds.{refused-ends}
 use Rattle.page.proofs.Pages.{page-refused, page-many, page-made}
 use borrow.Author.Needs.{needs}
 use Rattle.page.proofs.inner.write_page.Statement.{statement}
