@@ -188,7 +188,6 @@ impl Product {
     /// assert_eq!(square, Factor::from_orders(2, &[2], 4)?);
     /// # Ok::<(), hypergroup::Refusal>(())
     /// ```
-    #[inline]
     pub fn flatten(&self, room: u32) -> Result<Factor, Refusal> {
         let (mut table, mut work) = raw::lent(self.generators, room);
         let handle = raw::product_flatten(&self.table, &self.handles, self.generators, &mut table, 0, &mut work, room)?;

@@ -132,7 +132,6 @@ impl Subgroup {
     }
 
     /// The same with the slower digits.
-    #[inline]
     pub fn multiplied_right(&self, factors: &Product) -> Result<Self, Refusal> {
         let (from, more) = self.with(factors);
         raw::subgroup_right(&from, self.factor.table(), &self.sides, &more.iter().copied().collect())?;

@@ -44,7 +44,10 @@ fn edges_of_pair_orders() {
     assert_eq!(refused(Factor::from_orders(2, &[4097], 8193)).0, 5);
     // The product of a line that is too long and a pair: 4 * 4,096 elements come before its word.
     assert_eq!(refused(Factor::from_orders(3, &[32_767, 2, 2], 65_535)), (6, [16_380, 0, 0]));
-    assert_eq!(refused(Factor::from_orders(3, &[32_767, 2, 2], 16_383)).0, 5);
+    // Both sides of the edge between 5 and 6, which one place decides, and the room before it.
+    assert_eq!(refused(Factor::from_orders(3, &[32_767, 2, 2], 16_385)), (6, [16_380, 0, 0]));
+    assert_eq!(refused(Factor::from_orders(3, &[32_767, 2, 2], 16_384)), (5, [16_380, 0, 0]));
+    assert_eq!(refused(Factor::from_orders(3, &[32_767, 2, 2], 16_383)), (5, [16_378, 2, 0]));
 }
 
 #[test]
