@@ -98,10 +98,6 @@ void hg_check(const uint32_t *table, size_t table_len, size_t start, uint32_t ro
 
 /* libbridge_group.a */
 
-/* The product of two: its verdict and how many factors it has; they are those of the first and then those of the second. */
-void hg_product(const uint32_t *table, size_t table_len, const uint32_t *first, size_t first_len,
-    uint8_t k, const uint32_t *second, size_t second_len, uint8_t m, uint32_t *out, size_t out_len);
-
 uint64_t hg_product_count(const uint32_t *table, size_t table_len, const uint32_t *handles,
     size_t handles_len, uint8_t count);
 
@@ -135,6 +131,20 @@ uint64_t hg_product_powi(const uint32_t *table, size_t table_len, const uint32_t
 uint64_t hg_product_period(const uint32_t *table, size_t table_len, const uint32_t *handles,
     size_t handles_len, uint8_t count, uint32_t a);
 
+/* libbridge_image.a */
+
+uint64_t hg_image_write(const uint32_t *table, size_t table_len, size_t start, uint32_t room,
+    uint8_t n, uint32_t count, uint8_t *out, size_t out_len);
+
+void hg_image_read(const uint8_t *bytes, size_t bytes_len, uint32_t *table, size_t table_len,
+    size_t start, uint32_t *work, size_t work_len, uint32_t *out, size_t out_len);
+
+/* libbridge_product.a */
+
+/* The product of two: its verdict and how many factors it has; they are those of the first and then those of the second. */
+void hg_product(const uint32_t *table, size_t table_len, const uint32_t *first, size_t first_len,
+    uint8_t k, const uint32_t *second, size_t second_len, uint8_t m, uint32_t *out, size_t out_len);
+
 uint64_t hg_product_length(const uint32_t *table, size_t table_len, const uint32_t *handles,
     size_t handles_len, uint8_t count, uint32_t e);
 
@@ -151,14 +161,6 @@ uint64_t hg_product_word(const uint32_t *table, size_t table_len, const uint32_t
 void hg_product_flatten(const uint32_t *from, size_t from_len, const uint32_t *handles,
     size_t handles_len, uint8_t count, uint32_t *table, size_t table_len, size_t start,
     uint32_t *work, size_t work_len, uint32_t room, uint32_t *out, size_t out_len);
-
-/* libbridge_image.a */
-
-uint64_t hg_image_write(const uint32_t *table, size_t table_len, size_t start, uint32_t room,
-    uint8_t n, uint32_t count, uint8_t *out, size_t out_len);
-
-void hg_image_read(const uint8_t *bytes, size_t bytes_len, uint32_t *table, size_t table_len,
-    size_t start, uint32_t *work, size_t work_len, uint32_t *out, size_t out_len);
 
 /* libbridge_subgroup.a */
 

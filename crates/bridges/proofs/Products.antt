@@ -5,8 +5,8 @@ use Prim.Native.Nat.{ℕ}
 use mathlib.Core.Path.{sym, _∙_, ap}
 use mathlib.Core.List.{List}
 use Rattle.bridge.specs.Bridge.{Bridged}
-use Rattle.bridge_group.proofs.hg_product.Kinds as hg-product-kinds
-use Rattle.bridge_group.proofs.hg_product.Reads as hg-product-reads
+use Rattle.bridge_product.proofs.hg_product.Kinds as hg-product-kinds
+use Rattle.bridge_product.proofs.hg_product.Reads as hg-product-reads
 use Rattle.bridge_group.proofs.hg_product_count.Kinds as hg-product-count-kinds
 use Rattle.bridge_group.proofs.hg_product_count.Reads as hg-product-count-reads
 use Rattle.bridge_group.proofs.hg_product_generators.Kinds as hg-product-generators-kinds
@@ -19,8 +19,8 @@ use Rattle.bridge_group.proofs.hg_product_project.Kinds as hg-product-project-k
 use Rattle.bridge_group.proofs.hg_product_project.Reads as hg-product-project-reads
 use Rattle.bridge_group.proofs.hg_product_inject.Kinds as hg-product-inject-kinds
 use Rattle.bridge_group.proofs.hg_product_inject.Reads as hg-product-inject-reads
-use Rattle.bridge_group.proofs.hg_product_join.Kinds as hg-product-join-kinds
-use Rattle.bridge_group.proofs.hg_product_join.Reads as hg-product-join-reads
+use Rattle.bridge_product.proofs.hg_product_join.Kinds as hg-product-join-kinds
+use Rattle.bridge_product.proofs.hg_product_join.Reads as hg-product-join-reads
 use Rattle.bridge_group.proofs.hg_product_compose.Kinds as hg-product-compose-kinds
 use Rattle.bridge_group.proofs.hg_product_compose.Reads as hg-product-compose-reads
 use Rattle.bridge_group.proofs.hg_product_inverse.Kinds as hg-product-inverse-kinds
@@ -31,14 +31,14 @@ use Rattle.bridge_group.proofs.hg_product_powi.Kinds as hg-product-powi-kinds
 use Rattle.bridge_group.proofs.hg_product_powi.Reads as hg-product-powi-reads
 use Rattle.bridge_group.proofs.hg_product_period.Kinds as hg-product-period-kinds
 use Rattle.bridge_group.proofs.hg_product_period.Reads as hg-product-period-reads
-use Rattle.bridge_group.proofs.hg_product_length.Kinds as hg-product-length-kinds
-use Rattle.bridge_group.proofs.hg_product_length.Reads as hg-product-length-reads
-use Rattle.bridge_group.proofs.hg_product_split.Kinds as hg-product-split-kinds
-use Rattle.bridge_group.proofs.hg_product_split.Reads as hg-product-split-reads
-use Rattle.bridge_group.proofs.hg_product_word.Kinds as hg-product-word-kinds
-use Rattle.bridge_group.proofs.hg_product_word.Reads as hg-product-word-reads
-use Rattle.bridge_group.proofs.hg_product_flatten.Kinds as hg-product-flatten-kinds
-use Rattle.bridge_group.proofs.hg_product_flatten.Reads as hg-product-flatten-reads
+use Rattle.bridge_product.proofs.hg_product_length.Kinds as hg-product-length-kinds
+use Rattle.bridge_product.proofs.hg_product_length.Reads as hg-product-length-reads
+use Rattle.bridge_product.proofs.hg_product_split.Kinds as hg-product-split-kinds
+use Rattle.bridge_product.proofs.hg_product_split.Reads as hg-product-split-reads
+use Rattle.bridge_product.proofs.hg_product_word.Kinds as hg-product-word-kinds
+use Rattle.bridge_product.proofs.hg_product_word.Reads as hg-product-word-reads
+use Rattle.bridge_product.proofs.hg_product_flatten.Kinds as hg-product-flatten-kinds
+use Rattle.bridge_product.proofs.hg_product_flatten.Reads as hg-product-flatten-reads
 use Rattle.promises.specs.Unique.{Unique}
 
 -- The list of the answer: this function hands nothing back.

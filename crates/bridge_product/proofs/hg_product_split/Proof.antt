@@ -1,10 +1,10 @@
 -- The call's own answer and buffers.
 use mathlib.Core.Path.{_≡_, refl, sym, ap, _∙_}
 use borrow.Author.Needs.{needs}
-use Rattle.bridge_group.proofs.hg_product_split.Statement.{statement}
-use Rattle.bridge_group.proofs.hg_product_split.Tie as tie
-use Rattle.bridge_group.proofs.hg_product_split.Reads as reads
-use Rattle.bridge_group.proofs.hg_product_split.Lts as lts
+use Rattle.bridge_product.proofs.hg_product_split.Statement.{statement}
+use Rattle.bridge_product.proofs.hg_product_split.Tie as tie
+use Rattle.bridge_product.proofs.hg_product_split.Reads as reads
+use Rattle.bridge_product.proofs.hg_product_split.Lts as lts
 use Rattle.bridge_list.proofs.inner.product_of.Reads as product-of-reads
 use Rattle.group.proofs.split.Reads as split-reads
 use Rattle.bridge.proofs.inner.counted_code.Reads as counted-code-reads

@@ -1,9 +1,9 @@
 -- The call's own answer, as one number.
 use borrow.Author.Needs.{needs}
-use Rattle.bridge_group.proofs.hg_product_length.Statement.{statement}
-use Rattle.bridge_group.proofs.hg_product_length.Tie as tie
-use Rattle.bridge_group.proofs.hg_product_length.Reads as reads
-use Rattle.bridge_group.proofs.hg_product_length.Lts as lts
+use Rattle.bridge_product.proofs.hg_product_length.Statement.{statement}
+use Rattle.bridge_product.proofs.hg_product_length.Tie as tie
+use Rattle.bridge_product.proofs.hg_product_length.Reads as reads
+use Rattle.bridge_product.proofs.hg_product_length.Lts as lts
 use Rattle.bridge_list.proofs.inner.product_of.Reads as product-of-reads
 use Rattle.bridge.proofs.inner.counted_code.Reads as counted-code-reads
 use Rattle.group.proofs.word_length.Reads as word-length-reads

@@ -1,10 +1,10 @@
 -- The verdict, and one store after it.
-use Rattle.bridge_group.proofs.Laws.{grouped-written}
+use Rattle.bridge_product.proofs.Laws.{grouped-written}
 use borrow.Author.Needs.{needs}
-use Rattle.bridge_group.proofs.write_grouped.Statement.{statement}
-use Rattle.bridge_group.proofs.write_grouped.Tie as tie
-use Rattle.bridge_group.proofs.write_grouped.Reads as reads
-use Rattle.bridge_group.proofs.write_grouped.Lts as lts
+use Rattle.bridge_product.proofs.write_grouped.Statement.{statement}
+use Rattle.bridge_product.proofs.write_grouped.Tie as tie
+use Rattle.bridge_product.proofs.write_grouped.Reads as reads
+use Rattle.bridge_product.proofs.write_grouped.Lts as lts
 use Rattle.bridge.proofs.inner.write_verdict.Reads as write-verdict-reads
 use Rattle.egg.proofs.inner.put.Reads as put-reads
 

@@ -1,9 +1,9 @@
 -- The call's own answer and buffers.
 use borrow.Author.Needs.{needs}
-use Rattle.bridge_group.proofs.hg_product_join.Statement.{statement}
-use Rattle.bridge_group.proofs.hg_product_join.Tie as tie
-use Rattle.bridge_group.proofs.hg_product_join.Reads as reads
-use Rattle.bridge_group.proofs.hg_product_join.Lts as lts
+use Rattle.bridge_product.proofs.hg_product_join.Statement.{statement}
+use Rattle.bridge_product.proofs.hg_product_join.Tie as tie
+use Rattle.bridge_product.proofs.hg_product_join.Reads as reads
+use Rattle.bridge_product.proofs.hg_product_join.Lts as lts
 use Rattle.bridge_list.proofs.inner.product_of.Reads as product-of-reads
 use Rattle.group.proofs.join.Reads as join-reads
 use Rattle.bridge.proofs.inner.reached_code.Reads as reached-code-reads

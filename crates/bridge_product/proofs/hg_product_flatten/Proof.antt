@@ -1,10 +1,10 @@
 -- The call's own answer and buffers.
 use Rattle.bridge.proofs.Laws.{bridge-holds}
 use borrow.Author.Needs.{needs}
-use Rattle.bridge_group.proofs.hg_product_flatten.Statement.{statement}
-use Rattle.bridge_group.proofs.hg_product_flatten.Tie as tie
-use Rattle.bridge_group.proofs.hg_product_flatten.Reads as reads
-use Rattle.bridge_group.proofs.hg_product_flatten.Lts as lts
+use Rattle.bridge_product.proofs.hg_product_flatten.Statement.{statement}
+use Rattle.bridge_product.proofs.hg_product_flatten.Tie as tie
+use Rattle.bridge_product.proofs.hg_product_flatten.Reads as reads
+use Rattle.bridge_product.proofs.hg_product_flatten.Lts as lts
 use Rattle.bridge_list.proofs.inner.product_of.Reads as product-of-reads
 use Rattle.group.proofs.flatten.Reads as flatten-reads
 use Rattle.bridge.proofs.inner.write_made.Reads as write-made-reads

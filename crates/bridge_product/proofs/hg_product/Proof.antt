@@ -1,12 +1,12 @@
 -- The call's own answer and buffers.
 use borrow.Author.Needs.{needs}
-use Rattle.bridge_group.proofs.hg_product.Statement.{statement}
-use Rattle.bridge_group.proofs.hg_product.Tie as tie
-use Rattle.bridge_group.proofs.hg_product.Reads as reads
-use Rattle.bridge_group.proofs.hg_product.Lts as lts
+use Rattle.bridge_product.proofs.hg_product.Statement.{statement}
+use Rattle.bridge_product.proofs.hg_product.Tie as tie
+use Rattle.bridge_product.proofs.hg_product.Reads as reads
+use Rattle.bridge_product.proofs.hg_product.Lts as lts
 use Rattle.bridge_list.proofs.inner.product_of.Reads as product-of-reads
 use Rattle.handles.proofs.product.Reads as product-reads
-use Rattle.bridge_group.proofs.write_grouped.Reads as write-grouped-reads
+use Rattle.bridge_product.proofs.write_grouped.Reads as write-grouped-reads
 
 product-of-requires : tie.Need-product-of-requires
 product-of-requires c κs = search needs
