@@ -7,7 +7,7 @@ ghost use lib.Dec.{ltb};
 ghost use Rattle.egg.specs.Table.{startOf};
 ghost use Rattle.letters.specs.Letters.{LettersBack};
 ghost use Rattle.letters.specs.Walks.{ahead, backAlong};
-ghost use Rattle.strides.specs.Letters.{OneLetter, Onward, Backward};
+ghost use Rattle.strides.specs.Letters.{Onward};
 use egg::GroupElementId;
 use egg::Reached;
 
@@ -42,24 +42,15 @@ pub fn fewer(own: u32, len: u32) -> bool
 // One letter of a cell, the k-th from below, from the element that is stored as y: what is stored for the element that it
 // leads to, or y again where the word has not so many letters; 0 where a number is out of range. Both are worked out, so that no
 // branch has to guess how long the word is. (Above a short word an accepted table has letters 0.)
-fn one_letter(
-    s: &[u32],
-    n: u8,
-    count: u32,
-    shift: u8,
-    y: u32,
-    cell: u32,
-    k: u32,
-    letters: u32,
-) -> u32
-    requires { ⌜ (count * (2 * n + 4) ≤ length (now s)) × ((0 < y) × ((y ≤ count) × ((k < 5) × (shift ≤ n)))) ⌝ }
-    ensures { λ r. ⌜ (0 < r → OneLetter (now (s .entry)) n count shift cell letters k y r) ⌝ }
+fn one_letter(s: &[u32], n: u8, count: u32, y: u32, cell: u32, k: u32, letters: u32) -> u32
+    requires { ⌜ (count * (2 * n + 4) ≤ length (now s)) × ((0 < y) × ((y ≤ count) × (k < 5))) ⌝ }
+    ensures { λ r. ⌜ (0 < r → Onward (now (s .entry)) n count cell letters (k + 1) y k r) ⌝ }
 {
     let letter = (cell >> (3 * k)) % 8;
     if (n as u32) <= letter {
         return 0;
     }
-    let x = stored_step(s, n, count, shift, y, letter);
+    let x = stored_step(s, n, count, 0, y, letter);
     if x == 0 {
         return 0;
     }
@@ -69,7 +60,7 @@ fn one_letter(
     egg::inner::chosen(fewer(k, letters), x, y)
 }
 
-// The first two of five letters. Few words have more than three, or nearly all: that is a branch.
+// The first two of five letters. Of the words that are walked forward nearly all have more than three, or few: that is a branch.
 fn advance_two(s: &[u32], n: u8, count: u32, y: u32, cell: u32, letters: u32) -> u32
     requires { ⌜ (count * (2 * n + 4) ≤ length (now s)) × ((0 < y) × (y ≤ count)) ⌝ }
     ensures { λ r. ⌜ (0 < r → Onward (now (s .entry)) n count cell letters 5 y 3 r) ⌝ }
@@ -77,82 +68,51 @@ fn advance_two(s: &[u32], n: u8, count: u32, y: u32, cell: u32, letters: u32) ->
     if letters <= 3 {
         return y;
     }
-    let x = one_letter(s, n, count, 0, y, cell, 4, letters);
+    let x = one_letter(s, n, count, y, cell, 4, letters);
     if x == 0 {
         return 0;
     }
-    one_letter(s, n, count, 0, x, cell, 3, letters)
+    one_letter(s, n, count, x, cell, 3, letters)
 }
 
-// From an element along the letters in a cell, the first of them first; the count where a number is out of range.
+// From an element along the letters in a cell, the first of them first; the count where a number is out of range. The empty word
+// is a branch: who multiplies again and again by the identity, as powers do, need not wait for any row.
 pub fn advance(s: &[u32], n: u8, count: u32, from: GroupElementId, cell: u32, letters: u32) -> u32
     requires { ⌜ (count * (2 * n + 4) ≤ length (now s)) × ((from .0 < count) × (letters ≤ 5)) ⌝ }
     ensures { λ r. ⌜ (r < count → ahead letters (now (s .entry)) n count (from .0) cell ≡ Reached.Element (record { 0 = r })) ⌝ }
 {
     let start = from.0;
+    if letters == 0 {
+        return start;
+    }
     let x = advance_two(s, n, count, start + 1, cell, letters);
     if x == 0 {
         return count;
     }
-    let y = one_letter(s, n, count, 0, x, cell, 2, letters);
+    let y = one_letter(s, n, count, x, cell, 2, letters);
     if y == 0 {
         return count;
     }
-    let z = one_letter(s, n, count, 0, y, cell, 1, letters);
+    let z = one_letter(s, n, count, y, cell, 1, letters);
     if z == 0 {
         return count;
     }
-    let last = one_letter(s, n, count, 0, z, cell, 0, letters);
+    let last = one_letter(s, n, count, z, cell, 0, letters);
     if last == 0 {
         return count;
     }
     last - 1
 }
 
-// The last two of five letters that are walked back.
-fn retrace_two(s: &[u32], n: u8, count: u32, y: u32, cell: u32, letters: u32) -> u32
-    requires { ⌜ (count * (2 * n + 4) ≤ length (now s)) × ((0 < y) × (y ≤ count)) ⌝ }
-    ensures { λ r. ⌜ (0 < r → Backward (now (s .entry)) n count cell letters 3 y 5 r) ⌝ }
-{
-    if letters <= 3 {
-        return y;
-    }
-    let x = one_letter(s, n, count, n, y, cell, 3, letters);
-    if x == 0 {
-        return 0;
-    }
-    one_letter(s, n, count, n, x, cell, 4, letters)
-}
-
-// From the element that is stored as `from` back along the last letters of a word, which are lowest in a cell: what is stored
-// for the element that they lead to, or 0 where a number is out of range.
-fn retrace_rest(s: &[u32], n: u8, count: u32, from: u32, cell: u32, letters: u32) -> u32
-    requires { ⌜ (count * (2 * n + 4) ≤ length (now s)) × ((0 < from) × ((from ≤ count) × (letters ≤ 5))) ⌝ }
-    ensures { λ r. ⌜ (0 < r → (r ≤ count) × LettersBack (now (s .entry)) n count (from - 1) cell letters (Reached.Element (record { 0 = r - 1 }))) ⌝ }
-{
-    let x = one_letter(s, n, count, n, from, cell, 0, letters);
-    if x == 0 {
-        return 0;
-    }
-    let y = one_letter(s, n, count, n, x, cell, 1, letters);
-    if y == 0 {
-        return 0;
-    }
-    let z = one_letter(s, n, count, n, y, cell, 2, letters);
-    if z == 0 {
-        return 0;
-    }
-    retrace_two(s, n, count, z, cell, letters)
-}
-
-// The same along all five letters of a cell.
-fn retrace_five(s: &[u32], n: u8, count: u32, from: u32, cell: u32) -> u32
+// From the element that is stored as `from` back along the letters lowest in a cell: what is stored for the element that they
+// lead to, or 0 where a number is out of range.
+fn retrace_letters(s: &[u32], n: u8, count: u32, from: u32, cell: u32, letters: u32) -> u32
     requires { ⌜ (count * (2 * n + 4) ≤ length (now s)) × ((0 < from) × (from ≤ count)) ⌝ }
-    ensures { λ r. ⌜ (0 < r → (r ≤ count) × LettersBack (now (s .entry)) n count (from - 1) cell 5 (Reached.Element (record { 0 = r - 1 }))) ⌝ }
+    ensures { λ r. ⌜ (0 < r → (r ≤ count) × LettersBack (now (s .entry)) n count (from - 1) cell letters (Reached.Element (record { 0 = r - 1 }))) ⌝ }
 {
     let mut y = from;
     let mut c = cell;
-    let mut left: u32 = 5;
+    let mut left = letters;
     while 0 < left {
         let letter = c % 8;
         if (n as u32) <= letter {
@@ -193,7 +153,7 @@ pub fn retrace(
             return count;
         }
         let c = recorded(s, n, count, GroupElementId(at), 1);
-        let x = retrace_five(s, n, count, y, c);
+        let x = retrace_letters(s, n, count, y, c, 5);
         if x == 0 {
             return count;
         }
@@ -205,7 +165,7 @@ pub fn retrace(
         return count;
     }
     let c = recorded(s, n, count, GroupElementId(at), 1);
-    let x = retrace_rest(s, n, count, y, c, left);
+    let x = retrace_letters(s, n, count, y, c, left);
     if x == 0 {
         return count;
     }

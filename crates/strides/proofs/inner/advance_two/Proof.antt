@@ -1,5 +1,5 @@
 use native.Mathlib.Omega.{arith}
-use Rattle.strides.proofs.Numbers.{onward-stays, onward-letter, onward-on}
+use Rattle.strides.proofs.Numbers.{onward-stays, onward-on}
 use borrow.Author.Needs.{needs}
 use Rattle.strides.proofs.inner.advance_two.Statement.{statement}
 use Rattle.strides.proofs.inner.advance_two.Tie as tie
@@ -7,25 +7,25 @@ use Rattle.strides.proofs.inner.advance_two.Reads as reads
 use Rattle.strides.proofs.inner.advance_two.Lts as lts
 use Rattle.strides.proofs.inner.one_letter.Reads as one-letter-reads
 
--- src/inner.rt:86:9
+-- src/inner.rt:69:9
 returns : tie.Need-returns
 returns c = λ h. onward-stays (omega (arith, (c .if1 .taken))) ((c .if1 .taken)) ((c .before .before .pre .1 .1))
 
--- src/inner.rt:88:9
+-- src/inner.rt:71:9
 one-letter-requires : tie.Need-one-letter-requires
 one-letter-requires c κs = search needs
 
--- src/inner.rt:90:9
+-- src/inner.rt:73:9
 returns-2 : tie.Need-returns-2
 returns-2 c = λ h. absurd (omega arith)
 
--- src/inner.rt:92:5
+-- src/inner.rt:75:5
 one-letter-requires-2 : tie.Need-one-letter-requires-2
-one-letter-requires-2 c κs = ((c .before .before .before .before .pre .0), (omega (arith, (c .if2 .left)), (((c .before .one-letter .ensures)) (omega (arith, (c .if2 .left))) .small, (omega arith, omega arith))))
+one-letter-requires-2 c κs = ((c .before .before .before .before .pre .0), (omega (arith, (c .if2 .left)), (((c .before .one-letter .ensures)) (omega (arith, (c .if2 .left))) .small, omega arith)))
 
--- src/inner.rt:81:1
+-- src/inner.rt:64:1
 returns-3 : tie.Need-returns-3
-returns-3 c = λ h. let k = ((c .before .before .one-letter .ensures)) (omega (arith, (c .before .if2 .left))) in onward-on (onward-letter ((c .before .before .before .before .before .pre .1 .1)) (omega (arith, (c .before .if2 .left))) k) (onward-letter (k .small) h (((c .one-letter2 .ensures)) h))
+returns-3 c = λ h. onward-on (((c .before .before .one-letter .ensures)) (omega (arith, (c .before .if2 .left)))) (((c .one-letter2 .ensures)) h)
 
 pub advance-two-spec : {M : Type 1} → statement M
 advance-two-spec =

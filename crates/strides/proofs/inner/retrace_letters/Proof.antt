@@ -6,17 +6,17 @@ use borrow.Author.Needs.{needs}
 use Rattle.egg.specs.declared.Reached.{Reached}
 use Rattle.letters.specs.Letters.{LettersBack}
 use Rattle.letters.proofs.Walks.{back-element, letters-end, letters-more}
-use Rattle.strides.proofs.inner.retrace_five.Statement.{statement}
-use Rattle.strides.proofs.inner.retrace_five.Tie as tie
-use Rattle.strides.proofs.inner.retrace_five.Reads as reads
-use Rattle.strides.proofs.inner.retrace_five.Lts as lts
+use Rattle.strides.proofs.inner.retrace_letters.Statement.{statement}
+use Rattle.strides.proofs.inner.retrace_letters.Tie as tie
+use Rattle.strides.proofs.inner.retrace_letters.Reads as reads
+use Rattle.strides.proofs.inner.retrace_letters.Lts as lts
 use Rattle.strides.proofs.inner.stored_step.Reads as stored-step-reads
 
 abbrev Inv-loop : tie.InvT-loop
-Inv-loop s n count from cell y₀ c₀ left₀ y c left = (0 < y) × ((y ≤ count) × ((r : Reached) → LettersBack s n count (y - 1) c left r → LettersBack s n count (y₀ - 1) c₀ left₀ r))
+Inv-loop s n count from cell letters y₀ c₀ left₀ y c left = (0 < y) × ((y ≤ count) × ((r : Reached) → LettersBack s n count (y - 1) c left r → LettersBack s n count (y₀ - 1) c₀ left₀ r))
 
 abbrev μ-loop : tie.MeasureT-loop
-μ-loop s n count from cell y₀ c₀ left₀ y c left = left
+μ-loop s n count from cell letters y₀ c₀ left₀ y c left = left
 
 loop-holds : tie.Need-loop-holds Inv-loop μ-loop
 loop-holds c = ((c .before .pre .1 .0), ((c .before .pre .1 .1), λ r L. L))
@@ -45,8 +45,8 @@ loop-again c = (omega (arith, (c .before .if2 .left)), ((c .if3 .left), λ r L. 
 returns-4 : tie.Need-returns-4 Inv-loop μ-loop
 returns-4 c = λ h. ((c .before .loop .inv .1 .0), (c .before .loop .inv .1 .1) _ (letters-end (c .before .before .before .args .s .now) (c .before .before .before .args .n) (c .before .before .before .args .count) ((c .before .loop .y) - 1) (c .before .loop .c) (c .loop-test .left)))
 
-pub retrace-five-spec : {M : Type 1} → statement M
-retrace-five-spec =
+pub retrace-letters-spec : {M : Type 1} → statement M
+retrace-letters-spec =
     tie.close
     (tie.spec
     Inv-loop
