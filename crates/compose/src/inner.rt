@@ -1,5 +1,5 @@
-// Products by the numbers in the rows: quick, by the walks of `strides`, where every number is in range and the inverse's word
-// is no longer than the second's own, else as `walks` answers by the definition.
+// Products by the numbers in the rows: quick, by the walks of `strides`, where every number that is looked at is in range and, for a
+// word of more than five letters, the second's inverse has no longer one; else as `walks` answers by the definition.
 ghost use mathlib.Core.Path.{_≡_};
 ghost use mathlib.Core.Bool.{true};
 ghost use Prim.Native.Nat.{_+_, _*_, _<_, _≤_};
@@ -15,8 +15,8 @@ fn rows_within(s: &[u32], n: u8, count: u32) -> bool
     (count as usize) * egg::inner::width(n) <= s.len()
 }
 
-// The product of two elements by the numbers in their rows, where each is in range and the second's inverse has no longer word
-// than the second; else the count or more, and `compose_with_care` has the answer. A word of at most five letters is in its own row, and waits for no other. Of the two ways
+// The product of two elements by the numbers in their rows, where these serve; else the count, and `compose_with_care` has the
+// answer. A word of at most five letters is in its own row, and waits for no other. Of the two ways
 // back along a longer one both read and look at an inverse at the end: so they join with no branch, which a processor would
 // guess wrong every other time.
 fn product_number(s: &[u32], n: u8, count: u32, a: GroupElementId, b: GroupElementId) -> u32

@@ -60,7 +60,8 @@ fn one_letter(s: &[u32], n: u8, count: u32, y: u32, cell: u32, k: u32, letters: 
     egg::inner::chosen(fewer(k, letters), x, y)
 }
 
-// The first two of five letters. Of the words that are walked forward nearly all have more than three, or few: that is a branch.
+// The first two of five letters. In a large group nearly all words that are walked forward have more than three, in a small one
+// few: that is a branch.
 fn advance_two(s: &[u32], n: u8, count: u32, y: u32, cell: u32, letters: u32) -> u32
     requires { ⌜ (count * (2 * n + 4) ≤ length (now s)) × ((0 < y) × (y ≤ count)) ⌝ }
     ensures { λ r. ⌜ (0 < r → Onward (now (s .entry)) n count cell letters 5 y 3 r) ⌝ }

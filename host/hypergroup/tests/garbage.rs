@@ -168,7 +168,7 @@ fn letters() {
     }
 }
 
-/// What stands in a cell above a word's own letters is not read, and changes no answer.
+/// What stands in a cell above a word's own letters changes no answer, whether or not it could be a letter; nor does the step that such a letter would take.
 #[test]
 fn above_a_short_word() {
     let h3 = enumerated(3, &[5, 2, 3], 120);
@@ -177,9 +177,20 @@ fn above_a_short_word() {
         if own <= 5 {
             let at = letters_at(h3.1, e);
             let unaltered = altered(&h3, at, h3.0[at], e, 119, e);
-            assert_eq!(altered(&h3, at, h3.0[at] | u32::MAX << (3 * own), e, 119, e), unaltered);
+            for above in [u32::MAX, 0o11111, 0o22222, 0o12121] {
+                assert_eq!(altered(&h3, at, h3.0[at] & !(u32::MAX << (3 * own)) | above << (3 * own), e, 119, e), unaltered);
+            }
         }
     }
+    // The empty word and those of one letter, 1 or 2, have no letter 0, by which no step is known then, or one beyond the elements.
+    let step = h3.1.start + 119 * 10;
+    for e in [0, 2, 3] {
+        let product = raw::compose(&h3.0, h3.1, 119, e).unwrap();
+        for number in [0, 121, u32::MAX] {
+            assert_eq!(altered(&h3, step, number, e, 119, e)[1], Ok(product.to_be_bytes().to_vec()));
+        }
+    }
+    assert_eq!(altered(&h3, step, 121, 1, 119, 1)[1], Err(17));
 }
 
 /// With eight generators every letter is one, and is written and walked; a word of 4,096 letters is written, and one more is 17.

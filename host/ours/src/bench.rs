@@ -25,11 +25,11 @@ impl Room {
     }
 }
 
-/// One number for each question, as the oracle's loop has it; a refusal is looked for at each answer and kept aside.
+/// One number for each question, as the oracle's loop has it; a refusal is looked for at each answer, and the first is kept aside.
 fn plain<'a, A: 'a>(refused: &'a Cell<Option<Refusal>>, mut ask: impl FnMut(A) -> Answer<u32> + 'a) -> impl FnMut(A) -> u32 + 'a {
     move |x| {
         ask(x).unwrap_or_else(|no| {
-            refused.set(Some(no));
+            refused.set(refused.get().or(Some(no)));
             0
         })
     }
