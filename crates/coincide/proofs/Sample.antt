@@ -26,6 +26,7 @@ use Rattle.relations.specs.Relations.{turned, doubledRow, pairsRow, relationsRo
 use Rattle.running.specs.declared.inner.Ran.the-variants as ran
 use Rattle.running.specs.Run.{enumerated, runs, visits, discovered, advanced}
 use Rattle.derived.specs.Recorded.{Limits}
+use Rattle.derived.proofs.Sample.{limits}
 use Rattle.loops.specs.Loops.{orderFor, loopBy, loopFrom, settles, sweeps, sweep, sweepFrom, swiftly}
 use Rattle.coincide.proofs.Swift.{swift}
 
@@ -78,24 +79,10 @@ triangle-case = record {
   short-too = refl;
 }
 
-triangle-limits : Limits 2 (3 ∷ []) 6 48 192
-triangle-limits = record {
-  few = omega arith;
-  full = refl;
-  orders = λ k h. each k h;
-  some = omega arith;
-  limit = omega arith;
-  table-room = omega arith;
-  work-room = omega arith;
-} where
-  each : (k : ℕ) → k < 1 → (1 ≤ getD (3 ∷ []) k 0) × (getD (3 ∷ []) k 0 < 32768)
-  each zero h = omega arith
-  each (suc k) h = absurd (omega arith)
-
 pub triangle-swift : (enumerated 2 (3 ∷ []) 6 48 192 .answer ≡ ran.Done 6)
     × (finished (Count 6) 2 (enumerated 2 (3 ∷ []) 6 48 192 .table) (enumerated 2 (3 ∷ []) 6 48 192 .work)
     ≡ built (Count 6) (checked 2 6 192 triangle) (replicate 192 0))
-triangle-swift = accepted triangle-limits triangle-case
+triangle-swift = accepted limits triangle-case
 
 -- Orders 2 2 3, room 12: three generators, and one pair whose order is another than those of the others, so that it counts where a pair stands in the list.
 abbrev pub prism : List ℕ

@@ -15,7 +15,7 @@ use Rattle.running.specs.declared.inner.Ran.the-variants as ran
 use Rattle.derived.specs.Recorded.{Limits, Sound}
 use Rattle.derived.proofs.Derivation.{done-sound}
 
-limits : Limits 2 (3 ∷ []) 6 48 192
+pub limits : Limits 2 (3 ∷ []) 6 48 192
 limits = record {
   few = omega arith;
   full = refl;
