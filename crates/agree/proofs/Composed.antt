@@ -20,8 +20,8 @@ use Rattle.lending.specs.Finish as finish
 use Rattle.lending.specs.Finish.{Built, settledBy, finished, finishedPlaced}
 use Rattle.lending.specs.Lending.{tableNeed, workNeed, lentRight, Making, making, lentBack}
 use Rattle.lending.proofs.Lending.{lent-table, lent-enough}
-use Rattle.reading.specs.Reading.{Placed, placed, readAll}
-use Rattle.factor.specs.Composed.{composedAt, composedIn, composed}
+use Rattle.reading.specs.Reading.{Placed, placed, readAll, composedAt}
+use Rattle.factor.specs.Composed.{composedIn, composed}
 use Rattle.numbering.specs.Read.{Read}
 use Rattle.numbering.proofs.Readings.{accepted-read}
 use Rattle.packed.specs.Short.{verdictNumber, numberBy, built}

@@ -18,8 +18,7 @@ use Rattle.egg.proofs.Scans.{Says}
 use Rattle.checks.specs.Checks.{missing, check8, ranges, wrong, check-table, counted as arrived, countsRight, verdictOf, thenChecked, withTable, check-rest, check-group}
 use Rattle.inverses.specs.Inverses.{fillInverses, inversesRight}
 use Rattle.lefts.specs.Lefts.{identityRow, spelled, check-steps, Lefts, left, leftVerdict, thenLeft, lefts}
-use Rattle.reading.specs.Reading.{Placed, placed, readAll}
-use Rattle.factor.specs.Composed.{composedAt}
+use Rattle.reading.specs.Reading.{Placed, placed, readAll, composedAt}
 use Rattle.theory.specs.Table.{Table}
 use Rattle.theory.specs.Words.{Parents, Recorded}
 use Rattle.theory.specs.Regular.{Check}

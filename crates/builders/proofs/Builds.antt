@@ -17,7 +17,7 @@ use Rattle.egg.proofs.Rooms.{some}
 use Rattle.builder.specs.declared.Builder.{Builder}
 use Rattle.lending.specs.Lending.{workNeed, within, refusedMade, Making, making}
 use Rattle.builder.specs.Calls.{builds}
-use Rattle.factor.specs.Composed.{composedAt}
+use Rattle.reading.specs.Reading.{composedAt}
 use Rattle.theory.proofs.Reading.{numbered-once}
 use Rattle.answers.specs.Accepted.{factorStep}
 use Rattle.promises.specs.Composed.{Taken, Given}

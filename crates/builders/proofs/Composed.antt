@@ -14,7 +14,7 @@ use Rattle.egg.specs.declared.Factor.{Factor}
 use Rattle.egg.specs.declared.Counted.the-variants.{Count, Refused}
 use Rattle.egg.specs.Factor.{hasRoom, fitsIn, stretch}
 use Rattle.egg.proofs.Rooms.{has, some, room-enough, few, limited, within-length}
-use Rattle.reading.specs.Reading.{Placed, placed, readPlace, readAll}
+use Rattle.reading.specs.Reading.{Placed, placed, readPlace, readAll, composedAt}
 use Rattle.builder.specs.declared.Builder.{Builder}
 use Rattle.lending.specs.Finish.{zeroed, finishedPlaced}
 use Rattle.lending.specs.Lending.{tableNeed, workNeed, lentRight, lentBack}
@@ -22,7 +22,7 @@ use Rattle.rereading.specs.Own.{storedAt, copied, ownPlace, ownAll, allReached,
 use Rattle.builder.specs.Calls.{builds}
 use Rattle.rereading.proofs.Copying.{copied-at, copied-length}
 use Rattle.rereading.proofs.Owning.{own-read}
-use Rattle.factor.specs.Composed.{composedAt, composedIn, composed}
+use Rattle.factor.specs.Composed.{composedIn, composed}
 use Rattle.theory.specs.Numbering.{Numbered}
 use Rattle.numbering.proofs.Readings.{accepted-read}
 use Rattle.promises.proofs.Composed.{composed-is-build}

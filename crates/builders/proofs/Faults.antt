@@ -14,7 +14,8 @@ use Rattle.egg.specs.Factor.{fitsIn}
 use Rattle.egg.proofs.Rooms.{some, room-enough}
 use Rattle.builder.specs.declared.Builder.{Builder}
 use Rattle.lending.specs.Lending.{tableNeed, workNeed, within, noFactor, lentBack}
-use Rattle.factor.specs.Composed.{composedAt, composedIn, composed}
+use Rattle.factor.specs.Composed.{composedIn, composed}
+use Rattle.reading.specs.Reading.{composedAt}
 use Rattle.theory.specs.Numbering.{Numbered}
 use Rattle.theory.proofs.Reading.{numbered-once}
 use Rattle.meaning.specs.Numbers.{member}

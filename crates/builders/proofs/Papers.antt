@@ -6,7 +6,7 @@ use mathlib.Core.Logic.{_↔_}
 use mathlib.Core.List.{List, _∷_}
 use Rattle.builder.specs.declared.Builder.{Builder}
 use Rattle.builder.specs.Calls.{builds}
-use Rattle.factor.specs.Composed.{composedAt}
+use Rattle.reading.specs.Reading.{composedAt}
 use Rattle.meaning.specs.Numbers.{lateNumbers}
 use Rattle.answers.specs.Papers.{valuePaper}
 use Rattle.promises.specs.Composed.{Taken}

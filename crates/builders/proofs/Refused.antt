@@ -15,7 +15,8 @@ use Rattle.reading.specs.Build.{numbered}
 use Rattle.builder.specs.declared.Builder.{Builder}
 use Rattle.lending.specs.Lending.{workNeed}
 use Rattle.builder.specs.Calls.{builds}
-use Rattle.factor.specs.Composed.{composedAt, composed}
+use Rattle.factor.specs.Composed.{composed}
+use Rattle.reading.specs.Reading.{composedAt}
 use Rattle.theory.specs.Numbering.{Numbered}
 use Rattle.theory.proofs.Reading.{numbered-once}
 use Rattle.meaning.specs.Numbers.{member, lateNumbers}

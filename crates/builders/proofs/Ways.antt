@@ -17,7 +17,7 @@ use Rattle.egg.specs.declared.Counted.the-variants.{Count, Refused}
 use Rattle.egg.specs.Factor.{fitsIn, stretch}
 use Rattle.egg.proofs.Rooms.{some, room-enough}
 use Rattle.reading.specs.Build.{numbered}
-use Rattle.reading.specs.Reading.{placed}
+use Rattle.reading.specs.Reading.{placed, composedAt}
 use Rattle.checks.specs.Checks.{checked, check8, check-group}
 use Rattle.builder.specs.declared.Builder.{Builder}
 use Rattle.lending.specs.Finish.{Built, built, zeroed}
@@ -25,7 +25,7 @@ use Rattle.lending.proofs.Finishing.{refused-counted}
 use Rattle.lending.specs.Lending.{tableNeed, workNeed, within, noFactor, making, lentBack}
 use Rattle.rereading.specs.Own.{ownAll, ownIn}
 use Rattle.builder.specs.Calls.{builds}
-use Rattle.factor.specs.Composed.{composedAt, composed}
+use Rattle.factor.specs.Composed.{composed}
 use Rattle.theory.specs.Numbering.{Numbered}
 use Rattle.theory.proofs.Reading.{numbered-once}
 use Rattle.theory.proofs.RuleLaws.{numbered-agree}

@@ -10,7 +10,7 @@ use Rattle.egg.specs.Factor.{Paper, refusalPaper, fitsIn}
 use Rattle.reading.specs.Build.{numbered}
 use Rattle.builder.specs.declared.Builder.{Builder}
 use Rattle.lending.specs.Lending.{workNeed}
-use Rattle.factor.specs.Composed.{composedAt}
+use Rattle.reading.specs.Reading.{composedAt}
 use Rattle.theory.specs.Numbering.{Numbered}
 use Rattle.meaning.specs.Numbers.{In, lateNumbers}
 use Rattle.numbering.specs.Read.{Readable, Refuses}

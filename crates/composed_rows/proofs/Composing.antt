@@ -6,8 +6,8 @@ use mathlib.Core.List.{List}
 use lib.ListN.{replicate}
 use Rattle.egg.specs.declared.Counted.{Counted}
 use Rattle.lending.specs.Finish.{Built, finished, finishedPlaced}
-use Rattle.reading.specs.Reading.{Placed, placed, readAll}
-use Rattle.composed_rows.specs.Rows.{composedAt, composedIn}
+use Rattle.reading.specs.Reading.{Placed, placed, readAll, composedAt}
+use Rattle.composed_rows.specs.Rows.{composedIn}
 
 -- The build: a zeroed table, read into, and finished.
 pub composed-in : (size : ℕ) (w rows : List ℕ) (n room : ℕ) {t₀ t : List ℕ} {c : Counted} {b : Built} → t₀ ≡ replicate size 0

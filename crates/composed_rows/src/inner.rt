@@ -2,8 +2,8 @@
 ghost use mathlib.Core.Path.{_≡_};
 ghost use lib.ListN.{length};
 ghost use Rattle.lending.specs.Finish.{Built};
-ghost use Rattle.reading.specs.Reading.{Placed, readRow, readAll};
-ghost use Rattle.composed_rows.specs.Rows.{composedAt, composedIn};
+ghost use Rattle.reading.specs.Reading.{Placed, readRow, readAll, composedAt};
+ghost use Rattle.composed_rows.specs.Rows.{composedIn};
 use egg::Counted;
 use egg::GeneratorId;
 use egg::GroupElementId;

@@ -8,7 +8,6 @@ use lib.ListN.{length, take}
 use lib.Dec.{ltb, leb}
 use Rattle.egg.specs.Table.{pick}
 use Rattle.lending.specs.Lending.{tableNeed, workNeed, lentRight, refusedMade, Making, making, lentBack}
-pub use Rattle.composed_rows.specs.Rows.{composedAt}
 unfoldable pub use Rattle.composed_rows.specs.Rows.{composedIn}
 
 -- 1, then 4, with every buffer as it was; then the build. "A composed list needs Rn entries."

@@ -14,9 +14,9 @@ use Rattle.egg.specs.declared.Factor.{Factor}
 use Rattle.egg.specs.declared.Counted.the-variants.{Count, Refused}
 use Rattle.lending.specs.Finish.{finishedPlaced}
 use Rattle.lending.specs.Lending.{tableNeed, workNeed, lentRight, lentBack}
-use Rattle.reading.specs.Reading.{Placed, placed, thenPlaced, readPlace, readRow, readFrom, readAll}
+use Rattle.reading.specs.Reading.{Placed, placed, thenPlaced, readPlace, readRow, readFrom, readAll, composedAt}
 use Rattle.reading.proofs.Readings.{then-same}
-use Rattle.factor.specs.Composed.{composedAt, composedIn, composed}
+use Rattle.factor.specs.Composed.{composedIn, composed}
 use Rattle.products.specs.Product.{product}
 use Rattle.products.proofs.RadixLaws.{low, high}
 use Rattle.handles.specs.declared.Group.{Group}

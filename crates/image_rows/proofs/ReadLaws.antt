@@ -10,8 +10,7 @@ use Rattle.egg.specs.declared.Counted.{Counted}
 use Rattle.egg.specs.declared.Counted.the-variants.{Count, Refused}
 use Rattle.reading.specs.Build.{numbered}
 use Rattle.lending.specs.Finish.{Built, finished, finishedPlaced}
-use Rattle.reading.specs.Reading.{Placed, placed, readAll}
-use Rattle.factor.specs.Composed.{composedAt}
+use Rattle.reading.specs.Reading.{Placed, placed, readAll, composedAt}
 use Rattle.image_rows.specs.Read.{reachedAll, allPlaced, imageIn}
 
 -- Where a reading gave a refusal, too few, or all.

@@ -9,8 +9,7 @@ use Rattle.egg.specs.declared.Counted.the-variants.{Count, Refused}
 use Rattle.egg.specs.Table.{pick}
 use Rattle.reading.specs.Build.{numbered}
 use Rattle.lending.specs.Finish.{Built, finishedPlaced}
-use Rattle.reading.specs.Reading.{Placed, placed, readAll}
-use Rattle.factor.specs.Composed.{composedAt}
+use Rattle.reading.specs.Reading.{Placed, placed, readAll, composedAt}
 
 -- A count below the room is 16.
 abbrev pub reachedAll : ℕ → Counted → Counted

@@ -2,8 +2,7 @@
 ghost use mathlib.Core.Path.{_≡_};
 ghost use lib.ListN.{length};
 ghost use Rattle.lending.specs.Finish.{Built};
-ghost use Rattle.reading.specs.Reading.{Placed, readRow, readAll};
-ghost use Rattle.factor.specs.Composed.{composedAt};
+ghost use Rattle.reading.specs.Reading.{Placed, readRow, readAll, composedAt};
 ghost use Rattle.cells.specs.Cells.{halves};
 ghost use Rattle.image_rows.specs.Read.{reachedAll, imageIn};
 use egg::Counted;

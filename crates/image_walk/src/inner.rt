@@ -1,6 +1,6 @@
 // A word walked on an image's successors.
 ghost use mathlib.Core.Path.{_≡_};
-ghost use Rattle.factor.specs.Composed.{composedAt};
+ghost use Rattle.reading.specs.Reading.{composedAt};
 ghost use Rattle.cells.specs.Cells.{halves};
 ghost use Rattle.image_walk.specs.Walked.{lettersBelow, follow};
 use egg::GeneratorId;

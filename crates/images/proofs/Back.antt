@@ -20,8 +20,8 @@ use Rattle.egg.specs.Factor.{verdictPaper}
 use Rattle.checks.specs.Checks.{check-group, verdictOf}
 use Rattle.lending.specs.Finish.{finished, finishedPlaced}
 use Rattle.lending.specs.Lending.{tableNeed, workNeed, lentRight, refusedMade, Making, making, lentBack}
-use Rattle.reading.specs.Reading.{Placed, placed, readAll}
-use Rattle.factor.specs.Composed.{composedAt, composedIn, composed}
+use Rattle.reading.specs.Reading.{Placed, placed, readAll, composedAt}
+use Rattle.factor.specs.Composed.{composedIn, composed}
 use Rattle.cells.specs.Cells.{halves}
 use Rattle.numbering.specs.Read.{Read, Readable}
 use Rattle.numbering.proofs.Readings.{accepted-read, readable-accepted, refused-read, refused-number}

@@ -10,7 +10,7 @@ use borrow.Author.Tests.{ltb-false, eqb-false, eqb-true}
 use lib.Dec.{ltb, eqb}
 use lib.ListN.{length, getD, drop, length-drop}
 use lib.Seq.{getD-drop}
-use Rattle.factor.specs.Composed.{composedAt}
+use Rattle.reading.specs.Reading.{composedAt}
 use Rattle.cells.specs.Cells.{spell2, spell4, halves}
 use Rattle.cells.proofs.Laws.{halves-length}
 use Rattle.image.specs.Image.{lengthOf, generatorsOf, elementsOf, headNumber}

@@ -16,8 +16,7 @@ use Rattle.egg.specs.Table.{pick}
 use Rattle.egg.proofs.Rooms.{false-true, within-length}
 use Rattle.lending.specs.Lending.{tableNeed, workNeed, lentRight, Making, making, refusedMade}
 use Rattle.lending.proofs.Lending.{lent-table, lent-enough}
-use Rattle.reading.specs.Reading.{Placed, readAll}
-use Rattle.factor.specs.Composed.{composedAt}
+use Rattle.reading.specs.Reading.{Placed, readAll, composedAt}
 use Rattle.cells.specs.Cells.{halves}
 use Rattle.meaning.specs.Numbers.{member, In}
 use Rattle.promises.specs.Composed.{RowsRight}

@@ -14,9 +14,9 @@ use Rattle.egg.specs.declared.Verdict.the-variants as verdict
 use Rattle.egg.specs.declared.Counted.the-variants.{Count}
 use Rattle.egg.specs.Table.{pick}
 use Rattle.lending.specs.Lending.{tableNeed, lentRight, making}
-use Rattle.reading.specs.Reading.{Placed, placed, thenPlaced, readPlace, readRow, readFrom, readAll}
+use Rattle.reading.specs.Reading.{Placed, placed, thenPlaced, readPlace, readRow, readFrom, readAll, composedAt}
 use Rattle.reading.proofs.Readings.{then-same}
-use Rattle.factor.specs.Composed.{composedAt, composedIn, composed}
+use Rattle.factor.specs.Composed.{composedIn, composed}
 use Rattle.cells.specs.Cells.{halves}
 use Rattle.theory.proofs.Reading.{numbered-once}
 use Rattle.answers.specs.Accepted.{factorStep}

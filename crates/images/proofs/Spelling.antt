@@ -7,7 +7,7 @@ use native.Mathlib.Nat.{mul-le-mul, le-refl}
 use native.Mathlib.Omega.{arith}
 use lib.ListN.{length, getD, drop, List·getD-append}
 use lib.Seq.{getD-append-add, drop-cons, drop-length}
-use Rattle.factor.specs.Composed.{composedAt}
+use Rattle.reading.specs.Reading.{composedAt}
 use Rattle.cells.specs.Cells.{spell2, halves}
 use Rattle.image_bytes.specs.Written.{rowOf, rowsOf, spelled}
 use Rattle.image_bytes.proofs.Bytes.{row-length}

@@ -14,7 +14,7 @@ use Rattle.egg.specs.declared.Verdict.the-variants as verdict
 use Rattle.egg.specs.Table.{pick}
 use Rattle.egg.proofs.Rooms.{and-first, and-second}
 use Rattle.lending.specs.Lending.{making}
-use Rattle.factor.specs.Composed.{composedAt}
+use Rattle.reading.specs.Reading.{composedAt}
 use Rattle.factor.specs.Questions.{composeAnswer}
 use Rattle.cells.specs.Cells.{halves}
 use Rattle.theory.specs.Table.{Table}

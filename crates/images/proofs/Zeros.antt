@@ -11,8 +11,7 @@ use Rattle.egg.specs.declared.Verdict.the-variants as verdict
 use Rattle.egg.specs.declared.Counted.the-variants.{Refused}
 use Rattle.lending.specs.Finish.{built, finishedPlaced}
 use Rattle.lending.specs.Lending.{tableNeed, workNeed, lentRight, within, noFactor, making}
-use Rattle.reading.specs.Reading.{Placed, placed, readAll}
-use Rattle.factor.specs.Composed.{composedAt}
+use Rattle.reading.specs.Reading.{Placed, placed, readAll, composedAt}
 use Rattle.cells.specs.Cells.{halves}
 use Rattle.promises.proofs.Lent.{work-taken, by-refused}
 use Rattle.promises.proofs.ReadLengths.{placedTable, from-length}

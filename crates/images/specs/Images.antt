@@ -9,7 +9,7 @@ use Rattle.egg.specs.declared.Factor.{Factor}
 use Rattle.egg.specs.declared.Verdict.the-variants as verdict
 use Rattle.egg.specs.Factor.{stretch, countedPaper}
 use Rattle.lending.specs.Lending.{lentRight, Making, making}
-use Rattle.factor.specs.Composed.{composedAt}
+use Rattle.reading.specs.Reading.{composedAt}
 use Rattle.cells.specs.Cells.{halves}
 use Rattle.image.specs.Image.{lengthOf, generatorsOf, elementsOf, bytesNeed, imageNumber}
 use Rattle.image.specs.Written.{writeCount, writtenImage}

@@ -4,7 +4,7 @@ use Prim.Native.Nat.{ℕ}
 use mathlib.Core.List.{[], _∷_}
 use lib.ListN.{replicate}
 use Rattle.lending.specs.Lending.{tableNeed, workNeed}
-use Rattle.factor.specs.Composed.{composedAt}
+use Rattle.reading.specs.Reading.{composedAt}
 use Rattle.promises.specs.Composed.{Groupless}
 use Rattle.refusals.specs.Faults.{Lacks, Strays, Twists, Misnumbers}
 use Rattle.refusals.proofs.EachNumber.{composed-8, composed-9, composed-10, composed-11, composed-12}

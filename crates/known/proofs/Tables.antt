@@ -4,7 +4,7 @@ use mathlib.Core.Path.{_≡_, refl}
 use Rattle.theory.specs.AnyGroup.{SomeGroup}
 use Rattle.theory.proofs.Examples as theory
 use Rattle.products.proofs.Examples as products
-use Rattle.factor.specs.Composed.{composedAt}
+use Rattle.reading.specs.Reading.{composedAt}
 use Rattle.known.specs.Tables.{s3, z2, crossed}
 
 pub s3-same : composedAt s3 2 ≡ theory.s3

@@ -7,7 +7,7 @@ use lib.IntN.{pos, negsuc}
 use Rattle.egg.specs.Table.{stepOf}
 use Rattle.egg.specs.Factor.{verdictPaper, reachedPaper, countedPaper}
 use Rattle.lending.specs.Lending.{making}
-use Rattle.factor.specs.Composed.{composedAt}
+use Rattle.reading.specs.Reading.{composedAt}
 use Rattle.factor.specs.Questions as factor
 use Rattle.factor.specs.Relations.{checkAnswer}
 use Rattle.theory.specs.Words.{walk}

@@ -8,7 +8,8 @@ use Rattle.egg.specs.declared.Factor.{Factor}
 use Rattle.egg.specs.declared.Verdict.the-variants as verdict
 use Rattle.egg.specs.Factor.{countedPaper}
 use Rattle.lending.specs.Lending.{refusedMade, making}
-use Rattle.factor.specs.Composed.{composedAt, composed}
+use Rattle.factor.specs.Composed.{composed}
+use Rattle.reading.specs.Reading.{composedAt}
 use Rattle.refusals.specs.Papers.{paper}
 use Rattle.image.specs.Image.{imageNumber}
 use Rattle.image_bytes.specs.Written.{imageOf}

@@ -13,8 +13,7 @@ use Rattle.egg.specs.declared.Counted.{Counted}
 use Rattle.egg.specs.declared.Counted.the-variants as counted
 use Rattle.egg.proofs.Scans.{left-suc}
 use Rattle.lefts.specs.Lefts.{fillLeft, allGo, left, leftVerdict, lefts}
-use Rattle.reading.specs.Reading.{placed, readAll}
-use Rattle.factor.specs.Composed.{composedAt}
+use Rattle.reading.specs.Reading.{placed, readAll, composedAt}
 use Rattle.packed.specs.Short.{shortTable, short, SomeWork, verdictNumber, judged}
 
 module _ (t w w₁ : List ℕ) (n count s : ℕ) {v : Verdict} (h : s < n) (filled : w₁ ≡ fillLeft count t n s w 0) (told : v ≡ allGo t w₁ n count) where

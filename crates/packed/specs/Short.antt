@@ -14,8 +14,7 @@ use Rattle.egg.specs.Factor.{verdictPaper}
 use Rattle.checks.specs.Checks.{missing, wrong, verdictOf, check-group}
 use Rattle.inverses.specs.Inverses.{fillInverses, inversesRight}
 use Rattle.lefts.specs.Lefts.{identityRow, Lefts, left, leftVerdict, thenLeft, lefts}
-use Rattle.reading.specs.Reading.{Placed, placed, readAll}
-use Rattle.factor.specs.Composed.{composedAt}
+use Rattle.reading.specs.Reading.{Placed, placed, readAll, composedAt}
 
 -- 8 for predecessors, 9 at each place, 10 and 11, on the table alone; and the table then.
 unfoldable pub shortTable : List ℕ → ℕ → ℕ → Lefts

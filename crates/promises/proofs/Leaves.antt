@@ -24,7 +24,8 @@ use Rattle.egg.proofs.Scans.{refused-fine}
 use Rattle.lending.specs.Finish.{Built, built}
 use Rattle.lending.specs.Lending.{tableNeed, workNeed, lentRight, within, noFactor, refusedMade, Making, making, lentBack}
 use Rattle.lending.proofs.Lending.{lent-table, lent-enough}
-use Rattle.factor.specs.Composed.{composedAt, composedIn, composed}
+use Rattle.factor.specs.Composed.{composedIn, composed}
+use Rattle.reading.specs.Reading.{composedAt}
 use Rattle.enumeration.specs.Calls.{enumeratedIn, refusedMaking, enumerates}
 use Rattle.meaning.specs.Numbers.{member, In}
 use Rattle.meaning.proofs.Numbers.{each-in, orders-number}

@@ -10,7 +10,8 @@ use Rattle.egg.specs.declared.Factor.{Factor}
 use Rattle.egg.specs.declared.Verdict.{Verdict}
 use Rattle.egg.specs.declared.Verdict.the-variants as verdict
 use Rattle.lending.specs.Lending.{tableNeed, workNeed, Making, making}
-use Rattle.factor.specs.Composed.{composedAt, composed}
+use Rattle.factor.specs.Composed.{composed}
+use Rattle.reading.specs.Reading.{composedAt}
 use Rattle.running.specs.Run.{enumerated}
 use Rattle.running.specs.declared.inner.Ran.the-variants as ran
 use Rattle.enumeration.specs.Calls.{enumerates}

@@ -29,8 +29,8 @@ use Rattle.lending.specs.Lending.{tableNeed, workNeed, lentRight, within, makin
 use Rattle.lending.proofs.Lending.{lent-table}
 use Rattle.walks.specs.Walks.{onReached}
 use Rattle.relations.specs.Relations.{turned, doubledRow, pairsRow, relationsRow}
-use Rattle.reading.specs.Reading.{placed, readAll}
-use Rattle.factor.specs.Composed.{composedAt, composedIn, composed}
+use Rattle.reading.specs.Reading.{placed, readAll, composedAt}
+use Rattle.factor.specs.Composed.{composedIn, composed}
 use Rattle.running.specs.Run.{enumerated}
 use Rattle.enumeration.specs.Calls.{enumeratedIn, enumerates}
 use Rattle.theory.specs.Table.{Columns}

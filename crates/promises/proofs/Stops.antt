@@ -19,8 +19,8 @@ use Rattle.checks.specs.Checks.{check-group}
 use Rattle.lending.specs.Finish.{built, zeroed, finished, finishedPlaced}
 use Rattle.lending.specs.Lending.{tableNeed, workNeed, lentRight, within, noFactor, making, lentBack}
 use Rattle.lending.proofs.Lending.{lent-table}
-use Rattle.reading.specs.Reading.{Placed, placed, readAll}
-use Rattle.factor.specs.Composed.{composedAt, composedIn, composed}
+use Rattle.reading.specs.Reading.{Placed, placed, readAll, composedAt}
+use Rattle.factor.specs.Composed.{composedIn, composed}
 use Rattle.running.specs.Run.{Outcome, enumerated}
 use Rattle.running.specs.declared.inner.Ran.the-variants as ran
 use Rattle.enumeration.specs.Calls.{enumerates}

@@ -10,7 +10,7 @@ use Rattle.egg.specs.Table.{stepOf}
 use Rattle.egg.specs.Factor.{stretch}
 use Rattle.hops.specs.Hops.{Hops}
 use Rattle.lending.specs.Lending.{tableNeed, workNeed, lentRight, within}
-use Rattle.factor.specs.Composed.{composedAt}
+use Rattle.reading.specs.Reading.{composedAt}
 use Rattle.theory.specs.Numbering.{IdentityRow}
 use Rattle.theory.specs.Appearance.{recorded}
 use Rattle.theory.specs.AnyGroup.{SomeGroup}

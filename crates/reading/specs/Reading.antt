@@ -1,8 +1,9 @@
 -- Reading a table of composed numbers. Document 01, module 3: "at (e,g), in order, a number below the count is set, the count itself is a new element,
 -- more is 7." "During reading the order at one place is 7, 5, 6." The source of numbers is a function of element and generator.
 -- Assumes nothing.
-use Prim.Native.Nat.{ℕ, zero, suc, _+_}
+use Prim.Native.Nat.{ℕ, zero, suc, _+_, _*_}
 use mathlib.Core.List.{List}
+use lib.ListN.{getD}
 use lib.Dec.{ltb}
 use Rattle.egg.specs.declared.Refusal.{Refusal}
 use Rattle.egg.specs.declared.GroupElementId.{GroupElementId}
@@ -49,3 +50,7 @@ readFrom (suc k) src n room e count t =
 -- The whole reading, from the identity alone; the room bounds the rows, since it bounds the count.
 abbrev pub readAll : (ℕ → ℕ → ℕ) → ℕ → ℕ → List ℕ → Placed
 readAll src n room t = readFrom room src n room 0 1 t
+
+-- A lent list as such a source: the number at (e, g) of rows of n numbers.
+abbrev pub composedAt : List ℕ → ℕ → ℕ → ℕ → ℕ
+composedAt rows n e g = getD rows (e * n + g) 0

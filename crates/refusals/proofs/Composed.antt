@@ -17,11 +17,11 @@ use Rattle.egg.specs.declared.Verdict.{Verdict}
 use Rattle.egg.specs.declared.Verdict.the-variants as verdict
 use Rattle.egg.specs.Factor.{Paper, refusalPaper, verdictPaper, hasRoom}
 use Rattle.egg.proofs.Rooms.{false-true, and-first, and-second, positive, limited, within-length}
-use Rattle.reading.specs.Reading.{readAll}
+use Rattle.reading.specs.Reading.{readAll, composedAt}
 use Rattle.lending.specs.Finish.{finishedPlaced}
 use Rattle.lending.specs.Lending.{tableNeed, workNeed, lentRight, refusedMade, Making, making, lentBack}
 use Rattle.lending.proofs.Lending.{lent-table, lent-enough}
-use Rattle.factor.specs.Composed.{composedAt, composedIn, composed}
+use Rattle.factor.specs.Composed.{composedIn, composed}
 use Rattle.promises.specs.Composed.{Taken}
 use Rattle.promises.proofs.Composed.{composed-is-build, work-lent}
 use Rattle.refusals.specs.Faults.{Fault}

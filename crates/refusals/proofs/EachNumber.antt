@@ -8,7 +8,8 @@ use native.Mathlib.Omega.{arith}
 use lib.Dec.{lit<}
 use Rattle.egg.specs.Factor.{Paper}
 use Rattle.reading.specs.Build.{numbered}
-use Rattle.factor.specs.Composed.{composedAt, composed}
+use Rattle.factor.specs.Composed.{composed}
+use Rattle.reading.specs.Reading.{composedAt}
 use Rattle.promises.specs.Composed.{Taken, Groupless}
 use Rattle.refusals.specs.Faults.{Overflows, Overlong, SkipsAhead, Lacks, Strays, Twists, Misnumbers, Fault, lacks, strays, twists, misnumbers, groupless}
 use Rattle.refusals.specs.Papers.{paperOf, paper, Enough, ComposedPaper, many, short, taken, fault}

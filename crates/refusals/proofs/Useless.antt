@@ -22,7 +22,8 @@ use Rattle.egg.proofs.Rooms.{room-enough}
 use Rattle.egg.proofs.Scans.{refused-fine}
 use Rattle.lending.specs.Lending.{workNeed, Making, making}
 use Rattle.lending.proofs.Lending.{lent-enough}
-use Rattle.factor.specs.Composed.{composedAt, composed}
+use Rattle.factor.specs.Composed.{composed}
+use Rattle.reading.specs.Reading.{composedAt}
 use Rattle.factor.specs.Questions.{lengthAnswer}
 use Rattle.theory.specs.Words.{walk}
 use Rattle.answers.specs.Accepted.{Accepted, factorStep, factorWord}

@@ -10,7 +10,8 @@ use Rattle.egg.specs.declared.Refusal.{Refusal}
 use Rattle.egg.specs.declared.Verdict.{Verdict}
 use Rattle.egg.specs.Factor.{Paper, refusalPaper, verdictPaper}
 use Rattle.lending.specs.Lending.{tableNeed, workNeed, Making, making}
-use Rattle.factor.specs.Composed.{composedAt, composed}
+use Rattle.factor.specs.Composed.{composed}
+use Rattle.reading.specs.Reading.{composedAt}
 use Rattle.promises.specs.Composed.{Taken}
 use Rattle.refusals.specs.Faults.{Fault}
 

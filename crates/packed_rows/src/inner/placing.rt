@@ -1,7 +1,6 @@
 // The reading of `factor` over lent bytes; the composed numbers are two bytes each, as an image has them.
 ghost use mathlib.Core.Path.{_≡_};
-ghost use Rattle.reading.specs.Reading.{Placed, readPlace, readRow, readAll};
-ghost use Rattle.factor.specs.Composed.{composedAt};
+ghost use Rattle.reading.specs.Reading.{Placed, readPlace, readRow, readAll, composedAt};
 ghost use Rattle.cells.specs.Cells.{cells, halves};
 use super::table;
 use egg::Counted;

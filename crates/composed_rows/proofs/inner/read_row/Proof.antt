@@ -5,8 +5,7 @@ use native.Mathlib.Omega.{arith}
 use borrow.Author.Needs.{needs}
 use lib.ListN.{length}
 use Rattle.egg.proofs.Laws.{product-small}
-use Rattle.reading.specs.Reading.{readRow}
-use Rattle.composed_rows.specs.Rows.{composedAt}
+use Rattle.reading.specs.Reading.{readRow, composedAt}
 use Rattle.reading.proofs.Readings.{row-next, row-stop, row-end}
 use Rattle.composed_rows.proofs.inner.read_row.Statement.{statement}
 use Rattle.composed_rows.proofs.inner.read_row.Tie as tie

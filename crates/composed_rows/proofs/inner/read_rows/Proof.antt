@@ -4,8 +4,7 @@ use mathlib.Core.Path.{_≡_, refl, sym, ap, _∙_}
 use native.Mathlib.Omega.{arith}
 use borrow.Author.Needs.{needs}
 use lib.ListN.{length}
-use Rattle.reading.specs.Reading.{readFrom}
-use Rattle.composed_rows.specs.Rows.{composedAt}
+use Rattle.reading.specs.Reading.{readFrom, composedAt}
 use Rattle.reading.proofs.Readings.{rows-done, rows-next, rows-stop, rows-end}
 use Rattle.composed_rows.proofs.inner.read_rows.Statement.{statement}
 use Rattle.composed_rows.proofs.inner.read_rows.Tie as tie

@@ -5,8 +5,7 @@ use native.Mathlib.Omega.{arith}
 use borrow.Author.Needs.{needs}
 use lib.ListN.{length}
 use Rattle.cells.specs.Cells.{halves}
-use Rattle.reading.specs.Reading.{readFrom}
-use Rattle.factor.specs.Composed.{composedAt}
+use Rattle.reading.specs.Reading.{readFrom, composedAt}
 use Rattle.reading.proofs.Readings.{rows-done, rows-next, rows-stop, rows-end}
 use Rattle.image_rows.proofs.inner.read_rows.Statement.{statement}
 use Rattle.image_rows.proofs.inner.read_rows.Tie as tie

@@ -5,8 +5,7 @@ use Prim.Native.Nat.{ℕ, _/_}
 use lib.ListN.{take, drop}
 use lib.Seq.{length-take-le}
 use Rattle.cells.specs.Cells.{cells, halves}
-use Rattle.reading.specs.Reading.{readAll}
-use Rattle.factor.specs.Composed.{composedAt}
+use Rattle.reading.specs.Reading.{readAll, composedAt}
 use Rattle.packed.specs.Short.{short}
 use Rattle.packed.proofs.Parts.{front-take, front-drop, front-count, front-more, front-zero}
 use Rattle.packed.proofs.Turns.{judged-refused, judged-fewer, judged-whole}

@@ -6,8 +6,7 @@ use native.Mathlib.Omega.{arith}
 use borrow.Author.Needs.{needs}
 use lib.ListN.{length}
 use Rattle.egg.proofs.Laws.{product-small}
-use Rattle.reading.specs.Reading.{readRow}
-use Rattle.factor.specs.Composed.{composedAt}
+use Rattle.reading.specs.Reading.{readRow, composedAt}
 use Rattle.reading.proofs.Readings.{row-next, row-stop, row-end}
 use Rattle.packed_rows.proofs.inner.placing.read_row.Statement.{statement}
 use Rattle.packed_rows.proofs.inner.placing.read_row.Tie as tie
