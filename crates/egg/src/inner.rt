@@ -2,11 +2,11 @@
 // parent, last generator, word length, inverse. A successor or predecessor is stored as its number + 1, and 0 is
 // "not known", so that a row never used is zero. In an accepted table the letters before it stand above the last generator,
 // in the same cell (`hops`). Reads and writes are total: a read past the end is 0, a write there does nothing, so no caller
-// owes a proof of an index; but `read`, for a place that is known to be there.
+// owes a proof of an index; but `read`, for a place that is known to be there. `byte` and `put_byte` are the same for lent bytes.
 ghost use mathlib.Core.Path.{_≡_};
 ghost use mathlib.Core.Bool.{true};
 ghost use Prim.Native.Nat.{_+_, _*_, _<_, _-_};
-ghost use lib.ListN.{length, getD, replicate};
+ghost use lib.ListN.{length, getD, set, replicate};
 ghost use Rattle.egg.specs.Table.{pick, putAt, startOf, succAt, predAt, hopOf, lastOf, stepOf, backOf, workOf, Place};
 ghost use Rattle.egg.specs.Pairs.{pairCode, pairCount, ordersRight};
 ghost use Rattle.egg.specs.Scan.{refusedOf};
@@ -33,6 +33,13 @@ pub fn read(s: &[u32], i: usize) -> u32
     s[i]
 }
 
+// The byte at i, and 0 past the end.
+pub fn byte(s: &[u8], i: usize) -> u8
+    ensures { λ r. ⌜ r ≡ getD (now (s .entry)) i 0 ⌝ }
+{
+    if i < s.len() { s[i] } else { 0 }
+}
+
 // The one or the other, both worked out: without a branch, which a processor would guess wrong every other time.
 pub fn chosen(first: bool, x: u32, y: u32) -> u32
     ensures { λ r. ⌜ r ≡ pick first x y ⌝ }
@@ -54,6 +61,15 @@ pub fn put(s: &mut [u32], i: usize, v: usize)
         if v < 4294967296 {
             s[i] = v as u32;
         }
+    }
+}
+
+// Stores a byte; nothing past the end.
+pub fn put_byte(out: &mut [u8], i: usize, v: u8)
+    ensures { λ r. ⌜ now (out .exit) ≡ set (now (out .entry)) i v ⌝ }
+{
+    if i < out.len() {
+        out[i] = v;
     }
 }
 

@@ -2,7 +2,7 @@
 ghost use mathlib.Core.Path.{_≡_};
 ghost use mathlib.Core.Bool.{true};
 ghost use Prim.Native.Nat.{_+_, _≤_};
-ghost use lib.ListN.{length, set, drop};
+ghost use lib.ListN.{length, drop};
 ghost use Rattle.gathering.specs.Spell.{readable, spellFrom, spell};
 ghost use Rattle.gathering.specs.Letters.{lettersInBelow, lettersPut};
 use egg::GroupElementId;
@@ -75,15 +75,6 @@ pub fn readable(s: &[u32], n: u8, count: u32, e: GroupElementId, len: u32) -> bo
     true
 }
 
-// Stores a byte; nothing past the end.
-fn put_byte(out: &mut [u8], i: usize, v: u8)
-    ensures { λ r. ⌜ now (out .exit) ≡ set (now (out .entry)) i v ⌝ }
-{
-    if i < out.len() {
-        out[i] = v;
-    }
-}
-
 // The letters in a number to their places: `left` letters, but no more than five.
 fn put_letters(c: u32, left: u32, start: usize, offset: u32, out: &mut [u8])
     requires { ⌜ start ≤ 1099511627776 ⌝ }
@@ -98,7 +89,7 @@ fn put_letters(c: u32, left: u32, start: usize, offset: u32, out: &mut [u8])
         }
         word -= 1;
         let letter = (((offset as u64) + ((rest % 8) as u64)) % 256) as u8;
-        put_byte(out, start + (word as usize), letter);
+        egg::inner::put_byte(out, start + (word as usize), letter);
         rest /= 8;
         here -= 1;
     }

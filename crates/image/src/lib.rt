@@ -1,7 +1,7 @@
 // A stored image: its head; written from a factor, read back, checked in lent bytes, and walked.
 ghost use mathlib.Core.Path.{_≡_};
 ghost use Prim.Native.Nat.{_*_, _≤_};
-ghost use lib.ListN.{length, getD};
+ghost use lib.ListN.{length};
 ghost use Rattle.lending.specs.Lending.{tableNeed, Making};
 ghost use Rattle.image_bytes.specs.Written.{imageSize};
 ghost use Rattle.image.specs.Written.{writeCount, writtenImage};
@@ -14,22 +14,15 @@ use egg::GroupElementId;
 use egg::Made;
 use egg::Verdict;
 
-// The byte at i, and 0 past the end.
-fn byte(s: &[u8], i: usize) -> u8
-    ensures { λ r. ⌜ r ≡ getD (now (s .entry)) i 0 ⌝ }
-{
-    if i < s.len() { s[i] } else { 0 }
-}
-
 // The length of what follows, as the head says it.
 fn said_length(image: &[u8]) -> u32
     ensures { λ r. ⌜ r ≡ lengthOf (now (image .entry)) ⌝ }
 {
     cells::inner::spell(
-        byte(image, 3),
-        byte(image, 2),
-        byte(image, 1),
-        byte(image, 0),
+        egg::inner::byte(image, 3),
+        egg::inner::byte(image, 2),
+        egg::inner::byte(image, 1),
+        egg::inner::byte(image, 0),
     )
 }
 
@@ -37,15 +30,15 @@ fn said_length(image: &[u8]) -> u32
 pub fn generators(image: &[u8]) -> u8
     ensures { λ r. ⌜ r ≡ generatorsOf (now (image .entry)) ⌝ }
 {
-    byte(image, 5)
+    egg::inner::byte(image, 5)
 }
 
 // How many elements the head says.
 pub fn elements(image: &[u8]) -> u32
     ensures { λ r. ⌜ Said r (elementsOf (now (image .entry))) 65536 ⌝ }
 {
-    let a = byte(image, 6);
-    let b = byte(image, 7);
+    let a = egg::inner::byte(image, 6);
+    let b = egg::inner::byte(image, 7);
     cells::inner::spell_half(a, b)
 }
 
@@ -60,7 +53,7 @@ pub fn head(image: &[u8]) -> u32
     if length + 4 != image.len() {
         return 16;
     }
-    if byte(image, 4) != 1 {
+    if egg::inner::byte(image, 4) != 1 {
         return 16;
     }
     let n = generators(image);

@@ -1,7 +1,6 @@
 // An image's bytes, stored from a factor's stretch.
 ghost use mathlib.Core.Path.{_≡_};
 ghost use Prim.Native.Nat.{_+_, _≤_};
-ghost use lib.ListN.{set};
 ghost use Rattle.egg.specs.Table.{stepOf};
 ghost use Rattle.egg.specs.Factor.{readStep};
 ghost use Rattle.image_bytes.specs.Written.{stepRead, knownRow, allKnown, putHalf, putRow, putRows, putHead};
@@ -48,22 +47,13 @@ pub fn all_known(s: &[u32], n: u8, count: u32) -> Verdict
     Verdict::Fine
 }
 
-// Stores a byte; nothing past the end.
-fn put(out: &mut [u8], i: usize, v: u8)
-    ensures { λ r. ⌜ now (out .exit) ≡ set (now (out .entry)) i v ⌝ }
-{
-    if i < out.len() {
-        out[i] = v;
-    }
-}
-
 // A number in two bytes from `at` on, the highest first.
 fn put_half(out: &mut [u8], at: usize, v: u32)
     requires { ⌜ at + 1 ≤ 1099511627776 ⌝ }
     ensures { λ r. ⌜ now (out .exit) ≡ putHalf (now (out .entry)) at v ⌝ }
 {
-    put(out, at, (v / 256 % 256) as u8);
-    put(out, at + 1, (v % 256) as u8);
+    egg::inner::put_byte(out, at, (v / 256 % 256) as u8);
+    egg::inner::put_byte(out, at + 1, (v % 256) as u8);
 }
 
 fn put_row(out: &mut [u8], s: &[u32], n: u8, e: GroupElementId)
@@ -100,7 +90,7 @@ pub fn put_head(out: &mut [u8], len: u32, n: u8, count: u32)
 {
     put_half(out, 0, len / 256 / 256);
     put_half(out, 2, len);
-    put(out, 4, 1);
-    put(out, 5, n);
+    egg::inner::put_byte(out, 4, 1);
+    egg::inner::put_byte(out, 5, n);
     put_half(out, 6, count);
 }

@@ -20,7 +20,7 @@ use egg::GeneratorId;
 use egg::GroupElementId;
 
 // The byte at `at`, where the buffer has that place.
-pub fn put_byte(out: &mut [u8], at: usize, b: u8) -> usize
+fn put_byte(out: &mut [u8], at: usize, b: u8) -> usize
     requires { ⌜ Ends at (b ∷ []) ⌝ }
     ensures { λ r. ⌜ Writes (now (out .entry)) at (b ∷ []) (now (out .exit)) r ⌝ }
 {
@@ -30,7 +30,7 @@ pub fn put_byte(out: &mut [u8], at: usize, b: u8) -> usize
     at + 1
 }
 
-pub fn write_word(out: &mut [u8], at: usize, word: &[u8]) -> usize
+fn write_word(out: &mut [u8], at: usize, word: &[u8]) -> usize
     requires { ⌜ Ends at (now word) ⌝ }
     ensures { λ r. ⌜ Writes (now (out .entry)) at (now (word .entry)) (now (out .exit)) r ⌝ }
 {
@@ -44,7 +44,7 @@ pub fn write_word(out: &mut [u8], at: usize, word: &[u8]) -> usize
 }
 
 // The byte of a digit: 48 is '0'.
-pub fn digit(x: u32) -> u8
+fn digit(x: u32) -> u8
     requires { ⌜ x < 10 ⌝ }
     ensures { λ r. ⌜ r ≡ 48 + x ⌝ }
 {
@@ -52,7 +52,7 @@ pub fn digit(x: u32) -> u8
 }
 
 // The last k digits of x; no zero leads where k are enough.
-pub fn write_digits(out: &mut [u8], at: usize, k: u8, x: u32) -> usize
+fn write_digits(out: &mut [u8], at: usize, k: u8, x: u32) -> usize
     requires { ⌜ Ends at (digits k x) ⌝ }
     ensures { λ r. ⌜ Writes (now (out .entry)) at (digits k x) (now (out .exit)) r ⌝ }
 {
@@ -67,14 +67,14 @@ pub fn write_digits(out: &mut [u8], at: usize, k: u8, x: u32) -> usize
 }
 
 // Ten digits are enough for 32 bits.
-pub fn write_decimal(out: &mut [u8], at: usize, x: u32) -> usize
+fn write_decimal(out: &mut [u8], at: usize, x: u32) -> usize
     requires { ⌜ Ends at (decimal x) ⌝ }
     ensures { λ r. ⌜ Writes (now (out .entry)) at (decimal x) (now (out .exit)) r ⌝ }
 {
     write_digits(out, at, 10, x)
 }
 
-pub fn write_spaced(out: &mut [u8], at: usize, x: u32) -> usize
+fn write_spaced(out: &mut [u8], at: usize, x: u32) -> usize
     requires { ⌜ Ends at (spaced x) ⌝ }
     ensures { λ r. ⌜ Writes (now (out .entry)) at (spaced x) (now (out .exit)) r ⌝ }
 {
@@ -83,7 +83,7 @@ pub fn write_spaced(out: &mut [u8], at: usize, x: u32) -> usize
 }
 
 // The successors of e.
-pub fn write_steps(out: &mut [u8], at: usize, t: &[u32], n: u8, e: GroupElementId) -> usize
+fn write_steps(out: &mut [u8], at: usize, t: &[u32], n: u8, e: GroupElementId) -> usize
     requires { ⌜ Ends at (stepsText n (now t) n (e .0) 0) ⌝ }
     ensures { λ r. ⌜ Writes (now (out .entry)) at (stepsText n (now (t .entry)) n (e .0) 0) (now (out .exit)) r ⌝ }
 {
@@ -97,20 +97,20 @@ pub fn write_steps(out: &mut [u8], at: usize, t: &[u32], n: u8, e: GroupElementI
 }
 
 // The two numbers of a line that the table holds as they are.
-pub fn inverse(t: &[u32], n: u8, e: GroupElementId) -> u32
+fn inverse(t: &[u32], n: u8, e: GroupElementId) -> u32
     ensures { λ r. ⌜ r ≡ inverseOf (now (t .entry)) n (e .0) ⌝ }
 {
     egg::inner::get(t, egg::inner::inverse_at(n, e))
 }
 
-pub fn word_length(t: &[u32], n: u8, e: GroupElementId) -> u32
+fn word_length(t: &[u32], n: u8, e: GroupElementId) -> u32
     ensures { λ r. ⌜ r ≡ lengthOf (now (t .entry)) n (e .0) ⌝ }
 {
     egg::inner::word_length(t, n, e)
 }
 
 // "element, inverse, word length, successors"
-pub fn write_line(out: &mut [u8], at: usize, t: &[u32], n: u8, e: GroupElementId) -> usize
+fn write_line(out: &mut [u8], at: usize, t: &[u32], n: u8, e: GroupElementId) -> usize
     requires { ⌜ Ends at (lineText (now t) n (e .0)) ⌝ }
     ensures { λ r. ⌜ Writes (now (out .entry)) at (lineText (now (t .entry)) n (e .0)) (now (out .exit)) r ⌝ }
 {
@@ -122,7 +122,7 @@ pub fn write_line(out: &mut [u8], at: usize, t: &[u32], n: u8, e: GroupElementId
 }
 
 // The lines of all elements.
-pub fn write_lines(out: &mut [u8], at: usize, t: &[u32], n: u8, count: u32) -> usize
+fn write_lines(out: &mut [u8], at: usize, t: &[u32], n: u8, count: u32) -> usize
     requires { ⌜ Ends at (linesText count (now t) n 0) ⌝ }
     ensures { λ r. ⌜ Writes (now (out .entry)) at (linesText count (now (t .entry)) n 0) (now (out .exit)) r ⌝ }
 {

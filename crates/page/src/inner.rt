@@ -1,25 +1,18 @@
 // The page of an input: its orders are read, and what they say is written by `lines`.
 ghost use mathlib.Core.Path.{_≡_};
 ghost use Prim.Native.Nat.{_<_, _≤_};
-ghost use lib.ListN.{length, getD, take, replicate};
+ghost use lib.ListN.{length, take, replicate};
 ghost use Rattle.egg.specs.Pairs.{ordersRight};
 ghost use Rattle.lines.specs.Text.{Writes};
 ghost use Rattle.page.specs.Listing.{orderIn, ordersIn, pageBy, rightPage, listingOf};
 use egg::Verdict;
-
-// The byte at i, and 0 past the end.
-pub fn byte(input: &[u8], i: usize) -> u8
-    ensures { λ r. ⌜ r ≡ getD (now (input .entry)) i 0 ⌝ }
-{
-    if i < input.len() { input[i] } else { 0 }
-}
 
 // "then two bytes an order", the higher first.
 pub fn order_at(input: &[u8], i: usize) -> u32
     requires { ⌜ i < 28 ⌝ }
     ensures { λ r. ⌜ r ≡ orderIn (now (input .entry)) i ⌝ }
 {
-    (byte(input, 2 * i + 1) as u32) * 256 + (byte(input, 2 * i + 2) as u32)
+    (egg::inner::byte(input, 2 * i + 1) as u32) * 256 + (egg::inner::byte(input, 2 * i + 2) as u32)
 }
 
 // The k orders of the input, stored from the front on.

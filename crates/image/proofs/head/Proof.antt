@@ -8,7 +8,7 @@ use Rattle.image.proofs.head.Statement.{statement}
 use Rattle.image.proofs.head.Tie as tie
 use Rattle.image.proofs.head.Reads as reads
 use Rattle.image.proofs.head.Lts as lts
-use Rattle.image.proofs.byte.Reads as byte-reads
+use Rattle.egg.proofs.inner.byte.Reads as byte-reads
 use Rattle.image.proofs.elements.Reads as elements-reads
 use Rattle.image.proofs.generators.Reads as generators-reads
 use Rattle.image.proofs.said_length.Reads as said-length-reads

@@ -5,7 +5,7 @@ use Rattle.image_bytes.proofs.inner.put_head.Statement.{statement}
 use Rattle.image_bytes.proofs.inner.put_head.Tie as tie
 use Rattle.image_bytes.proofs.inner.put_head.Reads as reads
 use Rattle.image_bytes.proofs.inner.put_head.Lts as lts
-use Rattle.image_bytes.proofs.inner.put.Reads as put-reads
+use Rattle.egg.proofs.inner.put_byte.Reads as put-byte-reads
 use Rattle.image_bytes.proofs.inner.put_half.Reads as put-half-reads
 
 put-half-requires : tie.Need-put-half-requires
@@ -14,11 +14,11 @@ put-half-requires c κs = search needs
 put-half-requires-2 : tie.Need-put-half-requires-2
 put-half-requires-2 c κs = search needs
 
-put-requires : tie.Need-put-requires
-put-requires c κs = search needs
+put-byte-requires : tie.Need-put-byte-requires
+put-byte-requires c κs = search needs
 
-put-requires-2 : tie.Need-put-requires-2
-put-requires-2 c κs = search needs
+put-byte-requires-2 : tie.Need-put-byte-requires-2
+put-byte-requires-2 c κs = search needs
 
 put-half-requires-3 : tie.Need-put-half-requires-3
 put-half-requires-3 c κs = search needs
@@ -28,7 +28,7 @@ same-length c = search needs
 
 returns : tie.Need-returns
 unfolding putHead
-returns c = rw ((c .before .before .put-half3 .ensures), (c .before .before .before .before .before .before .put2 .ensures), (c .before .before .before .before .before .before .before .before .before .before .put .ensures), (c .before .before .before .before .before .before .before .before .before .before .before .before .before .before .put-half2 .ensures), (c .before .before .before .before .before .before .before .before .before .before .before .before .before .before .before .before .before .before .put-half .ensures))
+returns c = rw ((c .before .before .put-half3 .ensures), (c .before .before .before .before .before .before .put-byte2 .ensures), (c .before .before .before .before .before .before .before .before .before .before .put-byte .ensures), (c .before .before .before .before .before .before .before .before .before .before .before .before .before .before .put-half2 .ensures), (c .before .before .before .before .before .before .before .before .before .before .before .before .before .before .before .before .before .before .put-half .ensures))
 
 pub put-head-spec : {M : Type 1} → statement M
 put-head-spec =
@@ -36,8 +36,8 @@ put-head-spec =
     (tie.spec
     put-half-requires
     put-half-requires-2
-    put-requires
-    put-requires-2
+    put-byte-requires
+    put-byte-requires-2
     put-half-requires-3
     same-length
     returns)

@@ -2,8 +2,8 @@
 use mathlib.Core.Path.{sym}
 use lib.Seq.{set-out}
 use borrow.Author.Needs.{needs}
-use Rattle.image_bytes.proofs.inner.put.Statement.{statement}
-use Rattle.image_bytes.proofs.inner.put.Tie as tie
+use Rattle.egg.proofs.inner.put_byte.Statement.{statement}
+use Rattle.egg.proofs.inner.put_byte.Tie as tie
 
 slice-write-out : tie.Need-slice-write-out
 slice-write-out c = search needs
@@ -17,5 +17,5 @@ returns c = search needs
 returns-2 : tie.Need-returns-2
 returns-2 c = sym (set-out _ _ _ (c .if1 .left))
 
-pub put-spec : {M : Type 1} → statement M
-put-spec = tie.close (tie.spec slice-write-out same-length returns returns-2)
+pub put-byte-spec : {M : Type 1} → statement M
+put-byte-spec = tie.close (tie.spec slice-write-out same-length returns returns-2)

@@ -2,10 +2,10 @@
 use mathlib.Core.Path.{sym}
 use lib.ListN.{List·getD-eq-default}
 use borrow.Author.Needs.{needs}
-use Rattle.image.proofs.byte.Statement.{statement}
-use Rattle.image.proofs.byte.Tie as tie
-use Rattle.image.proofs.byte.Reads as reads
-use Rattle.image.proofs.byte.Lts as lts
+use Rattle.egg.proofs.inner.byte.Statement.{statement}
+use Rattle.egg.proofs.inner.byte.Tie as tie
+use Rattle.egg.proofs.inner.byte.Reads as reads
+use Rattle.egg.proofs.inner.byte.Lts as lts
 
 shared-slice-read-result : tie.Need-shared-slice-read-result
 shared-slice-read-result c = search needs
