@@ -21,7 +21,8 @@ use Rattle.egg.specs.declared.GeneratorId.{GeneratorId}
 use Rattle.egg.specs.Table.{pick, startOf}
 use Rattle.rows.specs.declared.inner.RelationTableRow.{RelationTableRow}
 use Rattle.egg.specs.Pairs.{pairCode}
-use Rattle.rows.specs.Rows.{genOf, rowOf, rightCell, leftCell, backFrom, forwardFrom, backed, filled, newRow}
+use Rattle.rows.specs.Rows.{genOf, rowOf, newRow}
+use Rattle.legs.specs.Fill.{rightCell, leftCell, backFrom, forwardFrom, backed, filled}
 use Rattle.derived.specs.Invariant.{Step, TableOk, letters, RowOk}
 
 -- A generator leads back.

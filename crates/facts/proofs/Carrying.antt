@@ -7,9 +7,10 @@ use native.Mathlib.Omega.{arith}
 use lib.ListN.{getD}
 use Rattle.rows.specs.declared.inner.RelationTableRow.{RelationTableRow}
 use Rattle.rows.specs.declared.inner.SideOfGap.{SideOfGap}
-use Rattle.rows.specs.Rows.{readRow, writeRow, filled, listAt, appended, waits}
-use Rattle.rows.specs.Alike.{Moves, Alike, forth, backward, movedAlike}
-use Rattle.rows.proofs.Alike.{moves-forth, moves-back, moves-alike, moved-list}
+use Rattle.rows.specs.Rows.{readRow, writeRow, listAt, appended, waits}
+use Rattle.legs.specs.Fill.{filled}
+use Rattle.legs.specs.Alike.{Moves, Alike, forth, backward, movedAlike}
+use Rattle.legs.proofs.Alike.{moves-forth, moves-back, moves-alike, moved-list}
 use Rattle.facts.specs.Facts.{State, state, wakes, wakesAll}
 use Rattle.facts.proofs.FactLaws.{woken-waits, wake-turn}
 

@@ -14,7 +14,8 @@ use Rattle.reading.specs.Build.{isNew, setStep}
 use Rattle.rows.specs.declared.inner.RelationTableRow.{RelationTableRow}
 use Rattle.rows.specs.declared.inner.SideOfGap.{SideOfGap}
 use Rattle.rows.specs.declared.inner.SideOfGap.the-variants.{Left, Right}
-use Rattle.rows.specs.Rows.{placeAt, genOf, readRow, filled, waits}
+use Rattle.rows.specs.Rows.{placeAt, genOf, readRow, waits}
+use Rattle.legs.specs.Fill.{filled}
 use Rattle.facts.specs.Facts.{State, state, link, belowAt, learns, gives, woken, wakes, wakesAll, emptied, updated, settleFrom}
 
 -- A number that is not 0 is at least 1.

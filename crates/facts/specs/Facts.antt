@@ -11,7 +11,8 @@ use Rattle.reading.specs.Build.{isNew, setStep}
 use Rattle.rows.specs.declared.inner.RelationTableRow.{RelationTableRow}
 use Rattle.rows.specs.declared.inner.SideOfGap.{SideOfGap}
 use Rattle.rows.specs.declared.inner.SideOfGap.the-variants.{Left, Right}
-use Rattle.rows.specs.Rows.{placeAt, genOf, readRow, filled, waits}
+use Rattle.rows.specs.Rows.{placeAt, genOf, readRow, waits}
+use Rattle.legs.specs.Fill.{filled}
 
 -- The table, the work, and the top of the stack of facts: the link of a place, 0 for an empty stack.
 pub record State : Type 0 where

@@ -5,8 +5,9 @@ ghost use mathlib.Core.Bool.{true};
 ghost use Prim.Native.Nat.{_+_, _<_, _≤_};
 ghost use lib.ListN.{length};
 ghost use Rattle.egg.specs.Table.{stillLeft};
-ghost use Rattle.rows.specs.Rows.{Orders, filled};
-ghost use Rattle.rows.specs.Alike.{Moves};
+ghost use Rattle.rows.specs.Rows.{Orders};
+ghost use Rattle.legs.specs.Fill.{filled};
+ghost use Rattle.legs.specs.Alike.{Moves};
 ghost use Rattle.facts.specs.Facts.{state, learns, woken, wakesAll, emptied, updated, settled};
 ghost use Rattle.facts.specs.Carrying.{wakesRest};
 use egg::GeneratorId;
@@ -101,7 +102,7 @@ pub fn carry_leg(
         }
         let place = (at - 1) as usize;
         let row = rows::inner::read_row(&w[..], place);
-        if !rows::inner::alike(row, before, forth + back) {
+        if !legs::inner::alike(row, before, forth + back) {
             return Carried {
                 at,
                 left,
@@ -206,7 +207,7 @@ pub fn wake_all(
         let place = (at - 1) as usize;
         let next = egg::inner::get(&w[..], place + 5);
         let before = rows::inner::read_row(&w[..], place);
-        let after = rows::inner::fill(&t[..], n, before);
+        let after = legs::inner::fill(&t[..], n, before);
         now_top = wake(t, w, n, place, side, after, now_top);
         let rest = carry(&t[..], w, n, next, left - 1, side, before, after, now_top);
         at = rest.at;

@@ -13,8 +13,8 @@ use Rattle.egg.specs.Pairs.{pairCount}
 use Rattle.egg.specs.Table.{startOf, lengthOf}
 use Rattle.egg.proofs.Scans.{left-suc}
 use Rattle.rows.specs.Rows.{Orders}
-use Rattle.rows.specs.declared.inner.Walked.{Walked}
-use Rattle.rows.specs.Walk.{walkFrom}
+use Rattle.legs.specs.declared.inner.Walked.{Walked}
+use Rattle.legs.specs.Walk.{walkFrom}
 use Rattle.loops.specs.Loops.{orderFor, loopBy, loopFrom}
 
 module _ (o : List ℕ) (g h : ℕ) where

@@ -14,8 +14,8 @@ use Rattle.egg.specs.declared.Counted.the-variants as counted
 use Rattle.egg.specs.Table.{pick, startOf, lengthOf}
 use Rattle.egg.specs.Pairs.{pairCount}
 use Rattle.reading.specs.Build.{isNew, setStep, adds}
-use Rattle.rows.specs.declared.inner.Walked.{Walked}
-use Rattle.rows.specs.Walk.{walkFrom}
+use Rattle.legs.specs.declared.inner.Walked.{Walked}
+use Rattle.legs.specs.Walk.{walkFrom}
 use Rattle.running.specs.declared.inner.Run.{Run}
 use Rattle.running.specs.declared.inner.Ran.{Ran}
 use Rattle.running.specs.declared.inner.Ran.the-variants as ran

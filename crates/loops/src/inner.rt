@@ -4,13 +4,13 @@ ghost use Prim.Native.Nat.{_+_, _*_, _-_, _<_, _≤_};
 ghost use lib.ListN.{length};
 ghost use Rattle.egg.specs.Table.{lengthOf};
 ghost use Rattle.rows.specs.Rows.{Orders};
-ghost use Rattle.rows.specs.Walk.{walkFrom};
+ghost use Rattle.legs.specs.Walk.{walkFrom};
 ghost use Rattle.loops.specs.Loops.{orderFor, loopBy, loopFrom, swept, settles, sweeps, sweep, sweepFrom, swiftly};
 use egg::Counted;
 use egg::GeneratorId;
 use egg::GroupElementId;
 use egg::Reached;
-use rows::inner::Walked;
+use legs::inner::Walked;
 use running::inner::Ran;
 use running::inner::Run;
 

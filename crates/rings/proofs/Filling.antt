@@ -14,7 +14,8 @@ use Rattle.theory.specs.Presentation.{pairs-below}
 use Rattle.egg.specs.Pairs.{pairCode}
 use Rattle.egg.specs.Table.{pick, startOf}
 use Rattle.rows.specs.declared.inner.RelationTableRow.{RelationTableRow}
-use Rattle.rows.specs.Rows.{genOf, rowOf, rightCell, leftCell, backFrom, forwardFrom, filled}
+use Rattle.rows.specs.Rows.{genOf, rowOf}
+use Rattle.legs.specs.Fill.{rightCell, leftCell, backFrom, forwardFrom, filled}
 use Rattle.derived.specs.Invariant.{Known}
 use Rattle.rings.specs.Rings.{turn, ring, first, second, Looped, Told, Column, rowAt, Fills}
 use Rattle.rings.proofs.Letters.{letters-below, turn-below, gen-turn, ring-back}

@@ -9,7 +9,7 @@ use borrow.Author.Tests.{eqb-false}
 use lib.ListN.{getD}
 use lib.Dec.{eqb}
 use Rattle.egg.specs.Table.{pick, startOf}
-use Rattle.rows.specs.Walk.{walkOf, walkFrom}
+use Rattle.legs.specs.Walk.{walkOf, walkFrom}
 use Rattle.derived.specs.Invariant.{Known}
 use Rattle.rings.proofs.Turns.{turn-other}
 use Rattle.rings.specs.Rings.{turn, ring}

@@ -9,7 +9,8 @@ use lib.ListN.{getD, length}
 use Rattle.rows.specs.declared.inner.RelationTableRow.{RelationTableRow}
 use Rattle.rows.specs.declared.inner.SideOfGap.{SideOfGap}
 use Rattle.rows.specs.declared.inner.SideOfGap.the-variants.{Left, Right}
-use Rattle.rows.specs.Rows.{workWidth, placeAt, readRow, writeRow, backFrom, forwardFrom, filled, linkAt, appended, listAt, waits}
+use Rattle.rows.specs.Rows.{workWidth, placeAt, readRow, writeRow, linkAt, appended, listAt, waits}
+use Rattle.legs.specs.Fill.{backFrom, forwardFrom, filled}
 use Rattle.derived.specs.Invariant.{RowOk, Copy, Link, WorkOk}
 use Rattle.egg.proofs.Cells.{inside}
 use Rattle.derived.proofs.Spots.{place-inside}

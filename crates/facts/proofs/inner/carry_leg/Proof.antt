@@ -2,7 +2,7 @@ use borrow.Author.Needs.{needs}
 use Rattle.facts.proofs.Carrying.{carry-turn}
 use Rattle.facts.proofs.FactLaws.{pos}
 use Rattle.facts.specs.Facts.{state, wakesAll}
-use Rattle.rows.proofs.Alike.{moves-forth, moves-back}
+use Rattle.legs.proofs.Alike.{moves-forth, moves-back}
 use Rattle.rows.specs.Rows.{listAt}
 use Rattle.rows.specs.declared.inner.SideOfGap.{SideOfGap}
 use lib.ListN.{length}
@@ -16,7 +16,7 @@ use Rattle.facts.proofs.inner.carry_leg.Tie as tie
 use Rattle.facts.proofs.inner.carry_leg.Reads as reads
 use Rattle.facts.proofs.inner.carry_leg.Lts as lts
 use Rattle.egg.proofs.inner.get.Reads as get-reads
-use Rattle.rows.proofs.inner.alike.Reads as alike-reads
+use Rattle.legs.proofs.inner.alike.Reads as alike-reads
 use Rattle.rows.proofs.inner.append.Reads as append-reads
 use Rattle.rows.proofs.inner.list_at.Reads as list-at-reads
 use Rattle.rows.proofs.inner.read_row.Reads as read-row-reads

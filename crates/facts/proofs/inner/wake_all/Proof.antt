@@ -1,6 +1,6 @@
 use Rattle.facts.proofs.FactLaws.{pos, woken-table, wakes-by, wake-turn, wake-end, wake-spent}
 use Rattle.facts.specs.Facts.{state, wakesAll}
-use Rattle.rows.specs.Rows.{filled}
+use Rattle.legs.specs.Fill.{filled}
 use lib.ListN.{length}
 use native.Mathlib.Omega.{arith}
 use borrow.Author.Needs.{needs}
@@ -14,7 +14,7 @@ use Rattle.facts.proofs.inner.wake_all.Lts as lts
 use Rattle.egg.proofs.inner.get.Reads as get-reads
 use Rattle.facts.proofs.inner.carry.Reads as carry-reads
 use Rattle.facts.proofs.inner.wake.Reads as wake-reads
-use Rattle.rows.proofs.inner.fill.Reads as fill-reads
+use Rattle.legs.proofs.inner.fill.Reads as fill-reads
 use Rattle.rows.proofs.inner.read_row.Reads as read-row-reads
 
 abbrev Inv-loop : tie.InvT-loop

@@ -2,9 +2,9 @@ use Prim.Native.Nat.{_-_, _<_}
 use mathlib.Core.Path.{_≡_, refl, sym, _∙_}
 use native.Mathlib.Omega.{arith}
 use borrow.Author.Needs.{needs}
-use Rattle.rows.specs.Walk.{walkFrom}
+use Rattle.legs.specs.Walk.{walkFrom}
 use Rattle.egg.proofs.Laws.{got-from}
-use Rattle.rows.proofs.Walks.{walk-step, walk-stuck, walk-end}
+use Rattle.legs.proofs.Walks.{walk-step, walk-stuck, walk-end}
 use Rattle.loops.proofs.inner.loop_end.Statement.{statement}
 use Rattle.loops.proofs.inner.loop_end.Tie as tie
 use Rattle.loops.proofs.inner.loop_end.Reads as reads

@@ -12,11 +12,12 @@ use lib.ListN.{getD}
 use Rattle.egg.specs.declared.GroupElementId.{GroupElementId}
 use Rattle.egg.specs.declared.GeneratorId.{GeneratorId}
 use Rattle.egg.specs.Table.{pick, startOf}
 use Rattle.rows.specs.declared.inner.RelationTableRow.{RelationTableRow}
-use Rattle.rows.specs.declared.inner.Walked.{Walked}
-use Rattle.rows.specs.Rows.{genOf, rowOf, backFrom, forwardFrom}
-use Rattle.rows.specs.Walk.{walkOf, walkFrom}
+use Rattle.legs.specs.declared.inner.Walked.{Walked}
+use Rattle.rows.specs.Rows.{genOf, rowOf}
+use Rattle.legs.specs.Fill.{backFrom, forwardFrom}
+use Rattle.legs.specs.Walk.{walkOf, walkFrom}
 use Rattle.rows.proofs.Laws.{gen-again}
 
 module _ (t : List ℕ) (n e a b : ℕ) {x : ℕ} where
   pub walk-step : (k : ℕ) → (k ≡ 0 → ⊥) → x ≡ getD t (startOf n e + a) 0 → (x ≡ 0 → ⊥)

@@ -3,10 +3,10 @@ use native.Mathlib.Omega.{arith}
 use borrow.Author.Tests.{ltb-true}
 use borrow.Author.Needs.{needs}
 use Rattle.egg.proofs.Rooms.{false-true}
-use Rattle.rows.proofs.inner.alike.Statement.{statement}
-use Rattle.rows.proofs.inner.alike.Tie as tie
-use Rattle.rows.proofs.inner.alike.Reads as reads
-use Rattle.rows.proofs.inner.alike.Lts as lts
+use Rattle.legs.proofs.inner.alike.Statement.{statement}
+use Rattle.legs.proofs.inner.alike.Tie as tie
+use Rattle.legs.proofs.inner.alike.Reads as reads
+use Rattle.legs.proofs.inner.alike.Lts as lts
 
 returns : tie.Need-returns
 returns c h = absurd (false-true h)

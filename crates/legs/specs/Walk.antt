@@ -5,8 +5,8 @@ use mathlib.Core.List.{List}
 use lib.ListN.{getD}
 use lib.Dec.{eqb}
 use Rattle.egg.specs.Table.{pick, startOf}
-use Rattle.rows.specs.declared.inner.Walked.{Walked}
-use Rattle.rows.specs.declared.inner.Leg.{Leg}
+use Rattle.legs.specs.declared.inner.Walked.{Walked}
+use Rattle.legs.specs.declared.inner.Leg.{Leg}
 
 abbrev pub walkOf : ℕ → ℕ → Walked
 walkOf e left = record { element = record { 0 = e }; left = left }

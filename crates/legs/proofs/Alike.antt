@@ -7,15 +7,16 @@ use native.Mathlib.Decide.{decLt}
 use native.Mathlib.Omega.{arith}
 use Rattle.egg.specs.declared.GroupElementId.{GroupElementId}
 use Rattle.egg.specs.declared.GeneratorId.{GeneratorId}
 use Rattle.rows.specs.declared.inner.RelationTableRow.{RelationTableRow}
 use Rattle.rows.specs.declared.inner.SideOfGap.{SideOfGap}
 use Rattle.rows.specs.declared.inner.SideOfGap.the-variants.{Left, Right}
-use Rattle.rows.specs.declared.inner.Walked.{Walked}
-use Rattle.rows.specs.Rows.{placeAt, genOf, rowOf, backed, forwarded, filled, listAt}
-use Rattle.rows.specs.Walk.{walkOf, walkFrom}
-use Rattle.rows.specs.Alike.{Moves, Alike, forth, backward, movedAlike}
+use Rattle.legs.specs.declared.inner.Walked.{Walked}
+use Rattle.rows.specs.Rows.{placeAt, genOf, rowOf, listAt}
+use Rattle.legs.specs.Fill.{backed, forwarded, filled}
+use Rattle.legs.specs.Walk.{walkOf, walkFrom}
+use Rattle.legs.specs.Alike.{Moves, Alike, forth, backward, movedAlike}
 use Rattle.rows.proofs.Laws.{gen-beside}
-use Rattle.rows.proofs.Walks.{walk-any, walk-left, back-met, forward-met, back-walk, forward-walk}
+use Rattle.legs.proofs.Walks.{walk-any, walk-left, back-met, forward-met, back-walk, forward-walk}
 
 -- A generator is due by whether its column is even.
 pub gen-same : (pair i j : ℕ) → i % 2 ≡ j % 2 → genOf pair i ≡ genOf pair j

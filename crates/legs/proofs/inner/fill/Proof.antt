@@ -1,12 +1,12 @@
 use mathlib.Core.Path.{_∙_}
-use Rattle.rows.specs.Rows.{filled}
+use Rattle.legs.specs.Fill.{filled}
 use borrow.Author.Needs.{needs}
-use Rattle.rows.proofs.inner.fill.Statement.{statement}
-use Rattle.rows.proofs.inner.fill.Tie as tie
-use Rattle.rows.proofs.inner.fill.Reads as reads
-use Rattle.rows.proofs.inner.fill.Lts as lts
-use Rattle.rows.proofs.inner.back.Reads as back-reads
-use Rattle.rows.proofs.inner.forward.Reads as forward-reads
+use Rattle.legs.proofs.inner.fill.Statement.{statement}
+use Rattle.legs.proofs.inner.fill.Tie as tie
+use Rattle.legs.proofs.inner.fill.Reads as reads
+use Rattle.legs.proofs.inner.fill.Lts as lts
+use Rattle.legs.proofs.inner.back.Reads as back-reads
+use Rattle.legs.proofs.inner.forward.Reads as forward-reads
 
 back-requires : tie.Need-back-requires
 back-requires c κs = search needs

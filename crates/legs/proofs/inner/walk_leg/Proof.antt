@@ -3,13 +3,13 @@ use mathlib.Core.Path.{_≡_, refl, sym, _∙_}
 use native.Mathlib.Nat.{le-refl}
 use native.Mathlib.Omega.{arith}
 use borrow.Author.Needs.{needs}
-use Rattle.rows.specs.Walk.{walkFrom}
+use Rattle.legs.specs.Walk.{walkFrom}
 use Rattle.egg.proofs.Laws.{got-from}
-use Rattle.rows.proofs.Walks.{walk-step, walk-stuck, walk-end}
-use Rattle.rows.proofs.inner.walk_leg.Statement.{statement}
-use Rattle.rows.proofs.inner.walk_leg.Tie as tie
-use Rattle.rows.proofs.inner.walk_leg.Reads as reads
-use Rattle.rows.proofs.inner.walk_leg.Lts as lts
+use Rattle.legs.proofs.Walks.{walk-step, walk-stuck, walk-end}
+use Rattle.legs.proofs.inner.walk_leg.Statement.{statement}
+use Rattle.legs.proofs.inner.walk_leg.Tie as tie
+use Rattle.legs.proofs.inner.walk_leg.Reads as reads
+use Rattle.legs.proofs.inner.walk_leg.Lts as lts
 use Rattle.egg.proofs.inner.get.Reads as get-reads
 use Rattle.egg.proofs.inner.start.Reads as start-reads
 use Rattle.std.proofs.num.wrapping_add_u32.Reads as wrapping-add-u32-reads

@@ -1,11 +1,11 @@
 use mathlib.Core.Path.{_∙_}
 use Rattle.rows.proofs.Laws.{gen-beside}
 use borrow.Author.Needs.{needs}
-use Rattle.rows.proofs.inner.beside.Statement.{statement}
-use Rattle.rows.proofs.inner.beside.Tie as tie
-use Rattle.rows.proofs.inner.beside.Reads as reads
-use Rattle.rows.proofs.inner.beside.Lts as lts
+use Rattle.legs.proofs.inner.beside.Statement.{statement}
+use Rattle.legs.proofs.inner.beside.Tie as tie
+use Rattle.legs.proofs.inner.beside.Reads as reads
+use Rattle.legs.proofs.inner.beside.Lts as lts
 use Rattle.rows.proofs.inner.generator.Reads as generator-reads
 
 add-generator : tie.Need-add-generator
 add-generator c = search needs

@@ -3,8 +3,9 @@
 use Prim.Native.Nat.{ℕ, _+_, _-_, _%_, _<_}
 use mathlib.Core.Path.{_≡_}
 use mathlib.Core.List.{List}
 use Rattle.rows.specs.declared.inner.RelationTableRow.{RelationTableRow}
-use Rattle.rows.specs.Rows.{rowOf, filled}
+use Rattle.rows.specs.Rows.{rowOf}
+use Rattle.legs.specs.Fill.{filled}
 
 -- The row b is filled to the row a, and its ends have not met.
 pub record Moves (t : List ℕ) (n : ℕ) (b a : RelationTableRow) : Type 0 where

@@ -2,12 +2,12 @@ use Prim.Native.Nat.{suc, suc-le-suc}
 use mathlib.Core.Path.{_≡_, refl, sym, _∙_}
 use borrow.Author.Needs.{needs}
 use Rattle.egg.specs.Table.{pick, stillLeft}
-use Rattle.rows.specs.Walk.{walkOf, walkFrom}
-use Rattle.rows.proofs.inner.walk.Statement.{statement}
-use Rattle.rows.proofs.inner.walk.Tie as tie
-use Rattle.rows.proofs.inner.walk.Reads as reads
-use Rattle.rows.proofs.inner.walk.Lts as lts
-use Rattle.rows.proofs.inner.walk_leg.Reads as walk-leg-reads
+use Rattle.legs.specs.Walk.{walkOf, walkFrom}
+use Rattle.legs.proofs.inner.walk.Statement.{statement}
+use Rattle.legs.proofs.inner.walk.Tie as tie
+use Rattle.legs.proofs.inner.walk.Reads as reads
+use Rattle.legs.proofs.inner.walk.Lts as lts
+use Rattle.legs.proofs.inner.walk_leg.Reads as walk-leg-reads
 
 abbrev Inv-loop : tie.InvT-loop
 Inv-loop t n here there steps e₀ left₀ jump₀ more₀ e left jump more = pick more (walkFrom left t n (e .0) here there) (walkOf (e .0) left) ≡ walkFrom left₀ t n (e₀ .0) here there

@@ -1,0 +1,3 @@
+pub mod Fill
+pub mod Walk
+pub mod Alike
