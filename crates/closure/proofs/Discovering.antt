@@ -17,7 +17,7 @@ use Rattle.reading.specs.Build.{setStep, setWord}
 use Rattle.rows.specs.declared.inner.SideOfGap.{SideOfGap}
 use Rattle.rows.specs.declared.inner.SideOfGap.the-variants.{Left, Right}
 use Rattle.rows.specs.Rows.{placeAt, readRow, newRow, addedRows}
-use Rattle.facts.specs.Facts.{state, link, belowAt}
+use Rattle.carrying.specs.Waking.{state, link, belowAt}
 use Rattle.running.specs.Run.{discovered}
 use Rattle.derived.specs.Recorded.{Limits}
 use Rattle.derived.specs.Invariant.{Known}

@@ -14,7 +14,7 @@ use Rattle.egg.specs.Pairs.{pairCode}
 use Rattle.rows.specs.declared.inner.SideOfGap.{SideOfGap}
 use Rattle.rows.specs.declared.inner.SideOfGap.the-variants.{Left, Right}
 use Rattle.rows.specs.Rows.{genOf}
-use Rattle.facts.specs.Facts.{State, learns, gives}
+use Rattle.carrying.specs.Waking.{State, learns, gives}
 use Rattle.derived.specs.Invariant.{Known}
 use Rattle.rings.specs.Rings.{turn, ring, first, second, Told, Column, rowAt}
 use Rattle.queues.specs.Queues.{In, copyAt, Held}

@@ -17,7 +17,7 @@ use Rattle.egg.proofs.Cells.{cell-inside, put-same}
 use Rattle.reading.specs.Build.{isNew, setStep}
 use Rattle.rows.specs.declared.inner.SideOfGap.{SideOfGap}
 use Rattle.rows.specs.Rows.{placeAt}
-use Rattle.facts.specs.Facts.{State, state, link, belowAt, learns}
+use Rattle.carrying.specs.Waking.{State, state, link, belowAt, learns}
 use Rattle.derived.specs.Invariant.{Known}
 use Rattle.derived.specs.Stack.{Stack, above}
 use Rattle.derived.proofs.Spots.{place-link}

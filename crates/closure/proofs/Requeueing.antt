@@ -11,7 +11,7 @@ use lib.ListN.{length}
 use Rattle.rows.specs.declared.inner.SideOfGap.{SideOfGap}
 use Rattle.rows.specs.declared.inner.SideOfGap.the-variants.{Left, Right}
 use Rattle.rows.specs.Rows.{readRow, waits}
-use Rattle.facts.specs.Facts.{State, state}
+use Rattle.carrying.specs.Waking.{State, state}
 use Rattle.derived.specs.Invariant.{Known}
 use Rattle.derived.proofs.Stacking.{stack-more}
 use Rattle.rings.specs.Rings.{turn, ring, first, second, Told, rowAt}

@@ -7,7 +7,8 @@ use native.Mathlib.Omega.{arith}
 use borrow.Author.Tests.{eq-eqb, ne-eqb}
 use lib.ListN.{getD}
 use Rattle.rows.specs.Rows.{placeAt}
-use Rattle.facts.specs.Facts.{State, state, updated, settleFrom}
+use Rattle.carrying.specs.Waking.{State, state}
+use Rattle.facts.specs.Facts.{updated, settleFrom}
 use Rattle.derived.specs.Stack.{Fact, Absent, Stack, bottom, above}
 use Rattle.queues.specs.Queues.{placeOf, Held}
 use Rattle.closure.specs.Closure.{Machine, none, Closed}

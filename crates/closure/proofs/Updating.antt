@@ -11,7 +11,8 @@ use lib.ListN.{getD, length}
 use Rattle.rows.specs.declared.inner.SideOfGap.{SideOfGap}
 use Rattle.rows.specs.declared.inner.SideOfGap.the-variants.{Left, Right}
 use Rattle.rows.specs.Rows.{placeAt}
-use Rattle.facts.specs.Facts.{State, state, emptied, updated}
+use Rattle.carrying.specs.Waking.{State, state}
+use Rattle.facts.specs.Facts.{emptied, updated}
 use Rattle.derived.specs.Invariant.{Known}
 use Rattle.derived.specs.Stack.{Absent, Stack}
 use Rattle.derived.proofs.Emptying.{emptied-stack}

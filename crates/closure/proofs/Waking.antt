@@ -14,7 +14,7 @@ use Rattle.egg.specs.Table.{pick}
 use Rattle.rows.specs.declared.inner.RelationTableRow.{RelationTableRow}
 use Rattle.rows.specs.declared.inner.SideOfGap.{SideOfGap}
 use Rattle.rows.specs.Rows.{waits}
-use Rattle.facts.specs.Facts.{State, state, gives, woken, wakes}
+use Rattle.carrying.specs.Waking.{State, state, gives, woken, wakes}
 use Rattle.derived.specs.Invariant.{Known}
 use Rattle.derived.specs.Stack.{Absent}
 use Rattle.rings.specs.Rings.{Column, rowAt, Fills}

@@ -9,7 +9,7 @@ use borrow.Author.Tests.{ne-eqb}
 use lib.ListN.{getD, length}
 use Rattle.rows.specs.declared.inner.SideOfGap.{SideOfGap}
 use Rattle.rows.specs.declared.inner.SideOfGap.the-variants.{Left, Right}
-use Rattle.facts.specs.Facts.{State, wakes, wakesAll}
+use Rattle.carrying.specs.Waking.{State, wakes, wakesAll}
 use Rattle.derived.specs.Invariant.{Known}
 use Rattle.derived.specs.Stack.{Absent}
 use Rattle.queues.specs.Queues.{In, here, there, listOf, Chain, end, Waiter, Hand, Held}

@@ -9,7 +9,7 @@ use lib.ListN.{getD, length}
 use Rattle.rows.specs.declared.inner.SideOfGap.{SideOfGap}
 use Rattle.rows.specs.declared.inner.SideOfGap.the-variants.{Left, Right}
 use Rattle.rows.specs.Rows.{workWidth, readRow}
-use Rattle.facts.specs.Facts.{State, state}
+use Rattle.carrying.specs.Waking.{State, state}
 use Rattle.derived.specs.Invariant.{Known}
 use Rattle.derived.specs.Stack.{Stack}
 use Rattle.rings.specs.Rings.{turn, ring, first, second, Told, Column, rowAt}

@@ -15,7 +15,7 @@ use Rattle.egg.specs.declared.GeneratorId.{GeneratorId}
 use Rattle.egg.specs.declared.Counted.the-variants as counted
 use Rattle.egg.specs.Table.{startOf, stepOf, lastOf, lengthOf}
 use Rattle.reading.specs.Build.{setStep, setWord, adds}
-use Rattle.facts.specs.Facts.{State}
+use Rattle.carrying.specs.Waking.{State}
 use Rattle.running.specs.Run.{discovered, visit, visits}
 use Rattle.derived.specs.Invariant.{RunOk}
 use Rattle.derived.specs.Recorded.{Limits}

@@ -17,6 +17,7 @@ use Rattle.reading.specs.Build.{setStep, setWord, adds}
 use Rattle.rows.specs.Rows as rows
 use Rattle.legs.specs.Fill as legs
 use Rattle.legs.specs.Walk.{walkFrom}
+use Rattle.carrying.specs.Waking as carrying
 use Rattle.facts.specs.Facts as facts
 use Rattle.checks.specs.Checks as checks
 use Rattle.inverses.specs.Inverses as inverses
@@ -70,7 +71,7 @@ triangle =
     ∷ 4 ∷ 5 ∷ 4 ∷ 5 ∷ 3 ∷ 0 ∷ 3 ∷ 0 ∷ []
 
 pub triangle-case : Case 2 (3 ∷ []) 6 48 192 triangle (five 3 0)
-unfolding swiftly sweepFrom sweeps settles loopFrom loopBy orderFor walkFrom enumerated runs visits discovered advanced putAt startOf scan pairCode pairCount readStep setStep setWord adds rows.workWidth rows.placeAt rows.rowsAt rows.readRow rows.writeRow legs.backFrom legs.forwardFrom legs.filled rows.appended rows.waits rows.addedRow rows.addRowsFrom facts.learns facts.woken facts.wakes facts.wakesAll facts.emptied facts.updated facts.settleFrom checks.missingRow checks.missing checks.check8 checks.rangeRow checks.linksOf checks.ranges checks.wrongRow checks.wrong checks.check-table checks.wiped checks.arriveRow checks.arrivals checks.countsRight inverses.invertFrom inverses.fillInverses inverses.inversesRight lefts.identityRow lefts.columnsRow lefts.spelledRow lefts.spelled lefts.check-steps lefts.fillLeft lefts.goesRow lefts.allGo lefts.lefts checks.check-rest checks.check-group hopFrom withHops finished turned doubledRow pairsRow
+unfolding swiftly sweepFrom sweeps settles loopFrom loopBy orderFor walkFrom enumerated runs visits discovered advanced putAt startOf scan pairCode pairCount readStep setStep setWord adds rows.workWidth rows.placeAt rows.rowsAt rows.readRow rows.writeRow legs.backFrom legs.forwardFrom legs.filled rows.appended rows.waits rows.addedRow rows.addRowsFrom carrying.learns carrying.woken carrying.wakes carrying.wakesAll facts.emptied facts.updated facts.settleFrom checks.missingRow checks.missing checks.check8 checks.rangeRow checks.linksOf checks.ranges checks.wrongRow checks.wrong checks.check-table checks.wiped checks.arriveRow checks.arrivals checks.countsRight inverses.invertFrom inverses.fillInverses inverses.inversesRight lefts.identityRow lefts.columnsRow lefts.spelledRow lefts.spelled lefts.check-steps lefts.fillLeft lefts.goesRow lefts.allGo lefts.lefts checks.check-rest checks.check-group hopFrom withHops finished turned doubledRow pairsRow
 triangle-case = record {
   done = refl;
   same = refl;
@@ -102,7 +103,7 @@ prism =
     ∷ 11 ∷ 9 ∷ 10 ∷ 11 ∷ 9 ∷ 10 ∷ 8 ∷ 1 ∷ 4 ∷ 0 ∷ []
 
 pub prism-case : Case 3 (2 ∷ 2 ∷ 3 ∷ []) 12 120 792 prism (five 8 1)
-unfolding swiftly sweepFrom sweeps settles loopFrom loopBy orderFor walkFrom enumerated runs visits discovered advanced putAt startOf scan pairCode pairCount readStep setStep setWord adds rows.workWidth rows.placeAt rows.rowsAt rows.readRow rows.writeRow legs.backFrom legs.forwardFrom legs.filled rows.appended rows.waits rows.addedRow rows.addRowsFrom facts.learns facts.woken facts.wakes facts.wakesAll facts.emptied facts.updated facts.settleFrom checks.missingRow checks.missing checks.check8 checks.rangeRow checks.linksOf checks.ranges checks.wrongRow checks.wrong checks.check-table checks.wiped checks.arriveRow checks.arrivals checks.countsRight inverses.invertFrom inverses.fillInverses inverses.inversesRight lefts.identityRow lefts.columnsRow lefts.spelledRow lefts.spelled lefts.check-steps lefts.fillLeft lefts.goesRow lefts.allGo lefts.lefts checks.check-rest checks.check-group hopFrom withHops finished turned doubledRow pairsRow
+unfolding swiftly sweepFrom sweeps settles loopFrom loopBy orderFor walkFrom enumerated runs visits discovered advanced putAt startOf scan pairCode pairCount readStep setStep setWord adds rows.workWidth rows.placeAt rows.rowsAt rows.readRow rows.writeRow legs.backFrom legs.forwardFrom legs.filled rows.appended rows.waits rows.addedRow rows.addRowsFrom carrying.learns carrying.woken carrying.wakes carrying.wakesAll facts.emptied facts.updated facts.settleFrom checks.missingRow checks.missing checks.check8 checks.rangeRow checks.linksOf checks.ranges checks.wrongRow checks.wrong checks.check-table checks.wiped checks.arriveRow checks.arrivals checks.countsRight inverses.invertFrom inverses.fillInverses inverses.inversesRight lefts.identityRow lefts.columnsRow lefts.spelledRow lefts.spelled lefts.check-steps lefts.fillLeft lefts.goesRow lefts.allGo lefts.lefts checks.check-rest checks.check-group hopFrom withHops finished turned doubledRow pairsRow
 prism-case = record {
   done = refl;
   same = refl;

@@ -14,7 +14,8 @@ use Rattle.rows.specs.declared.inner.SideOfGap.{SideOfGap}
 use Rattle.rows.specs.declared.inner.SideOfGap.the-variants.{Left, Right}
 use Rattle.rows.specs.Rows.{workWidth, genOf, readRow, writeRow, linkAt, appended, waits}
 use Rattle.legs.specs.Fill.{filled}
-use Rattle.facts.specs.Facts.{State, state, belowAt, gives, woken, wakes, wakesAll, emptied, updated, settleFrom}
+use Rattle.carrying.specs.Waking.{State, state, belowAt, gives, woken, wakes, wakesAll}
+use Rattle.facts.specs.Facts.{emptied, updated, settleFrom}
 use Rattle.derived.specs.Invariant.{RowOk, Spot, Copy, Link, WorkOk, StateOk}
 use Rattle.derived.specs.Stack.{free, Absent, Stack, bottom, above, Six, Piled}
 use Rattle.egg.proofs.Cells.{put-other}

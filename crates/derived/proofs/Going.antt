@@ -23,7 +23,8 @@ use Rattle.egg.specs.declared.Counted.the-variants as counted
 use Rattle.egg.specs.Table.{pick, putAt, startOf, succAt, lengthOf}
 use Rattle.reading.specs.Build.{isNew, setStep, numbered, adds}
 use Rattle.rows.specs.Rows.{placeAt, addedRows}
-use Rattle.facts.specs.Facts.{State, state, link, belowAt, settleFrom}
+use Rattle.carrying.specs.Waking.{State, state, link, belowAt}
+use Rattle.facts.specs.Facts.{settleFrom}
 use Rattle.running.specs.Run.{discovered, Visit, visit, onAdds, visits, advanced, Outcome, outcome, onVisit, after, runs, first, enumerated}
 use Rattle.running.specs.declared.inner.Run.{Run}
 use Rattle.running.specs.declared.inner.Ran.{Ran}

@@ -17,7 +17,8 @@ use Rattle.rows.specs.declared.inner.SideOfGap.{SideOfGap}
 use Rattle.rows.specs.declared.inner.SideOfGap.the-variants.{Left, Right}
 use Rattle.rows.specs.Rows.{workWidth, genOf, readRow, waits}
 use Rattle.legs.specs.Fill.{filled}
-use Rattle.facts.specs.Facts.{State, state, belowAt, learns, gives, woken, wakes, wakesAll, updated, settleFrom}
+use Rattle.carrying.specs.Waking.{State, state, belowAt, learns, gives, woken, wakes, wakesAll}
+use Rattle.facts.specs.Facts.{updated, settleFrom}
 use Rattle.derived.specs.Invariant.{RowOk, Link, FactLink, StateOk}
 use Rattle.derived.proofs.Spots.{row-spot}
 use Rattle.derived.proofs.Rowing.{filled-ok}

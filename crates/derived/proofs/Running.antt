@@ -20,7 +20,7 @@ use Rattle.egg.specs.declared.Counted.the-variants as counted
 use Rattle.egg.specs.Table.{pick, putAt, startOf, lengthOf}
 use Rattle.reading.specs.Build.{isNew, setStep, numbered, adds}
 use Rattle.rows.specs.Rows.{workWidth, placeAt, addedRows}
-use Rattle.facts.specs.Facts.{state, link, belowAt}
+use Rattle.carrying.specs.Waking.{state, link, belowAt}
 use Rattle.running.specs.Run.{discovered, Visit, visit, onAdds, visits, advanced, Outcome, outcome, onVisit, after, runs, first, enumerated}
 use Rattle.running.specs.declared.inner.Run.{Run}
 use Rattle.running.specs.declared.inner.Ran.{Ran}

@@ -10,6 +10,7 @@ use Rattle.reading.specs.Build.{setStep, setWord, adds}
 use Rattle.egg.specs.Pairs
 use Rattle.rows.specs.Rows
 use Rattle.legs.specs.Fill
+use Rattle.carrying.specs.Waking
 use Rattle.facts.specs.Facts
 use Rattle.running.specs.Run.{enumerated, runs, visits, discovered, advanced}
 use Rattle.running.specs.declared.inner.Ran.the-variants as ran
@@ -31,7 +32,7 @@ limits = record {
   first (suc k) h = absurd (omega arith)
 
 six : enumerated 2 (3 ∷ []) 6 48 192 .answer ≡ ran.Done 6
-unfolding enumerated runs visits discovered advanced putAt startOf setStep setWord adds Rows.workWidth Rows.placeAt Rows.rowsAt Rows.readRow Rows.writeRow Fill.backFrom Fill.forwardFrom Fill.filled Rows.appended Rows.waits Rows.addedRow Pairs.pairCode Rows.addRowsFrom Facts.learns Facts.woken Facts.wakes Facts.wakesAll Facts.emptied Facts.updated Facts.settleFrom
+unfolding enumerated runs visits discovered advanced putAt startOf setStep setWord adds Rows.workWidth Rows.placeAt Rows.rowsAt Rows.readRow Rows.writeRow Fill.backFrom Fill.forwardFrom Fill.filled Rows.appended Rows.waits Rows.addedRow Pairs.pairCode Rows.addRowsFrom Waking.learns Waking.woken Waking.wakes Waking.wakesAll Facts.emptied Facts.updated Facts.settleFrom
 six = refl
 
 sample : Sound 2 (3 ∷ []) 6 48 6 (enumerated 2 (3 ∷ []) 6 48 192 .table)

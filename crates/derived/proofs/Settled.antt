@@ -15,7 +15,8 @@ use Rattle.egg.specs.declared.GeneratorId.{GeneratorId}
 use Rattle.egg.specs.Table.{pick, putAt, startOf}
 use Rattle.reading.specs.Build.{setStep}
 use Rattle.rows.specs.Rows.{workWidth, placeAt, addedRows}
-use Rattle.facts.specs.Facts.{State, state, link, belowAt, updated, settleFrom}
+use Rattle.carrying.specs.Waking.{State, state, link, belowAt}
+use Rattle.facts.specs.Facts.{updated, settleFrom}
 use Rattle.running.specs.Run.{discovered}
 use Rattle.derived.specs.Recorded.{Limits}
 use Rattle.derived.specs.Invariant.{RunOk}

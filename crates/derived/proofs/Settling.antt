@@ -18,7 +18,8 @@ use Rattle.rows.specs.declared.inner.SideOfGap.{SideOfGap}
 use Rattle.rows.specs.declared.inner.SideOfGap.the-variants.{Left, Right}
 use Rattle.rows.specs.Rows.{workWidth, placeAt, genOf, readRow, waits}
 use Rattle.legs.specs.Fill.{filled}
-use Rattle.facts.specs.Facts.{State, state, link, belowAt, learns, gives, woken, wakes, wakesAll, emptied, updated, settleFrom}
+use Rattle.carrying.specs.Waking.{State, state, link, belowAt, learns, gives, woken, wakes, wakesAll}
+use Rattle.facts.specs.Facts.{emptied, updated, settleFrom}
 use Rattle.derived.specs.Invariant.{Step, RowOk, Spot, in-place, Link, FactLink, WorkOk, StateOk}
 use Rattle.egg.proofs.Cells.{put-length}
 use Rattle.derived.proofs.Spots.{place-link, row-spot}

@@ -7,7 +7,7 @@ use native.Mathlib.Omega.{arith}
 use Rattle.egg.specs.declared.GroupElementId.{GroupElementId}
 use Rattle.egg.specs.declared.GeneratorId.{GeneratorId}
 use Rattle.rows.specs.Rows.{workWidth, placeAt}
-use Rattle.facts.specs.Facts.{link}
+use Rattle.carrying.specs.Waking.{link}
 use Rattle.derived.specs.Invariant.{Spot, in-place, in-copy, Copy}
 use Rattle.egg.proofs.Cells.{same-cell}
 

@@ -18,7 +18,7 @@ use Rattle.egg.specs.declared.GeneratorId.{GeneratorId}
 use Rattle.egg.specs.Table.{pick, putAt, startOf, succAt}
 use Rattle.reading.specs.Build.{isNew, setStep}
 use Rattle.rows.specs.Rows.{workWidth, placeAt}
-use Rattle.facts.specs.Facts.{State, state, link, belowAt, learns}
+use Rattle.carrying.specs.Waking.{State, state, link, belowAt, learns}
 use Rattle.derived.specs.Invariant.{Known, Spot, in-place}
 use Rattle.derived.specs.Stack.{free, Fact, Absent, Stack, bottom, above, Six, Piled}
 use Rattle.egg.proofs.Cells.{inside, same-row, same-cell, put-same, put-other}

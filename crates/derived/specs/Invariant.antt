@@ -8,7 +8,7 @@ use Rattle.theory.specs.Presentation.{Equiv}
 use Rattle.egg.specs.Table.{startOf, parentOf, lastOf}
 use Rattle.rows.specs.declared.inner.RelationTableRow.{RelationTableRow}
 use Rattle.rows.specs.Rows.{workWidth, genOf, readRow}
-use Rattle.facts.specs.Facts.{State}
+use Rattle.carrying.specs.Waking.{State}
 
 -- The step from e by g to r, between elements below the count, follows from the relations.
 pub record Step (n : ℕ) (m : ℕ → ℕ → ℕ) (word : ℕ → List ℕ) (count e g r : ℕ) : Type 0 where

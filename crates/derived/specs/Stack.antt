@@ -8,7 +8,7 @@ use lib.Dec.{eqb}
 use Rattle.theory.specs.Bounded.{sum, one}
 use Rattle.egg.specs.Table.{startOf}
 use Rattle.rows.specs.Rows.{workWidth}
-use Rattle.facts.specs.Facts.{State}
+use Rattle.carrying.specs.Waking.{State}
 use Rattle.derived.specs.Invariant.{Known, Spot}
 
 -- How many steps of the elements below the count are not known.

@@ -1,2 +1,1 @@
 pub mod FactLaws
-pub mod Carrying

@@ -21,6 +21,7 @@ use Rattle.relations.specs.Relations.{turned, doubledRow, pairsRow, relations}
 use Rattle.factor.specs.Relations.{checkAnswer}
 use Rattle.rows.specs.Rows as rows
 use Rattle.legs.specs.Fill as legs
+use Rattle.carrying.specs.Waking as carrying
 use Rattle.facts.specs.Facts as facts
 use Rattle.running.specs.Run.{enumerated, runs, visits, discovered, advanced}
 use Rattle.enumeration.specs.Calls.{enumeratedIn, enumerates}
@@ -40,7 +41,7 @@ use Rattle.image.specs.Read.{readImage}
 use Rattle.known.specs.Cases.{KnownCases}
 
 pub known-cases : KnownCases
-unfolding putAt startOf scan pairCode pairCount ordersRight hasRoom fitsIn stretch readStep setStep setWord adds readPlace readRow readFrom checks.missingRow checks.missing checks.check8 checks.rangeRow checks.linksOf checks.ranges checks.wrongRow checks.wrong checks.check-table checks.wiped checks.arriveRow checks.arrivals checks.countsRight inverses.invertFrom inverses.fillInverses inverses.inversesRight lefts.identityRow lefts.columnsRow lefts.spelledRow lefts.spelled lefts.check-steps lefts.fillLeft lefts.goesRow lefts.allGo lefts.lefts checks.check-rest checks.check-group hopFrom withHops finished lentRight within composedIn composed factor.admits walks.along walks.readBack walks.ahead walks.backBy walks.composeIn walks.inverseIn walks.conjugateIn factor.composeAnswer factor.conjugateAnswer words.readableBy words.lengthIn words.spellBy words.writeIn factor.writeAnswer factor.written factor.wordPart turned doubledRow pairsRow relations checkAnswer rows.workWidth rows.placeAt rows.rowsAt rows.readRow rows.writeRow legs.backFrom legs.forwardFrom legs.filled rows.appended rows.waits rows.addedRow rows.addRowsFrom facts.learns facts.woken facts.wakes facts.wakesAll facts.emptied facts.updated facts.settleFrom enumerated runs visits discovered advanced enumeratedIn enumerates limited admits digitwise halves powers periodFrom periods lengths readables spells writes splitTail group.splitAnswer group.splitLeaves group.composeAnswer group.inverseAnswer group.powiAnswer group.periodAnswer group.writeAnswer group.written group.wordPart cells.halves built headNumber imageNumber rowOf rowsOf spelled imageOf knownRow allKnown writeCount writtenImage imageIn readImage
+unfolding putAt startOf scan pairCode pairCount ordersRight hasRoom fitsIn stretch readStep setStep setWord adds readPlace readRow readFrom checks.missingRow checks.missing checks.check8 checks.rangeRow checks.linksOf checks.ranges checks.wrongRow checks.wrong checks.check-table checks.wiped checks.arriveRow checks.arrivals checks.countsRight inverses.invertFrom inverses.fillInverses inverses.inversesRight lefts.identityRow lefts.columnsRow lefts.spelledRow lefts.spelled lefts.check-steps lefts.fillLeft lefts.goesRow lefts.allGo lefts.lefts checks.check-rest checks.check-group hopFrom withHops finished lentRight within composedIn composed factor.admits walks.along walks.readBack walks.ahead walks.backBy walks.composeIn walks.inverseIn walks.conjugateIn factor.composeAnswer factor.conjugateAnswer words.readableBy words.lengthIn words.spellBy words.writeIn factor.writeAnswer factor.written factor.wordPart turned doubledRow pairsRow relations checkAnswer rows.workWidth rows.placeAt rows.rowsAt rows.readRow rows.writeRow legs.backFrom legs.forwardFrom legs.filled rows.appended rows.waits rows.addedRow rows.addRowsFrom carrying.learns carrying.woken carrying.wakes carrying.wakesAll facts.emptied facts.updated facts.settleFrom enumerated runs visits discovered advanced enumeratedIn enumerates limited admits digitwise halves powers periodFrom periods lengths readables spells writes splitTail group.splitAnswer group.splitLeaves group.composeAnswer group.inverseAnswer group.powiAnswer group.periodAnswer group.writeAnswer group.written group.wordPart cells.halves built headNumber imageNumber rowOf rowsOf spelled imageOf knownRow allKnown writeCount writtenImage imageIn readImage
 known-cases = record {
   square-made = refl;
   square-rows = refl;

@@ -10,13 +10,14 @@ use Rattle.lending.specs.Finish.{finished}
 use Rattle.lending.specs.Lending.{lentRight, within}
 use Rattle.rows.specs.Rows as rows
 use Rattle.legs.specs.Fill as legs
+use Rattle.carrying.specs.Waking as carrying
 use Rattle.facts.specs.Facts as facts
 use Rattle.running.specs.Run.{enumerated, runs, visits, discovered, advanced}
 use Rattle.enumeration.specs.Calls.{enumeratedIn, enumerates}
 use Rattle.known.specs.Edges.{KnownEdges}
 
 pub known-edges : KnownEdges
-unfolding putAt startOf scan pairCode pairCount ordersRight hasRoom setStep setWord adds finished lentRight within rows.workWidth rows.placeAt rows.rowsAt rows.readRow rows.writeRow legs.backFrom legs.forwardFrom legs.filled rows.appended rows.waits rows.addedRow rows.addRowsFrom facts.learns facts.woken facts.wakes facts.wakesAll facts.emptied facts.updated facts.settleFrom enumerated runs visits discovered advanced enumeratedIn enumerates
+unfolding putAt startOf scan pairCode pairCount ordersRight hasRoom setStep setWord adds finished lentRight within rows.workWidth rows.placeAt rows.rowsAt rows.readRow rows.writeRow legs.backFrom legs.forwardFrom legs.filled rows.appended rows.waits rows.addedRow rows.addRowsFrom carrying.learns carrying.woken carrying.wakes carrying.wakesAll facts.emptied facts.updated facts.settleFrom enumerated runs visits discovered advanced enumeratedIn enumerates
 known-edges = record {
   nine-generators = refl;
   eight-generators = refl;

@@ -11,7 +11,8 @@ use Rattle.egg.specs.Table.{putAt}
 use Rattle.rows.specs.declared.inner.SideOfGap.{SideOfGap}
 use Rattle.rows.specs.declared.inner.SideOfGap.the-variants.{Left, Right}
 use Rattle.rows.specs.Rows.{workWidth, placeAt}
-use Rattle.facts.specs.Facts.{belowAt, emptied}
+use Rattle.carrying.specs.Waking.{belowAt}
+use Rattle.facts.specs.Facts.{emptied}
 use Rattle.derived.specs.Invariant.{Spot}
 use Rattle.egg.proofs.Cells.{put-same, put-other, put-length, inside}
 use Rattle.derived.proofs.Spots.{spot-once, row-spot, place-inside}

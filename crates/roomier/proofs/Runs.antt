@@ -18,7 +18,7 @@ use Rattle.egg.specs.declared.Counted.the-variants as counted
 use Rattle.egg.specs.Table.{pick, putAt, startOf, lengthOf}
 use Rattle.reading.specs.Build.{isNew, setStep, setWord, numbered, Adds, adds}
 use Rattle.rows.specs.Rows.{workWidth, placeAt, addedRows}
-use Rattle.facts.specs.Facts.{State, state, link, belowAt}
+use Rattle.carrying.specs.Waking.{State, state, link, belowAt}
 use Rattle.running.specs.Run.{discovered, Visit, visit, onAdds, visits, advanced, Outcome, outcome, after, runs}
 use Rattle.running.specs.declared.inner.Run.{Run}
 use Rattle.running.specs.declared.inner.Ran.the-variants as ran

@@ -4,7 +4,7 @@ use Prim.Native.Nat.{ℕ, _-_}
 use mathlib.Core.Path.{_≡_}
 use mathlib.Core.List.{List, _++_}
 use lib.ListN.{length, replicate}
-use Rattle.facts.specs.Facts.{State, state}
+use Rattle.carrying.specs.Waking.{State, state}
 use Rattle.running.specs.Run.{Visit, visit, Outcome, outcome, enumerated}
 use Rattle.running.specs.declared.inner.Ran.the-variants as ran
 

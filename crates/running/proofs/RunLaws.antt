@@ -22,7 +22,8 @@ use Rattle.rows.specs.Rows.{placeAt, addedRows}
 use Rattle.running.specs.declared.inner.Run.{Run}
 use Rattle.running.specs.declared.inner.Ran.{Ran}
 use Rattle.running.specs.declared.inner.Ran.the-variants as ran
-use Rattle.facts.specs.Facts.{State, state, settled, link, belowAt}
+use Rattle.carrying.specs.Waking.{State, state, link, belowAt}
+use Rattle.facts.specs.Facts.{settled}
 use Rattle.running.specs.Run.{discovered, Visit, visit, visits, advanced, Outcome, outcome, runs, first, enumerated}
 
 module _ (n : ℕ) (o : List ℕ) (e : GroupElementId) (g : GeneratorId) (new : GroupElementId) (t w : List ℕ) where

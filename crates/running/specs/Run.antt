@@ -14,7 +14,8 @@ use Rattle.egg.specs.declared.Counted.the-variants as counted
 use Rattle.egg.specs.Table.{pick, putAt}
 use Rattle.reading.specs.Build.{isNew, setStep, Adds, adds}
 use Rattle.rows.specs.Rows.{placeAt, addedRows}
-use Rattle.facts.specs.Facts.{State, state, link, belowAt, settled}
+use Rattle.carrying.specs.Waking.{State, state, link, belowAt}
+use Rattle.facts.specs.Facts.{settled}
 use Rattle.running.specs.declared.inner.Run.{Run}
 use Rattle.running.specs.declared.inner.Ran.{Ran}
 use Rattle.running.specs.declared.inner.Ran.the-variants as ran

@@ -3,8 +3,10 @@ use mathlib.Core.Path.{_≡_, refl, sym, _∙_}
 use borrow.Author.Needs.{needs}
 use native.Mathlib.Omega.{arith}
 use lib.ListN.{length}
-use Rattle.facts.specs.Facts.{state, settleFrom}
-use Rattle.facts.proofs.FactLaws.{pos, settle-turn, settle-end, settle-spent}
+use Rattle.carrying.specs.Waking.{state}
+use Rattle.facts.specs.Facts.{settleFrom}
+use Rattle.carrying.proofs.WakeLaws.{pos}
+use Rattle.facts.proofs.FactLaws.{settle-turn, settle-end, settle-spent}
 use Rattle.facts.proofs.inner.settle.Statement.{statement}
 use Rattle.facts.proofs.inner.settle.Tie as tie
 use Rattle.facts.proofs.inner.settle.Reads as reads

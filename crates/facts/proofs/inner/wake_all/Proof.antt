@@ -1,5 +1,5 @@
-use Rattle.facts.proofs.FactLaws.{pos, woken-table, wakes-by, wake-turn, wake-end, wake-spent}
-use Rattle.facts.specs.Facts.{state, wakesAll}
+use Rattle.carrying.proofs.WakeLaws.{pos, woken-table, wakes-by, wake-turn, wake-end, wake-spent}
+use Rattle.carrying.specs.Waking.{state, wakesAll}
 use Rattle.legs.specs.Fill.{filled}
 use lib.ListN.{length}
 use native.Mathlib.Omega.{arith}
@@ -12,8 +12,8 @@ use Rattle.facts.proofs.inner.wake_all.Tie as tie
 use Rattle.facts.proofs.inner.wake_all.Reads as reads
 use Rattle.facts.proofs.inner.wake_all.Lts as lts
 use Rattle.egg.proofs.inner.get.Reads as get-reads
-use Rattle.facts.proofs.inner.carry.Reads as carry-reads
-use Rattle.facts.proofs.inner.wake.Reads as wake-reads
+use Rattle.carrying.proofs.inner.carry.Reads as carry-reads
+use Rattle.carrying.proofs.inner.wake.Reads as wake-reads
 use Rattle.legs.proofs.inner.fill.Reads as fill-reads
 use Rattle.rows.proofs.inner.read_row.Reads as read-row-reads
 

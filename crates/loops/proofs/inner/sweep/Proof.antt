@@ -3,7 +3,7 @@ use mathlib.Core.Path.{_≡_, refl, _∙_}
 use native.Mathlib.Omega.{arith}
 use borrow.Author.Needs.{needs}
 use lib.ListN.{length}
-use Rattle.facts.proofs.FactLaws.{pos}
+use Rattle.carrying.proofs.WakeLaws.{pos}
 use Rattle.running.proofs.RunLaws.{advanced-generator}
 use Rattle.loops.specs.Loops.{sweepFrom}
 use Rattle.loops.proofs.SweepLaws.{sweep-done, sweep-paused, sweep-refused, sweep-turn}

@@ -4,7 +4,7 @@ use borrow.Author.Needs.{needs}
 use native.Mathlib.Omega.{arith}
 use lib.ListN.{length}
 use Rattle.running.specs.Run.{advanced, runs}
-use Rattle.facts.proofs.FactLaws.{pos}
+use Rattle.carrying.proofs.WakeLaws.{pos}
 use Rattle.running.proofs.RunLaws.{runs-done, runs-paused, runs-refused, runs-turn, advanced-generator}
 use Rattle.running.proofs.inner.go.Statement.{statement}
 use Rattle.running.proofs.inner.go.Tie as tie

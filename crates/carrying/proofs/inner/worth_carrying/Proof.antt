@@ -1,9 +1,9 @@
 use Rattle.egg.proofs.Rooms.{false-true}
 use borrow.Author.Needs.{needs}
-use Rattle.facts.proofs.inner.worth_carrying.Statement.{statement}
-use Rattle.facts.proofs.inner.worth_carrying.Tie as tie
-use Rattle.facts.proofs.inner.worth_carrying.Reads as reads
-use Rattle.facts.proofs.inner.worth_carrying.Lts as lts
+use Rattle.carrying.proofs.inner.worth_carrying.Statement.{statement}
+use Rattle.carrying.proofs.inner.worth_carrying.Tie as tie
+use Rattle.carrying.proofs.inner.worth_carrying.Reads as reads
+use Rattle.carrying.proofs.inner.worth_carrying.Lts as lts
 
 returns : tie.Need-returns
 returns c = λ h. absurd (false-true h)

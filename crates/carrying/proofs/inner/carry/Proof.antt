@@ -1,4 +1,4 @@
-use Rattle.facts.specs.Facts.{state, wakesAll}
+use Rattle.carrying.specs.Waking.{state, wakesAll}
 use Rattle.egg.specs.Table.{stillLeft}
 use lib.ListN.{length}
 use native.Mathlib.Omega.{arith}
@@ -7,12 +7,12 @@ use mathlib.Core.Bool.{true}
 use mathlib.Core.Path.{_≡_, refl, _∙_}
 use Prim.Native.Nat.{suc, _<_, _≤_, suc-le-suc}
 use borrow.Author.Needs.{needs}
-use Rattle.facts.proofs.inner.carry.Statement.{statement}
-use Rattle.facts.proofs.inner.carry.Tie as tie
-use Rattle.facts.proofs.inner.carry.Reads as reads
-use Rattle.facts.proofs.inner.carry.Lts as lts
-use Rattle.facts.proofs.inner.carry_leg.Reads as carry-leg-reads
-use Rattle.facts.proofs.inner.worth_carrying.Reads as worth-carrying-reads
+use Rattle.carrying.proofs.inner.carry.Statement.{statement}
+use Rattle.carrying.proofs.inner.carry.Tie as tie
+use Rattle.carrying.proofs.inner.carry.Reads as reads
+use Rattle.carrying.proofs.inner.carry.Lts as lts
+use Rattle.carrying.proofs.inner.carry_leg.Reads as carry-leg-reads
+use Rattle.carrying.proofs.inner.worth_carrying.Reads as worth-carrying-reads
 
 abbrev Inv-loop : tie.InvT-loop
 Inv-loop t w₀ n first count side before after top at₀ left₀ step₀ more₀ w at left step more = (wakesAll left n at side (state t w top) ≡ wakesAll count n first side (state t w₀ top)) × ((left ≤ count) × ((length w ≡ length w₀) × (more ≡ true → after .left < after .right)))

@@ -11,8 +11,8 @@ use Rattle.rows.specs.Rows.{readRow, writeRow, listAt, appended, waits}
 use Rattle.legs.specs.Fill.{filled}
 use Rattle.legs.specs.Alike.{Moves, Alike, forth, backward, movedAlike}
 use Rattle.legs.proofs.Alike.{moves-forth, moves-back, moves-alike, moved-list}
-use Rattle.facts.specs.Facts.{State, state, wakes, wakesAll}
-use Rattle.facts.proofs.FactLaws.{woken-waits, wake-turn}
+use Rattle.carrying.specs.Waking.{State, state, wakes, wakesAll}
+use Rattle.carrying.proofs.WakeLaws.{woken-waits, wake-turn}
 
 module _ (t w : List ℕ) (n top : ℕ) (side : SideOfGap) (b a : RelationTableRow) (M : Moves t n b a) where
   -- The ends of a copy that stands alike are still apart.

@@ -1,11 +1,11 @@
-use Rattle.facts.proofs.FactLaws.{wake-met, wake-waits}
-use Rattle.facts.specs.Facts.{state}
+use Rattle.carrying.proofs.WakeLaws.{wake-met, wake-waits}
+use Rattle.carrying.specs.Waking.{state}
 use borrow.Author.Needs.{needs}
-use Rattle.facts.proofs.inner.wake.Statement.{statement}
-use Rattle.facts.proofs.inner.wake.Tie as tie
-use Rattle.facts.proofs.inner.wake.Reads as reads
-use Rattle.facts.proofs.inner.wake.Lts as lts
-use Rattle.facts.proofs.inner.learn.Reads as learn-reads
+use Rattle.carrying.proofs.inner.wake.Statement.{statement}
+use Rattle.carrying.proofs.inner.wake.Tie as tie
+use Rattle.carrying.proofs.inner.wake.Reads as reads
+use Rattle.carrying.proofs.inner.wake.Lts as lts
+use Rattle.carrying.proofs.inner.learn.Reads as learn-reads
 use Rattle.rows.proofs.inner.generator.Reads as generator-reads
 use Rattle.rows.proofs.inner.wait.Reads as wait-reads
 

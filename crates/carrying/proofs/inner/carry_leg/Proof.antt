@@ -1,7 +1,7 @@
 use borrow.Author.Needs.{needs}
-use Rattle.facts.proofs.Carrying.{carry-turn}
-use Rattle.facts.proofs.FactLaws.{pos}
-use Rattle.facts.specs.Facts.{state, wakesAll}
+use Rattle.carrying.proofs.Carrying.{carry-turn}
+use Rattle.carrying.proofs.WakeLaws.{pos}
+use Rattle.carrying.specs.Waking.{state, wakesAll}
 use Rattle.legs.proofs.Alike.{moves-forth, moves-back}
 use Rattle.rows.specs.Rows.{listAt}
 use Rattle.rows.specs.declared.inner.SideOfGap.{SideOfGap}
@@ -11,10 +11,10 @@ use native.Mathlib.Omega.{arith}
 use native.Mathlib.Nat.{le-refl}
 use mathlib.Core.Path.{_≡_, refl, sym, _∙_}
 use Prim.Native.Nat.{_+_, _-_, _<_, _≤_, zero-le}
-use Rattle.facts.proofs.inner.carry_leg.Statement.{statement}
-use Rattle.facts.proofs.inner.carry_leg.Tie as tie
-use Rattle.facts.proofs.inner.carry_leg.Reads as reads
-use Rattle.facts.proofs.inner.carry_leg.Lts as lts
+use Rattle.carrying.proofs.inner.carry_leg.Statement.{statement}
+use Rattle.carrying.proofs.inner.carry_leg.Tie as tie
+use Rattle.carrying.proofs.inner.carry_leg.Reads as reads
+use Rattle.carrying.proofs.inner.carry_leg.Lts as lts
 use Rattle.egg.proofs.inner.get.Reads as get-reads
 use Rattle.legs.proofs.inner.alike.Reads as alike-reads
 use Rattle.rows.proofs.inner.append.Reads as append-reads

@@ -2,8 +2,8 @@
 -- Assumes nothing.
 use Prim.Native.Nat.{ℕ}
 use Rattle.rows.specs.declared.inner.SideOfGap.{SideOfGap}
-use Rattle.facts.specs.declared.inner.Carried.{Carried}
-use Rattle.facts.specs.Facts.{State, wakesAll}
+use Rattle.carrying.specs.declared.inner.Carried.{Carried}
+use Rattle.carrying.specs.Waking.{State, wakesAll}
 
 -- What the list comes to from there.
 abbrev pub wakesRest : Carried → ℕ → SideOfGap → State → State

@@ -1,10 +1,10 @@
 use mathlib.Core.Path.{sym, _∙_}
-use Rattle.facts.proofs.FactLaws.{learns-new, learns-old}
+use Rattle.carrying.proofs.WakeLaws.{learns-new, learns-old}
 use borrow.Author.Needs.{needs}
-use Rattle.facts.proofs.inner.learn.Statement.{statement}
-use Rattle.facts.proofs.inner.learn.Tie as tie
-use Rattle.facts.proofs.inner.learn.Reads as reads
-use Rattle.facts.proofs.inner.learn.Lts as lts
+use Rattle.carrying.proofs.inner.learn.Statement.{statement}
+use Rattle.carrying.proofs.inner.learn.Tie as tie
+use Rattle.carrying.proofs.inner.learn.Reads as reads
+use Rattle.carrying.proofs.inner.learn.Lts as lts
 use Rattle.reading.proofs.inner.set_successor.Reads as set-successor-reads
 use Rattle.egg.proofs.inner.put.Reads as put-reads
 use Rattle.rows.proofs.inner.place_at.Reads as place-at-reads

@@ -1,0 +1,2 @@
+pub mod Waking
+pub mod Carrying
