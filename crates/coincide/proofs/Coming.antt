@@ -20,7 +20,8 @@ use Rattle.running.specs.Run.{onAdds}
 use Rattle.derived.specs.Invariant.{RunOk}
 use Rattle.derived.specs.Recorded.{Limits}
 use Rattle.rings.specs.Rings.{Looped}
-use Rattle.loops.specs.Loops.{loopFrom, Swept, swept, settles, sweeps}
+use Rattle.loops.specs.Loops.{loopFrom}
+use Rattle.sweeps.specs.Sweeps.{Swept, swept, settles, sweeps}
 use Rattle.coincide.specs.Sweeping.{Fair, Grows}
 use Rattle.coincide.proofs.Beside.{Beside}
 use Rattle.coincide.proofs.Placing.{Came, came-known, came-loop}

@@ -11,7 +11,7 @@ use Rattle.egg.specs.declared.GeneratorId.{GeneratorId}
 use Rattle.egg.specs.Table.{startOf}
 use Rattle.derived.specs.Invariant.{Known}
 use Rattle.rings.proofs.Joining.{Joined, joined, Side, here, there, elsewhere, side, step-other, back-other}
-use Rattle.loops.specs.Loops.{setBoth}
+use Rattle.sweeps.specs.Sweeps.{setBoth}
 use Rattle.coincide.specs.Sweeping.{Fair, Grows}
 
 module _ {n count lt : ℕ} {t t′ : List ℕ} {e g r : ℕ} (J : Joined n t t′ e g r) (F : Fair n count lt t) (hg : g < n) (he : e < count) (hr : r < count)

@@ -24,7 +24,7 @@ use Rattle.derived.proofs.Visiting.{IsDone, doneOf, next}
 use Rattle.derived.proofs.Running.{zeros}
 use Rattle.derived.proofs.Going.{VisitedBy, visited, goes-on, first-going}
 use Rattle.rings.specs.Rings.{Looped}
-use Rattle.loops.specs.Loops.{Swept, swept, sweeps, Sweep, sweep, onSwept, sweepFrom, swiftly}
+use Rattle.sweeps.specs.Sweeps.{Swept, swept, sweeps, Sweep, sweep, onSwept, sweepFrom, swiftly}
 use Rattle.coincide.specs.Sweeping.{Fair, Grows}
 use Rattle.closure.proofs.Beginning.{first-closed}
 use Rattle.coincide.proofs.Sweeping.{sweeps-fair, sweep-fair}

@@ -18,7 +18,8 @@ use Rattle.derived.specs.Recorded.{Limits}
 use Rattle.derived.proofs.Marking.{set-length}
 use Rattle.derived.proofs.Running.{pairs-full}
 use Rattle.rings.specs.Rings.{Looped}
-use Rattle.loops.specs.Loops.{setBoth, loopFrom}
+use Rattle.loops.specs.Loops.{loopFrom}
+use Rattle.sweeps.specs.Sweeps.{setBoth}
 use Rattle.coincide.specs.Sweeping.{Fair, Grows}
 use Rattle.coincide.proofs.Alike.{set-rest, set-splits}
 use Rattle.coincide.proofs.Beside.{Beside}

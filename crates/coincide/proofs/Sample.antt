@@ -29,7 +29,8 @@ use Rattle.running.specs.declared.inner.Ran.the-variants as ran
 use Rattle.running.specs.Run.{enumerated, runs, visits, discovered, advanced}
 use Rattle.derived.specs.Recorded.{Limits}
 use Rattle.derived.proofs.Sample.{limits}
-use Rattle.loops.specs.Loops.{orderFor, loopBy, loopFrom, settles, sweeps, sweep, sweepFrom, swiftly}
+use Rattle.loops.specs.Loops.{orderFor, loopBy, loopFrom}
+use Rattle.sweeps.specs.Sweeps.{settles, sweeps, sweep, sweepFrom, swiftly}
 use Rattle.coincide.proofs.Swift.{swift}
 
 -- The table that a build leaves; and the one that the end of a build makes of F, with a work of zeros.

@@ -25,7 +25,8 @@ use Rattle.derived.proofs.Marking.{row-is}
 use Rattle.derived.proofs.Growing.{word-length}
 use Rattle.derived.proofs.Since.{word-step}
 use Rattle.derived.proofs.Visiting.{next}
-use Rattle.loops.specs.Loops.{loopFrom, Swept, swept, settles, sweeps, Sweep, sweep, onSwept, sweepFrom}
+use Rattle.loops.specs.Loops.{loopFrom}
+use Rattle.sweeps.specs.Sweeps.{Swept, swept, settles, sweeps, Sweep, sweep, onSwept, sweepFrom}
 use Rattle.coincide.specs.Sweeping.{Fair, Grows}
 use Rattle.coincide.proofs.Joining.{both-fair}
 use Rattle.coincide.proofs.Saying.{Said, nothing, leads, loops-said}

@@ -19,7 +19,7 @@ use Rattle.derived.specs.Recorded.{Limits}
 use Rattle.derived.proofs.Visiting.{doneOf}
 use Rattle.derived.proofs.Derivation.{work-long}
 use Rattle.answers.proofs.AnyWork.{any-work}
-use Rattle.loops.specs.Loops.{Sweep, sweep, sweepFrom, swiftly}
+use Rattle.sweeps.specs.Sweeps.{Sweep, sweep, sweepFrom, swiftly}
 use Rattle.coincide.proofs.Sweeping.{sweep-fair}
 use Rattle.coincide.proofs.Lockstep.{blank-fair, coincides}
 use Rattle.coincide.proofs.Accepting.{accepted-looped}

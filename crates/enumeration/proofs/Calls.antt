@@ -29,7 +29,7 @@ use Rattle.running.specs.declared.inner.Ran.{Ran}
 use Rattle.running.specs.declared.inner.Ran.the-variants as ran
 use Rattle.running.specs.Run.{Outcome, outcome, enumerated}
 use Rattle.derived.specs.Recorded.{Limits}
-use Rattle.loops.specs.Loops.{sweep, swiftly}
+use Rattle.sweeps.specs.Sweeps.{sweep, swiftly}
 use Rattle.coincide.proofs.Swift.{swift}
 use Rattle.enumeration.specs.Calls.{ranCount, relating, relatingBy, relates, withWork, related, enumeratedIn, enumerates}
 use Rattle.enumeration.specs.Quick.{Quick}

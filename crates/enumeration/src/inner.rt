@@ -51,7 +51,7 @@ fn enumerate_swiftly(t: &mut [u32], w: &mut [u32], orders: &[u32], n: u8, room: 
     requires { ⌜ Limits n (now orders) room (length (now t)) (length (now w)) ⌝ }
     ensures { λ r. ⌜ Quick (length (now (t .entry))) (length (now (w .entry))) (now (orders .entry)) n room r (now (t .exit)) (now (w .exit)) ⌝ }
 {
-    let run = loops::inner::swiftly(t, orders, n, room);
+    let run = sweeps::inner::swiftly(t, orders, n, room);
     let Ran::Done(count) = run else {
         return 0;
     };

@@ -1,2 +1,2 @@
-// The enumeration by closed loops: quicker than todd_coxeter.rs, and the same table where it gives one that passes the checks.
+// Of the enumeration by closed loops: where a pair relation of which all other steps are known says that a step leads.
 pub mod inner;

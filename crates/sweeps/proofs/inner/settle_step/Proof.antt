@@ -1,12 +1,12 @@
 use mathlib.Core.Path.{sym, _∙_}
 use native.Mathlib.Omega.{arith}
 use Rattle.running.proofs.RunLaws.{adds-room}
-use Rattle.loops.proofs.SweepLaws.{settles-closed, settles-refused, settles-new}
+use Rattle.sweeps.proofs.SweepLaws.{settles-closed, settles-refused, settles-new}
 use borrow.Author.Needs.{needs}
-use Rattle.loops.proofs.inner.settle_step.Statement.{statement}
-use Rattle.loops.proofs.inner.settle_step.Tie as tie
-use Rattle.loops.proofs.inner.settle_step.Reads as reads
-use Rattle.loops.proofs.inner.settle_step.Lts as lts
+use Rattle.sweeps.proofs.inner.settle_step.Statement.{statement}
+use Rattle.sweeps.proofs.inner.settle_step.Tie as tie
+use Rattle.sweeps.proofs.inner.settle_step.Reads as reads
+use Rattle.sweeps.proofs.inner.settle_step.Lts as lts
 use Rattle.reading.proofs.inner.add_successor.Reads as add-successor-reads
 use Rattle.reading.proofs.inner.set_successor.Reads as set-successor-reads
 

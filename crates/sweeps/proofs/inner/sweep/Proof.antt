@@ -5,14 +5,14 @@ use borrow.Author.Needs.{needs}
 use lib.ListN.{length}
 use Rattle.carrying.proofs.WakeLaws.{pos}
 use Rattle.running.proofs.RunLaws.{advanced-generator}
-use Rattle.loops.specs.Loops.{sweepFrom}
-use Rattle.loops.proofs.SweepLaws.{sweep-done, sweep-paused, sweep-refused, sweep-turn}
-use Rattle.loops.proofs.inner.sweep.Statement.{statement}
-use Rattle.loops.proofs.inner.sweep.Tie as tie
-use Rattle.loops.proofs.inner.sweep.Reads as reads
-use Rattle.loops.proofs.inner.sweep.Lts as lts
+use Rattle.sweeps.specs.Sweeps.{sweepFrom}
+use Rattle.sweeps.proofs.SweepLaws.{sweep-done, sweep-paused, sweep-refused, sweep-turn}
+use Rattle.sweeps.proofs.inner.sweep.Statement.{statement}
+use Rattle.sweeps.proofs.inner.sweep.Tie as tie
+use Rattle.sweeps.proofs.inner.sweep.Reads as reads
+use Rattle.sweeps.proofs.inner.sweep.Lts as lts
 use Rattle.running.proofs.inner.advance.Reads as advance-reads
-use Rattle.loops.proofs.inner.sweep_place.Reads as sweep-place-reads
+use Rattle.sweeps.proofs.inner.sweep_place.Reads as sweep-place-reads
 
 abbrev Inv-loop : tie.InvT-loop
 Inv-loop t₀ orders n room allowance at₀ left₀ t at left = (sweepFrom left n orders room at t ≡ sweepFrom left₀ n orders room at₀ t₀) × ((length t ≡ length t₀) × (at .generator < n))

@@ -1,12 +1,12 @@
 use lib.ListN.{length}
-use Rattle.loops.proofs.SweepLaws.{swiftly-none, swiftly-some}
+use Rattle.sweeps.proofs.SweepLaws.{swiftly-none, swiftly-some}
 use borrow.Author.Needs.{needs}
-use Rattle.loops.proofs.inner.swiftly.Statement.{statement}
-use Rattle.loops.proofs.inner.swiftly.Tie as tie
-use Rattle.loops.proofs.inner.swiftly.Reads as reads
-use Rattle.loops.proofs.inner.swiftly.Lts as lts
+use Rattle.sweeps.proofs.inner.swiftly.Statement.{statement}
+use Rattle.sweeps.proofs.inner.swiftly.Tie as tie
+use Rattle.sweeps.proofs.inner.swiftly.Reads as reads
+use Rattle.sweeps.proofs.inner.swiftly.Lts as lts
 use Rattle.egg.proofs.inner.clear.Reads as clear-reads
-use Rattle.loops.proofs.inner.sweep.Reads as sweep-reads
+use Rattle.sweeps.proofs.inner.sweep.Reads as sweep-reads
 
 clear-requires : tie.Need-clear-requires
 clear-requires c κs = search needs

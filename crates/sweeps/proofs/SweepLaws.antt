@@ -19,7 +19,8 @@ use Rattle.running.specs.declared.inner.Run.{Run}
 use Rattle.running.specs.declared.inner.Ran.{Ran}
 use Rattle.running.specs.declared.inner.Ran.the-variants as ran
 use Rattle.running.specs.Run.{advanced, first}
-use Rattle.loops.specs.Loops.{loopFrom, Swept, swept, settles, sweeps, sweep, sweepFrom, swiftly}
+use Rattle.loops.specs.Loops.{loopFrom}
+use Rattle.sweeps.specs.Sweeps.{Swept, swept, settles, sweeps, sweep, sweepFrom, swiftly}
 
 -- A step that is not known.
 module _ (n room count : ℕ) (e : GroupElementId) (g : GeneratorId) (t : List ℕ) {loop : ℕ} where

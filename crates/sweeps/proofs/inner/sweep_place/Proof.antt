@@ -1,14 +1,14 @@
 use Rattle.egg.proofs.Laws.{got}
-use Rattle.loops.proofs.SweepLaws.{sweeps-known, sweeps-settles}
+use Rattle.sweeps.proofs.SweepLaws.{sweeps-known, sweeps-settles}
 use borrow.Author.Needs.{needs}
-use Rattle.loops.proofs.inner.sweep_place.Statement.{statement}
-use Rattle.loops.proofs.inner.sweep_place.Tie as tie
-use Rattle.loops.proofs.inner.sweep_place.Reads as reads
-use Rattle.loops.proofs.inner.sweep_place.Lts as lts
+use Rattle.sweeps.proofs.inner.sweep_place.Statement.{statement}
+use Rattle.sweeps.proofs.inner.sweep_place.Tie as tie
+use Rattle.sweeps.proofs.inner.sweep_place.Reads as reads
+use Rattle.sweeps.proofs.inner.sweep_place.Lts as lts
 use Rattle.egg.proofs.inner.get.Reads as get-reads
 use Rattle.egg.proofs.inner.successor_at.Reads as successor-at-reads
 use Rattle.loops.proofs.inner.loop_from.Reads as loop-from-reads
-use Rattle.loops.proofs.inner.settle_step.Reads as settle-step-reads
+use Rattle.sweeps.proofs.inner.settle_step.Reads as settle-step-reads
 
 successor-at-requires : tie.Need-successor-at-requires
 successor-at-requires c κs = search needs
