@@ -21,7 +21,8 @@ use Rattle.digits.specs.declared.inner.Asked.the-variants.{Conjugate}
 use Rattle.handles.specs.Handles.{handles, sizes, elementsOf, generatorsOf, allFit, admits}
 use Rattle.digits.specs.Digits.{digitOf, digitwise, stepIn, composes, inverts}
 use Rattle.digits.specs.Splits.{splitTail, digitsLeft, digitsRight, joinTail}
-use Rattle.powers.specs.Powers.{powers, periods}
+use Rattle.powers.specs.Powers.{powers}
+use Rattle.periods.specs.Periods.{periods}
 use Rattle.spelling.specs.Words.{lengths, writes, leaves}
 
 -- Two elements.

@@ -196,7 +196,7 @@ pub fn period(table: &[u32], g: Group, a: GroupElementId) -> Counted
 {
     match handles::inner::admit(table, g, a.0, Limit::Elements, 0, Limit::Number(1)) {
         Verdict::Refused(why) => Counted::Refused(why),
-        Verdict::Fine => powers::inner::periods(table, g, a),
+        Verdict::Fine => periods::inner::periods(table, g, a),
     }
 }
 

@@ -18,7 +18,7 @@ use Rattle.words.specs.Words.{lengthIn, readableBy, spellBy}
 use Rattle.handles.specs.Handles.{limited, admits, joins}
 use Rattle.digits.specs.Digits.{digitwise, stepIn}
 use Rattle.digits.specs.Splits.{splitTail, digitsRight, joinTail}
-use Rattle.powers.specs.Powers.{periodFrom, periods}
+use Rattle.periods.specs.Periods.{periodFrom, periods}
 use Rattle.spelling.specs.Words.{lengths, readables, spells, writes}
 use Rattle.flat.specs.Flat.{rowBy, rowsBy, flatIn, flatInto, flat}
 use Rattle.group.specs.Questions as questions

@@ -28,7 +28,8 @@ use Rattle.digits.specs.declared.inner.Asked.{Asked}
 use Rattle.digits.specs.declared.inner.Asked.the-variants.{Compose, Inverse, Conjugate}
 use Rattle.handles.specs.Handles.{handles, sizes, elementsOf, allFit, limited, admits, joins}
 use Rattle.digits.specs.Digits.{digitOf, digitwise, stepIn, composes, inverts}
-use Rattle.powers.specs.Powers.{oddToo, halves, negated, powers, periodFrom, periods}
+use Rattle.powers.specs.Powers.{oddToo, halves, negated, powers}
+use Rattle.periods.specs.Periods.{periodFrom, periods}
 use Rattle.handles.specs.Counts.{onCounted, onElement}
 use Rattle.spelling.specs.Words.{lengths, readables, writesBy, writes, leaves}
 use Rattle.group.specs.Questions.{countAnswer, generatorsAnswer, generatorAnswer, stepAnswer, projectAnswer, injectAnswer, splitAnswer, splitLeaves, joinAnswer}

@@ -26,7 +26,8 @@ use Rattle.products.proofs.RadixLaws.{low-small, high-small}
 use Rattle.products.proofs.ProductLaws.{product-group}
 use Rattle.products.proofs.PowerLaws.{powi-is}
 use Rattle.products.proofs.PeriodLaws.{pair-period}
-use Rattle.powers.specs.Powers.{oddToo, halves, negated, powers, periodFrom, periodOf, periods}
+use Rattle.powers.specs.Powers.{oddToo, halves, negated, powers}
+use Rattle.periods.specs.Periods.{periodFrom, periodOf, periods}
 use Rattle.groups.specs.Products.{part, parts, AllAccepted, none, more}
 use Rattle.groups.proofs.Parts.{part-worded, all-groups}
 

@@ -21,7 +21,8 @@ use Rattle.digits.specs.declared.inner.Asked.{Asked}
 use Rattle.digits.specs.declared.inner.Asked.the-variants.{Compose, Inverse, Conjugate}
 use Rattle.handles.specs.Handles.{handles, allFit, admits}
 use Rattle.digits.specs.Digits.{digitOf, digitwise, stepIn, composes, inverts}
-use Rattle.powers.specs.Powers.{periodOf, periods, powers}
+use Rattle.powers.specs.Powers.{powers}
+use Rattle.periods.specs.Periods.{periodOf, periods}
 use Rattle.spelling.specs.Words.{lengths, readables, spells, writes, leaves}
 use Rattle.flat.specs.Flat.{flatIn, flatInto, flat}
 use Rattle.group.specs.Questions.{countAnswer, generatorsAnswer, generatorAnswer, stepAnswer, projectAnswer, injectAnswer, splitAnswer, splitLeaves, joinAnswer}

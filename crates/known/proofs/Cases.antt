@@ -28,7 +28,8 @@ use Rattle.enumeration.specs.Calls.{enumeratedIn, enumerates}
 use Rattle.handles.specs.Handles.{limited, admits}
 use Rattle.digits.specs.Digits.{digitwise}
 use Rattle.digits.specs.Splits.{splitTail}
-use Rattle.powers.specs.Powers.{halves, powers, periodFrom, periods}
+use Rattle.powers.specs.Powers.{halves, powers}
+use Rattle.periods.specs.Periods.{periodFrom, periods}
 use Rattle.spelling.specs.Words.{lengths, readables, spells, writes}
 use Rattle.group.specs.Questions as group
 use Rattle.cells.specs.Cells as cells

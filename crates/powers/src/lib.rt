@@ -1,2 +1,2 @@
-// group.rs: powers and periods.
+// group.rs: powers.
 pub mod inner;

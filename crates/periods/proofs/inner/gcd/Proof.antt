@@ -3,9 +3,9 @@ use mathlib.Core.Path.{_≡_, refl, sym, _∙_}
 use native.Mathlib.Nat.{mod-lt}
 use native.Mathlib.Omega.{arith}
 use Rattle.products.specs.Divisors.{gcd}
-use Rattle.powers.proofs.Powers.{gcd-next, gcd-end}
-use Rattle.powers.proofs.inner.gcd.Statement.{statement}
-use Rattle.powers.proofs.inner.gcd.Tie as tie
+use Rattle.periods.proofs.Periods.{gcd-next, gcd-end}
+use Rattle.periods.proofs.inner.gcd.Statement.{statement}
+use Rattle.periods.proofs.inner.gcd.Tie as tie
 
 abbrev Inv-loop : tie.InvT-loop
 Inv-loop a b x₀ y₀ x y = gcd x y ≡ gcd a b

@@ -2,10 +2,10 @@
 use mathlib.Core.Path.{_∙_}
 use native.Mathlib.Omega.{arith}
 use Rattle.walks.specs.Walks.{composeIn}
-use Rattle.powers.proofs.Powers.{Turning, turning, turn-none, turn-here, turn-stop, turn-on}
+use Rattle.periods.proofs.Periods.{Turning, turning, turn-none, turn-here, turn-stop, turn-on}
 use borrow.Author.Needs.{needs}
-use Rattle.powers.proofs.inner.period_in.Statement.{statement}
-use Rattle.powers.proofs.inner.period_in.Tie as tie
+use Rattle.periods.proofs.inner.period_in.Statement.{statement}
+use Rattle.periods.proofs.inner.period_in.Tie as tie
 
 abbrev Inv-loop : tie.InvT-loop
 Inv-loop s n count a left₀ x₀ k₀ left x k = Turning (composeIn s n count) count (a .0) left x k

@@ -6,11 +6,11 @@ use native.Mathlib.Omega.{arith}
 use Rattle.handles.specs.Handles.{handles, sizes}
 use Rattle.products.proofs.RadixLaws.{stride-small}
 use Rattle.digits.proofs.Splits.{stride-on}
-use Rattle.powers.proofs.Powers.{Multiple, multiple, multiple-stop, multiple-bound, multiple-on, multiple-end, gcd-pos}
+use Rattle.periods.proofs.Periods.{Multiple, multiple, multiple-stop, multiple-bound, multiple-on, multiple-end, gcd-pos}
 use mathlib.Core.Path.{refl}
 use borrow.Author.Needs.{needs}
-use Rattle.powers.proofs.inner.periods.Statement.{statement}
-use Rattle.powers.proofs.inner.periods.Tie as tie
+use Rattle.periods.proofs.inner.periods.Statement.{statement}
+use Rattle.periods.proofs.inner.periods.Tie as tie
 
 abbrev Inv-loop : tie.InvT-loop
 Inv-loop table g c f₀ m₀ rest₀ f m rest = Multiple table (handles g) rest₀ f m rest

@@ -1,0 +1,2 @@
+// group.rs: periods.
+pub mod inner;
