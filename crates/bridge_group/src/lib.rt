@@ -90,7 +90,7 @@ pub extern "C" fn hg_product_compose(
 pub extern "C" fn hg_product_inverse(table: &[u32], handles: &[u32], count: u8, a: u32) -> u64
     ensures { λ r. ⌜ r ≡ reachedCode (inverseAnswer (now (table .entry)) (productOf (now (handles .entry)) count) (record { 0 = a })) ⌝ }
 {
-    bridge::inner::reached_code(bridge_steps::inner::inverse(
+    bridge::inner::reached_code(bridge_inverse::inner::inverse(
         table,
         handles,
         count,

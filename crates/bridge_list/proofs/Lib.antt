@@ -1,4 +1,5 @@
 pub mod Handles
 pub mod Looks
+pub mod Passing
 pub mod Admitting
 pub mod OneHandle

@@ -18,7 +18,7 @@ use Rattle.handles.proofs.Caps.{cap-small}
 use Rattle.bridge_list.specs.Product.{productOf}
 use Rattle.bridge_list.proofs.Looks.{placed}
 use Rattle.bridge_steps.specs.Spots.{Located, Spotted}
-use Rattle.bridge_steps.proofs.Passing.{Passing, passed-all, passed-generators, passes-stop}
+use Rattle.bridge_list.proofs.Passing.{Passing, passed-all, passed-generators, passes-stop}
 
 taken-next : (hs : List Factor) (f : ℕ) → f < length hs → generatorsOf (take (suc f) hs) ≡ generatorsOf (take f hs) + getD hs f noFactor .generators
 taken-next [] f l = absurd (omega arith)

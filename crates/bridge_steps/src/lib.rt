@@ -1,2 +1,2 @@
-// A step, a generator and an inverse in a product that stands in a lent list.
+// A step and a generator in a product that stands in a lent list.
 pub mod inner;

@@ -9,7 +9,7 @@ use Rattle.handles.specs.Handles.{handles}
 use Rattle.handles.proofs.Lists.{turned-all}
 use Rattle.bridge_list.specs.Product.{productOf}
 use Rattle.bridge_list.proofs.Looks.{turn-first}
-use Rattle.bridge_steps.proofs.Passing.{Passing, passing, passes-on, passed-small}
+use Rattle.bridge_list.proofs.Passing.{Passing, passing, passes-on, passed-small}
 use Rattle.bridge_steps.proofs.Choosing.{Choosing, choosing, chooses-on, spots-none, spots}
 use Rattle.bridge_steps.proofs.inner.find.Statement.{statement}
 use Rattle.bridge_steps.proofs.inner.find.Tie as tie

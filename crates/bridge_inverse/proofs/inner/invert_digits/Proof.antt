@@ -1,4 +1,4 @@
--- One pass, as `find`: the digits are gathered while each inverse is in range.
+-- One pass, as `find` of bridge_steps: the digits are gathered while each inverse is in range.
 use Prim.Native.Nat.{_-_, _≤_}
 use mathlib.Core.Path.{_∙_, sym}
 use borrow.Author.Needs.{needs}
@@ -10,10 +10,10 @@ use Rattle.handles.specs.Handles.{handles}
 use Rattle.handles.proofs.Lists.{turned-all}
 use Rattle.bridge_list.specs.Product.{productOf}
 use Rattle.bridge_list.proofs.Looks.{turn-first}
-use Rattle.bridge_steps.proofs.Passing.{Passing, passing, passes-on, passed-small}
-use Rattle.bridge_steps.proofs.Inverting.{Inverting, inverting, inverts-on, product-small, inverts-none, inverts-all}
-use Rattle.bridge_steps.proofs.inner.invert_digits.Statement.{statement}
-use Rattle.bridge_steps.proofs.inner.invert_digits.Tie as tie
+use Rattle.bridge_list.proofs.Passing.{Passing, passing, passes-on, passed-small}
+use Rattle.bridge_inverse.proofs.Inverting.{Inverting, inverting, inverts-on, product-small, inverts-none, inverts-all}
+use Rattle.bridge_inverse.proofs.inner.invert_digits.Statement.{statement}
+use Rattle.bridge_inverse.proofs.inner.invert_digits.Tie as tie
 
 abbrev Inv-loop : tie.InvT-loop
 Inv-loop table l count a c f₀ elements₀ right₀ sum₀ x₀ f elements right sum x = (f ≤ c) × (Passing (length table) (handles (productOf l count)) f elements × Inverting table (handles (productOf l count)) x₀ f elements right sum x)

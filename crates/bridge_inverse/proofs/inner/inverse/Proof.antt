@@ -1,10 +1,10 @@
 -- A product of one handle is asked as the factor is. Else what the pass showed decides the refusals, and has the answer.
 use native.Mathlib.Omega.{arith}
 use Rattle.bridge_list.proofs.OneHandle.{inverse-alone}
-use Rattle.bridge_steps.proofs.Answering.{inverse-refused, inverse-lost, inverse-small, inverse-found}
+use Rattle.bridge_inverse.proofs.Answering.{inverse-refused, inverse-lost, inverse-small, inverse-found}
 use borrow.Author.Needs.{needs}
-use Rattle.bridge_steps.proofs.inner.inverse.Statement.{statement}
-use Rattle.bridge_steps.proofs.inner.inverse.Tie as tie
+use Rattle.bridge_inverse.proofs.inner.inverse.Statement.{statement}
+use Rattle.bridge_inverse.proofs.inner.inverse.Tie as tie
 
 handle-at-requires : tie.Need-handle-at-requires
 handle-at-requires c κs = search needs

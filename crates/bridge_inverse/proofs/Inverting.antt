@@ -23,8 +23,8 @@ use Rattle.handles.proofs.Caps.{cap-small}
 use Rattle.handles.proofs.Lists.{positive}
 use Rattle.digits.proofs.Walks.{Gathering, gathering, gathers-on, gathers-stop, gathers-end, stride-fits}
 use Rattle.bridge_list.specs.Product.{productOf}
-use Rattle.bridge_steps.specs.Spots.{Inverted}
-use Rattle.bridge_steps.proofs.Passing.{Passing, passed-small, passed-all, passes-stop}
+use Rattle.bridge_inverse.specs.Inverted.{Inverted}
+use Rattle.bridge_list.proofs.Passing.{Passing, passed-small, passed-all, passes-stop}
 
 -- Where every handle fits and the product has numbers of 32 bits: the digits are gathered while each inverse is in range, and one that is not decides the answer.
 pub record Inverting (t : List ℕ) (hs : List Factor) (a f s : ℕ) (right : Bool) (sum x : ℕ) : Type 0 where

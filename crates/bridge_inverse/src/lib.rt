@@ -1,0 +1,2 @@
+// The inverse of an element in a product that stands in a lent list.
+pub mod inner;
