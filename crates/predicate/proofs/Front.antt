@@ -27,8 +27,9 @@ use Rattle.lending.proofs.Lending.{lent-table, lent-enough}
 use Rattle.meaning.proofs.Lengths.{checks-work}
 use Rattle.appearance.specs.Renumber.{none, Mapped, mapped, thenMapped, onNew, mapPlace, mapFrom, mapRow, mapRows, mapAll}
 use Rattle.appearance.specs.Build.{Renumbering, renumbering, settledMaps, finishedMapped, renumberIn}
-use Rattle.predicate.specs.declared.inner.Picks.{Picks}
-use Rattle.predicate.specs.Predicate.{Picked, picked, ninth, isNew, chooses, againIn, predicateIn, pickedOf}
+use Rattle.choices.specs.declared.inner.Picks.{Picks}
+use Rattle.choices.specs.Choices.{Picked, picked, ninth, isNew, chooses, againIn, pickedOf}
+use Rattle.predicate.specs.Predicate.{predicateIn}
 use Rattle.meaning.proofs.AnyWork.{Like, any-work}
 
 -- At most as many elements as there is room.

@@ -1,2 +1,2 @@
-pub mod Choices
+pub mod Told
 pub mod Front

@@ -18,7 +18,8 @@ use Rattle.appearance.specs.Renumber.{mapPlace, mapRow, mapRows}
 use Rattle.appearance.specs.Build.{renumberIn}
 use Rattle.generated.specs.Lent.{mapsRight}
 use Rattle.generated.specs.Generated.{entriesRight, smallEnough, admitsGenerators, generatedInto, fromGenerators}
-use Rattle.predicate.specs.Predicate.{chooses, admitsOver, toldInto, fromPredicate}
+use Rattle.choices.specs.Choices.{chooses}
+use Rattle.predicate.specs.Predicate.{admitsOver, toldInto, fromPredicate}
 use Rattle.subgroups.specs.AlteredCases.{AlteredCases}
 
 pub altered-cases : AlteredCases

@@ -28,8 +28,9 @@ use Rattle.renumbering.proofs.Builds.{builtOf, renumber-built}
 use Rattle.generated.specs.declared.Subgroup.{Subgroup}
 use Rattle.generated.specs.Lent.{subgrouping}
 use Rattle.generated_rows.specs.Rows.{productOf}
-use Rattle.predicate.specs.Predicate.{Picked, picked, isNew, chooses, againIn, predicateIn, fromPredicate}
-use Rattle.predicate.specs.Predicate as predicate
+use Rattle.choices.specs.Choices.{Picked, picked, isNew, chooses, againIn}
+use Rattle.predicate.specs.Predicate.{predicateIn, fromPredicate}
+use Rattle.choices.specs.Choices as choices
 use Rattle.subgroups.specs.Tells.{Predicated}
 use Rattle.subgroups.specs.Altered.{Regardless, ToldStops, ninth, stopped, by-steps}
 use Rattle.subgroups.proofs.Choosing.{more-length, pick-ends}
@@ -42,7 +43,7 @@ use Rattle.subgroups.proofs.Regardless.{composes-17, steps-inside, rega
 -- The last build, by at most eight elements; or a ninth was needed.
 data Last (L : ℕ) (again : List ℕ → List ℕ → Renumbering) : Picked → Type 0 where
   by-few : {gens : List ℕ} {r : Renumbering} (w₀ : List ℕ) → length gens ≤ 8 → length w₀ ≡ L → again gens w₀ ≡ r → Last L again (picked gens r)
-  by-ninth : (gens t w i o : List ℕ) → Last L again (picked gens (predicate.ninth t w i o))
+  by-ninth : (gens t w i o : List ℕ) → Last L again (picked gens (choices.ninth t w i o))
 
 module _ (L : ℕ) (again : List ℕ → List ℕ → Renumbering)
     (keeps : (gens w₀ : List ℕ) (c : ℕ) (t w i o : List ℕ) → again gens w₀ ≡ renumbering (built (Count c) t w) i o → length w ≡ length w₀) (byte : ℕ → ℕ) where

@@ -20,7 +20,7 @@ use Rattle.appearance.specs.Renumber as appear
 use Rattle.appearance.specs.Build.{Renumbering, renumbering}
 use Rattle.renumbering.specs.Orbit.{Orbit, origin, onward}
 use Rattle.renumbering.specs.Subgroup.{rightBy}
-use Rattle.predicate.specs.Predicate.{Picked, isNew, chooses}
+use Rattle.choices.specs.Choices.{Picked, isNew, chooses}
 use Rattle.subgroups.specs.Predicate.{Reach, Chosen, Knows, Faithful, Ends, accepted, refused, too-many}
 
 -- The same by generators that are the same.

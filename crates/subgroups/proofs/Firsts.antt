@@ -17,7 +17,7 @@ use Rattle.lending.specs.Finish.{built}
 use Rattle.appearance.specs.Build.{Renumbering, renumbering}
 use Rattle.renumbering.proofs.Builds.{not-refused}
 use Rattle.renumbering.proofs.Chosen.{orbit-more}
-use Rattle.predicate.specs.Predicate.{Picked, picked, isNew, chooses}
+use Rattle.choices.specs.Choices.{Picked, picked, isNew, chooses}
 use Rattle.subgroups.specs.Predicate.{Reach, Chosen, Faithful, Ends, accepted, refused, too-many}
 use Rattle.subgroups.proofs.Choosing.{orbit-as, more-length, pick-ends, new-member, new-outside, not-new, knowing, chosen-same, chosen-more, nothing-chosen, chooses-ends}
 use Rattle.subgroups.proofs.Telling.{ends-accepted}

@@ -26,7 +26,8 @@ use Rattle.renumbering.proofs.Order.{appearing}
 use Rattle.renumbering.proofs.Subgroups.{right-inside, orbit-generated, outward-composes, outward-inverts}
 use Rattle.renumbering.proofs.Builds.{builtOf, renumber-built, renumber-holds}
 use Rattle.subgroups.specs.Carried.{Carried, Homomorphic}
-use Rattle.predicate.specs.Predicate.{picked, predicateIn}
+use Rattle.choices.specs.Choices.{picked}
+use Rattle.predicate.specs.Predicate.{predicateIn}
 use Rattle.subgroups.specs.Told.{Told}
 use Rattle.subgroups.proofs.Narrow.{narrow}
 use Rattle.subgroups.proofs.Telling.{eight-rows, eight-work, answering, again-held, again-work, predicate-ends, ends-accepted, predicate-proper, predicate-subgroup}

@@ -44,7 +44,7 @@ use Rattle.generated_rows.specs.Rows.{productOf}
 use Rattle.generated.specs.Generated.{entryRight, entriesRight, smallEnough, admitsGenerators, fromGenerators}
 use Rattle.generated.proofs.Admits.{generators-fine, admitted}
 use Rattle.predicate.specs.Predicate.{admitsOver, fromPredicate}
-use Rattle.predicate.proofs.Choices.{over-fine, over-admitted}
+use Rattle.predicate.proofs.Told.{over-fine, over-admitted}
 use Rattle.subgroups.specs.Generates.{Started}
 use Rattle.subgroups.specs.Tells.{Predicated}
 use Rattle.subgroups.specs.Altered.{stepsRead, BySteps, Stopped, ToldStops, ninth, stopped, by-steps}

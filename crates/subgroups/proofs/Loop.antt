@@ -12,7 +12,7 @@ use Rattle.egg.specs.declared.Counted.the-variants.{Count, Refused}
 use Rattle.lending.specs.Finish.{built}
 use Rattle.appearance.specs.Renumber as appear
 use Rattle.appearance.specs.Build.{Renumbering, renumbering}
-use Rattle.predicate.specs.Predicate.{picked, ninth, chooses}
+use Rattle.choices.specs.Choices.{picked, ninth, chooses}
 
 module _ (again : List ℕ → List ℕ → Renumbering) (byte : ℕ → ℕ) (k x : ℕ) (gens : List ℕ) (t w inn outw : List ℕ) where
   pub choose-end : (r : Renumbering) → chooses 0 again byte x gens r ≡ picked gens r

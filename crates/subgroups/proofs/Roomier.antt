@@ -12,7 +12,7 @@ use Rattle.egg.specs.declared.Counted.the-variants.{Count, Refused}
 use Rattle.lending.specs.Finish.{built}
 use Rattle.appearance.specs.Renumber as appear
 use Rattle.appearance.specs.Build.{Renumbering, renumbering}
-use Rattle.predicate.specs.Predicate.{Picked, picked, ninth, chooses}
+use Rattle.choices.specs.Choices.{Picked, picked, ninth, chooses}
 use Rattle.subgroups.specs.Predicate.{Chosen, Knows, Faithful}
 use Rattle.subgroups.proofs.Choosing.{chosen-same, chosen-more}
 use Rattle.renumbering.proofs.Builds.{not-refused}

@@ -16,7 +16,8 @@ use Rattle.renumbering.specs.Subgroup.{rightBy}
 use Rattle.renumbering.proofs.Order.{appearing}
 use Rattle.renumbering.proofs.Subgroups.{right-inside}
 use Rattle.renumbering.proofs.Builds.{renumber-holds, renumber-exactly}
-use Rattle.predicate.specs.Predicate.{Picked, againIn, predicateIn}
+use Rattle.choices.specs.Choices.{Picked, againIn}
+use Rattle.predicate.specs.Predicate.{predicateIn}
 use Rattle.subgroups.specs.Predicate.{Chosen}
 use Rattle.subgroups.proofs.Choosing.{nothing-chosen}
 use Rattle.subgroups.proofs.Telling.{eight-rows, eight-work, answering, again-faithful}

@@ -21,7 +21,8 @@ use Rattle.groups.specs.Products.{AllAccepted, direct}
 use Rattle.appearance.specs.Build.{Renumbering, renumbering}
 use Rattle.generated.specs.declared.Subgroup.{Subgroup}
 use Rattle.generated.specs.Lent.{subgrouping}
-use Rattle.predicate.specs.Predicate.{Picked, picked, againIn, predicateIn, toldBack, fromPredicate}
+use Rattle.choices.specs.Choices.{Picked, picked, againIn}
+use Rattle.predicate.specs.Predicate.{predicateIn, toldBack, fromPredicate}
 use Rattle.subgroups.specs.Predicate.{Chosen}
 use Rattle.subgroups.specs.Tells.{Predicated}
 use Rattle.subgroups.specs.Generates.{RoomierGenerates}

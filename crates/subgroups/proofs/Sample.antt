@@ -19,7 +19,8 @@ use Rattle.hops.specs.Hops.{hopFrom, withHops}
 use Rattle.lending.specs.Finish.{built, finished}
 use Rattle.appearance.specs.Renumber.{none, mapPlace, mapRow, mapRows}
 use Rattle.appearance.specs.Build.{renumbering, renumberIn}
-use Rattle.predicate.specs.Predicate.{Picked, picked, chooses, predicateIn}
+use Rattle.choices.specs.Choices.{Picked, picked, chooses}
+use Rattle.predicate.specs.Predicate.{predicateIn}
 use Rattle.subgroup.specs.Indices.{overOf, subOf}
 
 record Shown : Type 0 where

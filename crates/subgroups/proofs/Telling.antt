@@ -23,7 +23,8 @@ use Rattle.renumbering.proofs.Order.{appearing}
 use Rattle.renumbering.proofs.Subgroups.{right-inside, orbit-generated}
 use Rattle.renumbering.proofs.Builds.{not-refused, renumber-work, renumber-maps}
 use Rattle.renumbering.proofs.Chosen.{chosen-proper, chosen-all, orbit-more}
-use Rattle.predicate.specs.Predicate.{Picked, picked, againIn, predicateIn}
+use Rattle.choices.specs.Choices.{Picked, picked, againIn}
+use Rattle.predicate.specs.Predicate.{predicateIn}
 use Rattle.subgroups.specs.Predicate.{Reach, Chosen, Knows, Faithful, Ends, accepted, refused, too-many}
 use Rattle.subgroups.proofs.Choosing.{chooses-ends}
 

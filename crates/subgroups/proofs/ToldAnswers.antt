@@ -45,7 +45,8 @@ use Rattle.renumbering.proofs.Builds.{same-refusal, not-refused, renumber-built
 use Rattle.renumbering.proofs.SubgroupBuilds.{with-maps, subgroup-refused}
 use Rattle.generated.specs.Lent.{mapsRight}
 use Rattle.generated.specs.Generated.{smallEnough}
-use Rattle.predicate.specs.Predicate.{Picked, picked, againIn, predicateIn, admitsOver, toldBack, fromPredicate}
+use Rattle.choices.specs.Choices.{Picked, picked, againIn}
+use Rattle.predicate.specs.Predicate.{predicateIn, admitsOver, toldBack, fromPredicate}
 use Rattle.subgroups.specs.Predicate.{Reach, Chosen, Ends, accepted, refused, too-many}
 use Rattle.subgroups.specs.Tellable.{Buildable, Tellable}
 use Rattle.subgroups.specs.Tells.{Predicated}

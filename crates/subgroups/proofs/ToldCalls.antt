@@ -35,8 +35,9 @@ use Rattle.generated.specs.declared.Subgroup.{Subgroup}
 use Rattle.generated.specs.declared.Subgrouped.{Subgrouped}
 use Rattle.generated.specs.Lent.{subgroupOf, subgrouping, mapsRight}
 use Rattle.generated.proofs.Admits.{small-elements, maps-lent}
-use Rattle.predicate.specs.Predicate.{Picked, picked, predicateIn, admitsOver, toldBack, toldInto, fromPredicate}
-use Rattle.predicate.proofs.Choices.{over-fine, over-admitted}
+use Rattle.choices.specs.Choices.{Picked, picked}
+use Rattle.predicate.specs.Predicate.{predicateIn, admitsOver, toldBack, toldInto, fromPredicate}
+use Rattle.predicate.proofs.Told.{over-fine, over-admitted}
 use Rattle.meaning.specs.Sound.{Sound, Ruled}
 use Rattle.meaning.proofs.Accepted.{sound-group}
 use Rattle.renumbering.specs.Maps.{Held}

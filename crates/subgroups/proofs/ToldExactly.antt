@@ -31,7 +31,8 @@ use Rattle.renumbering.proofs.Chosen.{chosen-proper}
 use Rattle.renumbering.proofs.SubgroupBuilds.{subgroup-exactly}
 use Rattle.generated.specs.declared.Subgroup.{Subgroup}
 use Rattle.generated.specs.Lent.{subgrouping}
-use Rattle.predicate.specs.Predicate.{Picked, picked, againIn, predicateIn, toldBack, fromPredicate}
+use Rattle.choices.specs.Choices.{Picked, picked, againIn}
+use Rattle.predicate.specs.Predicate.{predicateIn, toldBack, fromPredicate}
 use Rattle.subgroups.specs.Predicate.{Chosen}
 use Rattle.subgroups.specs.Tells.{Predicated}
 use Rattle.subgroups.specs.Tellable.{Buildable, Tellable}

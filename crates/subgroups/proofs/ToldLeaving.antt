@@ -27,7 +27,8 @@ use Rattle.renumbering.proofs.Builds.{settled-count, refused-maps}
 use Rattle.renumbering.proofs.Sizes.{Long, all-long}
 use Rattle.generated.specs.declared.Subgroup.{Subgroup}
 use Rattle.generated.specs.Lent.{subgrouping}
-use Rattle.predicate.specs.Predicate.{Picked, picked, isNew, ninth, chooses, againIn, predicateIn, toldBack, fromPredicate}
+use Rattle.choices.specs.Choices.{Picked, picked, isNew, ninth, chooses, againIn}
+use Rattle.predicate.specs.Predicate.{predicateIn, toldBack, fromPredicate}
 use Rattle.subgroups.specs.Leaves.{mapsFor}
 use Rattle.subgroups.specs.Tells.{Predicated}
 use Rattle.subgroups.proofs.Leaving.{tableIn, rows-long, refused-stretches, four-cleared}

@@ -32,7 +32,8 @@ use Rattle.generated.specs.Lent.{subgrouping, mapsBack}
 use Rattle.generated_rows.specs.Rows.{productOf}
 use Rattle.generated.specs.Generated.{fromGenerators}
 use Rattle.sides.specs.Sides.{sidesFit}
-use Rattle.predicate.specs.Predicate.{Picked, picked, predicateIn, toldBack, fromPredicate}
+use Rattle.choices.specs.Choices.{Picked, picked}
+use Rattle.predicate.specs.Predicate.{predicateIn, toldBack, fromPredicate}
 use Rattle.subgroups.specs.Leaves.{mapsFor, generatorsAfter, predicateAfter, AllWrote}
 use Rattle.subgroups.proofs.Called as called
 use Rattle.subgroups.proofs.Called.{fine-refused}

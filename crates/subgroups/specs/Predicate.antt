@@ -10,7 +10,7 @@ use Rattle.egg.specs.declared.Counted.the-variants.{Count, Refused}
 use Rattle.lending.specs.Finish.{built}
 use Rattle.appearance.specs.Renumber as appear
 use Rattle.appearance.specs.Build.{Renumbering, renumbering}
-use Rattle.predicate.specs.Predicate.{Picked, picked, ninth}
+use Rattle.choices.specs.Choices.{Picked, picked, ninth}
 use Rattle.renumbering.specs.Orbit.{Orbit}
 use Rattle.renumbering.specs.Subgroup.{rightBy}
 

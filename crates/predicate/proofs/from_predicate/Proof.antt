@@ -4,7 +4,7 @@ use lib.ListN.{length}
 use Rattle.predicate.specs.Predicate.{fromPredicate}
 use Rattle.generated.proofs.Admits.{small-elements}
 use Rattle.generated.proofs.Lendings.{subgrouping-refused, subgrouping-fine}
-use Rattle.predicate.proofs.Choices.{over-admitted}
+use Rattle.predicate.proofs.Told.{over-admitted}
 use borrow.Author.Needs.{needs}
 use Rattle.predicate.proofs.from_predicate.Statement.{statement}
 use Rattle.predicate.proofs.from_predicate.Tie as tie

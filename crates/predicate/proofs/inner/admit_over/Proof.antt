@@ -2,7 +2,7 @@
 use mathlib.Core.Path.{sym, _∙_}
 use lib.ListN.{length}
 use borrow.Author.Tests.{not-true, not-false}
-use Rattle.predicate.proofs.Choices.{over-handle, over-large, over-fine}
+use Rattle.predicate.proofs.Told.{over-handle, over-large, over-fine}
 use borrow.Author.Needs.{needs}
 use Rattle.predicate.proofs.inner.admit_over.Statement.{statement}
 use Rattle.predicate.proofs.inner.admit_over.Tie as tie

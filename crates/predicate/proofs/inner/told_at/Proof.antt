@@ -7,7 +7,7 @@ use borrow.Author.Tests.{leb-true}
 use Rattle.lending.proofs.Lending.{lent-table, lent-enough}
 use Rattle.handles.specs.Handles.{handles, elementsOf}
 use Rattle.generated.proofs.Admits.{maps-lent, maps-inn, maps-outw, count-is}
-use Rattle.predicate.proofs.Choices.{told-built}
+use Rattle.predicate.proofs.Told.{told-built}
 use Rattle.predicate.proofs.Front.{front-lent}
 use borrow.Author.Needs.{needs}
 use Rattle.predicate.proofs.inner.told_at.Statement.{statement}

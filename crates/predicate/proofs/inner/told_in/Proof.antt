@@ -4,7 +4,7 @@ use native.Mathlib.Omega.{arith}
 use lib.ListN.{length, getD}
 use Rattle.handles.specs.Handles.{handles}
 use Rattle.digits.specs.Digits.{composes}
-use Rattle.predicate.proofs.Choices.{told-start}
+use Rattle.predicate.proofs.Told.{told-start}
 use borrow.Author.Needs.{needs}
 use Rattle.predicate.proofs.inner.told_in.Statement.{statement}
 use Rattle.predicate.proofs.inner.told_in.Tie as tie

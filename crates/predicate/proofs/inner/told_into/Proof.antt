@@ -3,7 +3,7 @@ use mathlib.Core.Path.{sym, _∙_}
 use borrow.Author.Tests.{not-true, not-false}
 use Rattle.handles.specs.Handles.{handles, elementsOf}
 use Rattle.generated.proofs.Admits.{count-is}
-use Rattle.predicate.proofs.Choices.{told-short, told-few}
+use Rattle.predicate.proofs.Told.{told-short, told-few}
 use borrow.Author.Needs.{needs}
 use Rattle.predicate.proofs.inner.told_into.Statement.{statement}
 use Rattle.predicate.proofs.inner.told_into.Tie as tie

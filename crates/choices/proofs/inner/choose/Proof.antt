@@ -6,10 +6,10 @@ use lib.ListN.{length, getD, set}
 use lib.Seq.{length-take-le}
 use Rattle.handles.specs.Handles.{handles}
 use Rattle.digits.specs.Digits.{composes}
-use Rattle.predicate.proofs.Choices.{set-long, eight-as, next-eight, turn-refused, turn-known, turn-ninth, turn-next}
+use Rattle.choices.proofs.Choices.{set-long, eight-as, next-eight, turn-refused, turn-known, turn-ninth, turn-next}
 use borrow.Author.Needs.{needs}
-use Rattle.predicate.proofs.inner.choose.Statement.{statement}
-use Rattle.predicate.proofs.inner.choose.Tie as tie
+use Rattle.choices.proofs.inner.choose.Statement.{statement}
+use Rattle.choices.proofs.inner.choose.Tie as tie
 
 enum-told : tie.Need-enum-told
 enum-told c = search needs

@@ -1,10 +1,10 @@
 -- Four buffers are cleared.
 use mathlib.Core.Path.{refl}
 use lib.ListN.{take}
-use Rattle.predicate.proofs.Choices.{ninth-is}
+use Rattle.choices.proofs.Choices.{ninth-is}
 use borrow.Author.Needs.{needs}
-use Rattle.predicate.proofs.inner.ninth.Statement.{statement}
-use Rattle.predicate.proofs.inner.ninth.Tie as tie
+use Rattle.choices.proofs.inner.ninth.Statement.{statement}
+use Rattle.choices.proofs.inner.ninth.Tie as tie
 
 clear-requires : tie.Need-clear-requires
 clear-requires c κs = search needs

@@ -1,9 +1,9 @@
 -- One law for each answer.
 use lib.ListN.{getD}
-use Rattle.predicate.proofs.Choices.{new-known, new-byte}
+use Rattle.choices.proofs.Choices.{new-known, new-byte}
 use borrow.Author.Needs.{needs}
-use Rattle.predicate.proofs.inner.is_new.Statement.{statement}
-use Rattle.predicate.proofs.inner.is_new.Tie as tie
+use Rattle.choices.proofs.inner.is_new.Statement.{statement}
+use Rattle.choices.proofs.inner.is_new.Tie as tie
 
 cast-get : tie.Need-cast-get
 cast-get c = search needs
