@@ -1,3 +1,2 @@
 pub mod OneFactor
-pub mod LetterLaws
 pub mod Keeps

@@ -1,22 +1,16 @@
--- An overgroup of one factor: its handle, and its products by the factor's own.
+-- An overgroup of one factor: its handle.
 -- Assumes nothing.
-use Prim.Native.Nat.{ℕ, _+_, _*_, _<_, _%_}
-use mathlib.Core.Path.{_≡_, refl, sym, ap, _∙_, subst}
+use Prim.Native.Nat.{ℕ}
+use mathlib.Core.Path.{_≡_, sym, ap, subst}
 use mathlib.Core.Bool.{true}
 use mathlib.Core.List.{List, [], _∷_}
 use native.Mathlib.Omega.{arith}
-use borrow.Author.Tests.{leb-true}
-use lib.Dec.{leb}
 use lib.ListN.{length, getD}
 use Rattle.egg.specs.declared.Factor.{Factor}
-use Rattle.egg.specs.declared.Reached.{Reached}
-use Rattle.egg.specs.declared.Reached.the-variants.{Element, Refused}
-use Rattle.egg.specs.Factor.{fitsIn, stretch}
+use Rattle.egg.specs.Factor.{fitsIn}
 use Rattle.egg.proofs.Rooms.{and-first}
 use Rattle.lending.specs.Lending.{noFactor}
-use Rattle.walks.specs.Walks.{onReached, composeIn}
 use Rattle.handles.specs.Handles.{allFit}
-use Rattle.digits.specs.Digits.{above, digitwise, composes}
 
 pub one-handle : (hs : List Factor) {k : ℕ} {f : Factor} → k ≡ length hs → k ≡ 1 → f ≡ getD hs 0 noFactor → hs ≡ f ∷ []
 one-handle [] p q r = absurd (omega arith)
@@ -25,18 +19,3 @@ one-handle (x ∷ y ∷ hs) p q r = absurd (omega arith)
 
 pub one-fits : (len : ℕ) {hs : List Factor} {f : Factor} → allFit len hs ≡ true → hs ≡ f ∷ [] → fitsIn len f ≡ true
 one-fits len {hs} {f} h q = and-first (fitsIn len f) _ (subst (λ (l : List Factor). allFit len l ≡ true) q h)
-
--- It has an element.
-pub one-some : (len : ℕ) (f : Factor) → fitsIn len f ≡ true → 0 < f .elements
-unfolding fitsIn
-one-some len f h = leb-true 1 (f .elements) (and-first (leb 1 (f .elements)) _ h)
-
--- A number of one digit is that digit.
-only-digit : (N : ℕ) (r : Reached) → r ≡ onReached r (λ x. above x N (Element (record { 0 = 0 })))
-only-digit N (Element x) = let d : x .0 ≡ x .0 + N * 0 = omega arith in ap (λ (k : ℕ). Element (record { 0 = k })) d
-only-digit N (Refused r) = refl
-
-pub one-product : (t : List ℕ) (f : Factor) (a b : ℕ) {s : List ℕ} {r : Reached} → s ≡ stretch t f
-    → r ≡ composeIn s (f .generators) (f .elements) (a % f .elements) (b % f .elements) → r ≡ composes t (f ∷ []) a b
-unfolding digitwise
-one-product t f a b p q = q ∙ rw p (only-digit (f .elements) _)

@@ -9,7 +9,7 @@ use Rattle.digits.specs.Digits.{composes}
 use Rattle.appearance.specs.Renumber.{mapRow}
 use Rattle.appearance.proofs.PlaceLaws.{map-source-stop, map-row-next, map-row-stop, map-row-end, asked}
 use Rattle.generated_rows.specs.Rows.{productOf}
-use Rattle.generated_rows.proofs.LetterLaws.{letter-read}
+use Rattle.lettered.proofs.LetterLaws.{letter-read}
 use Rattle.generated_rows.proofs.Keeps.{place-keeps, place-more}
 use Rattle.generated_rows.proofs.inner.factor_row.Statement.{statement}
 use Rattle.generated_rows.proofs.inner.factor_row.Tie as tie

@@ -1,6 +1,6 @@
 use lib.ListN.{length}
-use Rattle.generated_rows.proofs.OneFactor.{one-some}
-use Rattle.generated_rows.proofs.LetterLaws.{letters-of}
+use Rattle.lettered.proofs.OneFactor.{one-some}
+use Rattle.lettered.proofs.LetterLaws.{letters-of}
 use borrow.Author.Needs.{needs}
 use Rattle.generated_rows.proofs.inner.factor_rows.Statement.{statement}
 use Rattle.generated_rows.proofs.inner.factor_rows.Tie as tie

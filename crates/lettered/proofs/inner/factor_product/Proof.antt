@@ -1,9 +1,9 @@
 -- The product of one factor is the factor's own.
 use lib.ListN.{length}
-use Rattle.generated_rows.proofs.OneFactor.{one-some, one-product}
+use Rattle.lettered.proofs.OneFactor.{one-some, one-product}
 use borrow.Author.Needs.{needs}
-use Rattle.generated_rows.proofs.inner.factor_product.Statement.{statement}
-use Rattle.generated_rows.proofs.inner.factor_product.Tie as tie
+use Rattle.lettered.proofs.inner.factor_product.Statement.{statement}
+use Rattle.lettered.proofs.inner.factor_product.Tie as tie
 
 part-requires : tie.Need-part-requires
 part-requires c κs = search needs

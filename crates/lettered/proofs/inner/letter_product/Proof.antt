@@ -1,14 +1,14 @@
 -- By care, or by a step.
 use native.Mathlib.Omega.{arith}
-use Rattle.generated_rows.proofs.LetterLaws.{letter-step}
+use Rattle.lettered.proofs.LetterLaws.{letter-step}
 use borrow.Author.Needs.{needs}
-use Rattle.generated_rows.proofs.inner.letter_product.Statement.{statement}
-use Rattle.generated_rows.proofs.inner.letter_product.Tie as tie
-use Rattle.generated_rows.proofs.inner.letter_product.Reads as reads
-use Rattle.generated_rows.proofs.inner.letter_product.Lts as lts
+use Rattle.lettered.proofs.inner.letter_product.Statement.{statement}
+use Rattle.lettered.proofs.inner.letter_product.Tie as tie
+use Rattle.lettered.proofs.inner.letter_product.Reads as reads
+use Rattle.lettered.proofs.inner.letter_product.Lts as lts
 use Rattle.egg.proofs.inner.next.Reads as next-reads
 use Rattle.egg.proofs.inner.part.Reads as part-reads
-use Rattle.generated_rows.proofs.inner.factor_product.Reads as factor-product-reads
+use Rattle.lettered.proofs.inner.factor_product.Reads as factor-product-reads
 
 factor-product-requires : tie.Need-factor-product-requires
 factor-product-requires c κs = search needs

@@ -1,10 +1,10 @@
 -- The one letter leads to the product; where there is none, or it is out of range, nothing is said.
-use Rattle.generated_rows.proofs.LetterLaws.{no-letter, one-letter}
+use Rattle.lettered.proofs.LetterLaws.{no-letter, one-letter}
 use borrow.Author.Needs.{needs}
-use Rattle.generated_rows.proofs.inner.step_letter.Statement.{statement}
-use Rattle.generated_rows.proofs.inner.step_letter.Tie as tie
-use Rattle.generated_rows.proofs.inner.step_letter.Reads as reads
-use Rattle.generated_rows.proofs.inner.step_letter.Lts as lts
+use Rattle.lettered.proofs.inner.step_letter.Statement.{statement}
+use Rattle.lettered.proofs.inner.step_letter.Tie as tie
+use Rattle.lettered.proofs.inner.step_letter.Reads as reads
+use Rattle.lettered.proofs.inner.step_letter.Lts as lts
 use Rattle.egg.proofs.inner.last.Reads as last-reads
 use Rattle.egg.proofs.inner.word_length.Reads as word-length-reads
 

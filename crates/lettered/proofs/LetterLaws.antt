@@ -16,8 +16,8 @@ use Rattle.egg.specs.Factor.{stretch, readStep}
 use Rattle.walks.specs.Walks.{ahead, composeIn}
 use Rattle.walks.proofs.Walks.{compose-ahead}
 use Rattle.digits.specs.Digits.{composes}
-use Rattle.generated_rows.specs.Letters.{OneLetter, Letters}
-use Rattle.generated_rows.proofs.OneFactor.{one-product}
+use Rattle.lettered.specs.Letters.{OneLetter, Letters}
+use Rattle.lettered.proofs.OneFactor.{one-product}
 
 pub no-letter : (s : List ℕ) (n b : ℕ) → OneLetter s n b 0
 no-letter s n b = record { small = omega arith; leads = λ h. absurd (omega arith) }

@@ -3,9 +3,9 @@ use mathlib.Core.Path.{_≡_, refl}
 use native.Mathlib.Omega.{arith}
 use borrow.Author.Needs.{needs}
 use lib.ListN.{length, length-set}
-use Rattle.generated_rows.proofs.LetterLaws.{LettersTo, letters-none, letters-next, letters-end}
-use Rattle.generated_rows.proofs.inner.find_letters.Statement.{statement}
-use Rattle.generated_rows.proofs.inner.find_letters.Tie as tie
+use Rattle.lettered.proofs.LetterLaws.{LettersTo, letters-none, letters-next, letters-end}
+use Rattle.lettered.proofs.inner.find_letters.Statement.{statement}
+use Rattle.lettered.proofs.inner.find_letters.Tie as tie
 
 abbrev Inv-loop : tie.InvT-loop
 Inv-loop s n count gens letters₀ i₀ letters i = (length letters ≡ length letters₀) × LettersTo (s) n count (gens) letters i

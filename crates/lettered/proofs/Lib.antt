@@ -1,0 +1,2 @@
+pub mod OneFactor
+pub mod LetterLaws
