@@ -52,13 +52,6 @@ extern "C" {
 
 /* libbridge_builder.a */
 
-void hg_composed(uint32_t *table, size_t table_len, size_t start, uint32_t *work, size_t work_len,
-    const uint32_t *rows, size_t rows_len, uint8_t n, uint32_t room, uint32_t *out, size_t out_len);
-
-void hg_enumerate(uint32_t *table, size_t table_len, size_t start, uint32_t *work, size_t work_len,
-    const uint32_t *orders, size_t orders_len, uint8_t n, uint32_t room, uint32_t *out,
-    size_t out_len);
-
 void hg_begin(uint32_t *table, size_t table_len, size_t start, uint32_t room, uint8_t n,
     uint32_t *out, size_t out_len);
 
@@ -200,6 +193,15 @@ void hg_subgroup_left(const uint32_t *from, size_t from_len, const uint32_t *tab
 void hg_subgroup_right(const uint32_t *from, size_t from_len, const uint32_t *table,
     size_t table_len, const uint32_t *sub, size_t sub_len, const uint32_t *handles,
     size_t handles_len, uint8_t count, uint32_t *out, size_t out_len);
+
+/* libbridge_tables.a */
+
+void hg_composed(uint32_t *table, size_t table_len, size_t start, uint32_t *work, size_t work_len,
+    const uint32_t *rows, size_t rows_len, uint8_t n, uint32_t room, uint32_t *out, size_t out_len);
+
+void hg_enumerate(uint32_t *table, size_t table_len, size_t start, uint32_t *work, size_t work_len,
+    const uint32_t *orders, size_t orders_len, uint8_t n, uint32_t room, uint32_t *out,
+    size_t out_len);
 
 /* libbridge_words.a */
 

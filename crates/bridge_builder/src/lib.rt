@@ -1,46 +1,11 @@
-// The calls that make a factor, as C functions: from composed rows, from pair orders, and by a builder, whose handle is the
-// four numbers of a factor's.
+// The builder's calls as C functions. Its handle is the four numbers of a factor's.
 ghost use mathlib.Core.Path.{_≡_};
 ghost use Rattle.builder.specs.Calls.{Leaving, begins, grows, stores, builds};
-ghost use Rattle.factor.specs.Composed.{composed};
-ghost use Rattle.enumeration.specs.Calls.{enumerates};
 ghost use Rattle.bridge.specs.Bridge.{handle, Bridged, bridged, Answered, begunWith, grownWith, storedWith};
 use bridge::inner;
 use builder::Builder;
 use egg::GeneratorId;
 use egg::GroupElementId;
-
-#[no_mangle]
-pub extern "C" fn hg_composed(
-    table: &mut [u32],
-    start: usize,
-    work: &mut [u32],
-    rows: &[u32],
-    n: u8,
-    room: u32,
-    out: &mut [u32],
-)
-    ensures { λ x. ⌜ Bridged.holds (now (table .exit)) (now (work .exit)) (now (out .exit)) ≡ bridged (composed (now (table .entry)) start (now (work .entry)) (now (rows .entry)) n room) (now (out .entry)) ⌝ }
-{
-    let m = factor::from_composed(table, start, work, rows, n, room);
-    inner::write_made(out, m);
-}
-
-#[no_mangle]
-pub extern "C" fn hg_enumerate(
-    table: &mut [u32],
-    start: usize,
-    work: &mut [u32],
-    orders: &[u32],
-    n: u8,
-    room: u32,
-    out: &mut [u32],
-)
-    ensures { λ x. ⌜ Bridged.holds (now (table .exit)) (now (work .exit)) (now (out .exit)) ≡ bridged (enumerates (now (table .entry)) start (now (work .entry)) (now (orders .entry)) n room) (now (out .entry)) ⌝ }
-{
-    let m = enumeration::enumerate(table, start, work, orders, n, room);
-    inner::write_made(out, m);
-}
 
 fn builder_of(start: usize, room: u32, n: u8, count: u32) -> Builder
     ensures { λ r. ⌜ r ≡ record { 0 = handle start room n count } ⌝ }

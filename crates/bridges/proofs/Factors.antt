@@ -5,10 +5,10 @@ use Prim.Native.Nat.{ℕ}
 use mathlib.Core.Path.{sym, _∙_, ap}
 use mathlib.Core.List.{List}
 use Rattle.bridge.specs.Bridge.{Bridged}
-use Rattle.bridge_builder.proofs.hg_composed.Kinds as hg-composed-kinds
-use Rattle.bridge_builder.proofs.hg_composed.Reads as hg-composed-reads
-use Rattle.bridge_builder.proofs.hg_enumerate.Kinds as hg-enumerate-kinds
-use Rattle.bridge_builder.proofs.hg_enumerate.Reads as hg-enumerate-reads
+use Rattle.bridge_tables.proofs.hg_composed.Kinds as hg-composed-kinds
+use Rattle.bridge_tables.proofs.hg_composed.Reads as hg-composed-reads
+use Rattle.bridge_tables.proofs.hg_enumerate.Kinds as hg-enumerate-kinds
+use Rattle.bridge_tables.proofs.hg_enumerate.Reads as hg-enumerate-reads
 use Rattle.bridge_image.proofs.hg_image_read.Kinds as hg-image-read-kinds
 use Rattle.bridge_image.proofs.hg_image_read.Reads as hg-image-read-reads
 use Rattle.bridge_factor.proofs.hg_count.Kinds as hg-count-kinds

@@ -1,10 +1,10 @@
 -- The call's own buffers, and its answer written.
 use Rattle.bridge.proofs.Laws.{bridge-holds}
 use borrow.Author.Needs.{needs}
-use Rattle.bridge_builder.proofs.hg_composed.Statement.{statement}
-use Rattle.bridge_builder.proofs.hg_composed.Tie as tie
-use Rattle.bridge_builder.proofs.hg_composed.Reads as reads
-use Rattle.bridge_builder.proofs.hg_composed.Lts as lts
+use Rattle.bridge_tables.proofs.hg_composed.Statement.{statement}
+use Rattle.bridge_tables.proofs.hg_composed.Tie as tie
+use Rattle.bridge_tables.proofs.hg_composed.Reads as reads
+use Rattle.bridge_tables.proofs.hg_composed.Lts as lts
 use Rattle.bridge.proofs.inner.write_made.Reads as write-made-reads
 use Rattle.factor.proofs.from_composed.Reads as from-composed-reads
 

@@ -1,10 +1,10 @@
 -- The call's own buffers, and its answer written.
 use Rattle.bridge.proofs.Laws.{bridge-holds}
 use borrow.Author.Needs.{needs}
-use Rattle.bridge_builder.proofs.hg_enumerate.Statement.{statement}
-use Rattle.bridge_builder.proofs.hg_enumerate.Tie as tie
-use Rattle.bridge_builder.proofs.hg_enumerate.Reads as reads
-use Rattle.bridge_builder.proofs.hg_enumerate.Lts as lts
+use Rattle.bridge_tables.proofs.hg_enumerate.Statement.{statement}
+use Rattle.bridge_tables.proofs.hg_enumerate.Tie as tie
+use Rattle.bridge_tables.proofs.hg_enumerate.Reads as reads
+use Rattle.bridge_tables.proofs.hg_enumerate.Lts as lts
 use Rattle.bridge.proofs.inner.write_made.Reads as write-made-reads
 use Rattle.enumeration.proofs.enumerate.Reads as enumerate-reads
 
