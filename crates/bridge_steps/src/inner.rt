@@ -2,6 +2,7 @@
 // that does not fit ends the pass. No product is made for it, and a step divides once and not from factor to factor.
 ghost use mathlib.Core.Path.{_≡_};
 ghost use Prim.Native.Nat.{_+_, _*_, _-_, _/_, _%_, _<_, _≤_};
+ghost use Rattle.egg.specs.Table.{pick};
 ghost use Rattle.group.specs.Questions.{stepAnswer, generatorAnswer};
 ghost use Rattle.bridge_list.specs.Product.{productOf};
 ghost use Rattle.bridge_steps.specs.Spots.{Spotted};
@@ -12,11 +13,17 @@ use egg::GroupElementId;
 use egg::Reached;
 use egg::Verdict;
 use egg::inner::chosen;
-use egg::inner::chosen_long;
 use handles::inner::Limit;
 use handles::inner::Seen;
 use handles::inner::admit_seen;
 use handles::inner::times;
+
+// As `chosen` of egg, for 64 bits.
+fn chosen_long(first: bool, x: u64, y: u64) -> u64
+    ensures { λ r. ⌜ r ≡ pick first x y ⌝ }
+{
+    if first { x } else { y }
+}
 
 // What the pass shows for a generator: of the handles together, and of the factor that has it the place, the stride and
 // how many generators come before. Where a handle does not fit, only that.

@@ -26,6 +26,10 @@ product-small a b ha hb = lt-of-le-of-lt (mul-le-mul (le-of-lt ha) (le-of-lt hb)
 pub square : (n : ℕ) → n < 256 → 6 * n * n ≤ 390150
 square n h = mul-le-mul {n₁ = 6 * n} {m₁ = n} {n₂ = 1530} {m₂ = 255} (omega arith) (omega arith)
 
+-- n(n-1) is small, so that it can be halved in 32 bits.
+pub pair-product : (n : ℕ) → n < 256 → n * (n - 1) < 4294967296
+pair-product n h = let q : n ≤ 255 = omega arith in let p : n - 1 ≤ 255 = omega arith in omega (arith, mul-le-mul q p)
+
 pub pick-same : {A : Type 0} {a b : A} (t : Bool) → a ≡ b → pick t a b ≡ b
 pick-same true e = e
 pick-same false e = refl

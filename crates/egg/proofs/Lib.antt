@@ -2,5 +2,4 @@ pub mod Laws
 pub mod Scans
 pub mod Rooms
 pub mod Answers
-pub mod Orders
 pub mod Cells

@@ -7,8 +7,8 @@ ghost use mathlib.Core.Path.{_≡_};
 ghost use mathlib.Core.Bool.{true};
 ghost use Prim.Native.Nat.{_+_, _*_, _<_, _-_};
 ghost use lib.ListN.{length, getD, set, replicate};
-ghost use Rattle.egg.specs.Table.{pick, putAt, startOf, succAt, predAt, hopOf, lastOf, stepOf, backOf, workOf, Place};
-ghost use Rattle.egg.specs.Pairs.{pairCode, pairCount, ordersRight};
+ghost use Rattle.egg.specs.Table.{pick, putAt, startOf, succAt, predAt, hopOf, lastOf, stepOf, workOf, Place};
+ghost use Rattle.egg.specs.Pairs.{pairCode, pairCount};
 ghost use Rattle.egg.specs.Scan.{refusedOf};
 ghost use Rattle.egg.specs.Factor.{fitsIn, stretch, refusedReach, readStep};
 use super::Factor;
@@ -42,12 +42,6 @@ pub fn byte(s: &[u8], i: usize) -> u8
 
 // The one or the other, both worked out: without a branch, which a processor would guess wrong every other time.
 pub fn chosen(first: bool, x: u32, y: u32) -> u32
-    ensures { λ r. ⌜ r ≡ pick first x y ⌝ }
-{
-    if first { x } else { y }
-}
-
-pub fn chosen_long(first: bool, x: u64, y: u64) -> u64
     ensures { λ r. ⌜ r ≡ pick first x y ⌝ }
 {
     if first { x } else { y }
@@ -144,14 +138,6 @@ pub fn step(t: &[u32], n: u8, e: GroupElementId, g: GeneratorId) -> GroupElement
     element(get(t, start(n, e) + (k as usize)))
 }
 
-// The step back of a table with nothing missing.
-pub fn back(t: &[u32], n: u8, e: GroupElementId, g: GeneratorId) -> GroupElementId
-    ensures { λ r. ⌜ r .0 ≡ backOf (now (t .entry)) n (e .0) (g .0) ⌝ }
-{
-    let k = g.0;
-    element(cell(t, n, e, n, k as u32))
-}
-
 pub fn parent(t: &[u32], n: u8, e: GroupElementId) -> u32
     ensures { λ r. ⌜ r ≡ getD (now (t .entry)) (startOf n (e .0) + 2 * n) 0 ⌝ }
 {
@@ -176,18 +162,12 @@ pub fn last(t: &[u32], n: u8, e: GroupElementId) -> u32
     hop(t, n, e) % 8
 }
 
-// The step from x by the last letter of the word of e, and the step back. A letter is a number that was stored, and no
-// generator's before it has been looked at.
+// The step from x by the last letter of the word of e. A letter is a number that was stored, and no generator's before it
+// has been looked at.
 pub fn step_last(t: &[u32], n: u8, x: GroupElementId, e: GroupElementId) -> GroupElementId
     ensures { λ r. ⌜ r .0 ≡ stepOf (now (t .entry)) n (x .0) (lastOf (now (t .entry)) n (e .0)) ⌝ }
 {
     element(get(t, start(n, x) + (last(t, n, e) as usize)))
-}
-
-pub fn back_last(t: &[u32], n: u8, x: GroupElementId, e: GroupElementId) -> GroupElementId
-    ensures { λ r. ⌜ r .0 ≡ backOf (now (t .entry)) n (x .0) (lastOf (now (t .entry)) n (e .0)) ⌝ }
-{
-    element(cell(t, n, x, n, last(t, n, e)))
 }
 
 pub fn word_length(t: &[u32], n: u8, e: GroupElementId) -> u32
@@ -292,26 +272,4 @@ pub fn refused(number: u32, a: u32, b: u32, c: u32) -> Verdict
     ensures { λ r. ⌜ r ≡ refusedOf number a b c ⌝ }
 {
     Verdict::Refused(Refusal { number, a, b, c })
-}
-
-// 2 and 3: the list of pair orders is as long as there are pairs, and each is within 2..32,767.
-pub fn orders_right(orders: &[u32], n: u8) -> Verdict
-    ensures { λ r. ⌜ r ≡ ordersRight (now (orders .entry)) n ⌝ }
-{
-    let count = pair_count(n);
-    if orders.len() != (count as usize) {
-        return refused(2, 0, 0, 0);
-    }
-    let mut k: u32 = 0;
-    while k < count {
-        let m = get(orders, k as usize);
-        if m < 2 {
-            return refused(3, k, 0, 0);
-        }
-        if 32767 < m {
-            return refused(3, k, 0, 0);
-        }
-        k += 1;
-    }
-    Verdict::Fine
 }

@@ -17,7 +17,7 @@ use Rattle.egg.specs.declared.Verdict.the-variants as verdict
 use Rattle.egg.specs.declared.Counted.{Counted}
 use Rattle.egg.specs.declared.Counted.the-variants.{Count, Refused}
 use Rattle.egg.specs.Pairs.{ordersRight}
-use Rattle.egg.proofs.Orders.{orders-limits, few-pairs}
+use Rattle.relations.proofs.Orders.{orders-limits, few-pairs}
 use Rattle.egg.proofs.Rooms.{positive, limited}
 use Rattle.lending.specs.Finish.{Built, built, zeroed, finished}
 use Rattle.lending.specs.Lending.{tableNeed, workNeed, lentRight, Ends, refusedMade, madeOf, making}

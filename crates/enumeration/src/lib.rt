@@ -25,7 +25,7 @@ pub fn enumerate(
     if 8 < n {
         return lending::inner::refused_made(1, n as u32);
     }
-    if let Verdict::Refused(why) = egg::inner::orders_right(orders, n) {
+    if let Verdict::Refused(why) = relations::inner::orders_right(orders, n) {
         return lending::inner::made(start, room, n, Counted::Refused(why));
     }
     if !lending::inner::lent_right(table.len(), start, work.len(), room, n) {

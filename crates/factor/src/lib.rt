@@ -161,7 +161,7 @@ pub fn check(table: &[u32], f: Factor, orders: &[u32]) -> Verdict
     let Verdict::Fine = v else {
         return v;
     };
-    let u = egg::inner::orders_right(orders, f.generators);
+    let u = relations::inner::orders_right(orders, f.generators);
     let Verdict::Fine = u else {
         return u;
     };

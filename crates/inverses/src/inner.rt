@@ -2,10 +2,18 @@
 ghost use mathlib.Core.Path.{_≡_};
 ghost use mathlib.Core.Bool.{true};
 ghost use Prim.Native.Nat.{_<_};
+ghost use Rattle.egg.specs.Table.{backOf, lastOf};
 ghost use Rattle.inverses.specs.Inverses.{invertOf, fillInverses, inversesRight};
 ghost use Rattle.inverses.specs.Hints.{Packs, Follows, Hint, Hints, inverseBy, Hinted, CountedAgain};
 use egg::GroupElementId;
 use egg::Verdict;
+
+// The step back from x by the last letter of the word of e, as `step_last` of egg.
+fn back_last(t: &[u32], n: u8, x: GroupElementId, e: GroupElementId) -> GroupElementId
+    ensures { λ r. ⌜ r .0 ≡ backOf (now (t .entry)) n (x .0) (lastOf (now (t .entry)) n (e .0)) ⌝ }
+{
+    egg::inner::element(egg::inner::cell(t, n, x, n, egg::inner::last(t, n, e)))
+}
 
 // The inverse of e: its reversed word through predecessors, from the identity (002).
 fn invert(t: &[u32], n: u8, e: GroupElementId) -> GroupElementId
@@ -15,7 +23,7 @@ fn invert(t: &[u32], n: u8, e: GroupElementId) -> GroupElementId
     let mut at = e.0;
     let mut left = egg::inner::word_length(t, n, e);
     while 0 < left {
-        x = egg::inner::back_last(t, n, GroupElementId(x), GroupElementId(at)).0;
+        x = back_last(t, n, GroupElementId(x), GroupElementId(at)).0;
         at = egg::inner::parent(t, n, GroupElementId(at));
         left -= 1;
     }

@@ -1,6 +1,7 @@
 // Each check looks at the places in document 01's order and answers the first refusal; all are total on any contents.
 ghost use mathlib.Core.Bool.{true};
 ghost use mathlib.Core.Path.{_≡_};
+ghost use Rattle.egg.specs.Table.{backOf};
 ghost use Rattle.lefts.specs.Lefts.{identityRow, columnsRow, spelledRow, spelled, leftOf, fillLeft, goesRow, allGo, Lefts, lefts, check-steps};
 use egg::GeneratorId;
 use egg::GroupElementId;
@@ -20,13 +21,21 @@ fn identity_row(t: &[u32], n: u8) -> Verdict
     Verdict::Fine
 }
 
+// The step back of a table with nothing missing.
+fn back(t: &[u32], n: u8, e: GroupElementId, g: GeneratorId) -> GroupElementId
+    ensures { λ r. ⌜ r .0 ≡ backOf (now (t .entry)) n (e .0) (g .0) ⌝ }
+{
+    let k = g.0;
+    egg::inner::element(egg::inner::cell(t, n, e, n, k as u32))
+}
+
 // 12, first part: each step back is undone by the step, so that the columns are permutations.
 fn columns_row(t: &[u32], n: u8, e: GroupElementId) -> Verdict
     ensures { λ r. ⌜ r ≡ columnsRow (now (t .entry)) n (e .0) ⌝ }
 {
     let mut g: u8 = 0;
     while g < n {
-        let from = egg::inner::back(t, n, e, GeneratorId(g));
+        let from = back(t, n, e, GeneratorId(g));
         if egg::inner::step(t, n, from, GeneratorId(g)).0 != e.0 {
             return egg::inner::refused(12, 0, 0, 0);
         }

@@ -48,7 +48,7 @@ pub fn write_page(
     requires { ⌜ (now table ≡ replicate 1440 0) × (now work ≡ replicate 13440 0) ⌝ }
     ensures { λ r. ⌜ Writes (now (out .entry)) 0 (rightPage (ordersRight (now (orders .entry)) n) n (now (orders .entry))) (now (out .exit)) r ⌝ }
 {
-    let right = egg::inner::orders_right(orders, n);
+    let right = relations::inner::orders_right(orders, n);
     if let Verdict::Refused(why) = right {
         return lines::inner::write_refused(out, 0, why.number);
     }

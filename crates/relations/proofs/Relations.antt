@@ -19,8 +19,8 @@ use Rattle.egg.specs.Scan.{refusedOf}
 use Rattle.egg.specs.Pairs.{pairs, pairCode, pairCount, ordersRight}
 use Rattle.egg.specs.Factor.{readStep}
 use Rattle.egg.proofs.Rooms.{and-first, and-second}
-use Rattle.egg.proofs.Orders.{orders-limits, few-pairs}
 use Rattle.relations.specs.Relations.{turned, returnsTo, relationAt}
+use Rattle.relations.proofs.Orders.{orders-limits, few-pairs}
 
 module _ (s : List ℕ) (n count x a b : ℕ) where
   pub turned-end : {left : ℕ} → left ≤ 0 → Element (record { 0 = x }) ≡ turned left s n count x a b

@@ -1,12 +1,35 @@
-// Refusal 13, a relation fails, on a factor's own stretch.
+// Refusals 2 and 3, of a list of pair orders, and 13, a relation fails, on a factor's own stretch.
 ghost use mathlib.Core.Path.{_≡_};
 ghost use Prim.Native.Nat.{_≤_};
 ghost use lib.ListN.{length};
+ghost use Rattle.egg.specs.Pairs.{ordersRight};
 ghost use Rattle.relations.specs.Relations.{turned, relationAt, doubledRow, pairsRow, relationsRow, relations};
 use egg::GeneratorId;
 use egg::GroupElementId;
 use egg::Reached;
 use egg::Verdict;
+
+// 2 and 3: the list of pair orders is as long as there are pairs, and each is within 2..32,767.
+pub fn orders_right(orders: &[u32], n: u8) -> Verdict
+    ensures { λ r. ⌜ r ≡ ordersRight (now (orders .entry)) n ⌝ }
+{
+    let count = egg::inner::pair_count(n);
+    if orders.len() != (count as usize) {
+        return egg::inner::refused(2, 0, 0, 0);
+    }
+    let mut k: u32 = 0;
+    while k < count {
+        let m = egg::inner::get(orders, k as usize);
+        if m < 2 {
+            return egg::inner::refused(3, k, 0, 0);
+        }
+        if 32767 < m {
+            return egg::inner::refused(3, k, 0, 0);
+        }
+        k += 1;
+    }
+    Verdict::Fine
+}
 
 // From e by a and then b, so many times both.
 pub fn turned(

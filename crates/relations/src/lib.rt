@@ -1,2 +1,2 @@
-// Refusal 13, added by design: whether the relations of pair orders hold in a table.
+// Refusals 2 and 3, of a list of pair orders, and 13, added by design: whether their relations hold in a table.
 pub mod inner;

@@ -15,7 +15,7 @@ use Rattle.lending.proofs.inner.made.Reads as made-reads
 use Rattle.lending.proofs.inner.refused_made.Reads as refused-made-reads
 use Rattle.lending.proofs.inner.stretch_end.Reads as stretch-end-reads
 use Rattle.lending.proofs.inner.work_need.Reads as work-need-reads
-use Rattle.egg.proofs.inner.orders_right.Reads as orders-right-reads
+use Rattle.relations.proofs.inner.orders_right.Reads as orders-right-reads
 use Rattle.enumeration.proofs.inner.enumerate_in.Reads as enumerate-in-reads
 
 refused-made-requires : tie.Need-refused-made-requires

@@ -1,5 +1,5 @@
 use Rattle.egg.specs.Pairs.{pairCount}
-use Rattle.egg.proofs.Orders.{pair-product}
+use Rattle.egg.proofs.Laws.{pair-product}
 use mathlib.Core.Path.{_≡_, refl, sym, ap, _∙_}
 use borrow.Author.Needs.{needs}
 use Rattle.egg.proofs.inner.pair_count.Statement.{statement}

@@ -4,7 +4,7 @@ use mathlib.Core.Path.{sym}
 use lib.Seq.{length-take-le}
 use Rattle.lines.proofs.Bounds.{refused-ends}
 use Rattle.page.proofs.Pages.{listing-empty, listing-generators, listing-bytes, listing-orders}
-use Rattle.egg.proofs.Orders.{pairs-few}
+use Rattle.relations.proofs.Orders.{pairs-few}
 use borrow.Author.Needs.{needs}
 use Rattle.page.proofs.inner.write_listing.Statement.{statement}
 use Rattle.page.proofs.inner.write_listing.Tie as tie

@@ -1,18 +1,18 @@
 use Rattle.egg.specs.Pairs.{orderAt, ordersRight}
 use Rattle.egg.specs.Scan.{scan}
-use Rattle.egg.proofs.Orders.{orders-length, orders-begin, order-low, order-high, order-fine}
+use Rattle.relations.proofs.Orders.{orders-length, orders-begin, order-low, order-high, order-fine}
 use Rattle.egg.proofs.Scans.{scan-end}
 use Prim.Native.Nat.{ℕ, _-_, _≤_}
 use mathlib.Core.Path.{_≡_, refl, sym, ap, _∙_}
 use borrow.Author.Needs.{needs}
 use native.Mathlib.Omega.{arith}
-use Rattle.egg.proofs.inner.orders_right.Statement.{statement}
-use Rattle.egg.proofs.inner.orders_right.Tie as tie
-use Rattle.egg.proofs.inner.orders_right.Reads as reads
-use Rattle.egg.proofs.inner.orders_right.Lts as lts
+use Rattle.relations.proofs.inner.orders_right.Statement.{statement}
+use Rattle.relations.proofs.inner.orders_right.Tie as tie
+use Rattle.relations.proofs.inner.orders_right.Reads as reads
+use Rattle.relations.proofs.inner.orders_right.Lts as lts
 use Rattle.egg.proofs.inner.get.Reads as get-reads
 use Rattle.egg.proofs.inner.pair_count.Reads as pair-count-reads
 use Rattle.egg.proofs.inner.refused.Reads as refused-reads
 
 abbrev Inv-loop : tie.InvT-loop
 Inv-loop orders n count k₀ k = (k ≤ count) × (scan (count - k) (λ i. orderAt orders i) k ≡ ordersRight orders n)

@@ -9,16 +9,12 @@ use native.Mathlib.Omega.{arith}
 use borrow.Author.Tests.{eq-eqb, ne-eqb, le-leb, lt-leb, leb-true, eqb-true}
 use lib.Dec.{leb, eqb}
 use lib.ListN.{length, getD}
 use Rattle.egg.specs.declared.Verdict.{Verdict}
 use Rattle.egg.specs.declared.Verdict.the-variants.{Fine, Refused}
 use Rattle.egg.specs.Table.{pick}
 use Rattle.egg.specs.Scan.{refusedOf, scan}
 use Rattle.egg.specs.Pairs.{pairCount, orderAt, ordersRight}
 use Rattle.egg.proofs.Scans.{refused-fine, scan-here, scan-next, scan-fine}
-
--- n(n-1) is small, so that it can be halved in 32 bits.
-pub pair-product : (n : ℕ) → n < 256 → n * (n - 1) < 4294967296
-pair-product n h = let q : n ≤ 255 = omega arith in let p : n - 1 ≤ 255 = omega arith in omega (arith, mul-le-mul q p)
 
 module _ (o : List ℕ) (n : ℕ) {count : ℕ} (c : count ≡ pairCount n) where
   pub orders-length : (length o ≡ count → ⊥) → refusedOf 2 0 0 0 ≡ ordersRight o n

@@ -1,8 +1,8 @@
 -- What the calls ensure, from the last to the first.
 use mathlib.Core.Path.{_∙_}
 use borrow.Author.Needs.{needs}
-use Rattle.egg.proofs.inner.back_last.Statement.{statement}
-use Rattle.egg.proofs.inner.back_last.Tie as tie
+use Rattle.inverses.proofs.inner.back_last.Statement.{statement}
+use Rattle.inverses.proofs.inner.back_last.Tie as tie
 
 last-requires : tie.Need-last-requires
 last-requires c κs = search needs
