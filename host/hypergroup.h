@@ -2,7 +2,7 @@
  *
  * Each group of functions is in the archive that is named above it; `rt staticlib NAME` writes
  * target/staticlib/libNAME.a. They link in any order, one or several in one program, and need nothing
- * but memset and its like of the C library. libexports.a is enough for a host that has images checked
+ * but memset and its like of the C library. libcapi_image.a is enough for a host that has images checked
  * and walked. No call allocates, keeps a pointer, or has a state: any number of threads may call at
  * once, each on buffers of its own.
  *
@@ -50,7 +50,7 @@ extern "C" {
 
 /* The functions. tools/header.py writes them. */
 
-/* libbridge_builder.a */
+/* libcapi_builder.a */
 
 void hg_begin(uint32_t *table, size_t table_len, size_t start, uint32_t room, uint8_t n,
     uint32_t *out, size_t out_len);
@@ -64,12 +64,7 @@ uint64_t hg_set(uint32_t *table, size_t table_len, size_t start, uint32_t room, 
 void hg_build(uint32_t *table, size_t table_len, size_t start, uint32_t room, uint8_t n,
     uint32_t count, uint32_t *work, size_t work_len, uint32_t *out, size_t out_len);
 
-/* libbridge_compose.a */
-
-uint64_t hg_compose(const uint32_t *table, size_t table_len, size_t start, uint32_t room, uint8_t n,
-    uint32_t count, uint32_t a, uint32_t b);
-
-/* libbridge_factor.a */
+/* libcapi_factor.a */
 
 uint64_t hg_count(const uint32_t *table, size_t table_len, size_t start, uint32_t room, uint8_t n,
     uint32_t count);
@@ -89,7 +84,33 @@ uint64_t hg_inverse(const uint32_t *table, size_t table_len, size_t start, uint3
 void hg_check(const uint32_t *table, size_t table_len, size_t start, uint32_t room, uint8_t n,
     uint32_t count, const uint32_t *orders, size_t orders_len, uint32_t *out, size_t out_len);
 
-/* libbridge_group.a */
+/* libcapi_factor_build.a */
+
+void hg_composed(uint32_t *table, size_t table_len, size_t start, uint32_t *work, size_t work_len,
+    const uint32_t *rows, size_t rows_len, uint8_t n, uint32_t room, uint32_t *out, size_t out_len);
+
+void hg_enumerate(uint32_t *table, size_t table_len, size_t start, uint32_t *work, size_t work_len,
+    const uint32_t *orders, size_t orders_len, uint8_t n, uint32_t room, uint32_t *out,
+    size_t out_len);
+
+/* libcapi_factor_compose.a */
+
+uint64_t hg_compose(const uint32_t *table, size_t table_len, size_t start, uint32_t room, uint8_t n,
+    uint32_t count, uint32_t a, uint32_t b);
+
+/* libcapi_factor_words.a */
+
+uint64_t hg_length(const uint32_t *table, size_t table_len, size_t start, uint32_t room, uint8_t n,
+    uint32_t count, uint32_t e);
+
+uint64_t hg_word(const uint32_t *table, size_t table_len, size_t start, uint32_t room, uint8_t n,
+    uint32_t count, uint32_t e, uint8_t *out, size_t out_len);
+
+/* The word by the call that hands back the filled part of a buffer: its k-th letter, or, from its end on, 256 and its length. */
+uint64_t hg_part(const uint32_t *table, size_t table_len, size_t start, uint32_t room, uint8_t n,
+    uint32_t count, uint32_t e, size_t k);
+
+/* libcapi_group.a */
 
 uint64_t hg_product_count(const uint32_t *table, size_t table_len, const uint32_t *handles,
     size_t handles_len, uint8_t count);
@@ -124,15 +145,7 @@ uint64_t hg_product_powi(const uint32_t *table, size_t table_len, const uint32_t
 uint64_t hg_product_period(const uint32_t *table, size_t table_len, const uint32_t *handles,
     size_t handles_len, uint8_t count, uint32_t a);
 
-/* libbridge_image.a */
-
-uint64_t hg_image_write(const uint32_t *table, size_t table_len, size_t start, uint32_t room,
-    uint8_t n, uint32_t count, uint8_t *out, size_t out_len);
-
-void hg_image_read(const uint8_t *bytes, size_t bytes_len, uint32_t *table, size_t table_len,
-    size_t start, uint32_t *work, size_t work_len, uint32_t *out, size_t out_len);
-
-/* libbridge_product.a */
+/* libcapi_group_build.a */
 
 /* The product of two: its verdict and how many factors it has; they are those of the first and then those of the second. */
 void hg_product(const uint32_t *table, size_t table_len, const uint32_t *first, size_t first_len,
@@ -155,7 +168,24 @@ void hg_product_flatten(const uint32_t *from, size_t from_len, const uint32_t *h
     size_t handles_len, uint8_t count, uint32_t *table, size_t table_len, size_t start,
     uint32_t *work, size_t work_len, uint32_t room, uint32_t *out, size_t out_len);
 
-/* libbridge_subgroup.a */
+/* libcapi_image.a */
+
+/* Checks an image in lent bytes: the refusal's number, or 0. */
+uint32_t hg_image_check(const uint8_t *image, size_t image_len, uint8_t *work, size_t work_len);
+
+/* Walks a word of generators from an element: the element reached, or 65,536 + the refusal's number. */
+uint32_t hg_image_walk(const uint8_t *image, size_t image_len, uint32_t start, const uint8_t *word,
+    size_t word_len);
+
+/* libcapi_image_build.a */
+
+uint64_t hg_image_write(const uint32_t *table, size_t table_len, size_t start, uint32_t room,
+    uint8_t n, uint32_t count, uint8_t *out, size_t out_len);
+
+void hg_image_read(const uint8_t *bytes, size_t bytes_len, uint32_t *table, size_t table_len,
+    size_t start, uint32_t *work, size_t work_len, uint32_t *out, size_t out_len);
+
+/* libcapi_subgroup.a */
 
 /* The subgroup that elements of a product generate; `inn` maps the overgroup to it, `outw` back. */
 void hg_subgroup(const uint32_t *from, size_t from_len, const uint32_t *handles, size_t handles_len,
@@ -193,36 +223,6 @@ void hg_subgroup_left(const uint32_t *from, size_t from_len, const uint32_t *tab
 void hg_subgroup_right(const uint32_t *from, size_t from_len, const uint32_t *table,
     size_t table_len, const uint32_t *sub, size_t sub_len, const uint32_t *handles,
     size_t handles_len, uint8_t count, uint32_t *out, size_t out_len);
-
-/* libbridge_tables.a */
-
-void hg_composed(uint32_t *table, size_t table_len, size_t start, uint32_t *work, size_t work_len,
-    const uint32_t *rows, size_t rows_len, uint8_t n, uint32_t room, uint32_t *out, size_t out_len);
-
-void hg_enumerate(uint32_t *table, size_t table_len, size_t start, uint32_t *work, size_t work_len,
-    const uint32_t *orders, size_t orders_len, uint8_t n, uint32_t room, uint32_t *out,
-    size_t out_len);
-
-/* libbridge_words.a */
-
-uint64_t hg_length(const uint32_t *table, size_t table_len, size_t start, uint32_t room, uint8_t n,
-    uint32_t count, uint32_t e);
-
-uint64_t hg_word(const uint32_t *table, size_t table_len, size_t start, uint32_t room, uint8_t n,
-    uint32_t count, uint32_t e, uint8_t *out, size_t out_len);
-
-/* The word by the call that hands back the filled part of a buffer: its k-th letter, or, from its end on, 256 and its length. */
-uint64_t hg_part(const uint32_t *table, size_t table_len, size_t start, uint32_t room, uint8_t n,
-    uint32_t count, uint32_t e, size_t k);
-
-/* libexports.a */
-
-/* Checks an image in lent bytes: the refusal's number, or 0. */
-uint32_t hg_image_check(const uint8_t *image, size_t image_len, uint8_t *work, size_t work_len);
-
-/* Walks a word of generators from an element: the element reached, or 65,536 + the refusal's number. */
-uint32_t hg_image_walk(const uint8_t *image, size_t image_len, uint32_t start, const uint8_t *word,
-    size_t word_len);
 
 /* End of the functions. */
 

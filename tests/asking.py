@@ -1,7 +1,7 @@
 #!/usr/bin/env python3
-"""What crates/asking has to print, by the original Rust: each question goes to the oracle, and where an argument is past
+"""What crates/example_calls has to print, by the original Rust: each question goes to the oracle, and where an argument is past
 its range or the product is forged, which the Rust does not refuse, the answer is document 01's. With `--check` the text is
-compared with crates/asking/stdout, which `rt check asking` holds the program to."""
+compared with crates/example_calls/stdout, which `rt check example_calls` holds the program to."""
 
 import pathlib
 import sys
@@ -10,7 +10,7 @@ HERE = pathlib.Path(__file__).resolve().parent
 sys.path.insert(0, str(HERE / "recorded"))
 from replay import ORACLE, cases, run
 
-STDOUT = HERE.parent / "crates" / "asking" / "stdout"
+STDOUT = HERE.parent / "crates" / "example_calls" / "stdout"
 
 # Document 01: 14 is "an element, generator or factor argument out of range", 15 "more than 8 factors".
 RANGE, FACTORS = "refused 14", "refused 15"
@@ -87,5 +87,5 @@ if __name__ == "__main__":
         want, have = text().splitlines(), STDOUT.read_text().splitlines()
         if want != have:
             differ = [(w, h) for w, h in zip(want, have) if w != h] or [("%d lines" % len(want), "%d lines" % len(have))]
-            sys.exit("crates/asking/stdout differs from the Rust:\n  expected: %s\n  there:    %s" % differ[0])
+            sys.exit("crates/example_calls/stdout differs from the Rust:\n  expected: %s\n  there:    %s" % differ[0])
         print("%d lines of answers, as the Rust gives them" % len(have))

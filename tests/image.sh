@@ -10,7 +10,7 @@ python3 tools/header.py --check
 strict="-Wall -Wextra -Wpedantic -Werror"
 $CC -std=c99 $strict -fsyntax-only -x c host/hypergroup.h
 g++ -std=c++11 $strict -fsyntax-only -x c++ host/hypergroup.h
-$CC -std=c99 $strict -O1 -o target/image_test tests/image.c -Ltarget/staticlib -lexports -lbridge_compose -lbridge_tables
+$CC -std=c99 $strict -O1 -o target/image_test tests/image.c -Ltarget/staticlib -lcapi_image -lcapi_factor_compose -lcapi_factor_build
 $emulator target/image_test
-$CC -std=c99 $strict -O1 -o target/image_test tests/image.c -Ltarget/staticlib -lbridge_tables -lbridge_compose -lexports
+$CC -std=c99 $strict -O1 -o target/image_test tests/image.c -Ltarget/staticlib -lcapi_factor_build -lcapi_factor_compose -lcapi_image
 $emulator target/image_test

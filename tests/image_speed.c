@@ -1,5 +1,5 @@
 /* How long the check of an image takes beside the build from the same composed rows, and a walk for each letter; the
- * least of several turns, taken in turns. gcc -O2 -o target/image_speed tests/image_speed.c -Ltarget/staticlib -lexports -lbridge_tables */
+ * least of several turns, taken in turns. gcc -O2 -o target/image_speed tests/image_speed.c -Ltarget/staticlib -lcapi_image -lcapi_factor_build */
 #define _POSIX_C_SOURCE 199309L
 #include "../host/hypergroup.h"
 

@@ -27,13 +27,13 @@ use Rattle.builder.specs.declared.Begun.{Begun}
 use Rattle.builder.specs.declared.Grown.{Grown}
 use Rattle.builder.specs.declared.Stored.{Stored}
 use Rattle.builder.specs.declared.Stored.the-variants as stored
-use Rattle.places.specs.Places.{placed, placedStep, overLong}
-use Rattle.reading.specs.Build.{isNew, setStep, adds}
-use Rattle.lending.specs.Finish.{built}
-use Rattle.rereading.specs.Own.{ownIn}
-use Rattle.lending.specs.Lending.{tableNeed, workNeed, within, Ends, noFactor, refusedMade, madeOf, making}
+use Rattle.builder_arguments.specs.Places.{placed, placedStep, overLong}
+use Rattle.build_reading.specs.Build.{isNew, setStep, adds}
+use Rattle.build_lending.specs.Finish.{built}
+use Rattle.builder_rereading.specs.Own.{ownIn}
+use Rattle.build_lending.specs.Lending.{tableNeed, workNeed, within, Ends, noFactor, refusedMade, madeOf, making}
 use Rattle.builder.specs.Calls.{Leaving, leaving, builderOf, refusedBegun, begins, grown, growsBy, grows, newOr, stores, builds}
-use Rattle.lending.proofs.Lending.{part-length, part-back, stretch-lent, build-back}
+use Rattle.build_lending.proofs.Lending.{part-length, part-back, stretch-lent, build-back}
 
 module _ (table : List ℕ) (start room n : ℕ) where
   pub begin-many : {x : Begun} → x ≡ refusedBegun 1 n → 8 < n → leaving x table ≡ begins table start room n

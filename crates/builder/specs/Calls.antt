@@ -21,11 +21,11 @@ use Rattle.builder.specs.declared.Begun.{Begun}
 use Rattle.builder.specs.declared.Grown.{Grown}
 use Rattle.builder.specs.declared.Stored.{Stored}
 use Rattle.builder.specs.declared.Stored.the-variants as stored
-unfoldable pub use Rattle.places.specs.Places.{placed, placedStep, overLong}
-use Rattle.reading.specs.Build.{isNew, setStep, adds}
-use Rattle.lending.specs.Finish.{zeroed}
-use Rattle.rereading.specs.Own.{ownIn}
-use Rattle.lending.specs.Lending.{tableNeed, workNeed, within, noFactor, refusedMade, Making, making, lentBack}
+unfoldable pub use Rattle.builder_arguments.specs.Places.{placed, placedStep, overLong}
+use Rattle.build_reading.specs.Build.{isNew, setStep, adds}
+use Rattle.build_lending.specs.Finish.{zeroed}
+use Rattle.builder_rereading.specs.Own.{ownIn}
+use Rattle.build_lending.specs.Lending.{tableNeed, workNeed, within, noFactor, refusedMade, Making, making, lentBack}
 
 -- Document 01's number and values for what storing a step answers: 1 for a new step, 0 for one that was known, or a refusal.
 abbrev pub storedPaper : Stored → Paper

@@ -15,7 +15,7 @@ pub fn refused_begun(number: u32, a: u32) -> Begun
 {
     Begun {
         answer: egg::inner::refused(number, a, 0, 0),
-        builder: Builder(lending::inner::no_factor()),
+        builder: Builder(build_lending::inner::no_factor()),
     }
 }
 
@@ -24,19 +24,19 @@ pub fn grow(t: &mut [u32], f: Factor, e: GroupElementId, g: GeneratorId) -> Grow
     requires { ⌜ f .elements ≤ 65535 ⌝ }
     ensures { λ x. ⌜ Leaving.leaving x (now (t .exit)) ≡ grown (now (t .entry)) f e g ⌝ }
 {
-    if places::inner::over_long(&t[..], f, e) {
+    if builder_arguments::inner::over_long(&t[..], f, e) {
         egg::inner::clear(t);
         return Grown {
             answer: egg::inner::refuse(17, 0),
-            builder: Builder(lending::inner::no_factor()),
+            builder: Builder(build_lending::inner::no_factor()),
         };
     }
-    match reading::inner::add_successor(t, f.generators, f.room, f.elements, e, g) {
+    match build_reading::inner::add_successor(t, f.generators, f.room, f.elements, e, g) {
         Reached::Refused(why) => {
             egg::inner::clear(t);
             Grown {
                 answer: Reached::Refused(why),
-                builder: Builder(lending::inner::no_factor()),
+                builder: Builder(build_lending::inner::no_factor()),
             }
         }
         Reached::Element(x) => Grown {

@@ -1,6 +1,6 @@
 // builder.rs: a table built element by element.
 ghost use mathlib.Core.Path.{_≡_};
-ghost use Rattle.lending.specs.Lending.{Making};
+ghost use Rattle.build_lending.specs.Lending.{Making};
 ghost use Rattle.builder.specs.Calls.{Leaving, begins, grows, stores, builds};
 use egg::Factor;
 use egg::GeneratorId;
@@ -44,7 +44,7 @@ pub fn begin(table: &mut [u32], start: usize, room: u32, n: u8) -> Begun
     if !egg::has_room(table.len(), start, room, n) {
         return inner::refused_begun(4, 0);
     }
-    let end = lending::inner::stretch_end(table.len(), start, room, n);
+    let end = build_lending::inner::stretch_end(table.len(), start, room, n);
     egg::inner::clear(&mut table[start..end]);
     Begun {
         answer: Verdict::Fine,
@@ -62,14 +62,14 @@ pub fn add_successor(table: &mut [u32], b: Builder, e: GroupElementId, g: Genera
     ensures { λ r. ⌜ Leaving.leaving r (now (table .exit)) ≡ grows (now (table .entry)) b e g ⌝ }
 {
     let f = b.0;
-    match places::inner::place(&table[..], f, e, g) {
+    match builder_arguments::inner::place(&table[..], f, e, g) {
         Verdict::Refused(why) => Grown {
             answer: Reached::Refused(why),
             builder: b,
         },
         Verdict::Fine => {
             let a = f.start;
-            let end = lending::inner::stretch_end(table.len(), a, f.room, f.generators);
+            let end = build_lending::inner::stretch_end(table.len(), a, f.room, f.generators);
             inner::grow(&mut table[a..end], f, e, g)
         }
     }
@@ -86,12 +86,12 @@ pub fn set_successor(
     ensures { λ x. ⌜ Leaving.leaving x (now (table .exit)) ≡ stores (now (table .entry)) b e g r ⌝ }
 {
     let f = b.0;
-    match places::inner::place_step(&table[..], f, e, g, r) {
+    match builder_arguments::inner::place_step(&table[..], f, e, g, r) {
         Verdict::Refused(why) => Stored::Refused(why),
         Verdict::Fine => {
             let a = f.start;
-            let end = lending::inner::stretch_end(table.len(), a, f.room, f.generators);
-            if reading::inner::set_successor(&mut table[a..end], f.generators, e, g, r) {
+            let end = build_lending::inner::stretch_end(table.len(), a, f.room, f.generators);
+            if build_reading::inner::set_successor(&mut table[a..end], f.generators, e, g, r) {
                 Stored::New
             } else {
                 Stored::Known
@@ -106,20 +106,20 @@ pub fn build(table: &mut [u32], b: Builder, work: &mut [u32]) -> Made
 {
     let f = b.0;
     if !egg::fits(&table[..], f) {
-        return lending::inner::refused_made(17, 0);
+        return build_lending::inner::refused_made(17, 0);
     }
-    let need = lending::inner::work_need(f.generators, f.room);
+    let need = build_lending::inner::work_need(f.generators, f.room);
     if work.len() < need {
-        return lending::inner::refused_made(4, 0);
+        return build_lending::inner::refused_made(4, 0);
     }
     let a = f.start;
-    let end = lending::inner::stretch_end(table.len(), a, f.room, f.generators);
-    let count = rereading::inner::complete(
+    let end = build_lending::inner::stretch_end(table.len(), a, f.room, f.generators);
+    let count = builder_rereading::inner::complete(
         &mut table[a..end],
         &mut work[..need],
         f.generators,
         f.room,
         f.elements,
     );
-    lending::inner::made(a, f.room, f.generators, count)
+    build_lending::inner::made(a, f.room, f.generators, count)
 }

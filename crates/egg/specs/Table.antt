@@ -44,7 +44,7 @@ abbrev pub parentOf : List ℕ → ℕ → ℕ → ℕ
 parentOf t n e = getD t (startOf n e + 2 * n) 0
 
 -- The last letter has the three lowest bits of its cell. While a table is built there is nothing above it; in an accepted one the letters before it are,
--- and the element at which the word ends without them (`hops`).
+-- and the element at which the word ends without them (`build_word_cells`).
 abbrev pub hopOf : List ℕ → ℕ → ℕ → ℕ
 hopOf t n e = getD t (startOf n e + 2 * n + 1) 0
 

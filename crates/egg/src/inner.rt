@@ -1,7 +1,7 @@
 // Cells and places, for the layers above. The row of element e starts at e * (2n + 4): n successors, n predecessors,
 // parent, last generator, word length, inverse. A successor or predecessor is stored as its number + 1, and 0 is
 // "not known", so that a row never used is zero. In an accepted table the letters before it stand above the last generator,
-// in the same cell (`hops`). Reads and writes are total: a read past the end is 0, a write there does nothing, so no caller
+// in the same cell (`build_word_cells`). Reads and writes are total: a read past the end is 0, a write there does nothing, so no caller
 // owes a proof of an index; but `read`, for a place that is known to be there. `byte` and `put_byte` are the same for lent bytes.
 ghost use mathlib.Core.Path.{_≡_};
 ghost use mathlib.Core.Bool.{true};

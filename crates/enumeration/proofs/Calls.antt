@@ -17,20 +17,20 @@ use Rattle.egg.specs.declared.Verdict.the-variants as verdict
 use Rattle.egg.specs.declared.Counted.{Counted}
 use Rattle.egg.specs.declared.Counted.the-variants.{Count, Refused}
 use Rattle.egg.specs.Pairs.{ordersRight}
-use Rattle.relations.proofs.Orders.{orders-limits, few-pairs}
+use Rattle.factor_relations.proofs.Orders.{orders-limits, few-pairs}
 use Rattle.egg.proofs.Rooms.{positive, limited}
-use Rattle.lending.specs.Finish.{Built, built, zeroed, finished}
-use Rattle.lending.specs.Lending.{tableNeed, workNeed, lentRight, Ends, refusedMade, madeOf, making}
-use Rattle.lending.proofs.Finishing.{refused-counted}
-use Rattle.lending.proofs.Lending.{lent-table, part-length, build-back}
-use Rattle.relations.specs.Relations.{relationsRow}
-use Rattle.rows.specs.Rows.{Orders}
-use Rattle.running.specs.declared.inner.Ran.{Ran}
-use Rattle.running.specs.declared.inner.Ran.the-variants as ran
-use Rattle.running.specs.Run.{Outcome, outcome, enumerated}
-use Rattle.derived.specs.Recorded.{Limits}
-use Rattle.sweeps.specs.Sweeps.{sweep, swiftly}
-use Rattle.coincide.proofs.Swift.{swift}
+use Rattle.build_lending.specs.Finish.{Built, built, zeroed, finished}
+use Rattle.build_lending.specs.Lending.{tableNeed, workNeed, lentRight, Ends, refusedMade, madeOf, making}
+use Rattle.build_lending.proofs.Finishing.{refused-counted}
+use Rattle.build_lending.proofs.Lending.{lent-table, part-length, build-back}
+use Rattle.factor_relations.specs.Relations.{relationsRow}
+use Rattle.enumeration_rows.specs.Rows.{Orders}
+use Rattle.enumeration_run.specs.declared.inner.Ran.{Ran}
+use Rattle.enumeration_run.specs.declared.inner.Ran.the-variants as ran
+use Rattle.enumeration_run.specs.Run.{Outcome, outcome, enumerated}
+use Rattle.enumeration_run_laws.specs.Recorded.{Limits}
+use Rattle.enumeration_quick_run.specs.Sweeps.{sweep, swiftly}
+use Rattle.enumeration_quick_laws.proofs.Swift.{swift}
 use Rattle.enumeration.specs.Calls.{ranCount, relating, relatingBy, relates, withWork, related, enumeratedIn, enumerates}
 use Rattle.enumeration.specs.Quick.{Quick}
 

@@ -13,12 +13,12 @@ use Rattle.egg.specs.declared.Counted.{Counted}
 use Rattle.egg.specs.declared.Counted.the-variants.{Count, Refused}
 use Rattle.egg.specs.Table.{pick}
 use Rattle.egg.specs.Pairs.{ordersRight}
-use Rattle.lending.specs.Finish.{Built, built, zeroed, finished}
-use Rattle.lending.specs.Lending.{tableNeed, workNeed, lentRight, noFactor, refusedMade, Making, making, lentBack}
-use Rattle.relations.specs.Relations.{relationsRow}
-use Rattle.running.specs.declared.inner.Ran.{Ran}
-use Rattle.running.specs.declared.inner.Ran.the-variants as ran
-use Rattle.running.specs.Run.{Outcome, enumerated}
+use Rattle.build_lending.specs.Finish.{Built, built, zeroed, finished}
+use Rattle.build_lending.specs.Lending.{tableNeed, workNeed, lentRight, noFactor, refusedMade, Making, making, lentBack}
+use Rattle.factor_relations.specs.Relations.{relationsRow}
+use Rattle.enumeration_run.specs.declared.inner.Ran.{Ran}
+use Rattle.enumeration_run.specs.declared.inner.Ran.the-variants as ran
+use Rattle.enumeration_run.specs.Run.{Outcome, enumerated}
 
 -- How a run ended, as a count or a refusal. A run whose allowance is spent would go on with what it has, and 8 would refuse it; with the largest
 -- allowance none is.

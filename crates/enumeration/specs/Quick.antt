@@ -5,7 +5,7 @@ use Prim.Native.Nat.{ℕ}
 use mathlib.Core.Path.{_≡_}
 use mathlib.Core.List.{List}
 use Rattle.egg.specs.declared.Counted.the-variants.{Count}
-use Rattle.lending.specs.Finish.{built}
+use Rattle.build_lending.specs.Finish.{built}
 use Rattle.enumeration.specs.Calls.{enumeratedIn}
 
 -- The answer r is 0, which says nothing, or it is the element count that the whole build in these stretches gives, and then t and w are as that build leaves them.

@@ -2,14 +2,14 @@
 ghost use mathlib.Core.Path.{_≡_};
 ghost use Prim.Native.Nat.{_≤_};
 ghost use lib.ListN.{length};
-ghost use Rattle.derived.specs.Recorded.{Limits};
+ghost use Rattle.enumeration_run_laws.specs.Recorded.{Limits};
 ghost use Rattle.enumeration.specs.Calls.{ranCount, Relating, relates, enumeratedIn};
 ghost use Rattle.enumeration.specs.Quick.{Quick};
-ghost use Rattle.lending.specs.Finish.{Built};
+ghost use Rattle.build_lending.specs.Finish.{Built};
 use egg::Counted;
 use egg::GroupElementId;
 use egg::Verdict;
-use running::inner::Ran;
+use enumeration_run::inner::Ran;
 
 // How a run ended, as a count or a refusal. With the largest allowance none is paused.
 fn counted(r: Ran) -> Counted
@@ -29,7 +29,7 @@ fn relate(t: &mut [u32], orders: &[u32], n: u8, read: Counted) -> Counted
 {
     match read {
         Counted::Refused(why) => Counted::Refused(why),
-        Counted::Count(count) => match relations::inner::relations_row(
+        Counted::Count(count) => match factor_relations::inner::relations_row(
             &t[..],
             n,
             count,
@@ -45,17 +45,17 @@ fn relate(t: &mut [u32], orders: &[u32], n: u8, read: Counted) -> Counted
     }
 }
 
-// The quick way: the run by closed loops, 8 to 12, then 13. What it accepts is what the build below gives (`coincide`): the
+// The quick way: the run by closed loops, 8 to 12, then 13. What it accepts is what the build below gives (`enumeration_quick_laws`): the
 // element count. 0 where it accepts nothing, which says nothing of the build below.
 fn enumerate_swiftly(t: &mut [u32], w: &mut [u32], orders: &[u32], n: u8, room: u32) -> u32
     requires { ⌜ Limits n (now orders) room (length (now t)) (length (now w)) ⌝ }
     ensures { λ r. ⌜ Quick (length (now (t .entry))) (length (now (w .entry))) (now (orders .entry)) n room r (now (t .exit)) (now (w .exit)) ⌝ }
 {
-    let run = sweeps::inner::swiftly(t, orders, n, room);
+    let run = enumeration_quick_run::inner::swiftly(t, orders, n, room);
     let Ran::Done(count) = run else {
         return 0;
     };
-    let read = lending::inner::finish(t, w, n, Counted::Count(count));
+    let read = build_lending::inner::finish(t, w, n, Counted::Count(count));
     let checked = relate(t, orders, n, read);
     let Counted::Count(elements) = checked else {
         return 0;
@@ -72,7 +72,7 @@ pub fn enumerate_in(t: &mut [u32], w: &mut [u32], orders: &[u32], n: u8, room: u
     if elements != 0 {
         return Counted::Count(elements);
     }
-    let run = running::inner::enumerate(t, w, orders, n, room);
-    let count = lending::inner::finish(t, w, n, counted(run));
+    let run = enumeration_run::inner::enumerate(t, w, orders, n, room);
+    let count = build_lending::inner::finish(t, w, n, counted(run));
     relate(t, orders, n, count)
 }

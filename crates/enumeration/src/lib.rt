@@ -2,7 +2,7 @@
 ghost use mathlib.Core.Path.{_≡_};
 ghost use Prim.Native.Nat.{_+_, _*_, _<_, _≤_};
 ghost use lib.ListN.{length};
-ghost use Rattle.lending.specs.Lending.{Making};
+ghost use Rattle.build_lending.specs.Lending.{Making};
 ghost use Rattle.enumeration.specs.Calls.{enumerates};
 use egg::Counted;
 use egg::Made;
@@ -23,16 +23,16 @@ pub fn enumerate(
     ensures { λ r. ⌜ Making.making r (now (table .exit)) (now (work .exit)) ≡ enumerates (now (table .entry)) start (now (work .entry)) (now (orders .entry)) n room ⌝ }
 {
     if 8 < n {
-        return lending::inner::refused_made(1, n as u32);
+        return build_lending::inner::refused_made(1, n as u32);
     }
-    if let Verdict::Refused(why) = relations::inner::orders_right(orders, n) {
-        return lending::inner::made(start, room, n, Counted::Refused(why));
+    if let Verdict::Refused(why) = factor_relations::inner::orders_right(orders, n) {
+        return build_lending::inner::made(start, room, n, Counted::Refused(why));
     }
-    if !lending::inner::lent_right(table.len(), start, work.len(), room, n) {
-        return lending::inner::refused_made(4, 0);
+    if !build_lending::inner::lent_right(table.len(), start, work.len(), room, n) {
+        return build_lending::inner::refused_made(4, 0);
     }
-    let end = lending::inner::stretch_end(table.len(), start, room, n);
-    let need = lending::inner::work_need(n, room);
+    let end = build_lending::inner::stretch_end(table.len(), start, room, n);
+    let need = build_lending::inner::work_need(n, room);
     let count = inner::enumerate_in(&mut table[start..end], &mut work[..need], orders, n, room);
-    lending::inner::made(start, room, n, count)
+    build_lending::inner::made(start, room, n, count)
 }

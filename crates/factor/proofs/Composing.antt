@@ -11,10 +11,10 @@ use borrow.Rule.Slice.PartMut.{midOf, putMid}
 use lib.ListN.{length, take, drop}
 use Rattle.egg.specs.declared.Made.{Made}
 use Rattle.egg.specs.declared.Counted.{Counted}
-use Rattle.lending.specs.Finish.{built}
-use Rattle.lending.specs.Lending.{tableNeed, workNeed, lentRight, Ends, refusedMade, madeOf, making}
-use Rattle.lending.proofs.Lending.{part-length, build-back}
-use Rattle.composed_rows.specs.Rows.{composedIn}
+use Rattle.build_lending.specs.Finish.{built}
+use Rattle.build_lending.specs.Lending.{tableNeed, workNeed, lentRight, Ends, refusedMade, madeOf, making}
+use Rattle.build_lending.proofs.Lending.{part-length, build-back}
+use Rattle.factor_composed_rows.specs.Rows.{composedIn}
 use Rattle.factor.specs.Composed.{composed}
 
 -- A product of 32 and 8 bits fits.

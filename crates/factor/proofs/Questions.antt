@@ -12,7 +12,7 @@ use Rattle.egg.specs.declared.Verdict.the-variants as verdict
 use Rattle.egg.specs.declared.Counted.{Counted}
 use Rattle.egg.specs.declared.Counted.the-variants as counted
 use Rattle.egg.specs.Factor.{stretch}
-use Rattle.words.proofs.Words.{never-both, write-fits}
+use Rattle.factor_words.proofs.Words.{never-both, write-fits}
 use Rattle.factor.specs.Questions.{admits, ifCount, writeAnswer, filledBy}
 
 pub counted-by : (v : Verdict) {x : Counted} {k : ℕ} → ifCount v x ≡ counted.Count k → x ≡ counted.Count k

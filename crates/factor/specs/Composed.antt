@@ -7,8 +7,8 @@ use mathlib.Core.Bool.{_&&_}
 use lib.ListN.{length, take}
 use lib.Dec.{ltb, leb}
 use Rattle.egg.specs.Table.{pick}
-use Rattle.lending.specs.Lending.{tableNeed, workNeed, lentRight, refusedMade, Making, making, lentBack}
-unfoldable pub use Rattle.composed_rows.specs.Rows.{composedIn}
+use Rattle.build_lending.specs.Lending.{tableNeed, workNeed, lentRight, refusedMade, Making, making, lentBack}
+unfoldable pub use Rattle.factor_composed_rows.specs.Rows.{composedIn}
 
 -- 1, then 4, with every buffer as it was; then the build. "A composed list needs Rn entries."
 unfoldable pub composed : (table : List ℕ) (start : ℕ) (work rows : List ℕ) (n room : ℕ) → Making

@@ -1,5 +1,5 @@
 -- Questions about an accepted factor. Document 01: "Calls on handles check 17 in the handle, then 14, .. then 17 in what they read." "A refused question
--- writes nothing." Each is defined on the factor's stretch in `walks` and `words`, and here on the buffer and the handle.
+-- writes nothing." Each is defined on the factor's stretch in `factor_questions` and `factor_words`, and here on the buffer and the handle.
 -- Assumes nothing.
 use Prim.Native.Nat.{ℕ}
 use mathlib.Core.List.{List}
@@ -17,8 +17,8 @@ use Rattle.egg.specs.declared.Counted.the-variants as counted
 use Rattle.egg.specs.Table.{pick}
 use Rattle.egg.specs.Scan.{refusedOf}
 use Rattle.egg.specs.Factor.{fitsIn, stretch}
-use Rattle.walks.specs.Walks.{inverseIn, composeIn, conjugateIn, generatorIn}
-use Rattle.words.specs.Words.{lengthIn, writeIn, writtenBy}
+use Rattle.factor_questions.specs.Walks.{inverseIn, composeIn, conjugateIn, generatorIn}
+use Rattle.factor_words.specs.Words.{lengthIn, writeIn, writtenBy}
 
 -- 17 in the handle, then 14 for two element arguments, 0 or 1 by its position. A call with fewer takes the identity for the others, which is always there.
 unfoldable pub admits : ℕ → Factor → ℕ → ℕ → Verdict

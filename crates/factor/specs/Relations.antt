@@ -8,7 +8,7 @@ use Rattle.egg.specs.declared.Verdict.{Verdict}
 use Rattle.egg.specs.Scan.{andThen}
 use Rattle.egg.specs.Pairs.{ordersRight}
 use Rattle.egg.specs.Factor.{stretch}
-use Rattle.relations.specs.Relations.{relations}
+use Rattle.factor_relations.specs.Relations.{relations}
 use Rattle.factor.specs.Questions.{admits}
 
 -- 17 in the handle, 2, 3, then 13 or 17 as met.

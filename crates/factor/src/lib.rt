@@ -2,7 +2,7 @@
 ghost use mathlib.Core.Path.{_≡_};
 ghost use Prim.Native.Nat.{_+_, _*_, _<_, _≤_};
 ghost use lib.ListN.{length};
-ghost use Rattle.lending.specs.Lending.{Making};
+ghost use Rattle.build_lending.specs.Lending.{Making};
 ghost use Rattle.factor.specs.Composed.{composed};
 ghost use Rattle.factor.specs.Questions.{composeAnswer, inverseAnswer, conjugateAnswer, countAnswer, generatorAnswer, lengthAnswer, writeAnswer, written, wordPart};
 ghost use Rattle.factor.specs.Relations.{checkAnswer};
@@ -29,24 +29,24 @@ pub fn from_composed(
     ensures { λ r. ⌜ Making.making r (now (table .exit)) (now (work .exit)) ≡ composed (now (table .entry)) start (now (work .entry)) (now (rows .entry)) n room ⌝ }
 {
     if 8 < n {
-        return lending::inner::refused_made(1, n as u32);
+        return build_lending::inner::refused_made(1, n as u32);
     }
-    if !lending::inner::lent_right(table.len(), start, work.len(), room, n) {
-        return lending::inner::refused_made(4, 0);
+    if !build_lending::inner::lent_right(table.len(), start, work.len(), room, n) {
+        return build_lending::inner::refused_made(4, 0);
     }
     if rows.len() < (room as usize) * (n as usize) {
-        return lending::inner::refused_made(4, 0);
+        return build_lending::inner::refused_made(4, 0);
     }
-    let end = lending::inner::stretch_end(table.len(), start, room, n);
-    let need = lending::inner::work_need(n, room);
-    let count = composed_rows::inner::compose_in(
+    let end = build_lending::inner::stretch_end(table.len(), start, room, n);
+    let need = build_lending::inner::work_need(n, room);
+    let count = factor_composed_rows::inner::compose_in(
         &mut table[start..end],
         &mut work[..need],
         rows,
         n,
         room,
     );
-    lending::inner::made(start, room, n, count)
+    build_lending::inner::made(start, room, n, count)
 }
 
 pub fn element_count(table: &[u32], f: Factor) -> Counted
@@ -64,7 +64,7 @@ pub fn generator(table: &[u32], f: Factor, g: GeneratorId) -> Reached
 {
     match inner::admit(table, f, GroupElementId(0), GroupElementId(0)) {
         Verdict::Refused(why) => Reached::Refused(why),
-        Verdict::Fine => walks::inner::generator_in(
+        Verdict::Fine => factor_questions::inner::generator_in(
             egg::inner::part(table, f),
             f.generators,
             f.elements,
@@ -78,7 +78,11 @@ pub fn word_length(table: &[u32], f: Factor, e: GroupElementId) -> Counted
 {
     match inner::admit(table, f, e, GroupElementId(0)) {
         Verdict::Refused(why) => Counted::Refused(why),
-        Verdict::Fine => words::inner::length_in(egg::inner::part(table, f), f.generators, e),
+        Verdict::Fine => factor_words::inner::length_in(
+            egg::inner::part(table, f),
+            f.generators,
+            e,
+        ),
     }
 }
 
@@ -87,7 +91,7 @@ pub fn inverse(table: &[u32], f: Factor, a: GroupElementId) -> Reached
 {
     match inner::admit(table, f, a, GroupElementId(0)) {
         Verdict::Refused(why) => Reached::Refused(why),
-        Verdict::Fine => walks::inner::inverse_in(
+        Verdict::Fine => factor_questions::inner::inverse_in(
             egg::inner::part(table, f),
             f.generators,
             f.elements,
@@ -101,7 +105,7 @@ pub fn compose(table: &[u32], f: Factor, a: GroupElementId, b: GroupElementId) -
 {
     match inner::admit(table, f, a, b) {
         Verdict::Refused(why) => Reached::Refused(why),
-        Verdict::Fine => compose::inner::compose_elements(
+        Verdict::Fine => factor_compose::inner::compose_elements(
             egg::inner::part(table, f),
             f.generators,
             f.elements,
@@ -117,7 +121,7 @@ pub fn conjugate(table: &[u32], f: Factor, a: GroupElementId, b: GroupElementId)
 {
     match inner::admit(table, f, a, b) {
         Verdict::Refused(why) => Reached::Refused(why),
-        Verdict::Fine => compose::inner::conjugate_elements(
+        Verdict::Fine => factor_compose::inner::conjugate_elements(
             egg::inner::part(table, f),
             f.generators,
             f.elements,
@@ -133,7 +137,7 @@ pub fn write_word(table: &[u32], f: Factor, e: GroupElementId, out: &mut [u8]) -
 {
     match inner::admit(table, f, e, GroupElementId(0)) {
         Verdict::Refused(why) => Counted::Refused(why),
-        Verdict::Fine => words::inner::write_in(
+        Verdict::Fine => factor_words::inner::write_in(
             egg::inner::part(table, f),
             f.generators,
             f.elements,
@@ -161,9 +165,9 @@ pub fn check(table: &[u32], f: Factor, orders: &[u32]) -> Verdict
     let Verdict::Fine = v else {
         return v;
     };
-    let u = relations::inner::orders_right(orders, f.generators);
+    let u = factor_relations::inner::orders_right(orders, f.generators);
     let Verdict::Fine = u else {
         return u;
     };
-    relations::inner::relations(egg::inner::part(table, f), f.generators, f.elements, orders)
+    factor_relations::inner::relations(egg::inner::part(table, f), f.generators, f.elements, orders)
 }

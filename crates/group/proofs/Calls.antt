@@ -14,12 +14,12 @@ use Rattle.egg.specs.declared.Counted.the-variants.{Count}
 use Rattle.egg.specs.declared.Reached.{Reached}
 use Rattle.egg.specs.declared.Reached.the-variants as reached
 use Rattle.egg.specs.Factor.{refusedReach}
-use Rattle.handles.specs.declared.Group.{Group}
-use Rattle.handles.specs.Handles.{handles, sizes, elementsOf, allFit, admits}
-use Rattle.digits.specs.Splits.{digitsRight, joinTail}
-use Rattle.spelling.specs.Words.{lengths, readables, writes}
+use Rattle.group_handles.specs.declared.Group.{Group}
+use Rattle.group_handles.specs.Handles.{handles, sizes, elementsOf, allFit, admits}
+use Rattle.group_digits.specs.Splits.{digitsRight, joinTail}
+use Rattle.group_words.specs.Words.{lengths, readables, writes}
 use Rattle.factor.proofs.Questions.{counted-by}
-use Rattle.spelling.proofs.Spelling.{by-fits}
+use Rattle.group_words.proofs.Spelling.{by-fits}
 use Rattle.group.specs.Questions.{joinAnswer, writeAnswer}
 
 module _ (t : List ℕ) (g : Group) (ds : List ℕ) where

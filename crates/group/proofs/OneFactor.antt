@@ -24,23 +24,23 @@ use Rattle.egg.specs.Scan.{refusedOf}
 use Rattle.egg.specs.Factor as egg
 use Rattle.egg.specs.Factor.{fitsIn, stretch, readStep}
 use Rattle.egg.proofs.Rooms.{some}
-use Rattle.lending.proofs.Fits.{fits-small}
+use Rattle.build_lending.proofs.Fits.{fits-small}
 use Rattle.factor.specs.Questions as factor
 use Rattle.factor.specs.Questions.{ifReach, ifCount}
-use Rattle.walks.specs.Walks.{onReached, composeIn, inverseIn, generatorIn}
-use Rattle.words.specs.Words.{readable, spell, lengthIn, writeIn, writtenBy}
-use Rattle.words.proofs.Words.{never-both}
-use Rattle.handles.specs.declared.Group.{Group}
-use Rattle.digits.specs.declared.inner.Asked.{Asked}
-use Rattle.digits.specs.declared.inner.Asked.the-variants.{Compose, Inverse, Conjugate}
-use Rattle.handles.specs.Handles.{handles, elementsOf, generatorsOf, limited, admits}
-use Rattle.digits.specs.Digits.{above, digitOf, digitwise, stepIn, composes, inverts}
-use Rattle.powers.specs.Powers.{oddToo, halves, negated, powers, powiAlone}
-use Rattle.handles.specs.Counts.{onCounted}
-use Rattle.spelling.specs.Words.{lengths, readables, spells, writesBy, writes, leaves}
+use Rattle.factor_questions.specs.Walks.{onReached, composeIn, inverseIn, generatorIn}
+use Rattle.factor_words.specs.Words.{readable, spell, lengthIn, writeIn, writtenBy}
+use Rattle.factor_words.proofs.Words.{never-both}
+use Rattle.group_handles.specs.declared.Group.{Group}
+use Rattle.group_digits.specs.declared.inner.Asked.{Asked}
+use Rattle.group_digits.specs.declared.inner.Asked.the-variants.{Compose, Inverse, Conjugate}
+use Rattle.group_handles.specs.Handles.{handles, elementsOf, generatorsOf, limited, admits}
+use Rattle.group_digits.specs.Digits.{above, digitOf, digitwise, stepIn, composes, inverts}
+use Rattle.group_powers.specs.Powers.{oddToo, halves, negated, powers, powiAlone}
+use Rattle.group_handles.specs.Counts.{onCounted}
+use Rattle.group_words.specs.Words.{lengths, readables, spells, writesBy, writes, leaves}
 use Rattle.group.specs.Questions.{stepAnswer, generatorAnswer, composeAnswer, inverseAnswer, conjugateAnswer, powiAnswer, lengthAnswer, writeAnswer, written}
-use Rattle.handles.proofs.Admitted.{Goes, goes-on}
-use Rattle.digits.proofs.Walks.{Below, element, below-on, digit-below}
+use Rattle.group_handles.proofs.Admitted.{Goes, goes-on}
+use Rattle.group_digits.proofs.Walks.{Below, element, below-on, digit-below}
 
 -- A verdict decides the same of two answers that are equal where it is fine.
 reach-alike : (v : Verdict) {x y : Reached} → (v ≡ verdict.Fine → x ≡ y) → ifReach v x ≡ ifReach v y

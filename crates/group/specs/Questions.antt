@@ -15,15 +15,15 @@ use Rattle.egg.specs.declared.Counted.the-variants as counted
 use Rattle.egg.specs.Table.{pick}
 use Rattle.egg.specs.Factor.{refusedReach}
 use Rattle.factor.specs.Questions.{ifReach, ifCount, filledBy}
-use Rattle.products.specs.Radix.{project, inject}
-use Rattle.handles.specs.declared.Group.{Group}
-use Rattle.digits.specs.declared.inner.Asked.the-variants.{Conjugate}
-use Rattle.handles.specs.Handles.{handles, sizes, elementsOf, generatorsOf, allFit, admits}
-use Rattle.digits.specs.Digits.{digitOf, digitwise, stepIn, composes, inverts}
-use Rattle.digits.specs.Splits.{splitTail, digitsLeft, digitsRight, joinTail}
-use Rattle.powers.specs.Powers.{powers}
-use Rattle.periods.specs.Periods.{periods}
-use Rattle.spelling.specs.Words.{lengths, writes, leaves}
+use Rattle.theory_products.specs.Radix.{project, inject}
+use Rattle.group_handles.specs.declared.Group.{Group}
+use Rattle.group_digits.specs.declared.inner.Asked.the-variants.{Conjugate}
+use Rattle.group_handles.specs.Handles.{handles, sizes, elementsOf, generatorsOf, allFit, admits}
+use Rattle.group_digits.specs.Digits.{digitOf, digitwise, stepIn, composes, inverts}
+use Rattle.group_digits.specs.Splits.{splitTail, digitsLeft, digitsRight, joinTail}
+use Rattle.group_powers.specs.Powers.{powers}
+use Rattle.group_periods.specs.Periods.{periods}
+use Rattle.group_words.specs.Words.{lengths, writes, leaves}
 
 -- Two elements.
 abbrev pub twoElements : ℕ → Group → ℕ → ℕ → Verdict

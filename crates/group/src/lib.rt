@@ -3,29 +3,29 @@
 // Every call checks, in this order: 17 for each handle, 14 for its arguments, 15, 1 to 4, and then 17 in what it reads.
 ghost use mathlib.Core.Path.{_≡_};
 ghost use lib.ListN.{length};
-ghost use Rattle.lending.specs.Lending.{Making};
+ghost use Rattle.build_lending.specs.Lending.{Making};
 ghost use Rattle.group.specs.Questions.{countAnswer, generatorsAnswer, generatorAnswer, stepAnswer, projectAnswer, injectAnswer, splitAnswer, splitLeaves, joinAnswer, composeAnswer, inverseAnswer, conjugateAnswer, powiAnswer, periodAnswer, lengthAnswer, writeAnswer, written, wordPart};
-ghost use Rattle.flat.specs.Flat.{flat};
+ghost use Rattle.group_flatten.specs.Flat.{flat};
 use egg::Counted;
 use egg::GeneratorId;
 use egg::GroupElementId;
 use egg::Made;
 use egg::Reached;
 use egg::Verdict;
-pub use handles::Group;
-pub use handles::Grouped;
-use handles::inner::Limit;
-pub use handles::of;
-pub use handles::product;
-pub use handles::trivial;
+pub use group_handles::Group;
+pub use group_handles::Grouped;
+use group_handles::inner::Limit;
+pub use group_handles::of;
+pub use group_handles::product;
+pub use group_handles::trivial;
 
 pub fn element_count(table: &[u32], g: Group) -> Counted
     ensures { λ r. ⌜ r ≡ countAnswer (now (table .entry)) g ⌝ }
 {
-    match handles::inner::admit(table, g, 0, Limit::Number(1), 0, Limit::Number(1)) {
+    match group_handles::inner::admit(table, g, 0, Limit::Number(1), 0, Limit::Number(1)) {
         Verdict::Refused(why) => Counted::Refused(why),
         Verdict::Fine => {
-            let seen = handles::inner::look(table, g);
+            let seen = group_handles::inner::look(table, g);
             Counted::Count((seen.elements % 4294967296) as u32)
         }
     }
@@ -34,10 +34,10 @@ pub fn element_count(table: &[u32], g: Group) -> Counted
 pub fn generator_count(table: &[u32], g: Group) -> Counted
     ensures { λ r. ⌜ r ≡ generatorsAnswer (now (table .entry)) g ⌝ }
 {
-    match handles::inner::admit(table, g, 0, Limit::Number(1), 0, Limit::Number(1)) {
+    match group_handles::inner::admit(table, g, 0, Limit::Number(1), 0, Limit::Number(1)) {
         Verdict::Refused(why) => Counted::Refused(why),
         Verdict::Fine => {
-            let seen = handles::inner::look(table, g);
+            let seen = group_handles::inner::look(table, g);
             Counted::Count(seen.generators)
         }
     }
@@ -47,24 +47,31 @@ pub fn generator_count(table: &[u32], g: Group) -> Counted
 pub fn generator(table: &[u32], g: Group, x: GeneratorId) -> Reached
     ensures { λ r. ⌜ r ≡ generatorAnswer (now (table .entry)) g x ⌝ }
 {
-    if handles::inner::alone(g) {
+    if group_handles::inner::alone(g) {
         let h = g.factors[0];
         return factor::generator(table, h, x);
     }
-    match handles::inner::admit(table, g, x.0 as u32, Limit::Generators, 0, Limit::Number(1)) {
+    match group_handles::inner::admit(
+        table,
+        g,
+        x.0 as u32,
+        Limit::Generators,
+        0,
+        Limit::Number(1),
+    ) {
         Verdict::Refused(why) => Reached::Refused(why),
-        Verdict::Fine => digits::inner::step_in(table, g, GroupElementId(0), x),
+        Verdict::Fine => group_digits::inner::step_in(table, g, GroupElementId(0), x),
     }
 }
 
 pub fn step(table: &[u32], g: Group, e: GroupElementId, x: GeneratorId) -> Reached
     ensures { λ r. ⌜ r ≡ stepAnswer (now (table .entry)) g e x ⌝ }
 {
-    if handles::inner::alone(g) {
+    if group_handles::inner::alone(g) {
         let h = g.factors[0];
         return egg::step(table, h, e, x);
     }
-    match handles::inner::admit(
+    match group_handles::inner::admit(
         table,
         g,
         e.0,
@@ -73,7 +80,7 @@ pub fn step(table: &[u32], g: Group, e: GroupElementId, x: GeneratorId) -> Reach
         Limit::Generators,
     ) {
         Verdict::Refused(why) => Reached::Refused(why),
-        Verdict::Fine => digits::inner::step_in(table, g, e, x),
+        Verdict::Fine => group_digits::inner::step_in(table, g, e, x),
     }
 }
 
@@ -81,8 +88,8 @@ pub fn step(table: &[u32], g: Group, e: GroupElementId, x: GeneratorId) -> Reach
 pub fn project(table: &[u32], g: Group, f: u8, e: GroupElementId) -> Reached
     ensures { λ r. ⌜ r ≡ projectAnswer (now (table .entry)) g f e ⌝ }
 {
-    let k = handles::inner::listed(g);
-    match handles::inner::admit(
+    let k = group_handles::inner::listed(g);
+    match group_handles::inner::admit(
         table,
         g,
         f as u32,
@@ -91,7 +98,7 @@ pub fn project(table: &[u32], g: Group, f: u8, e: GroupElementId) -> Reached
         Limit::Elements,
     ) {
         Verdict::Refused(why) => Reached::Refused(why),
-        Verdict::Fine => digits::inner::project_in(table, g, f as usize, e),
+        Verdict::Fine => group_digits::inner::project_in(table, g, f as usize, e),
     }
 }
 
@@ -99,9 +106,9 @@ pub fn project(table: &[u32], g: Group, f: u8, e: GroupElementId) -> Reached
 pub fn inject(table: &[u32], g: Group, f: u8, x: GroupElementId) -> Reached
     ensures { λ r. ⌜ r ≡ injectAnswer (now (table .entry)) g f x ⌝ }
 {
-    let n = handles::inner::size_of(g, f as usize);
-    let k = handles::inner::listed(g);
-    match handles::inner::admit(
+    let n = group_handles::inner::size_of(g, f as usize);
+    let k = group_handles::inner::listed(g);
+    match group_handles::inner::admit(
         table,
         g,
         f as u32,
@@ -110,7 +117,7 @@ pub fn inject(table: &[u32], g: Group, f: u8, x: GroupElementId) -> Reached
         Limit::Number(n),
     ) {
         Verdict::Refused(why) => Reached::Refused(why),
-        Verdict::Fine => digits::inner::inject_in(table, g, f as usize, x),
+        Verdict::Fine => group_digits::inner::inject_in(table, g, f as usize, x),
     }
 }
 
@@ -118,9 +125,9 @@ pub fn inject(table: &[u32], g: Group, f: u8, x: GroupElementId) -> Reached
 pub fn split(table: &[u32], g: Group, e: GroupElementId, out: &mut [u32]) -> Counted
     ensures { λ r. ⌜ (r ≡ splitAnswer (now (table .entry)) g e (length (now (out .entry)))) × (now (out .exit) ≡ splitLeaves (now (table .entry)) g e (now (out .entry))) ⌝ }
 {
-    match handles::inner::admit(table, g, e.0, Limit::Elements, 0, Limit::Number(1)) {
+    match group_handles::inner::admit(table, g, e.0, Limit::Elements, 0, Limit::Number(1)) {
         Verdict::Refused(why) => Counted::Refused(why),
-        Verdict::Fine => digits::inner::split_in(table, g, e, out),
+        Verdict::Fine => group_digits::inner::split_in(table, g, e, out),
     }
 }
 
@@ -128,39 +135,39 @@ pub fn split(table: &[u32], g: Group, e: GroupElementId, out: &mut [u32]) -> Cou
 pub fn join(table: &[u32], g: Group, digits: &[u32]) -> Reached
     ensures { λ r. ⌜ r ≡ joinAnswer (now (table .entry)) g (now (digits .entry)) ⌝ }
 {
-    let seen = handles::inner::look(table, g);
+    let seen = group_handles::inner::look(table, g);
     if !seen.fit {
         return egg::inner::refuse(17, 0);
     }
-    match digits::inner::digits_right(g, digits) {
+    match group_digits::inner::digits_right(g, digits) {
         Verdict::Refused(why) => Reached::Refused(why),
-        Verdict::Fine => digits::inner::join_in(table, g, digits),
+        Verdict::Fine => group_digits::inner::join_in(table, g, digits),
     }
 }
 
 pub fn compose(table: &[u32], g: Group, a: GroupElementId, b: GroupElementId) -> Reached
     ensures { λ r. ⌜ r ≡ composeAnswer (now (table .entry)) g a b ⌝ }
 {
-    if handles::inner::alone(g) {
+    if group_handles::inner::alone(g) {
         let h = g.factors[0];
         return factor::compose(table, h, a, b);
     }
-    match handles::inner::admit(table, g, a.0, Limit::Elements, b.0, Limit::Elements) {
+    match group_handles::inner::admit(table, g, a.0, Limit::Elements, b.0, Limit::Elements) {
         Verdict::Refused(why) => Reached::Refused(why),
-        Verdict::Fine => digits::inner::compose_digits(table, g, a, b),
+        Verdict::Fine => group_digits::inner::compose_digits(table, g, a, b),
     }
 }
 
 pub fn inverse(table: &[u32], g: Group, a: GroupElementId) -> Reached
     ensures { λ r. ⌜ r ≡ inverseAnswer (now (table .entry)) g a ⌝ }
 {
-    if handles::inner::alone(g) {
+    if group_handles::inner::alone(g) {
         let h = g.factors[0];
         return factor::inverse(table, h, a);
     }
-    match handles::inner::admit(table, g, a.0, Limit::Elements, 0, Limit::Number(1)) {
+    match group_handles::inner::admit(table, g, a.0, Limit::Elements, 0, Limit::Number(1)) {
         Verdict::Refused(why) => Reached::Refused(why),
-        Verdict::Fine => digits::inner::inverse_digits(table, g, a),
+        Verdict::Fine => group_digits::inner::inverse_digits(table, g, a),
     }
 }
 
@@ -168,35 +175,35 @@ pub fn inverse(table: &[u32], g: Group, a: GroupElementId) -> Reached
 pub fn conjugate(table: &[u32], g: Group, a: GroupElementId, b: GroupElementId) -> Reached
     ensures { λ r. ⌜ r ≡ conjugateAnswer (now (table .entry)) g a b ⌝ }
 {
-    if handles::inner::alone(g) {
+    if group_handles::inner::alone(g) {
         let h = g.factors[0];
         return factor::conjugate(table, h, a, b);
     }
-    match handles::inner::admit(table, g, a.0, Limit::Elements, b.0, Limit::Elements) {
+    match group_handles::inner::admit(table, g, a.0, Limit::Elements, b.0, Limit::Elements) {
         Verdict::Refused(why) => Reached::Refused(why),
-        Verdict::Fine => digits::inner::conjugate_digits(table, g, a, b),
+        Verdict::Fine => group_digits::inner::conjugate_digits(table, g, a, b),
     }
 }
 
 pub fn powi(table: &[u32], g: Group, a: GroupElementId, i: i32) -> Reached
     ensures { λ r. ⌜ r ≡ powiAnswer (now (table .entry)) g a i ⌝ }
 {
-    if handles::inner::alone(g) {
+    if group_handles::inner::alone(g) {
         let h = g.factors[0];
-        return powers::inner::one::powi(table, h, a, i);
+        return group_powers::inner::one::powi(table, h, a, i);
     }
-    match handles::inner::admit(table, g, a.0, Limit::Elements, 0, Limit::Number(1)) {
+    match group_handles::inner::admit(table, g, a.0, Limit::Elements, 0, Limit::Number(1)) {
         Verdict::Refused(why) => Reached::Refused(why),
-        Verdict::Fine => powers::inner::powi_in(table, g, a, i),
+        Verdict::Fine => group_powers::inner::powi_in(table, g, a, i),
     }
 }
 
 pub fn period(table: &[u32], g: Group, a: GroupElementId) -> Counted
     ensures { λ r. ⌜ r ≡ periodAnswer (now (table .entry)) g a ⌝ }
 {
-    match handles::inner::admit(table, g, a.0, Limit::Elements, 0, Limit::Number(1)) {
+    match group_handles::inner::admit(table, g, a.0, Limit::Elements, 0, Limit::Number(1)) {
         Verdict::Refused(why) => Counted::Refused(why),
-        Verdict::Fine => periods::inner::periods(table, g, a),
+        Verdict::Fine => group_periods::inner::periods(table, g, a),
     }
 }
 
@@ -204,13 +211,13 @@ pub fn period(table: &[u32], g: Group, a: GroupElementId) -> Counted
 pub fn word_length(table: &[u32], g: Group, e: GroupElementId) -> Counted
     ensures { λ r. ⌜ r ≡ lengthAnswer (now (table .entry)) g e ⌝ }
 {
-    if handles::inner::alone(g) {
+    if group_handles::inner::alone(g) {
         let h = g.factors[0];
         return factor::word_length(table, h, e);
     }
-    match handles::inner::admit(table, g, e.0, Limit::Elements, 0, Limit::Number(1)) {
+    match group_handles::inner::admit(table, g, e.0, Limit::Elements, 0, Limit::Number(1)) {
         Verdict::Refused(why) => Counted::Refused(why),
-        Verdict::Fine => spelling::inner::lengths(table, g, e),
+        Verdict::Fine => group_words::inner::lengths(table, g, e),
     }
 }
 
@@ -218,13 +225,13 @@ pub fn word_length(table: &[u32], g: Group, e: GroupElementId) -> Counted
 pub fn write_word(table: &[u32], g: Group, e: GroupElementId, out: &mut [u8]) -> Counted
     ensures { λ r. ⌜ (r ≡ writeAnswer (now (table .entry)) g e (length (now (out .entry)))) × (now (out .exit) ≡ written (now (table .entry)) g e (now (out .entry))) ⌝ }
 {
-    if handles::inner::alone(g) {
+    if group_handles::inner::alone(g) {
         let h = g.factors[0];
         return factor::write_word(table, h, e, out);
     }
-    match handles::inner::admit(table, g, e.0, Limit::Elements, 0, Limit::Number(1)) {
+    match group_handles::inner::admit(table, g, e.0, Limit::Elements, 0, Limit::Number(1)) {
         Verdict::Refused(why) => Counted::Refused(why),
-        Verdict::Fine => spelling::inner::write_in(table, g, e, out),
+        Verdict::Fine => group_words::inner::write_in(table, g, e, out),
     }
 }
 
@@ -249,8 +256,8 @@ pub fn flatten(
 ) -> Made
     ensures { λ r. ⌜ Making.making r (now (table .exit)) (now (work .exit)) ≡ flat (now (from .entry)) g (now (table .entry)) start (now (work .entry)) room ⌝ }
 {
-    match handles::inner::admit(from, g, 0, Limit::Number(1), 0, Limit::Number(1)) {
-        Verdict::Refused(why) => handles::inner::no_factor_made(why),
-        Verdict::Fine => flat::inner::flat_into(from, g, table, start, work, room),
+    match group_handles::inner::admit(from, g, 0, Limit::Number(1), 0, Limit::Number(1)) {
+        Verdict::Refused(why) => group_handles::inner::no_factor_made(why),
+        Verdict::Fine => group_flatten::inner::flat_into(from, g, table, start, work, room),
     }
 }

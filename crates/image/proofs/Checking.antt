@@ -9,12 +9,12 @@ use borrow.Author.Tests.{eq-eqb, ne-eqb, lt-ltb, le-ltb}
 use borrow.Rule.Slice.PartMut.{midOf}
 use lib.ListN.{length, take, drop, replicate, length-drop, length-replicate}
 use lib.Seq.{length-take-le}
-use Rattle.lending.specs.Lending.{tableNeed, workNeed}
-use Rattle.cells.specs.Cells.{cells, halves}
-use Rattle.cells.proofs.Laws.{cells-length}
-use Rattle.packed.specs.Short.{SomeWork, judged}
-use Rattle.packed.proofs.Parts.{rest-lent, front-drop, front-count}
-use Rattle.agree.proofs.Short.{judged-is-built}
+use Rattle.build_lending.specs.Lending.{tableNeed, workNeed}
+use Rattle.image_cells.specs.Cells.{cells, halves}
+use Rattle.image_cells.proofs.Laws.{cells-length}
+use Rattle.image_check.specs.Short.{SomeWork, judged}
+use Rattle.image_check.proofs.Parts.{rest-lent, front-drop, front-count}
+use Rattle.image_check_laws.proofs.Short.{judged-is-built}
 use Rattle.image.specs.Image.{generatorsOf, elementsOf, headNumber, bytesNeed, imageNumber, imageWork}
 use Rattle.image.proofs.Heads.{Right, right-head}
 

@@ -9,13 +9,13 @@ use borrow.Rule.Slice.PartMut.{midOf, putMid}
 use lib.ListN.{length, take, drop}
 use Rattle.egg.specs.declared.Made.{Made}
 use Rattle.egg.specs.declared.Counted.{Counted}
-use Rattle.lending.specs.Finish.{built}
-use Rattle.lending.specs.Lending.{tableNeed, workNeed, lentRight, Ends, refusedMade, madeOf, making}
-use Rattle.lending.proofs.Lending.{part-length, build-back}
-use Rattle.cells.specs.Cells.{halves}
-use Rattle.packed.proofs.Parts.{rest-lent}
+use Rattle.build_lending.specs.Finish.{built}
+use Rattle.build_lending.specs.Lending.{tableNeed, workNeed, lentRight, Ends, refusedMade, madeOf, making}
+use Rattle.build_lending.proofs.Lending.{part-length, build-back}
+use Rattle.image_cells.specs.Cells.{halves}
+use Rattle.image_check.proofs.Parts.{rest-lent}
 use Rattle.image.specs.Image.{generatorsOf, elementsOf, headNumber}
-use Rattle.image_rows.specs.Read.{imageIn}
+use Rattle.image_reading.specs.Read.{imageIn}
 use Rattle.image.specs.Read.{headPlace, readImage}
 use Rattle.image.proofs.Heads.{right-head}
 

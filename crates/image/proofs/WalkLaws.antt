@@ -7,8 +7,8 @@ use mathlib.Core.List.{List}
 use borrow.Author.Tests.{eq-eqb, ne-eqb, lt-leb, le-leb}
 use borrow.Rule.Slice.PartMut.{midOf}
 use lib.ListN.{length}
-use Rattle.cells.specs.Cells.{halves}
-use Rattle.packed.proofs.Parts.{rest-lent}
+use Rattle.image_cells.specs.Cells.{halves}
+use Rattle.image_check.proofs.Parts.{rest-lent}
 use Rattle.image.specs.Image.{generatorsOf, elementsOf, headNumber}
 use Rattle.image_walk.specs.Walked.{lettersBelow, follow}
 use Rattle.image.specs.Walked.{walkNumber}

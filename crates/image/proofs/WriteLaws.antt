@@ -16,9 +16,9 @@ use Rattle.egg.specs.declared.Counted.{Counted}
 use Rattle.egg.specs.declared.Counted.the-variants.{Count, Refused}
 use Rattle.egg.specs.Table.{stepOf}
 use Rattle.egg.specs.Factor.{fitsIn, stretch}
-use Rattle.image_bytes.specs.Written.{allKnown, imageSize, putRows, putHead}
+use Rattle.image_writing.specs.Written.{allKnown, imageSize, putRows, putHead}
 use Rattle.image.specs.Written.{writeCount, imageBy, writtenImage}
-use Rattle.image_bytes.proofs.Bytes.{put-image}
+use Rattle.image_writing.proofs.Bytes.{put-image}
 
 pub size-small : {n count : ℕ} → n ≤ 8 → count ≤ 65535 → 2 * n * count ≤ 1048560
 size-small {n} h k = let p : 2 * n ≤ 16 = omega arith in omega (arith, mul-le-mul p k)

@@ -7,9 +7,9 @@ use mathlib.Core.List.{List, _++_}
 use lib.ListN.{length, getD, drop, replicate}
 use lib.Dec.{ltb, eqb}
 use Rattle.egg.specs.Table.{pick}
-use Rattle.lending.specs.Lending.{tableNeed, workNeed}
-use Rattle.cells.specs.Cells.{spell2, spell4, halves}
-use Rattle.packed.specs.Short.{built}
+use Rattle.build_lending.specs.Lending.{tableNeed, workNeed}
+use Rattle.image_cells.specs.Cells.{spell2, spell4, halves}
+use Rattle.image_check.specs.Short.{built}
 
 -- What the head says: the length of what follows it, the generators, the elements.
 abbrev pub lengthOf : List ℕ → ℕ

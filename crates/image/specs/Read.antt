@@ -6,10 +6,10 @@ use mathlib.Core.List.{List}
 use lib.ListN.{length, drop, take}
 use lib.Dec.{eqb}
 use Rattle.egg.specs.Table.{pick}
-use Rattle.lending.specs.Lending.{tableNeed, workNeed, lentRight, refusedMade, Making, making, lentBack}
-use Rattle.cells.specs.Cells.{halves}
+use Rattle.build_lending.specs.Lending.{tableNeed, workNeed, lentRight, refusedMade, Making, making, lentBack}
+use Rattle.image_cells.specs.Cells.{halves}
 use Rattle.image.specs.Image.{generatorsOf, elementsOf, headNumber}
-use Rattle.image_rows.specs.Read.{imageIn}
+use Rattle.image_reading.specs.Read.{imageIn}
 
 -- The place of a bad head: of 1, "more than 8 generators", it is "the count"; 16 has none.
 abbrev pub headPlace : List ℕ → ℕ

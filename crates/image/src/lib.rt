@@ -2,8 +2,8 @@
 ghost use mathlib.Core.Path.{_≡_};
 ghost use Prim.Native.Nat.{_*_, _≤_};
 ghost use lib.ListN.{length};
-ghost use Rattle.lending.specs.Lending.{tableNeed, Making};
-ghost use Rattle.image_bytes.specs.Written.{imageSize};
+ghost use Rattle.build_lending.specs.Lending.{tableNeed, Making};
+ghost use Rattle.image_writing.specs.Written.{imageSize};
 ghost use Rattle.image.specs.Written.{writeCount, writtenImage};
 ghost use Rattle.image.specs.Read.{headPlace, readImage};
 ghost use Rattle.image.specs.Walked.{walkNumber};
@@ -18,7 +18,7 @@ use egg::Verdict;
 fn said_length(image: &[u8]) -> u32
     ensures { λ r. ⌜ r ≡ lengthOf (now (image .entry)) ⌝ }
 {
-    cells::inner::spell(
+    image_cells::inner::spell(
         egg::inner::byte(image, 3),
         egg::inner::byte(image, 2),
         egg::inner::byte(image, 1),
@@ -39,7 +39,7 @@ pub fn elements(image: &[u8]) -> u32
 {
     let a = egg::inner::byte(image, 6);
     let b = egg::inner::byte(image, 7);
-    cells::inner::spell_half(a, b)
+    image_cells::inner::spell_half(a, b)
 }
 
 // 16 and 1 in the head, or 0.
@@ -74,7 +74,7 @@ pub fn head(image: &[u8]) -> u32
 fn table_bytes(n: u8, count: u32) -> usize
     ensures { λ r. ⌜ r ≡ 4 * tableNeed n count ⌝ }
 {
-    4 * lending::inner::table_need(n, count)
+    4 * build_lending::inner::table_need(n, count)
 }
 
 // How many bytes of work the check of an image needs.
@@ -99,14 +99,14 @@ pub fn check(image: &[u8], work: &mut [u8]) -> u32
     if work.len() < need {
         return 4;
     }
-    let number = packed::inner::judge(
+    let number = image_check::inner::judge(
         &mut work[..need],
         table_bytes(n, count),
         &image[8..],
         n,
         count,
     );
-    cells::inner::clear(&mut work[..need]);
+    image_cells::inner::clear(&mut work[..need]);
     number
 }
 
@@ -123,20 +123,20 @@ pub fn write(table: &[u32], f: Factor, out: &mut [u8]) -> Counted
     ensures { λ r. ⌜ (r ≡ writeCount (now (table .entry)) f (length (now (out .entry)))) × (now (out .exit) ≡ writtenImage (now (table .entry)) f (now (out .entry))) ⌝ }
 {
     if !egg::fits(table, f) {
-        return words::inner::refused_count(17);
+        return factor_words::inner::refused_count(17);
     }
     let n = f.generators;
     let count = f.elements;
     let need = size(n, count);
     if out.len() < (need as usize) {
-        return words::inner::refused_count(4);
+        return factor_words::inner::refused_count(4);
     }
     let s = egg::inner::part(table, f);
-    match image_bytes::inner::all_known(s, n, count) {
+    match image_writing::inner::all_known(s, n, count) {
         Verdict::Refused(why) => Counted::Refused(why),
         Verdict::Fine => {
-            image_bytes::inner::put_head(out, need - 4, n, count);
-            image_bytes::inner::put_rows(out, s, n, count);
+            image_writing::inner::put_head(out, need - 4, n, count);
+            image_writing::inner::put_rows(out, s, n, count);
             Counted::Count(need)
         }
     }
@@ -160,23 +160,23 @@ pub fn read(image: &[u8], table: &mut [u32], start: usize, work: &mut [u32]) -> 
 {
     let found = head(image);
     if found != 0 {
-        return lending::inner::refused_made(found, head_place(image, found));
+        return build_lending::inner::refused_made(found, head_place(image, found));
     }
     let n = generators(image);
     let count = elements(image);
-    if !lending::inner::lent_right(table.len(), start, work.len(), count, n) {
-        return lending::inner::refused_made(4, 0);
+    if !build_lending::inner::lent_right(table.len(), start, work.len(), count, n) {
+        return build_lending::inner::refused_made(4, 0);
     }
-    let end = lending::inner::stretch_end(table.len(), start, count, n);
-    let need = lending::inner::work_need(n, count);
-    let made = image_rows::inner::read_in(
+    let end = build_lending::inner::stretch_end(table.len(), start, count, n);
+    let need = build_lending::inner::work_need(n, count);
+    let made = image_reading::inner::read_in(
         &mut table[start..end],
         &mut work[..need],
         &image[8..],
         n,
         count,
     );
-    lending::inner::made(start, count, n, made)
+    build_lending::inner::made(start, count, n, made)
 }
 
 // Walks a word of generators from an element: the element reached, or 65,536 + the refusal's number.

@@ -8,7 +8,7 @@ use native.Mathlib.Numerals.{add-one}
 use borrow.Author.Tests.{lt-ltb, le-ltb, lt-leb, le-leb}
 use lib.ListN.{length, getD, drop, drop-of-length-le}
 use lib.Seq.{drop-cons}
-use Rattle.reading.specs.Reading.{composedAt}
+use Rattle.build_reading.specs.Reading.{composedAt}
 use Rattle.image_walk.specs.Walked.{lettersBelow, follow}
 
 module _ (n : ℕ) (w : List ℕ) (i : ℕ) where

@@ -5,7 +5,7 @@ use mathlib.Core.List.{List, [], _∷_}
 use mathlib.Core.Bool.{Bool, true, _&&_}
 use lib.Dec.{ltb, leb}
 use Rattle.egg.specs.Table.{pick}
-use Rattle.reading.specs.Reading.{composedAt}
+use Rattle.build_reading.specs.Reading.{composedAt}
 
 -- Each letter is a generator.
 unfoldable pub lettersBelow : ℕ → List ℕ → Bool

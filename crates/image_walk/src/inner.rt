@@ -1,7 +1,7 @@
 // A word walked on an image's successors.
 ghost use mathlib.Core.Path.{_≡_};
-ghost use Rattle.reading.specs.Reading.{composedAt};
-ghost use Rattle.cells.specs.Cells.{halves};
+ghost use Rattle.build_reading.specs.Reading.{composedAt};
+ghost use Rattle.image_cells.specs.Cells.{halves};
 ghost use Rattle.image_walk.specs.Walked.{lettersBelow, follow};
 use egg::GeneratorId;
 use egg::GroupElementId;
@@ -25,7 +25,7 @@ fn stored(rows: &[u8], n: u8, e: GroupElementId, g: GeneratorId) -> u32
 {
     let row = e.0;
     let k = g.0;
-    cells::inner::half(rows, (row as usize) * (n as usize) + (k as usize))
+    image_cells::inner::half(rows, (row as usize) * (n as usize) + (k as usize))
 }
 
 // The element reached, or 65,536 + 17.

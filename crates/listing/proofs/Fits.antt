@@ -16,12 +16,12 @@ use Rattle.egg.specs.declared.Verdict.the-variants as verdict
 use Rattle.egg.specs.Table.{pick}
 use Rattle.egg.specs.Pairs.{pairCount, ordersRight}
 use Rattle.egg.proofs.Rooms.{room-enough}
-use Rattle.lending.specs.Lending.{Making, making}
+use Rattle.build_lending.specs.Lending.{Making, making}
 use Rattle.enumeration.specs.Calls.{enumerates}
 use Rattle.promises.proofs.Enumerated.{enumeration-accepted}
-use Rattle.lines.specs.Text.{groupText, refusedText}
-use Rattle.page.specs.Listing.{ordersIn, pageBy, pageOf, rightPage, listingOf}
-use Rattle.lines.proofs.Bounds.{group-length, refused-length}
+use Rattle.listing_lines.specs.Text.{groupText, refusedText}
+use Rattle.listing_page.specs.Listing.{ordersIn, pageBy, pageOf, rightPage, listingOf}
+use Rattle.listing_lines.proofs.Bounds.{group-length, refused-length}
 
 -- 28 bytes of head and 120 lines of 33 + 11 · 4.
 pub record Fits (text : List ℕ) : Type 0 where

@@ -5,6 +5,6 @@ fn main() {
     let mut input = [0u8; 64];
     let mut text = [0u8; 9268];
     let read = io::read_full(0, &mut input);
-    let used = page::listing(&input[..read], &mut text);
+    let used = listing_page::listing(&input[..read], &mut text);
     io::write_all(1, &text[..used]);
 }

@@ -9,24 +9,24 @@ use lib.ListN.{length, replicate}
 use Rattle.egg.specs.declared.Verdict.the-variants as verdict
 use Rattle.egg.specs.declared.Counted.the-variants.{Count, Refused}
 use Rattle.egg.specs.Table.{startOf, stepOf}
-use Rattle.hops.specs.Hops.{withHops}
-use Rattle.checks.specs.Checks.{checked, check-group}
-use Rattle.lending.specs.Finish.{built, zeroed, finished, finishedPlaced}
-use Rattle.lending.proofs.Finishing.{refused-counted}
-use Rattle.reading.specs.Reading.{Placed, placed, readAll}
+use Rattle.build_word_cells.specs.Hops.{withHops}
+use Rattle.build_checks.specs.Checks.{checked, check-group}
+use Rattle.build_lending.specs.Finish.{built, zeroed, finished, finishedPlaced}
+use Rattle.build_lending.proofs.Finishing.{refused-counted}
+use Rattle.build_reading.specs.Reading.{Placed, placed, readAll}
 use Rattle.theory.proofs.AnyCarrier.{any-carrier}
 use Rattle.theory.proofs.Counting.{numbered-table}
 use Rattle.theory.proofs.FirstPlaces.{first-parents}
 use Rattle.theory.proofs.Recording.{word-of-recorded}
 use Rattle.theory.proofs.Complete.{columns}
-use Rattle.meaning.proofs.Accepted.{sound-regular}
-use Rattle.meaning.proofs.Ruling.{ruled-kept}
-use Rattle.meaning.proofs.Complete.{checks-complete}
-use Rattle.meaning.proofs.Refused.{regular-same}
-use Rattle.numbering.specs.Read.{Read}
-use Rattle.numbering.proofs.Readings.{accepted-read, readable-accepted, read-words, read-readable, read-steps, read-rule, read-appearance}
-use Rattle.numbering.proofs.Storing.{read-stored}
-use Rattle.answers.proofs.Settled.{Settled, settle, by-check, settled-kept, settled-work, settled-sound, settled-hops}
+use Rattle.build_checks_laws.proofs.Accepted.{sound-regular}
+use Rattle.build_checks_laws.proofs.Ruling.{ruled-kept}
+use Rattle.build_checks_laws.proofs.Complete.{checks-complete}
+use Rattle.build_checks_laws.proofs.Refused.{regular-same}
+use Rattle.build_reading_laws.specs.Read.{Read}
+use Rattle.build_reading_laws.proofs.Readings.{accepted-read, readable-accepted, read-words, read-readable, read-steps, read-rule, read-appearance}
+use Rattle.build_reading_laws.proofs.Storing.{read-stored}
+use Rattle.factor_laws.proofs.Settled.{Settled, settle, by-check, settled-kept, settled-work, settled-sound, settled-hops}
 use Rattle.promises.specs.Composed.{Taken, Holding}
 
 -- An accepted count, and then an accepted end of the build.

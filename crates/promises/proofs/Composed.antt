@@ -16,11 +16,11 @@ use Rattle.egg.specs.Table.{pick}
 use Rattle.egg.specs.Scan.{refusedOf}
 use Rattle.egg.specs.Factor.{hasRoom, stretch}
 use Rattle.egg.proofs.Rooms.{and-first, and-second, positive, limited}
-use Rattle.lending.specs.Finish.{Built}
-use Rattle.lending.specs.Lending.{tableNeed, workNeed, lentRight, within, noFactor, making, lentBack, refusedMade, Making}
-use Rattle.lending.proofs.Lending.{lent-table}
+use Rattle.build_lending.specs.Finish.{Built}
+use Rattle.build_lending.specs.Lending.{tableNeed, workNeed, lentRight, within, noFactor, making, lentBack, refusedMade, Making}
+use Rattle.build_lending.proofs.Lending.{lent-table}
 use Rattle.factor.specs.Composed.{composedIn, composed}
-use Rattle.reading.specs.Reading.{composedAt}
+use Rattle.build_reading.specs.Reading.{composedAt}
 use Rattle.promises.specs.Composed.{RowsRight, Taken, Groupless, Holding, Given}
 use Rattle.promises.proofs.Lent.{refused-making, handle, work-taken, taken-enough, lentTable, by-build, by-refused, stretch-part, fits-still}
 use Rattle.promises.proofs.Built.{built-holds, built-work, taken-built}

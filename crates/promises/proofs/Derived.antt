@@ -10,28 +10,28 @@ use Rattle.egg.specs.declared.Verdict.the-variants as verdict
 use Rattle.egg.specs.declared.Counted.the-variants.{Count, Refused}
 use Rattle.egg.specs.Table.{startOf, stepOf}
 use Rattle.egg.specs.Pairs.{ordersRight}
-use Rattle.hops.specs.Hops.{Hops}
-use Rattle.checks.specs.Checks.{check-group}
-use Rattle.lending.specs.Finish.{built, finished}
-use Rattle.relations.specs.Relations.{relationsRow, relations}
-use Rattle.running.specs.declared.inner.Ran.{Ran}
-use Rattle.running.specs.declared.inner.Ran.the-variants as ran
-use Rattle.running.specs.Run.{enumerated}
+use Rattle.build_word_cells.specs.Hops.{Hops}
+use Rattle.build_checks.specs.Checks.{check-group}
+use Rattle.build_lending.specs.Finish.{built, finished}
+use Rattle.factor_relations.specs.Relations.{relationsRow, relations}
+use Rattle.enumeration_run.specs.declared.inner.Ran.{Ran}
+use Rattle.enumeration_run.specs.declared.inner.Ran.the-variants as ran
+use Rattle.enumeration_run.specs.Run.{enumerated}
 use Rattle.enumeration.specs.Calls.{ranCount, enumeratedIn}
 use Rattle.theory.specs.Words.{trace}
 use Rattle.theory.specs.Presentation.{order-of, Holds, Derived}
 use Rattle.theory.proofs.Pasts.{past-agree, past-numbered, past-appearance}
-use Rattle.meaning.specs.Stored.{Kept, wordOf}
-use Rattle.meaning.specs.Sound.{Sound, Ruled}
-use Rattle.meaning.proofs.Inverses.{kept-cell}
-use Rattle.meaning.proofs.Ruling.{ruled}
-use Rattle.answers.proofs.Relators.{orders-long, relations-exact, relations-first}
-use Rattle.derived.specs.Invariant.{Worded}
-use Rattle.derived.specs.Recorded as run
-use Rattle.derived.proofs.Derivation.{words-traced, work-long, done-sound, sound-derived}
-use Rattle.derived.proofs.Going.{done-finished}
-use Rattle.derived.proofs.Ending.{never-paused}
-use Rattle.answers.proofs.Settled.{Settled, by-count, settled-kept, settled-work, settled-sound, settled-hops}
+use Rattle.build_checks_laws.specs.Stored.{Kept, wordOf}
+use Rattle.build_checks_laws.specs.Sound.{Sound, Ruled}
+use Rattle.build_checks_laws.proofs.Inverses.{kept-cell}
+use Rattle.build_checks_laws.proofs.Ruling.{ruled}
+use Rattle.factor_laws.proofs.Relators.{orders-long, relations-exact, relations-first}
+use Rattle.enumeration_run_laws.specs.Invariant.{Worded}
+use Rattle.enumeration_run_laws.specs.Recorded as run
+use Rattle.enumeration_run_laws.proofs.Derivation.{words-traced, work-long, done-sound, sound-derived}
+use Rattle.enumeration_run_laws.proofs.Going.{done-finished}
+use Rattle.enumeration_run_laws.proofs.Ending.{never-paused}
+use Rattle.factor_laws.proofs.Settled.{Settled, by-count, settled-kept, settled-work, settled-sound, settled-hops}
 use Rattle.enumeration.proofs.Calls.{by-relations}
 use Rattle.promises.proofs.Built.{below-cells}
 

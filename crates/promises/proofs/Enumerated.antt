@@ -13,15 +13,15 @@ use Rattle.egg.specs.declared.Verdict.the-variants as verdict
 use Rattle.egg.specs.Table.{pick}
 use Rattle.egg.specs.Pairs.{ordersRight}
 use Rattle.egg.specs.Factor.{hasRoom, stretch}
-use Rattle.lending.specs.Lending.{tableNeed, workNeed, lentRight, within, refusedMade, Making, making, lentBack}
-use Rattle.lending.proofs.Lending.{lent-table}
+use Rattle.build_lending.specs.Lending.{tableNeed, workNeed, lentRight, within, refusedMade, Making, making, lentBack}
+use Rattle.build_lending.proofs.Lending.{lent-table}
 use Rattle.enumeration.specs.Calls.{enumeratedIn, refusedMaking, enumerates}
 use Rattle.theory.proofs.Walking.{walk-closed}
 use Rattle.theory.proofs.Sound.{compose-words}
 use Rattle.theory.proofs.Presented.{presented}
-use Rattle.answers.specs.Accepted.{Accepted, reach}
-use Rattle.answers.proofs.Handles.{compose-answer}
-use Rattle.derived.specs.Recorded as run
+use Rattle.factor_laws.specs.Accepted.{Accepted, reach}
+use Rattle.factor_laws.proofs.Handles.{compose-answer}
+use Rattle.enumeration_run_laws.specs.Recorded as run
 use Rattle.enumeration.proofs.Calls.{limits}
 use Rattle.promises.specs.Enumerated.{OrdersRight, Enumerated, Demand3}
 use Rattle.promises.proofs.Lent.{refused-making, handle, lentTable, by-build, stretch-part, fits-still}

@@ -21,14 +21,14 @@ use Rattle.egg.specs.Pairs.{ordersRight}
 use Rattle.egg.specs.Factor.{hasRoom, fitsIn}
 use Rattle.egg.proofs.Rooms.{false-true, and-first, and-second, within-length, positive, limited}
 use Rattle.egg.proofs.Scans.{refused-fine}
-use Rattle.lending.specs.Finish.{Built, built}
-use Rattle.lending.specs.Lending.{tableNeed, workNeed, lentRight, within, noFactor, refusedMade, Making, making, lentBack}
-use Rattle.lending.proofs.Lending.{lent-table, lent-enough}
+use Rattle.build_lending.specs.Finish.{Built, built}
+use Rattle.build_lending.specs.Lending.{tableNeed, workNeed, lentRight, within, noFactor, refusedMade, Making, making, lentBack}
+use Rattle.build_lending.proofs.Lending.{lent-table, lent-enough}
 use Rattle.factor.specs.Composed.{composedIn, composed}
-use Rattle.reading.specs.Reading.{composedAt}
+use Rattle.build_reading.specs.Reading.{composedAt}
 use Rattle.enumeration.specs.Calls.{enumeratedIn, refusedMaking, enumerates}
-use Rattle.meaning.specs.Numbers.{member, In}
-use Rattle.meaning.proofs.Numbers.{each-in, orders-number}
+use Rattle.build_checks_laws.specs.Numbers.{member, In}
+use Rattle.build_checks_laws.proofs.Numbers.{each-in, orders-number}
 use Rattle.promises.specs.Composed.{RowsRight}
 use Rattle.promises.specs.Enumerated.{OrdersRight}
 use Rattle.promises.specs.Leaves.{Leaves, untouched, zeros, lentFor, composedNumbers, enumerationNumbers}

@@ -17,9 +17,9 @@ use Rattle.egg.specs.declared.Verdict.the-variants as verdict
 use Rattle.egg.specs.declared.Counted.the-variants.{Count, Refused}
 use Rattle.egg.specs.Factor.{hasRoom, fitsIn, stretch}
 use Rattle.egg.proofs.Rooms.{within-length}
-use Rattle.lending.specs.Finish.{Built, built}
-use Rattle.lending.specs.Lending.{tableNeed, workNeed, lentRight, within, noFactor, madeOf, making, lentBack}
-use Rattle.lending.proofs.Lending.{lent-enough}
+use Rattle.build_lending.specs.Finish.{Built, built}
+use Rattle.build_lending.specs.Lending.{tableNeed, workNeed, lentRight, within, noFactor, madeOf, making, lentBack}
+use Rattle.build_lending.proofs.Lending.{lent-enough}
 
 -- Past the end of the first list.
 append-past : (p q : List ℕ) (k j : ℕ) → length p ≡ k → getD (p ++ q) (k + j) 0 ≡ getD q j 0

@@ -9,11 +9,11 @@ use lib.ListN.{length, replicate, length-replicate, getD-replicate}
 use Rattle.egg.specs.declared.Refusal.{Refusal}
 use Rattle.egg.specs.declared.Factor.{Factor}
 use Rattle.egg.specs.declared.Verdict.the-variants as verdict
-use Rattle.lending.specs.Lending.{making}
+use Rattle.build_lending.specs.Lending.{making}
 use Rattle.factor.specs.Composed.{composed}
 use Rattle.enumeration.specs.Calls.{enumerates}
-use Rattle.meaning.specs.Numbers.{member, every, In}
-use Rattle.meaning.proofs.Numbers.{each-in, none-of}
+use Rattle.build_checks_laws.specs.Numbers.{member, every, In}
+use Rattle.build_checks_laws.proofs.Numbers.{each-in, none-of}
 use Rattle.promises.specs.Leaves.{Lent, Cleared, Cells, Leaves, untouched, zeros, composedNumbers, enumerationNumbers}
 use Rattle.promises.proofs.Lent.{within-long, within-cell, within-before, within-after}
 use Rattle.promises.proofs.Leaves.{composed-leaves, enumeration-leaves}

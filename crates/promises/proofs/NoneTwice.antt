@@ -26,26 +26,26 @@ use Rattle.egg.specs.declared.Verdict.the-variants as verdict
 use Rattle.egg.specs.declared.Counted.the-variants.{Count}
 use Rattle.egg.specs.Table.{startOf, parentOf, lastOf, stepOf, backOf}
 use Rattle.egg.specs.Pairs.{ordersRight}
-use Rattle.hops.specs.Hops.{withHops}
-use Rattle.lending.specs.Finish.{built, zeroed}
-use Rattle.lending.specs.Lending.{tableNeed, workNeed, lentRight, within, making, lentBack}
-use Rattle.running.specs.Run.{enumerated}
-use Rattle.running.specs.declared.inner.Ran.the-variants as ran
+use Rattle.build_word_cells.specs.Hops.{withHops}
+use Rattle.build_lending.specs.Finish.{built, zeroed}
+use Rattle.build_lending.specs.Lending.{tableNeed, workNeed, lentRight, within, making, lentBack}
+use Rattle.enumeration_run.specs.Run.{enumerated}
+use Rattle.enumeration_run.specs.declared.inner.Ran.the-variants as ran
 use Rattle.enumeration.specs.Calls.{enumeratedIn, enumerates}
-use Rattle.meaning.specs.Stored.{Stored}
-use Rattle.meaning.proofs.Inverses.{kept-same}
-use Rattle.meaning.proofs.Complete.{checks-complete}
-use Rattle.answers.proofs.Relators.{orders-long, relations-exact, relations-identity}
-use Rattle.derived.specs.Recorded as run
-use Rattle.answers.proofs.Settled.{settle, settled-kept, settled-sound}
+use Rattle.build_checks_laws.specs.Stored.{Stored}
+use Rattle.build_checks_laws.proofs.Inverses.{kept-same}
+use Rattle.build_checks_laws.proofs.Complete.{checks-complete}
+use Rattle.factor_laws.proofs.Relators.{orders-long, relations-exact, relations-identity}
+use Rattle.enumeration_run_laws.specs.Recorded as run
+use Rattle.factor_laws.proofs.Settled.{settle, settled-kept, settled-sound}
 use Rattle.promises.proofs.Lent.{handle, by-build}
 use Rattle.promises.proofs.Enumerated.{enumerates-is-build}
 use Rattle.enumeration.proofs.Calls.{limits}
 use Rattle.promises.proofs.Derived.{enumerated-related, enumerated-steps, steps-enumerated, word-same}
 use Rattle.theory.specs.Past.{Past, start, old, new, next-row}
 use Rattle.theory.proofs.Parity.{equiv-parity}
-use Rattle.derived.specs.Going.{Finished}
-use Rattle.derived.proofs.Going.{done-finished}
+use Rattle.enumeration_run_laws.specs.Going.{Finished}
+use Rattle.enumeration_run_laws.proofs.Going.{done-finished}
 use Rattle.promises.specs.NoneTwice.{NoneTwice}
 
 -- The first row: each generator made an element, in order.

@@ -9,17 +9,17 @@ use Rattle.egg.specs.declared.Refusal.{Refusal}
 use Rattle.egg.specs.declared.Factor.{Factor}
 use Rattle.egg.specs.declared.Verdict.{Verdict}
 use Rattle.egg.specs.declared.Verdict.the-variants as verdict
-use Rattle.lending.specs.Lending.{tableNeed, workNeed, Making, making}
+use Rattle.build_lending.specs.Lending.{tableNeed, workNeed, Making, making}
 use Rattle.factor.specs.Composed.{composed}
-use Rattle.reading.specs.Reading.{composedAt}
-use Rattle.running.specs.Run.{enumerated}
-use Rattle.running.specs.declared.inner.Ran.the-variants as ran
+use Rattle.build_reading.specs.Reading.{composedAt}
+use Rattle.enumeration_run.specs.Run.{enumerated}
+use Rattle.enumeration_run.specs.declared.inner.Ran.the-variants as ran
 use Rattle.enumeration.specs.Calls.{enumerates}
 use Rattle.theory.specs.Presentation.{order-of}
-use Rattle.derived.specs.Recorded.{words}
-use Rattle.meaning.specs.Numbers.{member, In}
-use Rattle.answers.specs.Papers.{valuePaper}
-use Rattle.answers.proofs.Papers.{paper-fine}
+use Rattle.enumeration_run_laws.specs.Recorded.{words}
+use Rattle.build_checks_laws.specs.Numbers.{member, In}
+use Rattle.factor_laws.specs.Papers.{valuePaper}
+use Rattle.factor_laws.proofs.Papers.{paper-fine}
 use Rattle.promises.specs.Composed.{RowsRight, Taken, Given}
 use Rattle.promises.specs.Enumerated.{OrdersRight, Enumerated}
 use Rattle.promises.specs.Leaves.{composedNumbers, enumerationNumbers}

@@ -8,9 +8,9 @@ use mathlib.Core.List.{List}
 use lib.ListN.{length}
 use Rattle.egg.specs.declared.Factor.{Factor}
 use Rattle.egg.specs.Scan.{refusedOf}
-use Rattle.lending.specs.Lending.{lentRight, making}
+use Rattle.build_lending.specs.Lending.{lentRight, making}
 use Rattle.factor.specs.Composed.{composed}
-use Rattle.reading.specs.Reading.{composedAt}
+use Rattle.build_reading.specs.Reading.{composedAt}
 use Rattle.theory.proofs.Counting.{numbered-table}
 use Rattle.theory.proofs.FirstPlaces.{numbered-spelled}
 use Rattle.theory.proofs.Parting.{groupless-parting}

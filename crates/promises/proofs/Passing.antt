@@ -8,11 +8,11 @@ use native.Mathlib.Omega.{arith}
 use lib.ListN.{getD}
 use Rattle.egg.specs.declared.Verdict.the-variants.{Fine}
 use Rattle.egg.specs.Table.{startOf}
-use Rattle.checks.specs.Checks.{check8, ranges}
+use Rattle.build_checks.specs.Checks.{check8, ranges}
 use Rattle.theory.proofs.Counting.{numbered-table}
-use Rattle.meaning.proofs.Tests.{check8-fine, ranges-fine}
-use Rattle.numbering.specs.Read.{Read}
-use Rattle.derived.specs.Going.{Finished}
+use Rattle.build_checks_laws.proofs.Tests.{check8-fine, ranges-fine}
+use Rattle.build_reading_laws.specs.Read.{Read}
+use Rattle.enumeration_run_laws.specs.Going.{Finished}
 
 -- A number of a row's steps is none or one more than an element.
 steps-small : (t : List ℕ) (n N e : ℕ) → ((g r : ℕ) → g < n → getD t (startOf n e + g) 0 ≡ suc r → r < N)

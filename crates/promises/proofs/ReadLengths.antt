@@ -13,10 +13,10 @@ use Rattle.egg.specs.declared.Counted.the-variants.{Count, Refused}
 use Rattle.egg.specs.declared.GroupElementId.{GroupElementId}
 use Rattle.egg.specs.declared.GeneratorId.{GeneratorId}
 use Rattle.egg.specs.Table.{pick, lengthOf}
-use Rattle.reading.specs.Build.{setStep, setWord, numbered, Adds, adds}
-use Rattle.reading.specs.Reading.{Placed, placed, thenPlaced, onAdds, readPlace, readRow, readFrom, readAll}
-use Rattle.derived.proofs.Marking.{set-length}
-use Rattle.derived.proofs.Growing.{word-length}
+use Rattle.build_reading.specs.Build.{setStep, setWord, numbered, Adds, adds}
+use Rattle.build_reading.specs.Reading.{Placed, placed, thenPlaced, onAdds, readPlace, readRow, readFrom, readAll}
+use Rattle.enumeration_run_laws.proofs.Marking.{set-length}
+use Rattle.enumeration_run_laws.proofs.Growing.{word-length}
 
 abbrev pub placedTable : Placed → List ℕ
 placedTable (placed c t) = t

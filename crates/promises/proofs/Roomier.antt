@@ -20,34 +20,34 @@ use Rattle.egg.specs.declared.Reached.{Reached}
 use Rattle.egg.specs.declared.Reached.the-variants.{Element, Refused}
 use Rattle.egg.specs.Factor.{readStep, hasRoom}
 use Rattle.egg.proofs.Cells.{put-length, inside, cell-inside}
-use Rattle.hops.specs.Hops.{hopFrom, withHops}
-use Rattle.hops.proofs.Hops.{hop-agree}
-use Rattle.checks.specs.Checks.{check-group}
-use Rattle.inverses.specs.Inverses.{invertFrom, invertOf, fillInverses}
-use Rattle.lending.specs.Finish.{built, zeroed, finishedPlaced}
-use Rattle.lending.specs.Lending.{tableNeed, workNeed, lentRight, within, making, lentBack, Making}
-use Rattle.lending.proofs.Lending.{lent-table}
-use Rattle.walks.specs.Walks.{onReached}
-use Rattle.relations.specs.Relations.{turned, doubledRow, pairsRow, relationsRow}
-use Rattle.reading.specs.Reading.{placed, readAll, composedAt}
+use Rattle.build_word_cells.specs.Hops.{hopFrom, withHops}
+use Rattle.build_word_cells.proofs.Hops.{hop-agree}
+use Rattle.build_checks.specs.Checks.{check-group}
+use Rattle.build_checks_inverses.specs.Inverses.{invertFrom, invertOf, fillInverses}
+use Rattle.build_lending.specs.Finish.{built, zeroed, finishedPlaced}
+use Rattle.build_lending.specs.Lending.{tableNeed, workNeed, lentRight, within, making, lentBack, Making}
+use Rattle.build_lending.proofs.Lending.{lent-table}
+use Rattle.factor_questions.specs.Walks.{onReached}
+use Rattle.factor_relations.specs.Relations.{turned, doubledRow, pairsRow, relationsRow}
+use Rattle.build_reading.specs.Reading.{placed, readAll, composedAt}
 use Rattle.factor.specs.Composed.{composedIn, composed}
-use Rattle.running.specs.Run.{enumerated}
+use Rattle.enumeration_run.specs.Run.{enumerated}
 use Rattle.enumeration.specs.Calls.{enumeratedIn, enumerates}
 use Rattle.theory.specs.Table.{Columns}
 use Rattle.theory.proofs.AnyCarrier.{any-carrier}
 use Rattle.theory.proofs.Complete.{columns}
 use Rattle.theory.proofs.FirstPlaces.{parent-unique, last-unique}
-use Rattle.meaning.specs.Stored.{Stored, wordOf}
-use Rattle.meaning.proofs.Inverses.{kept-turned, stored-kept}
-use Rattle.meaning.proofs.Accepted.{checks-kept, accepted-filled, sound-regular}
-use Rattle.meaning.proofs.Complete.{checks-complete}
-use Rattle.numbering.specs.Read.{Read}
-use Rattle.numbering.proofs.Readings.{accepted-read, readable-accepted, read-letters}
-use Rattle.derived.specs.Recorded as run
-use Rattle.derived.proofs.Derivation.{work-long, done-sound}
-use Rattle.roomier.specs.Longer.{longer}
-use Rattle.roomier.proofs.Stores.{longer-get, longer-put, longer-length}
-use Rattle.roomier.proofs.Roomier.{more-room}
+use Rattle.build_checks_laws.specs.Stored.{Stored, wordOf}
+use Rattle.build_checks_laws.proofs.Inverses.{kept-turned, stored-kept}
+use Rattle.build_checks_laws.proofs.Accepted.{checks-kept, accepted-filled, sound-regular}
+use Rattle.build_checks_laws.proofs.Complete.{checks-complete}
+use Rattle.build_reading_laws.specs.Read.{Read}
+use Rattle.build_reading_laws.proofs.Readings.{accepted-read, readable-accepted, read-letters}
+use Rattle.enumeration_run_laws.specs.Recorded as run
+use Rattle.enumeration_run_laws.proofs.Derivation.{work-long, done-sound}
+use Rattle.enumeration_room_laws.specs.Longer.{longer}
+use Rattle.enumeration_room_laws.proofs.Stores.{longer-get, longer-put, longer-length}
+use Rattle.enumeration_room_laws.proofs.Roomier.{more-room}
 use Rattle.promises.specs.Roomier.{Roomier}
 use Rattle.promises.proofs.SameRows.{SameRows, same-cells}
 use Rattle.promises.proofs.Lent.{handle, lentTable, by-build, stretch-cell}
@@ -56,8 +56,8 @@ use Rattle.promises.proofs.Enumerated.{enumerates-is-build}
 use Rattle.enumeration.proofs.Calls.{limits}
 use Rattle.promises.proofs.Enumerated as enumeration
 use Rattle.promises.proofs.Composed as rows-call
-use Rattle.numbering.proofs.Storing.{read-stored}
-use Rattle.answers.proofs.Settled.{Settled, settle, settled-kept, settled-sound}
+use Rattle.build_reading_laws.proofs.Storing.{read-stored}
+use Rattle.factor_laws.proofs.Settled.{Settled, settle, settled-kept, settled-sound}
 use Rattle.promises.proofs.Built.{passed, passes, work-enough, rows-fit, settled-holds, built-holds}
 
 -- Inverses are found and filled alike in a longer list.

@@ -15,25 +15,25 @@ use Rattle.egg.specs.declared.Counted.the-variants.{Count, Refused}
 use Rattle.egg.specs.Pairs.{ordersRight}
 use Rattle.egg.specs.Factor.{hasRoom}
 use Rattle.egg.proofs.Rooms.{positive, limited}
-use Rattle.checks.specs.Checks.{check-group}
-use Rattle.lending.specs.Finish.{built, zeroed, finished, finishedPlaced}
-use Rattle.lending.specs.Lending.{tableNeed, workNeed, lentRight, within, noFactor, making, lentBack}
-use Rattle.lending.proofs.Lending.{lent-table}
-use Rattle.reading.specs.Reading.{Placed, placed, readAll, composedAt}
+use Rattle.build_checks.specs.Checks.{check-group}
+use Rattle.build_lending.specs.Finish.{built, zeroed, finished, finishedPlaced}
+use Rattle.build_lending.specs.Lending.{tableNeed, workNeed, lentRight, within, noFactor, making, lentBack}
+use Rattle.build_lending.proofs.Lending.{lent-table}
+use Rattle.build_reading.specs.Reading.{Placed, placed, readAll, composedAt}
 use Rattle.factor.specs.Composed.{composedIn, composed}
-use Rattle.running.specs.Run.{Outcome, enumerated}
-use Rattle.running.specs.declared.inner.Ran.the-variants as ran
+use Rattle.enumeration_run.specs.Run.{Outcome, enumerated}
+use Rattle.enumeration_run.specs.declared.inner.Ran.the-variants as ran
 use Rattle.enumeration.specs.Calls.{enumerates}
-use Rattle.derived.specs.Recorded.{Limits}
-use Rattle.numbering.specs.Read.{Refuses}
-use Rattle.numbering.proofs.Readings.{accepted-read, refused-read, refuses-refused, refused-number}
+use Rattle.enumeration_run_laws.specs.Recorded.{Limits}
+use Rattle.build_reading_laws.specs.Read.{Refuses}
+use Rattle.build_reading_laws.proofs.Readings.{accepted-read, refused-read, refuses-refused, refused-number}
 use Rattle.promises.proofs.Composed.{composed-is-build}
 use Rattle.promises.proofs.Enumerated.{enumerates-is-build}
 use Rattle.enumeration.proofs.Calls.{limits}
-use Rattle.meaning.specs.Numbers.{member, lateNumbers}
-use Rattle.meaning.proofs.Numbers.{none-of, ranged-numbers}
-use Rattle.derived.specs.Going.{Broken}
-use Rattle.derived.proofs.Going.{refused-broken}
+use Rattle.build_checks_laws.specs.Numbers.{member, lateNumbers}
+use Rattle.build_checks_laws.proofs.Numbers.{none-of, ranged-numbers}
+use Rattle.enumeration_run_laws.specs.Going.{Broken}
+use Rattle.enumeration_run_laws.proofs.Going.{refused-broken}
 use Rattle.promises.proofs.Passing.{read-ranges}
 use Rattle.promises.proofs.Zeros.{check-zeros, enumerated-stops, stopped-built, stopped-number}
 use Rattle.promises.proofs.Leaves.{composed-refused, enumeration-refused}

@@ -10,23 +10,23 @@ use Rattle.egg.specs.declared.Refusal.{Refusal}
 use Rattle.egg.specs.declared.Verdict.the-variants as verdict
 use Rattle.egg.specs.declared.Counted.the-variants.{Count, Refused}
 use Rattle.egg.specs.Table.{backOf}
-use Rattle.checks.specs.Checks.{Checked, checked, check-group}
-use Rattle.lending.specs.Finish.{built, zeroed, settledBy, finished, finishedPlaced}
-use Rattle.lending.proofs.Finishing.{refused-counted}
-use Rattle.reading.specs.Reading.{Placed, placed, readAll}
+use Rattle.build_checks.specs.Checks.{Checked, checked, check-group}
+use Rattle.build_lending.specs.Finish.{built, zeroed, settledBy, finished, finishedPlaced}
+use Rattle.build_lending.proofs.Finishing.{refused-counted}
+use Rattle.build_reading.specs.Reading.{Placed, placed, readAll}
 use Rattle.theory.specs.Table.{Columns}
 use Rattle.theory.specs.Appearance.{recorded}
 use Rattle.theory.specs.Group.{RightRegular}
 use Rattle.theory.proofs.AnyCarrier.{any-carrier}
 use Rattle.theory.proofs.Counting.{numbered-table}
 use Rattle.theory.proofs.FirstPlaces.{first-parents}
-use Rattle.meaning.specs.Until12.{Until12}
-use Rattle.meaning.proofs.Tests.{table-fine, check8-fine}
-use Rattle.meaning.proofs.Refused.{before-12, places-12, refused-12}
-use Rattle.numbering.specs.Read.{Read}
-use Rattle.numbering.proofs.Readings.{accepted-read, refused-read, refused-number, readable-accepted, read-readable}
+use Rattle.build_checks_laws.specs.Until12.{Until12}
+use Rattle.build_checks_laws.proofs.Tests.{table-fine, check8-fine}
+use Rattle.build_checks_laws.proofs.Refused.{before-12, places-12, refused-12}
+use Rattle.build_reading_laws.specs.Read.{Read}
+use Rattle.build_reading_laws.proofs.Readings.{accepted-read, refused-read, refused-number, readable-accepted, read-readable}
 use Rattle.promises.specs.Composed.{Groupless}
-use Rattle.numbering.proofs.Storing.{read-recorded, words-stored, read-columns}
+use Rattle.build_reading_laws.proofs.Storing.{read-recorded, words-stored, read-columns}
 use Rattle.promises.proofs.Built.{work-enough, rows-fit}
 
 -- A refused build has a refused reading or a refused check.

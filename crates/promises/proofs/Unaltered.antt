@@ -13,13 +13,13 @@ use Rattle.egg.specs.declared.Verdict.{Verdict}
 use Rattle.egg.specs.declared.Verdict.the-variants as verdict
 use Rattle.egg.specs.Factor.{fitsIn, stretch}
 use Rattle.egg.proofs.Rooms.{has, within-length}
-use Rattle.lending.specs.Lending.{tableNeed, within, making}
-use Rattle.lending.proofs.Lending.{lent-table}
+use Rattle.build_lending.specs.Lending.{tableNeed, within, making}
+use Rattle.build_lending.proofs.Lending.{lent-table}
 use Rattle.factor.specs.Composed.{composed}
 use Rattle.enumeration.specs.Calls.{enumerates}
-use Rattle.answers.specs.Accepted.{Accepted}
-use Rattle.answers.specs.Unaltered.{Unaltered}
-use Rattle.answers.proofs.Unaltered.{unaltered}
+use Rattle.factor_laws.specs.Accepted.{Accepted}
+use Rattle.factor_laws.specs.Unaltered.{Unaltered}
+use Rattle.factor_laws.proofs.Unaltered.{unaltered}
 use Rattle.promises.specs.Enumerated.{Demand3}
 use Rattle.promises.specs.Leaves.{Lent, Leaves, untouched, zeros, tableFor}
 use Rattle.promises.specs.Unaltered.{Wrote, nothing, part, Apart}

@@ -5,7 +5,7 @@ use mathlib.Core.Path.{sym, _∙_, ap}
 use mathlib.Core.List.{List}
 use Prim.Native.Nat.{ℕ}
 use Rattle.egg.specs.declared.Counted.{Counted}
-use Rattle.lending.specs.Lending.{making}
+use Rattle.build_lending.specs.Lending.{making}
 use Rattle.egg.proofs.has_room.Kinds as has-room-kinds
 use Rattle.egg.proofs.has_room.Reads as has-room-reads
 use Rattle.egg.proofs.fits.Kinds as fits-kinds

@@ -11,9 +11,9 @@ use Rattle.factor.specs.Questions.{composeAnswer}
 use Rattle.theory.specs.Words.{Word, empty, letter, walk}
 use Rattle.theory.proofs.Walking.{word-left, word-right, walk-append, walk-closed}
 use Rattle.theory.proofs.Sound.{compose-walk}
-use Rattle.answers.specs.Accepted.{Accepted, factorStep, reach}
-use Rattle.answers.specs.Papers.{valuePaper}
-use Rattle.answers.proofs.Handles.{step-answer, compose-answer, generator-answer}
+use Rattle.factor_laws.specs.Accepted.{Accepted, factorStep, reach}
+use Rattle.factor_laws.specs.Papers.{valuePaper}
+use Rattle.factor_laws.proofs.Handles.{step-answer, compose-answer, generator-answer}
 use Rattle.promises.specs.Viewers.{live, gathered, identity, OneState, Batch, one-by-one, at-once, turnsOf, watched}
 
 module _ {t : List ℕ} {f : Factor} (A : Accepted t f) where

@@ -15,30 +15,30 @@ use Rattle.egg.specs.declared.Counted.{Counted}
 use Rattle.egg.specs.declared.Counted.the-variants.{Count, Refused}
 use Rattle.egg.specs.Pairs.{ordersRight}
 use Rattle.egg.proofs.Scans.{Says}
-use Rattle.hops.specs.Hops.{withHops}
-use Rattle.hops.proofs.Hops.{hops-long}
-use Rattle.checks.specs.Checks.{check-table, Checked, checked, check-group}
-use Rattle.lending.specs.Finish.{built, zeroed, settledBy, finished, finishedPlaced}
-use Rattle.lending.proofs.Finishing.{refused-counted}
-use Rattle.reading.specs.Reading.{Placed, placed, readAll}
-use Rattle.relations.specs.Relations.{relationsRow}
-use Rattle.running.specs.declared.inner.Ran.{Ran}
-use Rattle.running.specs.declared.inner.Ran.the-variants as ran
-use Rattle.running.specs.Run.{enumerated}
+use Rattle.build_word_cells.specs.Hops.{withHops}
+use Rattle.build_word_cells.proofs.Hops.{hops-long}
+use Rattle.build_checks.specs.Checks.{check-table, Checked, checked, check-group}
+use Rattle.build_lending.specs.Finish.{built, zeroed, settledBy, finished, finishedPlaced}
+use Rattle.build_lending.proofs.Finishing.{refused-counted}
+use Rattle.build_reading.specs.Reading.{Placed, placed, readAll}
+use Rattle.factor_relations.specs.Relations.{relationsRow}
+use Rattle.enumeration_run.specs.declared.inner.Ran.{Ran}
+use Rattle.enumeration_run.specs.declared.inner.Ran.the-variants as ran
+use Rattle.enumeration_run.specs.Run.{enumerated}
 use Rattle.enumeration.specs.Calls.{ranCount, relatingBy, withWork, related, enumeratedIn}
-use Rattle.meaning.specs.Numbers.{member, every, In, lateNumbers}
-use Rattle.meaning.proofs.Accepted.{checks-sound, checks-kept}
-use Rattle.meaning.proofs.Hopping.{hopping-sound}
-use Rattle.meaning.proofs.Lengths.{checks-work}
-use Rattle.meaning.proofs.Numbers.{each-in, none-of, ranged-numbers, full-numbers, checks-number}
-use Rattle.numbering.proofs.Readings.{accepted-read, refused-read, refused-number}
-use Rattle.answers.specs.Accepted.{Fails}
-use Rattle.answers.proofs.Relators.{orders-long, relations-identity, relations-fail}
-use Rattle.derived.specs.Recorded as run
-use Rattle.derived.specs.Going.{Broken, no-room, long-word}
-use Rattle.derived.proofs.Derivation.{done-sound}
-use Rattle.derived.proofs.Going.{done-finished, refused-broken}
-use Rattle.derived.proofs.Ending.{never-paused}
+use Rattle.build_checks_laws.specs.Numbers.{member, every, In, lateNumbers}
+use Rattle.build_checks_laws.proofs.Accepted.{checks-sound, checks-kept}
+use Rattle.build_checks_laws.proofs.Hopping.{hopping-sound}
+use Rattle.build_checks_laws.proofs.Lengths.{checks-work}
+use Rattle.build_checks_laws.proofs.Numbers.{each-in, none-of, ranged-numbers, full-numbers, checks-number}
+use Rattle.build_reading_laws.proofs.Readings.{accepted-read, refused-read, refused-number}
+use Rattle.factor_laws.specs.Accepted.{Fails}
+use Rattle.factor_laws.proofs.Relators.{orders-long, relations-identity, relations-fail}
+use Rattle.enumeration_run_laws.specs.Recorded as run
+use Rattle.enumeration_run_laws.specs.Going.{Broken, no-room, long-word}
+use Rattle.enumeration_run_laws.proofs.Derivation.{done-sound}
+use Rattle.enumeration_run_laws.proofs.Going.{done-finished, refused-broken}
+use Rattle.enumeration_run_laws.proofs.Ending.{never-paused}
 use Rattle.promises.specs.Leaves.{composedNumbers, enumerationNumbers}
 use Rattle.promises.proofs.ReadLengths.{read-length}
 use Rattle.promises.proofs.Passing.{finished-8, finished-ranges, read-ranges}

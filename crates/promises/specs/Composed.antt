@@ -8,17 +8,17 @@ use lib.ListN.{length, getD, replicate}
 use Rattle.egg.specs.declared.Factor.{Factor}
 use Rattle.egg.specs.Table.{stepOf}
 use Rattle.egg.specs.Factor.{stretch}
-use Rattle.hops.specs.Hops.{Hops}
-use Rattle.lending.specs.Lending.{tableNeed, workNeed, lentRight, within}
-use Rattle.reading.specs.Reading.{composedAt}
+use Rattle.build_word_cells.specs.Hops.{Hops}
+use Rattle.build_lending.specs.Lending.{tableNeed, workNeed, lentRight, within}
+use Rattle.build_reading.specs.Reading.{composedAt}
 use Rattle.theory.specs.Numbering.{IdentityRow}
 use Rattle.theory.specs.Appearance.{recorded}
 use Rattle.theory.specs.AnyGroup.{SomeGroup}
 use Rattle.theory.specs.Parting.{Parting}
-use Rattle.meaning.specs.Sound.{Sound, Ruled}
-use Rattle.meaning.specs.Until12.{Until12}
-use Rattle.numbering.specs.Read.{Readable}
-use Rattle.answers.specs.Accepted.{Accepted, factorStep}
+use Rattle.build_checks_laws.specs.Sound.{Sound, Ruled}
+use Rattle.build_checks_laws.specs.Until12.{Until12}
+use Rattle.build_reading_laws.specs.Read.{Readable}
+use Rattle.factor_laws.specs.Accepted.{Accepted, factorStep}
 
 -- The arguments of a call on composed rows are right, so that its build starts: 1, "more than 8 generators", and 4, "room 0 or above 65,535, or a lent buffer
 -- short", have passed ("a composed list needs Rn entries").

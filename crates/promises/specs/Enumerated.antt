@@ -10,12 +10,12 @@ use Rattle.egg.specs.declared.Factor.{Factor}
 use Rattle.egg.specs.declared.Verdict.the-variants as verdict
 use Rattle.egg.specs.Pairs.{ordersRight}
 use Rattle.egg.specs.Factor.{stretch}
-use Rattle.lending.specs.Lending.{tableNeed, workNeed, lentRight, within}
+use Rattle.build_lending.specs.Lending.{tableNeed, workNeed, lentRight, within}
 use Rattle.factor.specs.Questions.{composeAnswer}
-use Rattle.relations.specs.Relations.{relations}
+use Rattle.factor_relations.specs.Relations.{relations}
 use Rattle.theory.specs.Words.{Word, walk}
 use Rattle.theory.specs.Presentation.{order-of, Equiv, Holds}
-use Rattle.answers.specs.Accepted.{Accepted, factorStep, reach}
+use Rattle.factor_laws.specs.Accepted.{Accepted, factorStep, reach}
 
 -- The arguments of an enumeration are right, so that its build starts: 1, "more than 8 generators", 2 and 3, an order for each pair and within 2..32,767, and 4,
 -- "room 0 or above 65,535, or a lent buffer short", have passed.

@@ -6,8 +6,8 @@ use mathlib.Core.Path.{_≡_}
 use mathlib.Core.List.{List, [], _∷_}
 use lib.ListN.{length, getD, replicate}
 use Rattle.egg.specs.declared.Refusal.{Refusal}
-use Rattle.lending.specs.Lending.{tableNeed, workNeed, within}
-use Rattle.meaning.specs.Numbers.{In, lateNumbers}
+use Rattle.build_lending.specs.Lending.{tableNeed, workNeed, within}
+use Rattle.build_checks_laws.specs.Numbers.{In, lateNumbers}
 
 -- A lent buffer at entry and at exit, and the stretch of it that the call needs.
 pub record Lent : Type 0 where

@@ -2,7 +2,7 @@
 -- promises use that definition."
 -- Assumes nothing.
 use Rattle.egg.specs.Factor.{Paper, verdictPaper}
-use Rattle.lending.specs.Lending.{Making, making}
+use Rattle.build_lending.specs.Lending.{Making, making}
 
 -- 0, or the refusal's number and its three places.
 abbrev pub madePaper : Making → Paper

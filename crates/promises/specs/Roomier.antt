@@ -6,7 +6,7 @@ use mathlib.Core.List.{List}
 use lib.ListN.{getD}
 use Rattle.egg.specs.declared.Factor.{Factor}
 use Rattle.egg.specs.declared.Verdict.the-variants as verdict
-use Rattle.lending.specs.Lending.{tableNeed, Making, making}
+use Rattle.build_lending.specs.Lending.{tableNeed, Making, making}
 
 -- A call with this start and room gave the factor f in the table t. The other call, with the marked start and room, gives m: it is accepted too, with as
 -- many elements; its stretch holds the same numbers as far as the first call's goes, and zeros in its rest.

@@ -7,7 +7,7 @@ use mathlib.Core.Logic.{_⊎_}
 use mathlib.Core.List.{List}
 use lib.ListN.{length}
 use Rattle.egg.specs.declared.Factor.{Factor}
-use Rattle.lending.specs.Lending.{tableNeed, within}
+use Rattle.build_lending.specs.Lending.{tableNeed, within}
 use Rattle.promises.specs.Leaves.{Lent}
 
 -- Nothing was written, or the needed stretch, which is in the buffer.

@@ -12,17 +12,17 @@ use Rattle.egg.specs.declared.GroupElementId.{GroupElementId}
 use Rattle.egg.specs.declared.Reached.{Reached}
 use Rattle.egg.specs.declared.Reached.the-variants as reached
 use Rattle.egg.specs.Factor.{refusedReach}
-use Rattle.walks.specs.Walks.{onReached}
-use Rattle.products.proofs.RadixLaws.{range-pos, high-small}
-use Rattle.handles.specs.Handles.{handles, elementsOf, capped}
-use Rattle.handles.proofs.Caps.{cap-small}
-use Rattle.appearance.specs.Renumber.{none}
-use Rattle.generated.specs.declared.Subgroup.{Subgroup}
+use Rattle.factor_questions.specs.Walks.{onReached}
+use Rattle.theory_products.proofs.RadixLaws.{range-pos, high-small}
+use Rattle.group_handles.specs.Handles.{handles, elementsOf, capped}
+use Rattle.group_handles.proofs.Caps.{cap-small}
+use Rattle.build_numbering.specs.Renumber.{none}
+use Rattle.subgroup_build.specs.declared.Subgroup.{Subgroup}
 use Rattle.subgroup.specs.declared.Within.the-variants as within
 use Rattle.subgroup.specs.Indices.{factorIndices, unfactorIndices, withWithin}
-use Rattle.sides.specs.Sides.{overSide, subSide}
+use Rattle.subgroup_sides.specs.Sides.{overSide, subSide}
 use Rattle.subgroup.specs.Questions.{carriedBy, carriedOver, carriedBackBy, carriedBack, refusedWithin}
-use Rattle.sides.proofs.Counts.{over-count, sub-count, first-small, second-small}
+use Rattle.subgroup_sides.proofs.Counts.{over-count, sub-count, first-small, second-small}
 use Rattle.subgroup.proofs.IndexLaws.{unfactor-small, below-small, above-small}
 
 -- An element of B·C·A: none of the three is zero.

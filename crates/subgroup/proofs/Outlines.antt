@@ -17,19 +17,19 @@ use Rattle.egg.specs.Factor.{fitsIn}
 use Rattle.egg.proofs.Rooms.{and-first, and-second}
 use Rattle.egg.proofs.Scans.{refused-fine}
 use Rattle.factor.specs.Questions.{ifReach}
-use Rattle.handles.specs.declared.inner.Seen.{Seen}
-use Rattle.handles.specs.Handles.{handles, elementsOf, capped, seen}
-use Rattle.handles.proofs.Caps.{cap-small, cap-within, capped-bound}
-use Rattle.generated.specs.declared.Subgroup.{Subgroup}
+use Rattle.group_handles.specs.declared.inner.Seen.{Seen}
+use Rattle.group_handles.specs.Handles.{handles, elementsOf, capped, seen}
+use Rattle.group_handles.proofs.Caps.{cap-small, cap-within, capped-bound}
+use Rattle.subgroup_build.specs.declared.Subgroup.{Subgroup}
 use Rattle.subgroup.specs.declared.Within.{Within}
 use Rattle.subgroup.specs.declared.Within.the-variants as within
 use Rattle.subgroup.specs.declared.inner.Outline.{Outline}
-use Rattle.sides.specs.Sides.{overSide, subSide, fewFactors, sidesLimited, admitsSides, overCount}
+use Rattle.subgroup_sides.specs.Sides.{overSide, subSide, fewFactors, sidesLimited, admitsSides, overCount}
 use Rattle.subgroup.specs.Questions.{ifWithin, carriedBy, carriedOver, toOverAnswer, toSubAnswer}
 use Rattle.subgroup.specs.Outline.{outlineOf, outlineBy, Measured, overMeasure, subMeasure, outlineLimited, admitsOutline, overByOutline, backByOutline}
-use Rattle.sides.proofs.Counts.{cap-right, around-is, over-elements-is, sub-elements-is}
+use Rattle.subgroup_sides.proofs.Counts.{cap-right, around-is, over-elements-is, sub-elements-is}
 use Rattle.subgroup.proofs.Carries.{carried-is, carried-back-is}
-use Rattle.sides.proofs.SideLaws.{fit-law, over-within, sub-within, asks, sides-capped}
+use Rattle.subgroup_sides.proofs.SideLaws.{fit-law, over-within, sub-within, asks, sides-capped}
 
 -- 15.
 module _ (o : Outline) where

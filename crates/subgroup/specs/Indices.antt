@@ -4,7 +4,7 @@
 use Prim.Native.Nat.{ℕ, _+_, _*_, _/_, _%_}
 use lib.Dec.{eqb}
 use Rattle.egg.specs.Table.{pick}
-use Rattle.appearance.specs.Renumber.{none}
+use Rattle.build_numbering.specs.Renumber.{none}
 
 -- An element by its parts: of the factors below, of those in which the subgroup is, and of those above.
 pub record Indices : Type 0 where

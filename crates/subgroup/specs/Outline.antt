@@ -11,12 +11,12 @@ use Rattle.egg.specs.declared.Reached.{Reached}
 use Rattle.egg.specs.Table.{pick}
 use Rattle.egg.specs.Scan.{refusedOf}
 use Rattle.factor.specs.Questions.{ifReach}
-use Rattle.handles.specs.declared.inner.Seen.{Seen}
-use Rattle.handles.specs.Handles.{handles, elementsOf, capped}
-use Rattle.generated.specs.declared.Subgroup.{Subgroup}
+use Rattle.group_handles.specs.declared.inner.Seen.{Seen}
+use Rattle.group_handles.specs.Handles.{handles, elementsOf, capped}
+use Rattle.subgroup_build.specs.declared.Subgroup.{Subgroup}
 use Rattle.subgroup.specs.declared.Within.{Within}
 use Rattle.subgroup.specs.declared.inner.Outline.{Outline}
-use Rattle.sides.specs.Sides.{sidesFit, fewFactors, strideOf, overCount}
+use Rattle.subgroup_sides.specs.Sides.{sidesFit, fewFactors, strideOf, overCount}
 use Rattle.subgroup.specs.Questions.{carriedBy, carriedBackBy, ifWithin}
 
 -- The outline of a subgroup, and of what was seen of its parts.

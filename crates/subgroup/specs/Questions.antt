@@ -13,15 +13,15 @@ use Rattle.egg.specs.declared.Reached.the-variants as reached
 use Rattle.egg.specs.Table.{pick}
 use Rattle.egg.specs.Factor.{Paper, refusalPaper, refusedReach}
 use Rattle.factor.specs.Questions.{ifReach}
-use Rattle.walks.specs.Walks.{onReached}
-use Rattle.handles.specs.Handles.{elementsOf, generatorsOf, capped}
-use Rattle.appearance.specs.Renumber.{none}
-use Rattle.generated.specs.declared.Subgroup.{Subgroup}
+use Rattle.factor_questions.specs.Walks.{onReached}
+use Rattle.group_handles.specs.Handles.{elementsOf, generatorsOf, capped}
+use Rattle.build_numbering.specs.Renumber.{none}
+use Rattle.subgroup_build.specs.declared.Subgroup.{Subgroup}
 use Rattle.subgroup.specs.declared.Within.{Within}
 use Rattle.subgroup.specs.declared.Within.the-variants as within
 use Rattle.subgroup.specs.Indices.{overOf, subOf}
-use Rattle.sides.specs.Sides.{overSide, subSide, strideOf, overCount, admitsSides}
-use Rattle.sides.specs.Generators.{sideGenerator}
+use Rattle.subgroup_sides.specs.Sides.{overSide, subSide, strideOf, overCount, admitsSides}
+use Rattle.subgroup_sides.specs.Generators.{sideGenerator}
 
 -- "A definition sets out this paper's number and values for each of its cases"; "`Not in the subgroup` is 4,294,967,295 .., which is no element number."
 abbrev pub withinPaper : Within → Paper

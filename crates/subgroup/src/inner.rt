@@ -3,11 +3,11 @@ ghost use mathlib.Core.Path.{_≡_};
 ghost use mathlib.Core.Bool.{true};
 ghost use Prim.Native.Nat.{_*_, _<_, _≤_};
 ghost use lib.ListN.{length};
-ghost use Rattle.walks.specs.Walks.{onReached};
+ghost use Rattle.factor_questions.specs.Walks.{onReached};
 ghost use Rattle.subgroup.specs.Indices.{factorIndices, unfactorIndices, withWithin};
-ghost use Rattle.sides.specs.Sides.{sidesFit, sidesLimited};
+ghost use Rattle.subgroup_sides.specs.Sides.{sidesFit, sidesLimited};
 ghost use Rattle.subgroup.specs.Outline.{outlineBy, outlineOf, Measured, outlineLimited, admitsOutline, overByOutline, backByOutline};
-ghost use Rattle.sides.specs.Generators.{sideGenerator};
+ghost use Rattle.subgroup_sides.specs.Generators.{sideGenerator};
 ghost use Rattle.subgroup.specs.Questions.{carriedOver, carriedBy, carriedBackBy};
 use super::Within;
 use egg::GeneratorId;
@@ -15,8 +15,8 @@ use egg::GroupElementId;
 use egg::Reached;
 use egg::Refusal;
 use egg::Verdict;
-use generated::Subgroup;
-use handles::inner::Seen;
+use group_handles::inner::Seen;
+use subgroup_build::Subgroup;
 
 // What one look at a subgroup's handles shows: whether each fits its buffer, whether either side has at most 8 factors, and how many elements the factors below
 // have, the subgroup's own, those that it stands for and those above, as far as 32 bits can tell. The questions need no more than these numbers; a `Subgroup` is
@@ -41,8 +41,8 @@ pub fn outline_by(
 ) -> Outline
     ensures { λ r. ⌜ r ≡ outlineBy fits few within below over above ⌝ }
 {
-    let high = handles::inner::both(over.fit, above.fit);
-    let fit = handles::inner::both(fits, handles::inner::both(below.fit, high));
+    let high = group_handles::inner::both(over.fit, above.fit);
+    let fit = group_handles::inner::both(fits, group_handles::inner::both(below.fit, high));
     Outline {
         fit,
         few,
@@ -61,10 +61,10 @@ pub fn outlined(from: &[u32], table: &[u32], s: Subgroup) -> Outline
     let over = s.over;
     let above = s.above;
     let fits = egg::fits(table, factor);
-    let few = sides::inner::few_factors(s);
-    let low = handles::inner::look(from, below);
-    let middle = handles::inner::look(from, over);
-    let high = handles::inner::look(from, above);
+    let few = subgroup_sides::inner::few_factors(s);
+    let low = group_handles::inner::look(from, below);
+    let middle = group_handles::inner::look(from, over);
+    let high = group_handles::inner::look(from, above);
     outline_by(fits, few, factor.elements, low, middle, high)
 }
 
@@ -75,10 +75,10 @@ fn limited(o: Outline) -> bool
     if !o.few {
         return false;
     }
-    if 4294967295 < sides::inner::measure(o.below, o.over, o.above) {
+    if 4294967295 < subgroup_sides::inner::measure(o.below, o.over, o.above) {
         return false;
     }
-    sides::inner::measure(o.below, o.within, o.above) <= 4294967295
+    subgroup_sides::inner::measure(o.below, o.within, o.above) <= 4294967295
 }
 
 // 17 in the handles and for a short map, 14 for an argument and its limit, 15.
@@ -157,7 +157,7 @@ pub fn over_by(o: Outline, outw: &[u32], e: GroupElementId) -> Reached
     requires { ⌜ Measured o ⌝ }
     ensures { λ r. ⌜ r ≡ overByOutline o (now (outw .entry)) (e .0) ⌝ }
 {
-    let n = sides::inner::measure(o.below, o.within, o.above);
+    let n = subgroup_sides::inner::measure(o.below, o.within, o.above);
     match admit(o, outw.len(), o.within, e.0, n) {
         Verdict::Refused(why) => Reached::Refused(why),
         Verdict::Fine => carry_over(outw, o, e),
@@ -168,7 +168,7 @@ pub fn back_by(o: Outline, inn: &[u32], x: GroupElementId) -> Within
     requires { ⌜ Measured o ⌝ }
     ensures { λ r. ⌜ r ≡ backByOutline o (now (inn .entry)) (x .0) ⌝ }
 {
-    let m = sides::inner::measure(o.below, o.over, o.above);
+    let m = subgroup_sides::inner::measure(o.below, o.over, o.above);
     match admit(o, inn.len(), o.over, x.0, m) {
         Verdict::Refused(why) => Within::Refused(why),
         Verdict::Fine => carry_back(inn, o, x),
@@ -187,7 +187,7 @@ pub fn generator_over(
     requires { ⌜ ((sidesFit (length (now from)) (length (now table)) s ≡ true) × (sidesLimited s ≡ true)) × (o ≡ outlineOf (length (now from)) (length (now table)) s) ⌝ }
     ensures { λ r. ⌜ r ≡ onReached (sideGenerator (now (from .entry)) (now (table .entry)) s (g .0)) (λ e. carriedOver s (now (outw .entry)) e) ⌝ }
 {
-    let r = sides::inner::side_generator(from, table, s, g);
+    let r = subgroup_sides::inner::side_generator(from, table, s, g);
     let Reached::Element(e) = r else {
         return r;
     };

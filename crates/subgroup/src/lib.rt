@@ -1,9 +1,9 @@
 // subgroup_action.rs without its actions: subgroups of a product, numbered in order of first appearance, with two lent maps between them and the overgroup.
 // Every call checks, in this order: 17 for each handle, 14 for its arguments, 15, 1, 4, and then 17 in what it reads.
 ghost use mathlib.Core.Path.{_≡_};
-ghost use Rattle.generated.specs.Lent.{Subgrouping};
-ghost use Rattle.generated.specs.Generated.{fromGenerators};
-ghost use Rattle.sides.specs.Sides.{leftProduct, rightProduct};
+ghost use Rattle.subgroup_build.specs.Lent.{Subgrouping};
+ghost use Rattle.subgroup_build.specs.Generated.{fromGenerators};
+ghost use Rattle.subgroup_sides.specs.Sides.{leftProduct, rightProduct};
 ghost use Rattle.subgroup.specs.Questions.{toOverAnswer, toSubAnswer, generatorAnswer};
 ghost use lib.ListN.{length};
 use egg::GeneratorId;
@@ -11,9 +11,9 @@ use egg::GroupElementId;
 use egg::Reached;
 use egg::Refusal;
 use egg::Verdict;
-pub use generated::Subgroup;
-pub use generated::Subgrouped;
-use handles::Group;
+use group_handles::Group;
+pub use subgroup_build::Subgroup;
+pub use subgroup_build::Subgrouped;
 
 pub mod inner;
 
@@ -39,9 +39,9 @@ pub fn from_generators(
 ) -> Subgrouped
     ensures { λ r. ⌜ Subgrouping.subgrouping r (now (table .exit)) (now (work .exit)) (now (inn .exit)) (now (outw .exit)) ≡ fromGenerators (now (from .entry)) over (now (gens .entry)) (now (table .entry)) start (now (work .entry)) (now (inn .entry)) (now (outw .entry)) room ⌝ }
 {
-    match generated::inner::admit_generators(from, over, gens) {
-        Verdict::Refused(why) => generated::inner::refused_subgroup(over, why),
-        Verdict::Fine => generated::inner::generated_into(
+    match subgroup_build::inner::admit_generators(from, over, gens) {
+        Verdict::Refused(why) => subgroup_build::inner::refused_subgroup(over, why),
+        Verdict::Fine => subgroup_build::inner::generated_into(
             from,
             over,
             gens,
@@ -59,26 +59,26 @@ pub fn from_generators(
 pub fn product_left(from: &[u32], table: &[u32], g: Group, s: Subgroup) -> Subgrouped
     ensures { λ r. ⌜ r ≡ leftProduct (length (now (from .entry))) (length (now (table .entry))) g s ⌝ }
 {
-    if !sides::inner::sides_fit(from, table, s) {
-        return sides::inner::refused_sides(17);
+    if !subgroup_sides::inner::sides_fit(from, table, s) {
+        return subgroup_sides::inner::refused_sides(17);
     }
-    if !handles::inner::all_fit(from, g) {
-        return sides::inner::refused_sides(17);
+    if !group_handles::inner::all_fit(from, g) {
+        return subgroup_sides::inner::refused_sides(17);
     }
-    sides::inner::left_of(g, s)
+    subgroup_sides::inner::left_of(g, s)
 }
 
 // The subgroup of overgroup · g that is subgroup · g.
 pub fn product_right(from: &[u32], table: &[u32], s: Subgroup, g: Group) -> Subgrouped
     ensures { λ r. ⌜ r ≡ rightProduct (length (now (from .entry))) (length (now (table .entry))) s g ⌝ }
 {
-    if !sides::inner::sides_fit(from, table, s) {
-        return sides::inner::refused_sides(17);
+    if !subgroup_sides::inner::sides_fit(from, table, s) {
+        return subgroup_sides::inner::refused_sides(17);
     }
-    if !handles::inner::all_fit(from, g) {
-        return sides::inner::refused_sides(17);
+    if !group_handles::inner::all_fit(from, g) {
+        return subgroup_sides::inner::refused_sides(17);
     }
-    sides::inner::right_of(s, g)
+    subgroup_sides::inner::right_of(s, g)
 }
 
 // The element of the overgroup that the subgroup's e is.
@@ -113,7 +113,7 @@ pub fn generator(from: &[u32], table: &[u32], s: Subgroup, outw: &[u32], g: Gene
 {
     let factor = s.factor;
     let n = factor.elements as u64;
-    let k = sides::inner::sub_generators(s) as u64;
+    let k = subgroup_sides::inner::sub_generators(s) as u64;
     let o = inner::outlined(from, table, s);
     match inner::admit(o, outw.len(), n, g.0 as u32, k) {
         Verdict::Refused(why) => Reached::Refused(why),

@@ -1,8 +1,8 @@
 -- One law for each verdict of `place`; what `grow` leaves in the stretch stands in the table.
 use lib.ListN.{length}
 use Rattle.egg.proofs.Rooms.{has}
-use Rattle.lending.proofs.Fits.{fits-small}
-use Rattle.places.proofs.Places.{place-fits}
+use Rattle.build_lending.proofs.Fits.{fits-small}
+use Rattle.builder_arguments.proofs.Places.{place-fits}
 use Rattle.builder.proofs.Calls.{grows-refused, grows-new}
 use borrow.Author.Needs.{needs}
 use Rattle.builder.proofs.add_successor.Statement.{statement}

@@ -1,7 +1,7 @@
 -- One law for each verdict of `place_step`; what the step leaves in the stretch stands in the table.
 use lib.ListN.{length}
 use Rattle.egg.proofs.Rooms.{has}
-use Rattle.places.proofs.Places.{end-fits}
+use Rattle.builder_arguments.proofs.Places.{end-fits}
 use Rattle.builder.proofs.Calls.{stores-refused, stores-done}
 use borrow.Author.Needs.{needs}
 use Rattle.builder.proofs.set_successor.Statement.{statement}

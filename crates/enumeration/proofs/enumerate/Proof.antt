@@ -1,6 +1,6 @@
 -- One law for each answer; both stretches stand in their buffers by `build-back`.
 use Rattle.enumeration.proofs.Calls.{lent-limits, enumerates-generators, enumerates-orders, enumerates-short, enumerates-built}
-use Rattle.lending.proofs.Lending.{lent-table, lent-enough}
+use Rattle.build_lending.proofs.Lending.{lent-table, lent-enough}
 use borrow.Author.Tests.{not-true, not-false, leb-true}
 use mathlib.Core.Path.{_≡_, refl, sym, _∙_}
 use lib.ListN.{length}
@@ -10,12 +10,12 @@ use Rattle.enumeration.proofs.enumerate.Statement.{statement}
 use Rattle.enumeration.proofs.enumerate.Tie as tie
 use Rattle.enumeration.proofs.enumerate.Reads as reads
 use Rattle.enumeration.proofs.enumerate.Lts as lts
-use Rattle.lending.proofs.inner.lent_right.Reads as lent-right-reads
-use Rattle.lending.proofs.inner.made.Reads as made-reads
-use Rattle.lending.proofs.inner.refused_made.Reads as refused-made-reads
-use Rattle.lending.proofs.inner.stretch_end.Reads as stretch-end-reads
-use Rattle.lending.proofs.inner.work_need.Reads as work-need-reads
-use Rattle.relations.proofs.inner.orders_right.Reads as orders-right-reads
+use Rattle.build_lending.proofs.inner.lent_right.Reads as lent-right-reads
+use Rattle.build_lending.proofs.inner.made.Reads as made-reads
+use Rattle.build_lending.proofs.inner.refused_made.Reads as refused-made-reads
+use Rattle.build_lending.proofs.inner.stretch_end.Reads as stretch-end-reads
+use Rattle.build_lending.proofs.inner.work_need.Reads as work-need-reads
+use Rattle.factor_relations.proofs.inner.orders_right.Reads as orders-right-reads
 use Rattle.enumeration.proofs.inner.enumerate_in.Reads as enumerate-in-reads
 
 refused-made-requires : tie.Need-refused-made-requires

@@ -5,7 +5,7 @@ use Rattle.egg.proofs.Rooms.{few, has}
 use Rattle.factor.specs.Relations.{checkAnswer}
 use Rattle.factor.proofs.Admits.{admitted}
 use Rattle.egg.proofs.Scans.{then-refused, then-fine}
-use Rattle.relations.proofs.Relations.{orders-few}
+use Rattle.factor_relations.proofs.Relations.{orders-few}
 use borrow.Author.Needs.{needs}
 use Rattle.factor.proofs.check.Statement.{statement}
 use Rattle.factor.proofs.check.Tie as tie

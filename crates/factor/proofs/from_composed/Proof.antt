@@ -1,6 +1,6 @@
 -- One law for each answer; both stretches stand in their buffers by `build-back`.
 use Rattle.factor.proofs.Composing.{listed-small, composed-generators, composed-short, composed-unlisted, composed-built}
-use Rattle.lending.proofs.Lending.{lent-table, lent-enough}
+use Rattle.build_lending.proofs.Lending.{lent-table, lent-enough}
 use borrow.Author.Tests.{not-true, not-false, leb-true}
 use mathlib.Core.Path.{_≡_, sym, _∙_}
 use lib.ListN.{length}
@@ -11,12 +11,12 @@ use Rattle.factor.proofs.from_composed.Statement.{statement}
 use Rattle.factor.proofs.from_composed.Tie as tie
 use Rattle.factor.proofs.from_composed.Reads as reads
 use Rattle.factor.proofs.from_composed.Lts as lts
-use Rattle.lending.proofs.inner.lent_right.Reads as lent-right-reads
-use Rattle.lending.proofs.inner.made.Reads as made-reads
-use Rattle.lending.proofs.inner.refused_made.Reads as refused-made-reads
-use Rattle.lending.proofs.inner.stretch_end.Reads as stretch-end-reads
-use Rattle.lending.proofs.inner.work_need.Reads as work-need-reads
-use Rattle.composed_rows.proofs.inner.compose_in.Reads as compose-in-reads
+use Rattle.build_lending.proofs.inner.lent_right.Reads as lent-right-reads
+use Rattle.build_lending.proofs.inner.made.Reads as made-reads
+use Rattle.build_lending.proofs.inner.refused_made.Reads as refused-made-reads
+use Rattle.build_lending.proofs.inner.stretch_end.Reads as stretch-end-reads
+use Rattle.build_lending.proofs.inner.work_need.Reads as work-need-reads
+use Rattle.factor_composed_rows.proofs.inner.compose_in.Reads as compose-in-reads
 
 refused-made-requires : tie.Need-refused-made-requires
 refused-made-requires c κs = search needs

@@ -4,7 +4,7 @@ use lib.ListN.{length}
 use Rattle.egg.specs.Factor.{stretch}
 use Rattle.factor.specs.Questions.{writeAnswer, written}
 use Rattle.factor.proofs.Admits.{admitted, count-refused, count-fine}
-use Rattle.words.proofs.Words.{wrote}
+use Rattle.factor_words.proofs.Words.{wrote}
 use borrow.Author.Needs.{needs}
 use Rattle.factor.proofs.write_word.Statement.{statement}
 use Rattle.factor.proofs.write_word.Tie as tie

@@ -3,7 +3,7 @@ use lib.ListN.{length}
 use mathlib.Core.Path.{_∙_}
 use Rattle.group.specs.Questions.{conjugateAnswer}
 use Rattle.factor.proofs.Admits.{reach-refused, reach-fine}
-use Rattle.handles.proofs.Admitted.{ready}
+use Rattle.group_handles.proofs.Admitted.{ready}
 use Rattle.group.proofs.OneFactor.{one-conjugate}
 use borrow.Author.Needs.{needs}
 use Rattle.group.proofs.conjugate.Statement.{statement}

@@ -2,9 +2,9 @@
 use lib.ListN.{length}
 use mathlib.Core.Path.{_∙_, ap}
 use Rattle.egg.specs.declared.Counted.the-variants.{Count}
-use Rattle.handles.specs.declared.inner.Seen.{Seen}
+use Rattle.group_handles.specs.declared.inner.Seen.{Seen}
 use Rattle.group.specs.Questions.{countAnswer}
-use Rattle.handles.proofs.Admitted.{ready, count-told}
+use Rattle.group_handles.proofs.Admitted.{ready, count-told}
 use Rattle.factor.proofs.Admits.{count-refused, count-fine}
 use borrow.Author.Needs.{needs}
 use Rattle.group.proofs.element_count.Statement.{statement}

@@ -1,9 +1,9 @@
 -- The verdict of `admit` decides.
 use lib.ListN.{length}
 use mathlib.Core.Path.{_∙_}
-use Rattle.flat.specs.Flat.{flat}
-use Rattle.handles.proofs.Admitted.{ready}
-use Rattle.flat.proofs.Flats.{making-refused, making-fine}
+use Rattle.group_flatten.specs.Flat.{flat}
+use Rattle.group_handles.proofs.Admitted.{ready}
+use Rattle.group_flatten.proofs.Flats.{making-refused, making-fine}
 use borrow.Author.Needs.{needs}
 use Rattle.group.proofs.flatten.Statement.{statement}
 use Rattle.group.proofs.flatten.Tie as tie

@@ -3,9 +3,9 @@ use lib.ListN.{length}
 use mathlib.Core.Path.{_∙_}
 use Rattle.group.specs.Questions.{generatorAnswer}
 use Rattle.factor.proofs.Admits.{reach-refused, reach-fine}
-use Rattle.handles.proofs.Admitted.{ready}
-use Rattle.handles.specs.Handles.{handles}
-use Rattle.handles.proofs.Lists.{positive}
+use Rattle.group_handles.proofs.Admitted.{ready}
+use Rattle.group_handles.specs.Handles.{handles}
+use Rattle.group_handles.proofs.Lists.{positive}
 use Rattle.group.proofs.OneFactor.{one-generator}
 use borrow.Author.Needs.{needs}
 use Rattle.group.proofs.generator.Statement.{statement}

@@ -1,7 +1,7 @@
 -- The verdict of `admit` decides; then the work's own contract is the answer.
 use mathlib.Core.Path.{_∙_, ap}
 use Rattle.egg.specs.declared.Counted.the-variants.{Count}
-use Rattle.handles.specs.declared.inner.Seen.{Seen}
+use Rattle.group_handles.specs.declared.inner.Seen.{Seen}
 use Rattle.group.specs.Questions.{generatorsAnswer}
 use Rattle.factor.proofs.Admits.{count-refused, count-fine}
 use borrow.Author.Needs.{needs}

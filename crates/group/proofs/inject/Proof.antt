@@ -3,8 +3,8 @@ use lib.ListN.{length}
 use mathlib.Core.Path.{_∙_}
 use Rattle.group.specs.Questions.{injectAnswer}
 use Rattle.factor.proofs.Admits.{reach-refused, reach-fine}
-use Rattle.handles.proofs.Admitted.{ready, goes-on, first-is, second-is}
-use Rattle.handles.specs.Handles.{handles}
+use Rattle.group_handles.proofs.Admitted.{ready, goes-on, first-is, second-is}
+use Rattle.group_handles.specs.Handles.{handles}
 use borrow.Author.Needs.{needs}
 use Rattle.group.proofs.inject.Statement.{statement}
 use Rattle.group.proofs.inject.Tie as tie

@@ -3,7 +3,7 @@ use lib.ListN.{length}
 use mathlib.Core.Path.{_∙_}
 use Rattle.group.specs.Questions.{inverseAnswer}
 use Rattle.factor.proofs.Admits.{reach-refused, reach-fine}
-use Rattle.handles.proofs.Admitted.{ready}
+use Rattle.group_handles.proofs.Admitted.{ready}
 use Rattle.group.proofs.OneFactor.{one-inverse}
 use borrow.Author.Needs.{needs}
 use Rattle.group.proofs.inverse.Statement.{statement}

@@ -3,7 +3,7 @@ use lib.ListN.{length}
 use mathlib.Core.Path.{_∙_}
 use Rattle.group.specs.Questions.{periodAnswer}
 use Rattle.factor.proofs.Admits.{count-refused, count-fine}
-use Rattle.handles.proofs.Admitted.{ready}
+use Rattle.group_handles.proofs.Admitted.{ready}
 use borrow.Author.Needs.{needs}
 use Rattle.group.proofs.period.Statement.{statement}
 use Rattle.group.proofs.period.Tie as tie

@@ -3,13 +3,13 @@ use lib.ListN.{length, getD}
 use mathlib.Core.Path.{_∙_, ap}
 use lib.IntN.{ℤ}
 use Rattle.group.specs.Questions.{powiAnswer}
-use Rattle.lending.specs.Lending.{noFactor}
-use Rattle.handles.specs.Handles.{handles}
-use Rattle.digits.specs.Digits.{composes, inverts}
-use Rattle.powers.specs.Powers.{powers, powiAlone}
-use Rattle.powers.proofs.Signs.{read-is}
+use Rattle.build_lending.specs.Lending.{noFactor}
+use Rattle.group_handles.specs.Handles.{handles}
+use Rattle.group_digits.specs.Digits.{composes, inverts}
+use Rattle.group_powers.specs.Powers.{powers, powiAlone}
+use Rattle.group_powers.proofs.Signs.{read-is}
 use Rattle.factor.proofs.Admits.{reach-refused, reach-fine}
-use Rattle.handles.proofs.Admitted.{ready}
+use Rattle.group_handles.proofs.Admitted.{ready}
 use Rattle.group.proofs.OneFactor.{one-powi}
 use borrow.Author.Needs.{needs}
 use Rattle.group.proofs.powi.Statement.{statement}

@@ -3,8 +3,8 @@ use lib.ListN.{length}
 use mathlib.Core.Path.{_∙_}
 use Rattle.group.specs.Questions.{projectAnswer}
 use Rattle.factor.proofs.Admits.{reach-refused, reach-fine}
-use Rattle.handles.proofs.Admitted.{ready, goes-on, first-is}
-use Rattle.handles.specs.Handles.{handles, elementsOf}
+use Rattle.group_handles.proofs.Admitted.{ready, goes-on, first-is}
+use Rattle.group_handles.specs.Handles.{handles, elementsOf}
 use borrow.Author.Needs.{needs}
 use Rattle.group.proofs.project.Statement.{statement}
 use Rattle.group.proofs.project.Tie as tie

@@ -3,7 +3,7 @@ use lib.ListN.{length}
 use mathlib.Core.Path.{_∙_}
 use Rattle.group.specs.Questions.{lengthAnswer}
 use Rattle.factor.proofs.Admits.{count-refused, count-fine}
-use Rattle.handles.proofs.Admitted.{ready}
+use Rattle.group_handles.proofs.Admitted.{ready}
 use Rattle.group.proofs.OneFactor.{one-length}
 use borrow.Author.Needs.{needs}
 use Rattle.group.proofs.word_length.Statement.{statement}

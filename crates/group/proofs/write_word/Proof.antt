@@ -2,10 +2,10 @@
 use lib.ListN.{length}
 use mathlib.Core.Path.{_∙_, refl, sym}
 use Rattle.group.specs.Questions.{writeAnswer, written}
-use Rattle.handles.specs.Handles.{handles}
-use Rattle.spelling.proofs.Spelling.{wrote}
+use Rattle.group_handles.specs.Handles.{handles}
+use Rattle.group_words.proofs.Spelling.{wrote}
 use Rattle.factor.proofs.Admits.{count-refused, count-fine}
-use Rattle.handles.proofs.Admitted.{ready}
+use Rattle.group_handles.proofs.Admitted.{ready}
 use Rattle.group.proofs.OneFactor.{one-write, one-written}
 use borrow.Author.Needs.{needs}
 use Rattle.group.proofs.write_word.Statement.{statement}

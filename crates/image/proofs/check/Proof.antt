@@ -2,20 +2,20 @@
 use mathlib.Core.Path.{_≡_, sym, ap, _∙_}
 use native.Mathlib.Omega.{arith}
 use lib.Seq.{length-take-le}
-use Rattle.packed.proofs.Parts.{front-count}
+use Rattle.image_check.proofs.Parts.{front-count}
 use Rattle.image.proofs.Checking.{bad-head, short-work, image-whole, table-lent, whole-number, whole-work}
 use borrow.Author.Needs.{needs}
 use Rattle.image.proofs.check.Statement.{statement}
 use Rattle.image.proofs.check.Tie as tie
 use Rattle.image.proofs.check.Reads as reads
 use Rattle.image.proofs.check.Lts as lts
-use Rattle.cells.proofs.inner.clear.Reads as clear-reads
+use Rattle.image_cells.proofs.inner.clear.Reads as clear-reads
 use Rattle.image.proofs.bytes_need.Reads as bytes-need-reads
 use Rattle.image.proofs.elements.Reads as elements-reads
 use Rattle.image.proofs.generators.Reads as generators-reads
 use Rattle.image.proofs.head.Reads as head-reads
 use Rattle.image.proofs.table_bytes.Reads as table-bytes-reads
-use Rattle.packed.proofs.inner.judge.Reads as judge-reads
+use Rattle.image_check.proofs.inner.judge.Reads as judge-reads
 
 head-requires : tie.Need-head-requires
 head-requires c κs = search needs

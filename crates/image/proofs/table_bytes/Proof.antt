@@ -7,7 +7,7 @@ use Rattle.image.proofs.table_bytes.Statement.{statement}
 use Rattle.image.proofs.table_bytes.Tie as tie
 use Rattle.image.proofs.table_bytes.Reads as reads
 use Rattle.image.proofs.table_bytes.Lts as lts
-use Rattle.lending.proofs.inner.table_need.Reads as table-need-reads
+use Rattle.build_lending.proofs.inner.table_need.Reads as table-need-reads
 
 table-need-requires : tie.Need-table-need-requires
 table-need-requires c κs = search needs

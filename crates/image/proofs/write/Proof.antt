@@ -3,7 +3,7 @@ use mathlib.Core.Path.{sym, _∙_}
 use native.Mathlib.Omega.{arith}
 use borrow.Author.Tests.{not-true, not-false}
 use lib.ListN.{length}
-use Rattle.lending.proofs.Fits.{fits-small}
+use Rattle.build_lending.proofs.Fits.{fits-small}
 use Rattle.image.proofs.WriteLaws.{write-handle, write-short, write-unknown, write-done}
 use borrow.Author.Needs.{needs}
 use Rattle.image.proofs.write.Statement.{statement}
@@ -12,11 +12,11 @@ use Rattle.image.proofs.write.Reads as reads
 use Rattle.image.proofs.write.Lts as lts
 use Rattle.egg.proofs.fits.Reads as fits-reads
 use Rattle.egg.proofs.inner.part.Reads as part-reads
-use Rattle.words.proofs.inner.refused_count.Reads as refused-count-reads
+use Rattle.factor_words.proofs.inner.refused_count.Reads as refused-count-reads
 use Rattle.image.proofs.size.Reads as size-reads
-use Rattle.image_bytes.proofs.inner.all_known.Reads as all-known-reads
-use Rattle.image_bytes.proofs.inner.put_head.Reads as put-head-reads
-use Rattle.image_bytes.proofs.inner.put_rows.Reads as put-rows-reads
+use Rattle.image_writing.proofs.inner.all_known.Reads as all-known-reads
+use Rattle.image_writing.proofs.inner.put_head.Reads as put-head-reads
+use Rattle.image_writing.proofs.inner.put_rows.Reads as put-rows-reads
 
 fits-requires : tie.Need-fits-requires
 fits-requires c κs = search needs

@@ -1,9 +1,9 @@
 -- The verdict on the arguments decides.
 use mathlib.Core.Path.{_∙_}
 use lib.ListN.{length}
-use Rattle.generated.specs.Generated.{fromGenerators}
-use Rattle.generated.proofs.Admits.{admitted-by, small-elements}
-use Rattle.generated.proofs.Lendings.{subgrouping-refused, subgrouping-fine}
+use Rattle.subgroup_build.specs.Generated.{fromGenerators}
+use Rattle.subgroup_build.proofs.Admits.{admitted-by, small-elements}
+use Rattle.subgroup_build.proofs.Lendings.{subgrouping-refused, subgrouping-fine}
 use borrow.Author.Needs.{needs}
 use Rattle.subgroup.proofs.from_generators.Statement.{statement}
 use Rattle.subgroup.proofs.from_generators.Tie as tie

@@ -5,7 +5,7 @@ use native.Mathlib.Omega.{arith}
 use lib.ListN.{length}
 use Rattle.factor.proofs.Admits.{reach-refused, reach-fine}
 use Rattle.subgroup.specs.Questions.{generatorAnswer}
-use Rattle.sides.proofs.SideLaws.{asks-by}
+use Rattle.subgroup_sides.proofs.SideLaws.{asks-by}
 use Rattle.subgroup.proofs.Outlines.{measured, admits-told}
 use borrow.Author.Needs.{needs}
 use Rattle.subgroup.proofs.generator.Statement.{statement}

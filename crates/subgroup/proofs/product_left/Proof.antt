@@ -2,7 +2,7 @@
 use mathlib.Core.Path.{sym, _∙_}
 use lib.ListN.{length}
 use borrow.Author.Tests.{not-true, not-false}
-use Rattle.sides.proofs.SideLaws.{left-handle, left-group, left-is}
+use Rattle.subgroup_sides.proofs.SideLaws.{left-handle, left-group, left-is}
 use borrow.Author.Needs.{needs}
 use Rattle.subgroup.proofs.product_left.Statement.{statement}
 use Rattle.subgroup.proofs.product_left.Tie as tie

@@ -2,7 +2,7 @@
 use mathlib.Core.Path.{sym, _∙_}
 use lib.ListN.{length}
 use borrow.Author.Tests.{not-true, not-false}
-use Rattle.sides.proofs.SideLaws.{right-handle, right-group, right-is}
+use Rattle.subgroup_sides.proofs.SideLaws.{right-handle, right-group, right-is}
 use borrow.Author.Needs.{needs}
 use Rattle.subgroup.proofs.product_right.Statement.{statement}
 use Rattle.subgroup.proofs.product_right.Tie as tie

@@ -9,8 +9,8 @@ use Rattle.enumeration.proofs.inner.enumerate_in.Lts as lts
 use Rattle.enumeration.proofs.inner.counted.Reads as counted-reads
 use Rattle.enumeration.proofs.inner.enumerate_swiftly.Reads as enumerate-swiftly-reads
 use Rattle.enumeration.proofs.inner.relate.Reads as relate-reads
-use Rattle.lending.proofs.inner.finish.Reads as finish-reads
-use Rattle.running.proofs.inner.enumerate.Reads as enumerate-reads
+use Rattle.build_lending.proofs.inner.finish.Reads as finish-reads
+use Rattle.enumeration_run.proofs.inner.enumerate.Reads as enumerate-reads
 
 enumerate-swiftly-requires : tie.Need-enumerate-swiftly-requires
 enumerate-swiftly-requires c κs = search needs

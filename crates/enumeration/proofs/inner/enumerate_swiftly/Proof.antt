@@ -8,8 +8,8 @@ use Rattle.enumeration.proofs.inner.enumerate_swiftly.Tie as tie
 use Rattle.enumeration.proofs.inner.enumerate_swiftly.Reads as reads
 use Rattle.enumeration.proofs.inner.enumerate_swiftly.Lts as lts
 use Rattle.enumeration.proofs.inner.relate.Reads as relate-reads
-use Rattle.lending.proofs.inner.finish.Reads as finish-reads
-use Rattle.sweeps.proofs.inner.swiftly.Reads as swiftly-reads
+use Rattle.build_lending.proofs.inner.finish.Reads as finish-reads
+use Rattle.enumeration_quick_run.proofs.inner.swiftly.Reads as swiftly-reads
 
 swiftly-requires : tie.Need-swiftly-requires
 swiftly-requires c κs = limits-orders (c .before .before .before .before .pre)

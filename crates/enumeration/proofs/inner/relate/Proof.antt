@@ -6,7 +6,7 @@ use Rattle.enumeration.proofs.inner.relate.Tie as tie
 use Rattle.enumeration.proofs.inner.relate.Reads as reads
 use Rattle.enumeration.proofs.inner.relate.Lts as lts
 use Rattle.egg.proofs.inner.clear.Reads as clear-reads
-use Rattle.relations.proofs.inner.relations_row.Reads as relations-row-reads
+use Rattle.factor_relations.proofs.inner.relations_row.Reads as relations-row-reads
 
 enum-known-read : tie.Need-enum-known-read
 enum-known-read c = search needs

@@ -3,7 +3,7 @@ use Prim.Native.Nat.{_-_}
 use mathlib.Core.Path.{_≡_, refl, _∙_}
 use borrow.Author.Needs.{needs}
 use lib.ListN.{length, drop}
-use Rattle.cells.specs.Cells.{halves}
+use Rattle.image_cells.specs.Cells.{halves}
 use Rattle.image_walk.specs.Walked.{follow}
 use Rattle.image_walk.proofs.WalkLaws.{follow-end, follow-wrong, follow-on}
 use Rattle.image_walk.proofs.inner.follow.Statement.{statement}

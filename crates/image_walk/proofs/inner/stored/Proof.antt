@@ -6,7 +6,7 @@ use Rattle.image_walk.proofs.inner.stored.Statement.{statement}
 use Rattle.image_walk.proofs.inner.stored.Tie as tie
 use Rattle.image_walk.proofs.inner.stored.Reads as reads
 use Rattle.image_walk.proofs.inner.stored.Lts as lts
-use Rattle.cells.proofs.inner.half.Reads as half-reads
+use Rattle.image_cells.proofs.inner.half.Reads as half-reads
 
 cast-half : tie.Need-cast-half
 cast-half c = search needs

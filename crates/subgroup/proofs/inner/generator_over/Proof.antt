@@ -2,7 +2,7 @@
 use mathlib.Core.Path.{_∙_}
 use lib.ListN.{length}
 use Rattle.subgroup.specs.Questions.{carriedOver}
-use Rattle.sides.proofs.Generators.{generator-element}
+use Rattle.subgroup_sides.proofs.Generators.{generator-element}
 use Rattle.subgroup.proofs.Carries.{carries-refused, carries-on}
 use Rattle.subgroup.proofs.Outlines.{side-goes, carried-told}
 use borrow.Author.Needs.{needs}

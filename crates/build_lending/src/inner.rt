@@ -1,0 +1,108 @@
+// What a build needs to be lent, how it ends, and what it answers.
+ghost use mathlib.Core.Path.{_≡_};
+ghost use mathlib.Core.Bool.{true};
+ghost use Rattle.egg.specs.Factor.{hasRoom};
+ghost use Rattle.build_lending.specs.Finish.{Built, finished};
+ghost use Rattle.build_lending.specs.Lending.{tableNeed, workNeed, lentRight, Ends, noFactor, madeOf, refusedMade};
+use egg::Counted;
+use egg::Factor;
+use egg::Made;
+use egg::Verdict;
+
+// The end of every build: 8 to 12, and the stretches as document 01 wants them left, the words of an accepted table by five
+// letters.
+pub fn finish(t: &mut [u32], w: &mut [u32], n: u8, read: Counted) -> Counted
+    ensures { λ r. ⌜ Built.built r (now (t .exit)) (now (w .exit)) ≡ finished read n (now (t .entry)) (now (w .entry)) ⌝ }
+{
+    match read {
+        Counted::Refused(why) => {
+            egg::inner::clear(t);
+            egg::inner::clear(w);
+            Counted::Refused(why)
+        }
+        Counted::Count(count) => match build_checks::inner::check_group(t, w, n, count) {
+            Verdict::Refused(why) => {
+                egg::inner::clear(t);
+                egg::inner::clear(w);
+                Counted::Refused(why)
+            }
+            Verdict::Fine => {
+                build_word_cells::inner::fill_hops(t, n, count);
+                egg::inner::clear(w);
+                Counted::Count(count)
+            }
+        },
+    }
+}
+
+pub fn table_need(n: u8, room: u32) -> usize
+    ensures { λ r. ⌜ r ≡ tableNeed n room ⌝ }
+{
+    (room as usize) * egg::inner::width(n)
+}
+
+pub fn work_need(n: u8, room: u32) -> usize
+    ensures { λ r. ⌜ r ≡ workNeed n room ⌝ }
+{
+    (room as usize) * egg::inner::work_width(n)
+}
+
+// 4 is not given: the room is within its limits, and neither table nor work is short.
+pub fn lent_right(table: usize, start: usize, work: usize, room: u32, n: u8) -> bool
+    ensures { λ r. ⌜ r ≡ lentRight table start work room n ⌝ }
+{
+    if !egg::has_room(table, start, room, n) {
+        return false;
+    }
+    work_need(n, room) <= work
+}
+
+// Where the stretch of a build ends that has room.
+pub fn stretch_end(len: usize, start: usize, room: u32, n: u8) -> usize
+    requires { ⌜ hasRoom len start room n ≡ true ⌝ }
+    ensures { λ r. ⌜ Ends r start (tableNeed n room) len ⌝ }
+{
+    start + table_need(n, room)
+}
+
+// A handle that fits no buffer.
+pub fn no_factor() -> Factor
+    ensures { λ r. ⌜ r ≡ noFactor ⌝ }
+{
+    Factor {
+        start: 0,
+        room: 0,
+        generators: 0,
+        elements: 0,
+    }
+}
+
+pub fn refused_made(number: u32, a: u32) -> Made
+    ensures { λ r. ⌜ r ≡ refusedMade number a ⌝ }
+{
+    Made {
+        answer: egg::inner::refused(number, a, 0, 0),
+        factor: no_factor(),
+    }
+}
+
+// The handle of what was built, or the refusal.
+pub fn made(start: usize, room: u32, n: u8, count: Counted) -> Made
+    ensures { λ r. ⌜ r ≡ madeOf start room n count ⌝ }
+{
+    match count {
+        Counted::Refused(why) => Made {
+            answer: Verdict::Refused(why),
+            factor: no_factor(),
+        },
+        Counted::Count(elements) => Made {
+            answer: Verdict::Fine,
+            factor: Factor {
+                start,
+                room,
+                generators: n,
+                elements,
+            },
+        },
+    }
+}

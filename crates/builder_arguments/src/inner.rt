@@ -1,0 +1,54 @@
+// What is tested before a step of a build is stored: the handle, the place, and the word that a new element would go on.
+ghost use mathlib.Core.Path.{_≡_};
+ghost use lib.ListN.{length};
+ghost use Rattle.builder_arguments.specs.Places.{placed, placedStep, overLong};
+use egg::Factor;
+use egg::GeneratorId;
+use egg::GroupElementId;
+use egg::Verdict;
+
+// 17 in the handle, then 14 for an element and a generator.
+pub fn place(table: &[u32], f: Factor, e: GroupElementId, g: GeneratorId) -> Verdict
+    ensures { λ r. ⌜ r ≡ placed (length (now (table .entry))) f e g ⌝ }
+{
+    if !egg::fits(table, f) {
+        return egg::inner::refused(17, 0, 0, 0);
+    }
+    if f.elements <= e.0 {
+        return egg::inner::refused(14, 0, 0, 0);
+    }
+    if f.generators <= g.0 {
+        return egg::inner::refused(14, 1, 0, 0);
+    }
+    Verdict::Fine
+}
+
+// The same, then 14 for the element that a step leads to.
+pub fn place_step(
+    table: &[u32],
+    f: Factor,
+    e: GroupElementId,
+    g: GeneratorId,
+    r: GroupElementId,
+) -> Verdict
+    ensures { λ x. ⌜ x ≡ placedStep (length (now (table .entry))) f e g r ⌝ }
+{
+    let v = place(table, f, e, g);
+    let Verdict::Fine = v else {
+        return v;
+    };
+    if f.elements <= r.0 {
+        return egg::inner::refused(14, 2, 0, 0);
+    }
+    Verdict::Fine
+}
+
+// Whether there is room, and the recorded word of e is longer than any word may be.
+pub fn over_long(t: &[u32], f: Factor, e: GroupElementId) -> bool
+    ensures { λ r. ⌜ r ≡ overLong (now (t .entry)) f e ⌝ }
+{
+    if f.room <= f.elements {
+        return false;
+    }
+    4096 < egg::inner::word_length(t, f.generators, e)
+}

@@ -1,0 +1,28 @@
+-- The call's own table, and its answer written.
+use Rattle.capi_values.proofs.Laws.{begun-holds}
+use borrow.Author.Needs.{needs}
+use Rattle.capi_builder.proofs.hg_begin.Statement.{statement}
+use Rattle.capi_builder.proofs.hg_begin.Tie as tie
+use Rattle.capi_builder.proofs.hg_begin.Reads as reads
+use Rattle.capi_builder.proofs.hg_begin.Lts as lts
+use Rattle.capi_values.proofs.inner.write_begun.Reads as write-begun-reads
+use Rattle.builder.proofs.begin.Reads as begin-reads
+
+begin-requires : tie.Need-begin-requires
+begin-requires c κs = search needs
+
+write-begun-requires : tie.Need-write-begun-requires
+write-begun-requires c κs = search needs
+
+same-length : tie.Need-same-length
+same-length c = search needs
+
+same-length-2 : tie.Need-same-length-2
+same-length-2 c = search needs
+
+returns : tie.Need-returns
+returns c = begun-holds ((c .before .before .before .before .before .before .before .before .before .before .args .out .now)) ((c .before .before .before .before .before .before .begin .ensures)) ((c .before .before .write-begun .ensures))
+
+pub hg-begin-spec : {M : Type 1} → statement M
+hg-begin-spec =
+    tie.close (tie.spec begin-requires write-begun-requires same-length same-length-2 returns)

@@ -1,0 +1,30 @@
+-- The verdict, written.
+use mathlib.Core.Path.{_≡_, refl, sym, ap, _∙_}
+use borrow.Author.Needs.{needs}
+use Rattle.capi_factor.proofs.hg_check.Statement.{statement}
+use Rattle.capi_factor.proofs.hg_check.Tie as tie
+use Rattle.capi_factor.proofs.hg_check.Reads as reads
+use Rattle.capi_factor.proofs.hg_check.Lts as lts
+use Rattle.capi_values.proofs.inner.factor_of.Reads as factor-of-reads
+use Rattle.capi_values.proofs.inner.write_verdict.Reads as write-verdict-reads
+use Rattle.factor.proofs.check.Reads as check-reads
+
+factor-of-requires : tie.Need-factor-of-requires
+factor-of-requires c κs = search needs
+
+check-requires : tie.Need-check-requires
+check-requires c κs = search needs
+
+write-verdict-requires : tie.Need-write-verdict-requires
+write-verdict-requires c κs = search needs
+
+same-length : tie.Need-same-length
+same-length c = search needs
+
+returns : tie.Need-returns
+returns c = rw (c .before .before .write-verdict .ensures, c .before .before .before .before .check .ensures, c .before .before .before .before .before .factor-of .ensures)
+
+pub hg-check-spec : {M : Type 1} → statement M
+hg-check-spec =
+    tie.close
+    (tie.spec factor-of-requires check-requires write-verdict-requires same-length returns)

@@ -1,0 +1,68 @@
+// Recorded words of a factor, as C functions on slices and numbers; handles and answers are those of `capi_factor`.
+ghost use mathlib.Core.Path.{_≡_};
+ghost use lib.ListN.{length, replicate};
+ghost use Rattle.factor.specs.Questions.{lengthAnswer, writeAnswer, written, wordPart};
+ghost use Rattle.capi_values.specs.Bridge.{handle, countedCode, letterOf};
+use capi_values::inner::counted_code;
+use capi_values::inner::factor_of;
+use egg::GroupElementId;
+
+#[no_mangle]
+pub extern "C" fn hg_length(
+    table: &[u32],
+    start: usize,
+    room: u32,
+    n: u8,
+    count: u32,
+    e: u32,
+) -> u64
+    ensures { λ r. ⌜ r ≡ countedCode (lengthAnswer (now (table .entry)) (handle start room n count) (record { 0 = e })) ⌝ }
+{
+    counted_code(factor::word_length(table, factor_of(start, room, n, count), GroupElementId(e)))
+}
+
+#[no_mangle]
+pub extern "C" fn hg_word(
+    table: &[u32],
+    start: usize,
+    room: u32,
+    n: u8,
+    count: u32,
+    e: u32,
+    out: &mut [u8],
+) -> u64
+    ensures { λ r. ⌜ (r ≡ countedCode (writeAnswer (now (table .entry)) (handle start room n count) (record { 0 = e }) (length (now (out .entry))))) × (now (out .exit) ≡ written (now (table .entry)) (handle start room n count) (record { 0 = e }) (now (out .entry))) ⌝ }
+{
+    let f = factor_of(start, room, n, count);
+    counted_code(factor::write_word(table, f, GroupElementId(e), out))
+}
+
+// A letter of the part that `word` hands back, or 256 and how long that is.
+fn letter_of(part: &[u8], k: usize) -> u64
+    ensures { λ r. ⌜ r ≡ letterOf (now (part .entry)) k ⌝ }
+{
+    if k < part.len() {
+        part[k] as u64
+    } else {
+        256 + (part.len() as u64)
+    }
+}
+
+// The word by the call that hands back the filled part of a buffer: its k-th letter, or, from its end on, 256 and its length.
+#[no_mangle]
+pub extern "C" fn hg_part(
+    table: &[u32],
+    start: usize,
+    room: u32,
+    n: u8,
+    count: u32,
+    e: u32,
+    k: usize,
+) -> u64
+    ensures { λ r. ⌜ r ≡ letterOf (wordPart (now (table .entry)) (handle start room n count) (record { 0 = e }) (replicate 4096 0)) k ⌝ }
+{
+    let f = factor_of(start, room, n, count);
+    let mut buffer = [0; 4096];
+    let part = factor::word(table, f, GroupElementId(e), &mut buffer);
+    letter_of(part, k)
+}

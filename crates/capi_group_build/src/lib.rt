@@ -1,0 +1,101 @@
+// A product made, and flattened; its elements as digits and as words: C functions. A product is a list of handles and a count, and answers are numbers, as in `capi_group`.
+ghost use mathlib.Core.Path.{_≡_};
+ghost use lib.ListN.{length};
+ghost use Rattle.capi_values.specs.Bridge.{reachedCode, countedCode, Bridged, bridged};
+ghost use Rattle.group_handles.specs.Handles.{joins};
+ghost use Rattle.group.specs.Questions.{splitAnswer, splitLeaves, joinAnswer, lengthAnswer, writeAnswer, written};
+ghost use Rattle.group_flatten.specs.Flat.{flat};
+ghost use Rattle.capi_handles.specs.Product.{productOf};
+ghost use Rattle.capi_group_build.specs.Product.{groupedInto};
+use egg::GroupElementId;
+use group_handles::Grouped;
+
+fn write_grouped(out: &mut [u32], g: Grouped)
+    ensures { λ x. ⌜ now (out .exit) ≡ groupedInto g (now (out .entry)) ⌝ }
+{
+    let v = g.answer;
+    let p = g.group;
+    capi_values::inner::write_verdict(out, v);
+    egg::inner::put(out, 4, p.count as usize);
+}
+
+// The product of two: its verdict and how many factors it has; they are those of the first and then those of the second.
+#[no_mangle]
+pub extern "C" fn hg_product(
+    table: &[u32],
+    first: &[u32],
+    k: u8,
+    second: &[u32],
+    m: u8,
+    out: &mut [u32],
+)
+    ensures { λ x. ⌜ now (out .exit) ≡ groupedInto (joins (length (now (table .entry))) (productOf (now (first .entry)) k) (productOf (now (second .entry)) m)) (now (out .entry)) ⌝ }
+{
+    let a = capi_handles::inner::product_of(first, k);
+    let b = capi_handles::inner::product_of(second, m);
+    let p = group::product(table, a, b);
+    write_grouped(out, p);
+}
+
+#[no_mangle]
+pub extern "C" fn hg_product_length(table: &[u32], handles: &[u32], count: u8, e: u32) -> u64
+    ensures { λ r. ⌜ r ≡ countedCode (lengthAnswer (now (table .entry)) (productOf (now (handles .entry)) count) (record { 0 = e })) ⌝ }
+{
+    let g = capi_handles::inner::product_of(handles, count);
+    capi_values::inner::counted_code(group::word_length(table, g, GroupElementId(e)))
+}
+
+// The digits of e, at the start of a lent list; the answer is how many they are.
+#[no_mangle]
+pub extern "C" fn hg_product_split(
+    table: &[u32],
+    handles: &[u32],
+    count: u8,
+    e: u32,
+    out: &mut [u32],
+) -> u64
+    ensures { λ r. ⌜ (r ≡ countedCode (splitAnswer (now (table .entry)) (productOf (now (handles .entry)) count) (record { 0 = e }) (length (now (out .entry))))) × (now (out .exit) ≡ splitLeaves (now (table .entry)) (productOf (now (handles .entry)) count) (record { 0 = e }) (now (out .entry))) ⌝ }
+{
+    let g = capi_handles::inner::product_of(handles, count);
+    capi_values::inner::counted_code(group::split(table, g, GroupElementId(e), out))
+}
+
+#[no_mangle]
+pub extern "C" fn hg_product_join(table: &[u32], handles: &[u32], count: u8, digits: &[u32]) -> u64
+    ensures { λ r. ⌜ r ≡ reachedCode (joinAnswer (now (table .entry)) (productOf (now (handles .entry)) count) (now (digits .entry))) ⌝ }
+{
+    let g = capi_handles::inner::product_of(handles, count);
+    capi_values::inner::reached_code(group::join(table, g, digits))
+}
+
+#[no_mangle]
+pub extern "C" fn hg_product_word(
+    table: &[u32],
+    handles: &[u32],
+    count: u8,
+    e: u32,
+    out: &mut [u8],
+) -> u64
+    ensures { λ r. ⌜ (r ≡ countedCode (writeAnswer (now (table .entry)) (productOf (now (handles .entry)) count) (record { 0 = e }) (length (now (out .entry))))) × (now (out .exit) ≡ written (now (table .entry)) (productOf (now (handles .entry)) count) (record { 0 = e }) (now (out .entry))) ⌝ }
+{
+    let g = capi_handles::inner::product_of(handles, count);
+    capi_values::inner::counted_code(group::write_word(table, g, GroupElementId(e), out))
+}
+
+#[no_mangle]
+pub extern "C" fn hg_product_flatten(
+    from: &[u32],
+    handles: &[u32],
+    count: u8,
+    table: &mut [u32],
+    start: usize,
+    work: &mut [u32],
+    room: u32,
+    out: &mut [u32],
+)
+    ensures { λ x. ⌜ Bridged.holds (now (table .exit)) (now (work .exit)) (now (out .exit)) ≡ bridged (flat (now (from .entry)) (productOf (now (handles .entry)) count) (now (table .entry)) start (now (work .entry)) room) (now (out .entry)) ⌝ }
+{
+    let g = capi_handles::inner::product_of(handles, count);
+    let m = group::flatten(from, g, table, start, work, room);
+    capi_values::inner::write_made(out, m);
+}

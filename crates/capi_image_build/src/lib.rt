@@ -1,0 +1,36 @@
+// The image's calls on factors as C functions; its check and its walk, which need no factor, are in `capi_image`.
+ghost use mathlib.Core.Path.{_≡_};
+ghost use lib.ListN.{length};
+ghost use Rattle.image.specs.Written.{writeCount, writtenImage};
+ghost use Rattle.image.specs.Read.{readImage};
+ghost use Rattle.capi_values.specs.Bridge.{handle, countedCode, Bridged, bridged};
+use capi_values::inner;
+
+#[no_mangle]
+pub extern "C" fn hg_image_write(
+    table: &[u32],
+    start: usize,
+    room: u32,
+    n: u8,
+    count: u32,
+    out: &mut [u8],
+) -> u64
+    ensures { λ r. ⌜ (r ≡ countedCode (writeCount (now (table .entry)) (handle start room n count) (length (now (out .entry))))) × (now (out .exit) ≡ writtenImage (now (table .entry)) (handle start room n count) (now (out .entry))) ⌝ }
+{
+    let f = inner::factor_of(start, room, n, count);
+    inner::counted_code(image::write(table, f, out))
+}
+
+#[no_mangle]
+pub extern "C" fn hg_image_read(
+    bytes: &[u8],
+    table: &mut [u32],
+    start: usize,
+    work: &mut [u32],
+    out: &mut [u32],
+)
+    ensures { λ x. ⌜ Bridged.holds (now (table .exit)) (now (work .exit)) (now (out .exit)) ≡ bridged (readImage (now (bytes .entry)) (now (table .entry)) start (now (work .entry))) (now (out .entry)) ⌝ }
+{
+    let m = image::read(bytes, table, start, work);
+    inner::write_made(out, m);
+}

@@ -1,0 +1,42 @@
+-- The call's own buffers, and its answer written.
+use Rattle.capi_subgroup.proofs.Laws.{subgroup-holds}
+use borrow.Author.Needs.{needs}
+use Rattle.capi_subgroup.proofs.hg_subgroup_predicate.Statement.{statement}
+use Rattle.capi_subgroup.proofs.hg_subgroup_predicate.Tie as tie
+use Rattle.capi_subgroup.proofs.hg_subgroup_predicate.Reads as reads
+use Rattle.capi_subgroup.proofs.hg_subgroup_predicate.Lts as lts
+use Rattle.capi_handles.proofs.inner.product_of.Reads as product-of-reads
+use Rattle.subgroup_predicate.proofs.from_predicate.Reads as from-predicate-reads
+use Rattle.capi_subgroup.proofs.write_subgrouped.Reads as write-subgrouped-reads
+
+product-of-requires : tie.Need-product-of-requires
+product-of-requires c κs = search needs
+
+from-predicate-requires : tie.Need-from-predicate-requires
+from-predicate-requires c κs = search needs
+
+write-subgrouped-requires : tie.Need-write-subgrouped-requires
+write-subgrouped-requires c κs = search needs
+
+same-length : tie.Need-same-length
+same-length c = search needs
+
+same-length-2 : tie.Need-same-length-2
+same-length-2 c = search needs
+
+same-length-3 : tie.Need-same-length-3
+same-length-3 c = search needs
+
+same-length-4 : tie.Need-same-length-4
+same-length-4 c = search needs
+
+same-length-5 : tie.Need-same-length-5
+same-length-5 c = search needs
+
+returns : tie.Need-returns
+returns c = rw (← (c .before .before .before .before .before .before .before .before .before .before .before .before .before .before .before .before .before .product-of .ensures)) (subgroup-holds ((c .before .before .before .before .before .before .before .before .before .before .before .before .before .before .before .before .before .before .before .before .before .before .before .before .before .before .args .out .now)) ((c .before .before .before .before .before .before .before .before .before .before .before .before .from-predicate .ensures)) ((c .before .before .write-subgrouped .ensures)))
+
+pub hg-subgroup-predicate-spec : {M : Type 1} → statement M
+hg-subgroup-predicate-spec =
+    tie.close
+    (tie.spec product-of-requires from-predicate-requires write-subgrouped-requires same-length same-length-2 same-length-3 same-length-4 same-length-5 returns)

@@ -1,0 +1,40 @@
+-- How a subgroup crosses the bridge to Rust: 128 numbers in a lent list.
+-- Assumes nothing.
+use Prim.Native.Nat.{ℕ}
+use mathlib.Core.List.{List}
+use lib.ListN.{getD}
+use Rattle.egg.specs.Table.{putAt}
+use Rattle.capi_values.specs.Bridge.{refusalCode, madeInto}
+use Rattle.capi_handles.specs.Product.{byteOf, handleAt, productAt}
+use Rattle.subgroup_build.specs.declared.Subgroup.{Subgroup}
+use Rattle.subgroup_build.specs.declared.Subgrouped.{Subgrouped}
+use Rattle.subgroup.specs.declared.Within.{Within}
+use Rattle.subgroup.specs.declared.Within.the-variants as within
+use Rattle.subgroup_build.specs.Lent.{Subgrouping, subgrouping}
+
+-- The handle of its factor in the first five; the counts of the three products, which are below, over and above, in the next three; and the handles of each,
+-- 40 numbers a product.
+unfoldable pub subgroupFrom : List ℕ → Subgroup
+subgroupFrom l = record {
+  below = productAt l 8 (byteOf (getD l 5 0));
+  factor = handleAt l 0;
+  over = productAt l 48 (byteOf (getD l 6 0));
+  above = productAt l 88 (byteOf (getD l 7 0));
+}
+
+-- One number for an element of the subgroup: "`Not in the subgroup` is 4,294,967,295 .., which is no element number."
+abbrev pub withinCode : Within → ℕ
+withinCode (within.Element e) = e .0
+withinCode within.Outside = 4294967295
+withinCode (within.Refused r) = refusalCode r
+
+-- The verdict and the element count of a subgroup that was made, and how many generators it has.
+unfoldable pub subgroupedInto : Subgrouped → List ℕ → List ℕ
+subgroupedInto m out = putAt (madeInto (record { answer = m .answer; factor = m .subgroup .factor }) out) 5 (m .subgroup .factor .generators)
+
+-- What the five lent lists hold: table, work, both maps, and the answer's.
+pub data Bridged : Type 0 where
+  holds : List ℕ → List ℕ → List ℕ → List ℕ → List ℕ → Bridged
+
+abbrev pub bridged : Subgrouping → List ℕ → Bridged
+bridged (subgrouping m t w i o) out = holds t w i o (subgroupedInto m out)

@@ -1,2 +1,0 @@
-// Which elements a predicate gives as generators of a subgroup, in the order of the overgroup. There are no calls of its own: `predicate` has the call.
-pub mod inner;

@@ -1,0 +1,33 @@
+-- Rows that stand alike move alike: what lets a list of rows be woken with one filling for all of them. Not in 000; what a list comes to is said without it.
+-- Assumes nothing.
+use Prim.Native.Nat.{ℕ, _+_, _-_, _%_, _<_}
+use mathlib.Core.Path.{_≡_}
+use mathlib.Core.List.{List}
+use Rattle.enumeration_rows.specs.declared.inner.RelationTableRow.{RelationTableRow}
+use Rattle.enumeration_rows.specs.Rows.{rowOf}
+use Rattle.enumeration_fill.specs.Fill.{filled}
+
+-- The row b is filled to the row a, and its ends have not met.
+pub record Moves (t : List ℕ) (n : ℕ) (b a : RelationTableRow) : Type 0 where
+  pub filling : a ≡ filled t n b
+  pub apart : a .left < a .right
+
+-- The columns by which its left end went forward, and its right end back.
+abbrev pub forth : RelationTableRow → RelationTableRow → ℕ
+forth b a = a .left - b .left
+
+abbrev pub backward : RelationTableRow → RelationTableRow → ℕ
+backward b a = b .right - a .right
+
+-- The row r stands as b does: the same pair, elements and generators on both sides of its gap, which is wider than so many columns.
+pub record Alike (r b : RelationTableRow) (columns : ℕ) : Type 0 where
+  pub pairs : r .pair ≡ b .pair
+  pub froms : r .from .0 ≡ b .from .0
+  pub tos : r .to .0 ≡ b .to .0
+  pub lefts : r .left % 2 ≡ b .left % 2
+  pub rights : r .right % 2 ≡ b .right % 2
+  pub wide : r .left + columns < r .right
+
+-- What r is filled to, then.
+abbrev pub movedAlike : RelationTableRow → RelationTableRow → RelationTableRow → RelationTableRow
+movedAlike r b a = rowOf (r .pair) (r .left + forth b a) (r .right - backward b a) (a .from) (a .to)

@@ -1,0 +1,44 @@
+-- Laws of products by the numbers in the rows: how many numbers the rows have, and what product and conjugate come to.
+-- Assumes nothing.
+use Prim.Native.Nat.{ℕ, _+_, _*_, _≤_, _<_}
+use mathlib.Core.Path.{_≡_, sym, _∙_}
+use mathlib.Core.Bool.{Bool, true, false}
+use mathlib.Core.List.{List}
+use native.Mathlib.Nat.{mul-le-mul}
+use native.Mathlib.Omega.{arith}
+use borrow.Author.Tests.{ltb-true, ltb-false}
+use lib.Dec.{ltb}
+use Rattle.egg.specs.declared.Reached.the-variants.{Element}
+use Rattle.egg.specs.Table.{pick, lengthOf, inverseOf}
+use Rattle.factor_questions.specs.Walks.{backAlong, composeIn, conjugateIn}
+use Rattle.factor_questions.proofs.Walks.{compose-first, compose-back, inverse-element}
+
+pub rows-small : (n : ℕ) {count w : ℕ} → w ≡ 2 * n + 4 → count < 4294967296 → n < 256 → count * w < 18446744073709551616
+rows-small n {count} {w} q h k = let p : count ≤ 4294967295 = omega arith in let m : w ≤ 514 = omega arith in omega (arith, mul-le-mul p m)
+
+-- The product along the shorter of two words, by the numbers that were read.
+module _ (s : List ℕ) (n count a b : ℕ) {len i own back : ℕ} (q : len ≡ lengthOf s n b) (more : 5 < len) (h : len ≤ 4096) (p : i ≡ inverseOf s n b)
+    (k : i < count) (v : own ≡ lengthOf s n a) (w : back ≡ lengthOf s n i) (o : back ≤ len) where
+  shorter-way : (t : Bool) → ltb own len ≡ t → {x z : ℕ} → backAlong (pick t own back) s n count (pick t i a) (pick t a i) ≡ Element (record { 0 = x })
+      → z ≡ inverseOf s n x → pick t z x < count → composeIn s n count a b ≡ Element (record { 0 = pick t z x })
+  shorter-way true l {x} u m j = sym (compose-first s n count a b q more h p k v (ltb-true _ _ l)) ∙ rw u (sym (inverse-element s n count x m j))
+  shorter-way false l u m j = sym (compose-back s n count a b q more h p k v (ltb-false _ _ l) w o) ∙ u
+
+  pub product-reached : {t : Bool} {letters from word x z r : ℕ} → t ≡ ltb own len → letters ≡ pick t own back → from ≡ pick t i a → word ≡ pick t a i
+      → backAlong letters s n count from word ≡ Element (record { 0 = x }) → z ≡ inverseOf s n x → r ≡ pick t z x → r < count
+      → composeIn s n count a b ≡ Element (record { 0 = r })
+  product-reached {t} {letters} {from} {word} {x} {z} {r} l d e f u m g j =
+      let u′ : backAlong (pick t own back) s n count (pick t i a) (pick t a i) ≡ Element (record { 0 = x }) = rw (← d, ← e, ← f) u in
+      let j′ : pick t z x < count = rw (← g) j in
+      shorter-way t (sym l) u′ m j′ ∙ rw (← g)
+
+-- Either way the walk starts at an element, along an element's word.
+pub chosen-inside : {count x y r : ℕ} (t : Bool) → r ≡ pick t x y → x < count → y < count → r < count
+chosen-inside true q h k = rw q h
+chosen-inside false q h k = rw q k
+
+-- a·b·a⁻¹, by the three numbers.
+pub conjugate-reached : (s : List ℕ) (n count a b : ℕ) {c i r : ℕ} → composeIn s n count a b ≡ Element (record { 0 = c }) → i ≡ inverseOf s n a → i < count
+    → composeIn s n count c i ≡ Element (record { 0 = r }) → conjugateIn s n count a b ≡ Element (record { 0 = r })
+unfolding conjugateIn
+conjugate-reached s n count a b {c} {i} {r} u q h w = rw (u, ← inverse-element s n count a q h, w)

@@ -1,0 +1,120 @@
+// Products by the numbers in the rows: quick, by the walks of `factor_quick_walks`, where every number that is looked at is in range and, for a
+// word of more than five letters, the second's inverse has no longer one; else as `factor_questions` answers by the definition.
+ghost use mathlib.Core.Path.{_≡_};
+ghost use mathlib.Core.Bool.{true};
+ghost use Prim.Native.Nat.{_+_, _*_, _<_, _≤_};
+ghost use lib.ListN.{length};
+ghost use Rattle.factor_questions.specs.Walks.{composeIn, conjugateIn};
+use egg::GroupElementId;
+use egg::Reached;
+
+// Whether the rows of all elements stand in the stretch.
+fn rows_within(s: &[u32], n: u8, count: u32) -> bool
+    ensures { λ r. ⌜ (r ≡ true → count * (2 * n + 4) ≤ length (now (s .entry))) ⌝ }
+{
+    (count as usize) * egg::inner::width(n) <= s.len()
+}
+
+// The product of two elements by the numbers in their rows, where these serve; else the count, and `compose_with_care` has the
+// answer. A word of at most five letters is in its own row, and waits for no other. Of the two ways
+// back along a longer one both read and look at an inverse at the end: so they join with no branch, which a processor would
+// guess wrong every other time.
+fn product_number(s: &[u32], n: u8, count: u32, a: GroupElementId, b: GroupElementId) -> u32
+    ensures { λ r. ⌜ (r < count → composeIn (now (s .entry)) n count (a .0) (b .0) ≡ Reached.Element (record { 0 = r })) ⌝ }
+{
+    let first = a.0;
+    let second = b.0;
+    if !rows_within(s, n, count) {
+        return count;
+    }
+    if count <= first {
+        return count;
+    }
+    if count <= second {
+        return count;
+    }
+    let len = factor_quick_walks::inner::recorded(s, n, count, GroupElementId(second), 2);
+    if len <= 5 {
+        let c = factor_quick_walks::inner::recorded(s, n, count, GroupElementId(second), 1);
+        return factor_quick_walks::inner::advance(s, n, count, GroupElementId(first), c, len);
+    }
+    if 4096 < len {
+        return count;
+    }
+    let i = factor_quick_walks::inner::recorded(s, n, count, GroupElementId(second), 3);
+    if count <= i {
+        return count;
+    }
+    let own = factor_quick_walks::inner::recorded(s, n, count, GroupElementId(first), 2);
+    let other = factor_quick_walks::inner::recorded(s, n, count, GroupElementId(i), 2);
+    if len < other {
+        return count;
+    }
+    let inverted = factor_quick_walks::inner::fewer(own, len);
+    let letters = egg::inner::chosen(inverted, own, other);
+    let from = egg::inner::chosen(inverted, i, first);
+    let word = egg::inner::chosen(inverted, first, i);
+    let x = factor_quick_walks::inner::retrace(
+        s,
+        n,
+        count,
+        GroupElementId(from),
+        GroupElementId(word),
+        letters,
+    );
+    if count <= x {
+        return count;
+    }
+    let z = factor_quick_walks::inner::recorded(s, n, count, GroupElementId(x), 3);
+    if count <= z {
+        return count;
+    }
+    egg::inner::chosen(inverted, z, x)
+}
+
+pub fn compose_elements(
+    s: &[u32],
+    n: u8,
+    count: u32,
+    a: GroupElementId,
+    b: GroupElementId,
+) -> Reached
+    ensures { λ r. ⌜ r ≡ composeIn (now (s .entry)) n count (a .0) (b .0) ⌝ }
+{
+    let x = product_number(&s[..], n, count, a, b);
+    if x < count {
+        return Reached::Element(GroupElementId(x));
+    }
+    factor_questions::inner::compose_with_care(&s[..], n, count, a, b)
+}
+
+// a·b·a⁻¹ as `product_number` gives a product.
+fn conjugate_number(s: &[u32], n: u8, count: u32, a: GroupElementId, b: GroupElementId) -> u32
+    ensures { λ r. ⌜ (r < count → conjugateIn (now (s .entry)) n count (a .0) (b .0) ≡ Reached.Element (record { 0 = r })) ⌝ }
+{
+    let c = product_number(&s[..], n, count, a, b);
+    if count <= c {
+        return count;
+    }
+    let i = egg::inner::get(s, egg::inner::inverse_at(n, a));
+    if count <= i {
+        return count;
+    }
+    product_number(&s[..], n, count, GroupElementId(c), GroupElementId(i))
+}
+
+pub fn conjugate_elements(
+    s: &[u32],
+    n: u8,
+    count: u32,
+    a: GroupElementId,
+    b: GroupElementId,
+) -> Reached
+    ensures { λ r. ⌜ r ≡ conjugateIn (now (s .entry)) n count (a .0) (b .0) ⌝ }
+{
+    let x = conjugate_number(&s[..], n, count, a, b);
+    if x < count {
+        return Reached::Element(GroupElementId(x));
+    }
+    factor_questions::inner::conjugate_with_care(&s[..], n, count, a, b)
+}

@@ -1,0 +1,255 @@
+// The work of the calls, on products whose handles fit and whose elements have numbers of 32 bits.
+ghost use mathlib.Core.Path.{_≡_};
+ghost use mathlib.Core.Bool.{true};
+ghost use Prim.Native.Nat.{_<_, _≤_};
+ghost use lib.ListN.{length, getD};
+ghost use Rattle.theory_products.specs.Radix.{stride, project, inject};
+ghost use Rattle.group_handles.specs.Handles.{handles, sizes, elementsOf, allFit};
+ghost use Rattle.group_digits.specs.Digits.{digitOf, digitwise, stepIn};
+ghost use Rattle.group_digits.specs.Splits.{digitsLeft, digitsRight, fewer, splitTail, joinTail};
+use egg::Counted;
+use egg::GeneratorId;
+use egg::GroupElementId;
+use egg::Reached;
+use egg::Verdict;
+use group_handles::Group;
+
+// The questions that are answered factor by factor; the definitions name them.
+pub enum Asked {
+    Compose,
+    Inverse,
+    Conjugate,
+}
+
+// Factor by factor: the elements are split as they go, and `sum` holds the digits that were answered, each times its
+// stride. (A loop for each question: one loop for all, with the question as an argument, took half as long again.)
+pub fn compose_digits(table: &[u32], g: Group, a: GroupElementId, b: GroupElementId) -> Reached
+    requires { ⌜ (allFit (length (now table)) (handles g) ≡ true) × (elementsOf (handles g) ≤ 4294967295) ⌝ }
+    ensures { λ r. ⌜ r ≡ digitwise (digitOf Asked.Compose (now (table .entry))) (handles g) (a .0) (b .0) ⌝ }
+{
+    let c = group_handles::inner::listed(g);
+    let mut f: usize = 0;
+    let mut stride: u32 = 1;
+    let mut sum: u32 = 0;
+    let mut x = a.0;
+    let mut y = b.0;
+    while f < c {
+        let h = g.factors[f];
+        let n = h.elements;
+        let s = egg::inner::part(table, h);
+        let r = factor_compose::inner::compose_elements(
+            s,
+            h.generators,
+            n,
+            GroupElementId(x % n),
+            GroupElementId(y % n),
+        );
+        let Reached::Element(d) = r else {
+            return r;
+        };
+        sum += stride * d.0;
+        stride *= n;
+        x /= n;
+        y /= n;
+        f += 1;
+    }
+    Reached::Element(GroupElementId(sum))
+}
+
+pub fn inverse_digits(table: &[u32], g: Group, a: GroupElementId) -> Reached
+    requires { ⌜ (allFit (length (now table)) (handles g) ≡ true) × (elementsOf (handles g) ≤ 4294967295) ⌝ }
+    ensures { λ r. ⌜ r ≡ digitwise (digitOf Asked.Inverse (now (table .entry))) (handles g) (a .0) 0 ⌝ }
+{
+    let c = group_handles::inner::listed(g);
+    let mut f: usize = 0;
+    let mut stride: u32 = 1;
+    let mut sum: u32 = 0;
+    let mut x = a.0;
+    while f < c {
+        let h = g.factors[f];
+        let n = h.elements;
+        let s = egg::inner::part(table, h);
+        let r = factor_questions::inner::inverse_in(s, h.generators, n, GroupElementId(x % n));
+        let Reached::Element(d) = r else {
+            return r;
+        };
+        sum += stride * d.0;
+        stride *= n;
+        x /= n;
+        f += 1;
+    }
+    Reached::Element(GroupElementId(sum))
+}
+
+pub fn conjugate_digits(table: &[u32], g: Group, a: GroupElementId, b: GroupElementId) -> Reached
+    requires { ⌜ (allFit (length (now table)) (handles g) ≡ true) × (elementsOf (handles g) ≤ 4294967295) ⌝ }
+    ensures { λ r. ⌜ r ≡ digitwise (digitOf Asked.Conjugate (now (table .entry))) (handles g) (a .0) (b .0) ⌝ }
+{
+    let c = group_handles::inner::listed(g);
+    let mut f: usize = 0;
+    let mut stride: u32 = 1;
+    let mut sum: u32 = 0;
+    let mut x = a.0;
+    let mut y = b.0;
+    while f < c {
+        let h = g.factors[f];
+        let n = h.elements;
+        let s = egg::inner::part(table, h);
+        let r = factor_compose::inner::conjugate_elements(
+            s,
+            h.generators,
+            n,
+            GroupElementId(x % n),
+            GroupElementId(y % n),
+        );
+        let Reached::Element(d) = r else {
+            return r;
+        };
+        sum += stride * d.0;
+        stride *= n;
+        x /= n;
+        y /= n;
+        f += 1;
+    }
+    Reached::Element(GroupElementId(sum))
+}
+
+// The step of the factor that has the generator; the other digits stay.
+pub fn step_in(table: &[u32], g: Group, e: GroupElementId, x: GeneratorId) -> Reached
+    requires { ⌜ (allFit (length (now table)) (handles g) ≡ true) × ((elementsOf (handles g) ≤ 4294967295) × (e .0 < elementsOf (handles g))) ⌝ }
+    ensures { λ r. ⌜ r ≡ stepIn (now (table .entry)) (handles g) (e .0) (x .0) ⌝ }
+{
+    let c = group_handles::inner::listed(g);
+    let mut f: usize = 0;
+    let mut stride: u32 = 1;
+    let mut low: u32 = 0;
+    let mut rest = e.0;
+    let mut left = x.0;
+    while f < c {
+        let h = g.factors[f];
+        let n = h.elements;
+        if left < h.generators {
+            let r = egg::inner::next(
+                egg::inner::part(table, h),
+                h.generators,
+                n,
+                GroupElementId(rest % n),
+                GeneratorId(left),
+            );
+            let Reached::Element(d) = r else {
+                return r;
+            };
+            return Reached::Element(GroupElementId(low + stride * (d.0 + n * (rest / n))));
+        }
+        left -= h.generators;
+        low += stride * (rest % n);
+        stride *= n;
+        rest /= n;
+        f += 1;
+    }
+    egg::inner::refuse(14, 1)
+}
+
+// What one step in the factor f is in the product.
+fn stride_of(table: &[u32], g: Group, f: usize) -> u32
+    requires { ⌜ (allFit (length (now table)) (handles g) ≡ true) × ((elementsOf (handles g) ≤ 4294967295) × (f < length (handles g))) ⌝ }
+    ensures { λ r. ⌜ r ≡ stride (sizes (handles g)) f ⌝ }
+{
+    let mut i: usize = 0;
+    let mut s: u32 = 1;
+    while i < f {
+        let h = group_handles::inner::handle(g, i);
+        s *= h.elements;
+        i += 1;
+    }
+    s
+}
+
+pub fn project_in(table: &[u32], g: Group, f: usize, e: GroupElementId) -> Reached
+    requires { ⌜ (allFit (length (now table)) (handles g) ≡ true) × ((elementsOf (handles g) ≤ 4294967295) × (f < length (handles g))) ⌝ }
+    ensures { λ r. ⌜ r ≡ Reached.Element (record { 0 = project (sizes (handles g)) f (e .0) }) ⌝ }
+{
+    let x = e.0;
+    let s = stride_of(table, g, f);
+    let n = group_handles::inner::size_of(g, f);
+    Reached::Element(GroupElementId(x / s % n))
+}
+
+pub fn inject_in(table: &[u32], g: Group, f: usize, x: GroupElementId) -> Reached
+    requires { ⌜ (allFit (length (now table)) (handles g) ≡ true) × ((elementsOf (handles g) ≤ 4294967295) × ((f < length (handles g)) × (x .0 < getD (sizes (handles g)) f 1))) ⌝ }
+    ensures { λ r. ⌜ r ≡ Reached.Element (record { 0 = inject (sizes (handles g)) f (x .0) }) ⌝ }
+{
+    let d = x.0;
+    let s = stride_of(table, g, f);
+    Reached::Element(GroupElementId(s * d))
+}
+
+// The digits of e to the places from 0 on; 4 where the list is short.
+pub fn split_in(table: &[u32], g: Group, e: GroupElementId, out: &mut [u32]) -> Counted
+    requires { ⌜ allFit (length (now table)) (handles g) ≡ true ⌝ }
+    ensures { λ r. ⌜ (r ≡ splitTail (handles g) (length (now (out .entry)))) × (now (out .exit) ≡ digitsLeft (splitTail (handles g) (length (now (out .entry)))) (sizes (handles g)) (e .0) (now (out .entry))) ⌝ }
+{
+    let c = group_handles::inner::listed(g);
+    if out.len() < c {
+        return factor_words::inner::refused_count(4);
+    }
+    let mut f: usize = 0;
+    let mut rest = e.0;
+    while f < c {
+        let h = g.factors[f];
+        let n = h.elements;
+        egg::inner::put(out, f, (rest % n) as usize);
+        rest /= n;
+        f += 1;
+    }
+    Counted::Count(c as u32)
+}
+
+fn fewer(a: usize, b: usize) -> usize
+    ensures { λ r. ⌜ (r ≡ fewer a b) × ((r ≤ a) × (r ≤ b)) ⌝ }
+{
+    if a <= b { a } else { b }
+}
+
+// 14 for the first digit that is out of range, of those that are there.
+pub fn digits_right(g: Group, digits: &[u32]) -> Verdict
+    ensures { λ r. ⌜ r ≡ digitsRight (sizes (handles g)) (now (digits .entry)) ⌝ }
+{
+    let c = fewer(group_handles::inner::listed(g), digits.len());
+    let mut f: usize = 0;
+    while f < c {
+        if group_handles::inner::size_of(g, f) <= egg::inner::get(digits, f) {
+            return egg::inner::refused(14, f as u32, 0, 0);
+        }
+        f += 1;
+    }
+    Verdict::Fine
+}
+
+// 15, then 4; then each digit times its stride.
+pub fn join_in(table: &[u32], g: Group, digits: &[u32]) -> Reached
+    requires { ⌜ (allFit (length (now table)) (handles g) ≡ true) × (digitsRight (sizes (handles g)) (now digits) ≡ Verdict.Fine) ⌝ }
+    ensures { λ r. ⌜ r ≡ joinTail g (now (digits .entry)) ⌝ }
+{
+    if 8 < g.count {
+        return egg::inner::refuse(15, 0);
+    }
+    let seen = group_handles::inner::look(table, g);
+    if 4294967295 < seen.elements {
+        return egg::inner::refuse(15, 0);
+    }
+    let c = group_handles::inner::listed(g);
+    if digits.len() < c {
+        return egg::inner::refuse(4, 0);
+    }
+    let mut f: usize = 0;
+    let mut stride: u32 = 1;
+    let mut sum: u32 = 0;
+    while f < c {
+        let h = g.factors[f];
+        sum += stride * egg::inner::get(digits, f);
+        stride *= h.elements;
+        f += 1;
+    }
+    Reached::Element(GroupElementId(sum))
+}

@@ -1,0 +1,13 @@
+-- A product of one factor, which answers as the factor does. Document 01: "factors per product 0 to 8".
+-- Assumes nothing.
+use mathlib.Core.Path.{_≡_}
+use mathlib.Core.List.{[], _∷_}
+use lib.ListN.{getD}
+use Rattle.build_lending.specs.Lending.{noFactor}
+use Rattle.group_handles.specs.declared.Group.{Group}
+use Rattle.group_handles.specs.Handles.{handles}
+
+-- One handle is listed, the first of the eight.
+pub record Alone (g : Group) : Type 0 where
+  pub counted : g .count ≡ 1
+  pub listed : handles g ≡ getD (g .factors) 0 noFactor ∷ []

@@ -1,0 +1,244 @@
+// What the handles of a product have together, and the refusals that come before any reading.
+ghost use mathlib.Core.Path.{_≡_};
+ghost use mathlib.Core.Bool.{true, _&&_};
+ghost use mathlib.Core.List.{_++_};
+ghost use Prim.Native.Nat.{_+_, _*_, _≤_};
+ghost use lib.ListN.{length, getD};
+ghost use Rattle.egg.specs.Scan.{refusedOf};
+ghost use Rattle.build_lending.specs.Lending.{noFactor};
+ghost use Rattle.group_handles.specs.Handles.{handles, sizes, elementsOf, generatorsOf, allFit, capped, seen, limitOf, limitSeen, limited, admits, admitsSeen, groupOf, noGroup};
+ghost use Rattle.group_handles.specs.Alone.{Alone};
+use super::Group;
+use super::Grouped;
+use egg::Counted;
+use egg::Factor;
+use egg::Made;
+use egg::Refusal;
+use egg::Verdict;
+
+// How many handles are listed.
+pub fn listed(g: Group) -> usize
+    ensures { λ r. ⌜ (r ≡ length (handles g)) × (r ≤ 8) ⌝ }
+{
+    let c = g.count;
+    if 8 < c { 8 } else { c as usize }
+}
+
+// Whether there is one factor, and no more.
+pub fn alone(g: Group) -> bool
+    ensures { λ r. ⌜ (r ≡ true → Alone g) ⌝ }
+{
+    g.count == 1
+}
+
+// The handle of the factor f; where there is none, the one that fits no buffer.
+pub fn handle(g: Group, f: usize) -> Factor
+    ensures { λ r. ⌜ r ≡ getD (handles g) f noFactor ⌝ }
+{
+    if listed(g) <= f {
+        return build_lending::inner::no_factor();
+    }
+    if 8 <= f {
+        return build_lending::inner::no_factor();
+    }
+    g.factors[f]
+}
+
+// How many elements the factor f has; 1 where there is no factor.
+pub fn size_of(g: Group, f: usize) -> u32
+    ensures { λ r. ⌜ r ≡ getD (sizes (handles g)) f 1 ⌝ }
+{
+    if listed(g) <= f {
+        return 1;
+    }
+    let h = handle(g, f);
+    h.elements
+}
+
+// A product as far as 32 bits can tell.
+pub fn times(p: u64, n: u32) -> u64
+    requires { ⌜ p ≤ 4294967296 ⌝ }
+    ensures { λ r. ⌜ r ≡ capped (p * n) ⌝ }
+{
+    let q = p * (n as u64);
+    if q <= 4294967295 { q } else { 4294967296 }
+}
+
+// What one pass over the handles shows: whether each fits the buffer, and how many elements (as far as 32 bits can tell)
+// and generators they have together.
+pub struct Seen {
+    pub fit: bool,
+    pub elements: u64,
+    pub generators: u32,
+}
+
+pub fn both(a: bool, b: bool) -> bool
+    ensures { λ r. ⌜ r ≡ a && b ⌝ }
+{
+    if a { b } else { false }
+}
+
+pub fn look(table: &[u32], g: Group) -> Seen
+    ensures { λ r. ⌜ (r ≡ seen (length (now (table .entry))) (handles g)) × (r .generators ≤ 2040) ⌝ }
+{
+    let c = listed(g);
+    let mut f: usize = 0;
+    let mut fit = true;
+    let mut elements: u64 = 1;
+    let mut generators: u32 = 0;
+    while f < c {
+        let h = g.factors[f];
+        fit = both(fit, egg::fits(table, h));
+        elements = times(elements, h.elements);
+        generators += h.generators as u32;
+        f += 1;
+    }
+    Seen {
+        fit,
+        elements,
+        generators,
+    }
+}
+
+// Whether every handle that is listed fits its buffer.
+pub fn all_fit(table: &[u32], g: Group) -> bool
+    ensures { λ r. ⌜ r ≡ allFit (length (now (table .entry))) (handles g) ⌝ }
+{
+    let s = look(table, g);
+    s.fit
+}
+
+// How many elements the product has, as far as 32 bits can tell.
+pub fn elements_of(g: Group) -> u64
+    ensures { λ r. ⌜ r ≡ capped (elementsOf (handles g)) ⌝ }
+{
+    let c = listed(g);
+    let mut f: usize = 0;
+    let mut p: u64 = 1;
+    while f < c {
+        let h = g.factors[f];
+        p = times(p, h.elements);
+        f += 1;
+    }
+    p
+}
+
+// How many generators the product has, of eight handles at most.
+pub fn generators_of(g: Group) -> u32
+    ensures { λ r. ⌜ (r ≡ generatorsOf (handles g)) × (r ≤ 2040) ⌝ }
+{
+    let c = listed(g);
+    let mut f: usize = 0;
+    let mut n: u32 = 0;
+    while f < c {
+        let h = g.factors[f];
+        n += h.generators as u32;
+        f += 1;
+    }
+    n
+}
+
+// Whether the product has at most 8 factors and 4,294,967,295 elements.
+pub fn limited(g: Group) -> bool
+    ensures { λ r. ⌜ r ≡ limited g ⌝ }
+{
+    if 8 < g.count {
+        return false;
+    }
+    elements_of(g) <= 4294967295
+}
+
+// What an argument has to be below.
+pub enum Limit {
+    Elements,
+    Generators,
+    Number(u32),
+}
+
+fn limit_of(s: Seen, l: Limit) -> u64
+    ensures { λ r. ⌜ r ≡ limitSeen s l ⌝ }
+{
+    match l {
+        Limit::Elements => s.elements,
+        Limit::Generators => s.generators as u64,
+        Limit::Number(k) => k as u64,
+    }
+}
+
+// 17 by what was seen of the handles, 14 for two arguments and their limits, 15.
+pub fn admit_seen(s: Seen, count: u8, a: u32, la: Limit, b: u32, lb: Limit) -> Verdict
+    ensures { λ r. ⌜ r ≡ admitsSeen s count a la b lb ⌝ }
+{
+    if !s.fit {
+        return egg::inner::refused(17, 0, 0, 0);
+    }
+    if limit_of(s, la) <= (a as u64) {
+        return egg::inner::refused(14, 0, 0, 0);
+    }
+    if limit_of(s, lb) <= (b as u64) {
+        return egg::inner::refused(14, 1, 0, 0);
+    }
+    if 8 < count {
+        return egg::inner::refused(15, 0, 0, 0);
+    }
+    if 4294967295 < s.elements {
+        return egg::inner::refused(15, 0, 0, 0);
+    }
+    Verdict::Fine
+}
+
+pub fn admit(table: &[u32], g: Group, a: u32, la: Limit, b: u32, lb: Limit) -> Verdict
+    ensures { λ r. ⌜ r ≡ admits (length (now (table .entry))) g a (limitOf (handles g) la) b (limitOf (handles g) lb) ⌝ }
+{
+    let s = look(table, g);
+    admit_seen(s, g.count, a, la, b, lb)
+}
+
+pub fn refused_grouped(number: u32) -> Grouped
+    ensures { λ r. ⌜ r ≡ record { answer = refusedOf number 0 0 0; group = noGroup } ⌝ }
+{
+    let none = build_lending::inner::no_factor();
+    let factors = [none, none, none, none, none, none, none, none];
+    let group = Group { factors, count: 1 };
+    let answer = egg::inner::refused(number, 0, 0, 0);
+    Grouped { answer, group }
+}
+
+// The handle at i of the handles of both, one after the other.
+fn either(a: Group, b: Group, i: usize) -> Factor
+    ensures { λ r. ⌜ r ≡ getD (handles a ++ handles b) i noFactor ⌝ }
+{
+    let k = listed(a);
+    if i < k {
+        return handle(a, i);
+    }
+    handle(b, i - k)
+}
+
+pub fn joined(a: Group, b: Group) -> Group
+    requires { ⌜ length (handles a) + length (handles b) ≤ 8 ⌝ }
+    ensures { λ r. ⌜ r ≡ groupOf (handles a ++ handles b) ⌝ }
+{
+    let x0 = either(a, b, 0);
+    let x1 = either(a, b, 1);
+    let x2 = either(a, b, 2);
+    let x3 = either(a, b, 3);
+    let x4 = either(a, b, 4);
+    let x5 = either(a, b, 5);
+    let x6 = either(a, b, 6);
+    let x7 = either(a, b, 7);
+    let factors = [x0, x1, x2, x3, x4, x5, x6, x7];
+    let k = listed(a) + listed(b);
+    Group {
+        factors,
+        count: (k % 256) as u8,
+    }
+}
+
+pub fn no_factor_made(why: Refusal) -> Made
+    ensures { λ r. ⌜ r ≡ record { answer = Verdict.Refused why; factor = noFactor } ⌝ }
+{
+    let factor = build_lending::inner::no_factor();
+    let answer = Verdict::Refused(why);
+    Made { answer, factor }
+}

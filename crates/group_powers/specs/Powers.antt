@@ -1,0 +1,42 @@
+-- Powers by halving the exponent.
+-- Assumes nothing.
+use Prim.Native.Nat.{ℕ, zero, suc, _+_, _/_, _%_}
+use mathlib.Core.List.{List}
+use mathlib.Core.Bool.{Bool, true, false}
+use lib.ListN.{length}
+use lib.Dec.{eqb}
+use lib.IntN.{ℤ, pos, negsuc}
+use Rattle.egg.specs.declared.Factor.{Factor}
+use Rattle.egg.specs.declared.GroupElementId.{GroupElementId}
+use Rattle.egg.specs.declared.Reached.{Reached}
+use Rattle.egg.specs.declared.Reached.the-variants.{Element}
+use Rattle.egg.specs.Factor.{stretch}
+use Rattle.factor.specs.Questions.{admits, ifReach}
+use Rattle.factor_questions.specs.Walks.{onReached, composeIn, inverseIn}
+
+-- x is what the even part of the exponent gives; r is the rest.
+abbrev pub oddToo : (ℕ → ℕ → Reached) → ℕ → ℕ → ℕ → Reached
+oddToo op a x zero = Element (record { 0 = x })
+oddToo op a x (suc r) = op x a
+
+-- The k-th power: the square of the power by k / 2, and once more a if k is odd. It goes on at most `fuel` times, and k are enough.
+unfoldable pub halves : ℕ → (ℕ → ℕ → Reached) → ℕ → ℕ → Reached
+halves zero op a k = Element (record { 0 = 0 })
+halves (suc fuel) op a zero = Element (record { 0 = 0 })
+halves (suc fuel) op a (suc k) =
+    onReached (halves fuel op a (suc k / 2)) (λ x. onReached (op x x) (λ y. oddToo op a y (suc k % 2)))
+
+-- "`powi` as the source, i32::MIN included: it squares the 2^30 power of the inverse." i is the inverse, and -k the exponent; `half` is 2^30.
+abbrev pub negated : Bool → ℕ → (ℕ → ℕ → Reached) → ℕ → ℕ → Reached
+negated true half op i k = onReached (halves half op i half) (λ x. op x x)
+negated false half op i k = halves k op i k
+
+unfoldable pub powers : ℕ → (ℕ → ℕ → Reached) → (ℕ → Reached) → ℕ → ℤ → Reached
+powers half op inv a (pos k) = halves k op a k
+powers half op inv a (negsuc k) = onReached (inv a) (λ i. negated (eqb (suc k) (half + half)) half op i (suc k))
+
+-- `powi` in one factor, which has no such call of its own.
+unfoldable pub powiAlone : List ℕ → Factor → GroupElementId → ℤ → Reached
+powiAlone t f a i =
+    ifReach (admits (length t) f (a .0) 0)
+    (powers 1073741824 (composeIn (stretch t f) (f .generators) (f .elements)) (inverseIn (stretch t f) (f .generators) (f .elements)) (a .0) i)

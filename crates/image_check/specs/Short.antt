@@ -1,0 +1,57 @@
+-- What is left of the checks 8 to 12 after a reading that ended: the successors are there and in range, the words spell their elements and the arrivals
+-- are n each where no predecessor is missing, so these are not tested again.
+-- Assumes nothing.
+use Prim.Native.Nat.{ℕ}
+use mathlib.Core.Path.{_≡_}
+use mathlib.Core.List.{List}
+use lib.ListN.{length, replicate}
+use lib.Dec.{ltb}
+use Rattle.egg.specs.declared.Verdict.{Verdict}
+use Rattle.egg.specs.declared.Verdict.the-variants.{Fine, Refused}
+use Rattle.egg.specs.declared.Counted.the-variants as counted
+use Rattle.egg.specs.Table.{pick}
+use Rattle.egg.specs.Factor.{verdictPaper}
+use Rattle.build_checks.specs.Checks.{missing, wrong, verdictOf, check-group}
+use Rattle.build_checks_inverses.specs.Inverses.{fillInverses, inversesRight}
+use Rattle.build_checks_group.specs.Lefts.{identityRow, Lefts, left, leftVerdict, thenLeft, lefts}
+use Rattle.build_reading.specs.Reading.{Placed, placed, readAll, composedAt}
+
+-- 8 for predecessors, 9 at each place, 10 and 11, on the table alone; and the table then.
+unfoldable pub shortTable : List ℕ → ℕ → ℕ → Lefts
+shortTable t n count =
+    thenLeft (missing t n count n) t
+    (thenLeft (wrong t n count) t
+    (thenLeft (inversesRight (fillInverses count t n 0) n count) (fillInverses count t n 0)
+    (left (identityRow (fillInverses count t n 0) n) (fillInverses count t n 0))))
+
+-- 12 on a table that has passed the others.
+abbrev pub shortRest : Lefts → List ℕ → ℕ → ℕ → Verdict
+shortRest (left Fine t) w n count = leftVerdict (lefts n t n count w 0)
+shortRest (left (Refused r) t) w n count = Refused r
+
+unfoldable pub short : List ℕ → List ℕ → ℕ → ℕ → Verdict
+short t w n count = shortRest (shortTable t n count) w n count
+
+-- P of some work of so many cells. It holds hints of inverses when 12 is tested; on a table that a reading left 12 does not depend on what it holds, so the
+-- contracts leave that open.
+pub record SomeWork (long : ℕ) (P : List ℕ → Type 0) : Type 0 where
+  pub work : List ℕ
+  pub as-long : length work ≡ long
+  pub holds : P work
+
+-- Document 01's number of a verdict: 0 where nothing is refused.
+abbrev pub verdictNumber : Verdict → ℕ
+verdictNumber v = verdictPaper v .number
+
+-- What a reading gave, with room for N elements: its refusal, or 16 for fewer than N, or what the checks give then.
+abbrev pub numberBy : (List ℕ → Verdict) → Placed → ℕ → ℕ
+numberBy check (placed (counted.Refused r) t) room = r .number
+numberBy check (placed (counted.Count c) t) room = pick (ltb c room) 16 (verdictNumber (check t))
+
+-- With the short checks, in a table of so many cells.
+unfoldable pub judged : (size : ℕ) (w rows : List ℕ) (n room : ℕ) → ℕ
+judged size w rows n room = numberBy (λ t. short t w n room) (readAll (composedAt rows n) n room (replicate size 0)) room
+
+-- The number that reading into 32-bit buffers and all of 8 to 12 give: "reading with room N; fewer than N reached is 16, before 8".
+unfoldable pub built : (size : ℕ) (w rows : List ℕ) (n room : ℕ) → ℕ
+built size w rows n room = numberBy (λ t. verdictOf (check-group t w n room)) (readAll (composedAt rows n) n room (replicate size 0)) room

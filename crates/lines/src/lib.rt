@@ -1,2 +1,0 @@
-// The listing's text: decimals, the lines of a table with their head, and refusals. There are no calls of its own: `page` has the call.
-pub mod inner;

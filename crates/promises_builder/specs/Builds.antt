@@ -1,0 +1,23 @@
+-- When `build` starts, and what it is for it to refuse by a number with its places.
+-- Assumes nothing.
+use Prim.Native.Nat.{ℕ, _≤_}
+use mathlib.Core.Path.{_≡_}
+use mathlib.Core.Bool.{true}
+use mathlib.Core.List.{List}
+use lib.ListN.{length}
+use Rattle.egg.specs.declared.Refusal.{Refusal}
+use Rattle.egg.specs.declared.Factor.{Factor}
+use Rattle.egg.specs.declared.Verdict.the-variants as verdict
+use Rattle.egg.specs.Factor.{fitsIn}
+use Rattle.builder.specs.declared.Builder.{Builder}
+use Rattle.build_lending.specs.Lending.{workNeed, making}
+use Rattle.builder.specs.Calls.{builds}
+
+-- The arguments of `build` are right, so that it starts: the handle fits, and the work is long enough.
+pub record Right (t : List ℕ) (b : Builder) (w : List ℕ) : Type 0 where
+  pub fits : fitsIn (length t) (b .0) ≡ true
+  pub enough : workNeed (b .0 .generators) (b .0 .room) ≤ length w
+
+-- The builder is refused by r.
+abbrev pub RefusedBy : List ℕ → Builder → List ℕ → Refusal → Type 0
+RefusedBy t b w r = (f : Factor) × (t′ : List ℕ) × (w′ : List ℕ) × (builds t b w ≡ making (record { answer = verdict.Refused r; factor = f }) t′ w′)

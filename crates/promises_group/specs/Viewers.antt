@@ -1,0 +1,38 @@
+-- The viewers of a puzzle that is a product: a live viewer gets each turn as a generator number, a viewer who is behind gets one element, the product of the
+-- turns missed, and both land on one state.
+-- Assumes nothing.
+use Prim.Native.Nat.{ℕ}
+use mathlib.Core.Path.{_≡_}
+use mathlib.Core.List.{List, [], _∷_}
+use Rattle.egg.specs.declared.GroupElementId.{GroupElementId}
+use Rattle.egg.specs.declared.Reached.{Reached}
+use Rattle.egg.specs.declared.Reached.the-variants.{Element}
+use Rattle.promises.specs.Viewers.{onElement, identity, Batch, one-by-one, at-once}
+use Rattle.group_handles.specs.declared.Group.{Group}
+use Rattle.group.specs.Questions.{stepAnswer, composeAnswer, generatorAnswer}
+
+-- The live viewer at the element e: the answers of `step` for the turns, one after another; a refusal ends it.
+abbrev pub live : List ℕ → Group → GroupElementId → List ℕ → Reached
+live t g e [] = Element e
+live t g e (x ∷ u) = onElement (stepAnswer t g e (record { 0 = x })) (λ y. live t g y u)
+
+-- The turns gathered into one element: the answers of `compose` with the element of each turn's generator, one after another.
+abbrev pub gathered : List ℕ → Group → GroupElementId → List ℕ → Reached
+gathered t g e [] = Element e
+gathered t g e (x ∷ u) = onElement (generatorAnswer t g (record { 0 = x })) (λ s. onElement (composeAnswer t g e s) (λ y. gathered t g y u))
+
+-- From the element e on, after the turns u: the product of the turns, which is where they lead from the identity, and what they gather to; and one state, to
+-- which the turns lead the live viewer one by one, and one `compose` with the product leads the delayed viewer.
+pub record OneState (t : List ℕ) (g : Group) (e : GroupElementId) (u : List ℕ) : Type 0 where
+  pub product : GroupElementId
+  pub turned : live t g identity u ≡ Element product
+  pub multiplied : gathered t g identity u ≡ Element product
+  pub state : GroupElementId
+  pub live-lands : live t g e u ≡ Element state
+  pub delayed-lands : composeAnswer t g e product ≡ Element state
+
+-- A viewer who is live at times and behind at times: `step` for the turns that come one by one, and one `compose` with the product of those that come at once.
+abbrev pub watched : List ℕ → Group → GroupElementId → List Batch → Reached
+watched t g e [] = Element e
+watched t g e (one-by-one u ∷ l) = onElement (live t g e u) (λ x. watched t g x l)
+watched t g e (at-once u ∷ l) = onElement (gathered t g identity u) (λ p. onElement (composeAnswer t g e p) (λ x. watched t g x l))

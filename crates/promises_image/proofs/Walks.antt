@@ -1,0 +1,122 @@
+-- A word walked on a group's image is theory's walk along its steps; and in the factor that is read from the image it is the product of the start with the
+-- element that the word reaches from the identity: live turns and the catch-up product land on one state.
+-- Assumes nothing.
+use Prim.Native.Nat.{ℕ, _+_, _≤_, _<_}
+use mathlib.Core.Path.{_≡_, refl, sym, ap, _∙_}
+use mathlib.Core.Logic.{_↔_}
+use mathlib.Core.Bool.{Bool, true, false}
+use mathlib.Core.List.{List, [], _∷_, _++_}
+use borrow.Author.Tests.{eq-eqb, ne-eqb, le-leb, lt-leb, lt-ltb, ltb-true}
+use lib.Dec.{ltb}
+use lib.ListN.{drop}
+use Rattle.egg.specs.declared.Factor.{Factor}
+use Rattle.egg.specs.declared.Verdict.the-variants as verdict
+use Rattle.egg.specs.Table.{pick}
+use Rattle.egg.proofs.Rooms.{and-first, and-second}
+use Rattle.build_lending.specs.Lending.{making}
+use Rattle.build_reading.specs.Reading.{composedAt}
+use Rattle.factor.specs.Questions.{composeAnswer}
+use Rattle.image_cells.specs.Cells.{halves}
+use Rattle.theory.specs.Table.{Table}
+use Rattle.theory.specs.Words.{Word, empty, letter, walk}
+use Rattle.theory.proofs.Counting.{numbered-table}
+use Rattle.theory.proofs.Complete.{walk-is-op}
+use Rattle.theory.proofs.Walking.{walk-closed, walk-append, walk-agree, word-append}
+use Rattle.build_checks_laws.proofs.Accepted.{sound-group, sound-right-steps}
+use Rattle.factor_laws.specs.Accepted.{factorStep, reach}
+use Rattle.factor_laws.proofs.Handles.{compose-answer}
+use Rattle.image.specs.Image.{generatorsOf, elementsOf, headNumber, bytesNeed, imageNumber}
+use Rattle.image.specs.Read.{readImage}
+use Rattle.image_walk.specs.Walked.{lettersBelow, follow}
+use Rattle.image.specs.Walked.{walkNumber}
+use Rattle.promises_image.specs.Images.{Bytes, imageStep, WellFormed, GroupImage}
+use Rattle.promises_image.proofs.Heads.{formed-head}
+use Rattle.promises_image.proofs.Back.{number-exactly, read-given}
+
+-- The letters' test is the word's.
+letters-to : (n : ℕ) (w : List ℕ) → lettersBelow n w ≡ true → Word n w
+unfolding lettersBelow
+letters-to n [] h = empty
+letters-to n (g ∷ w) h = letter (ltb-true g n (and-first (ltb g n) _ h)) (letters-to n w (and-second (ltb g n) _ h))
+
+letters-from : {n : ℕ} {w : List ℕ} → Word n w → lettersBelow n w ≡ true
+unfolding lettersBelow
+letters-from empty = refl
+letters-from (letter h w) = simp (lt-ltb _ _ h) (letters-from w)
+
+pub letters-word : (n : ℕ) (w : List ℕ) → lettersBelow n w ≡ true ↔ Word n w
+letters-word n w = (letters-to n w, letters-from)
+
+follow-walk : (rows : List ℕ) (n N : ℕ) → Table n N (composedAt rows n) → {e : ℕ} {w : List ℕ} → e < N → Word n w
+    → follow rows n N e w ≡ walk (composedAt rows n) e w
+unfolding follow
+follow-walk rows n N T he empty = refl
+follow-walk rows n N T he (letter hg w) = simp (lt-leb _ _ (T .closed he hg)) (follow-walk rows n N T (T .closed he hg) w)
+
+pub image-table : {l : List ℕ} → GroupImage l → Table (generatorsOf l) (elementsOf l) (imageStep l)
+image-table S = numbered-table (S .taken .readable .by-rule)
+
+module _ (l : List ℕ) where
+  -- A bad head, then 14 for the start, then 14 for a letter.
+  pub walk-head : (start : ℕ) (word : List ℕ) → (headNumber l ≡ 0 → ⊥) → walkNumber l start word ≡ 65536 + headNumber l
+  unfolding walkNumber
+  walk-head start word d = simp (ne-eqb _ _ d)
+
+  pub walk-start : (start : ℕ) (word : List ℕ) → WellFormed l → elementsOf l ≤ start → walkNumber l start word ≡ 65536 + 14
+  unfolding walkNumber
+  walk-start start word F h = let z = formed-head l F in simp (eq-eqb _ _ z, le-leb _ _ h)
+
+  pub walk-letter : (start : ℕ) (word : List ℕ) → WellFormed l → start < elementsOf l → ¬ Word (generatorsOf l) word → walkNumber l start word ≡ 65536 + 14
+  unfolding walkNumber
+  walk-letter start word F h none = let z = formed-head l F in simp (eq-eqb _ _ z, lt-leb _ _ h) (by (lettersBelow (generatorsOf l) word) refl) where
+    by : (b : Bool) → lettersBelow (generatorsOf l) word ≡ b
+        → pick b (follow (halves (drop 8 l)) (generatorsOf l) (elementsOf l) start word) 65550 ≡ 65536 + 14
+    by true e = absurd (none (letters-to (generatorsOf l) word e))
+    by false e = refl
+
+  -- And on a group's image the walk along its steps: no other number is given.
+  pub walk-group-image : (start : ℕ) (word : List ℕ) → GroupImage l → start < elementsOf l → Word (generatorsOf l) word
+      → walkNumber l start word ≡ walk (imageStep l) start word
+  unfolding walkNumber
+  walk-group-image start word S h w =
+      let z = formed-head l (S .formed) in
+      simp (eq-eqb _ _ z, lt-leb _ _ h, letters-from w) (follow-walk (halves (drop 8 l)) (generatorsOf l) (elementsOf l) (image-table S) h w)
+
+  -- A walk that goes on: turns that arrive in two parts land where one word lands.
+  pub walk-on : (start : ℕ) (u v : List ℕ) → GroupImage l → start < elementsOf l → Word (generatorsOf l) u → Word (generatorsOf l) v
+      → walkNumber l (walkNumber l start u) v ≡ walkNumber l start (u ++ v)
+  walk-on start u v S h hu hv =
+      let T = image-table S in
+      let a = walk-group-image start u S h hu in
+      let b : walk (imageStep l) start u < elementsOf l = walk-closed T h hu in
+      ap (λ (x : ℕ). walkNumber l x v) a ∙ walk-group-image (walk (imageStep l) start u) v S b hv ∙ sym (walk-append (imageStep l) start u v)
+      ∙ sym (walk-group-image start (u ++ v) S h (word-append hu hv))
+
+  -- The same from the check's 0.
+  pub walk-checked : Bytes l → (size : ℕ) → bytesNeed (generatorsOf l) (elementsOf l) ≤ size → imageNumber l size ≡ 0
+      → (start : ℕ) (word : List ℕ) → start < elementsOf l → Word (generatorsOf l) word → walkNumber l start word ≡ walk (imageStep l) start word
+  walk-checked B size long z start word h w = walk-group-image start word (number-exactly l B size long .0 z) h w
+
+-- In the factor that was read, the walk from an element is the product of the element with what the word reaches from the identity.
+module _ (l : List ℕ) (B : Bytes l) (table : List ℕ) (start : ℕ) (work : List ℕ) {f : Factor} {t w : List ℕ}
+    (q : readImage l table start work ≡ making (record { answer = verdict.Fine; factor = f }) t w) where
+  pub walk-composes : (from : ℕ) (word : List ℕ) → from < elementsOf l → Word (generatorsOf l) word
+      → composeAnswer t f (record { 0 = from }) (record { 0 = walkNumber l 0 word }) ≡ reach (walkNumber l from word)
+  walk-composes from word h ws =
+      let g = read-given l B table start work q in
+      let G = g .1 in
+      let A = G .accepted in
+      let S = A .sound in
+      let T = image-table (g .0) in
+      let gens : generatorsOf l ≡ f .generators = sym (ap (λ (x : Factor). x .generators) (G .handle)) in
+      let ws′ : Word (f .generators) word = rw gens at ws in
+      let h′ : from < f .elements = rw (g .2) h in
+      let same : (e x : ℕ) → e < f .elements → x < f .generators → imageStep l e x ≡ factorStep t f e x = λ e x he hx. sym (G .steps he (rw gens hx)) in
+      let zero-in : 0 < elementsOf l = T .origin in
+      let here : walkNumber l 0 word ≡ walk (factorStep t f) 0 word
+      = walk-group-image l 0 word (g .0) zero-in ws ∙ walk-agree (S .table) same (S .table .origin) ws′ in
+      let there : walkNumber l from word ≡ walk (factorStep t f) from word = walk-group-image l from word (g .0) h ws ∙ walk-agree (S .table) same h′ ws′ in
+      let b : walk (factorStep t f) 0 word < f .elements = walk-closed (S .table) (S .table .origin) ws′ in
+      ap (λ (x : ℕ). composeAnswer t f (record { 0 = from }) (record { 0 = x })) here
+      ∙ compose-answer A h′ b
+      ∙ ap reach (sym (walk-is-op (sound-group S) (sound-right-steps S) h′ ws′) ∙ sym there)

@@ -1,0 +1,30 @@
+-- The sentence for which all of this is made, from the bytes of an image to the answer: a live viewer gets each turn as a generator number, a viewer who is
+-- behind gets one element, the product of the turns missed, and both land on one state.
+-- Assumes nothing.
+use Prim.Native.Nat.{ℕ, _<_}
+use mathlib.Core.Path.{_≡_}
+use mathlib.Core.List.{List, [], _∷_}
+use Rattle.egg.specs.declared.Factor.{Factor}
+use Rattle.egg.specs.Factor.{reachedPaper}
+use Rattle.factor.specs.Questions.{composeAnswer}
+use Rattle.factor_laws.specs.Papers.{valuePaper}
+use Rattle.image.specs.Image.{elementsOf}
+use Rattle.image.specs.Walked.{walkNumber}
+
+-- The live viewer at the element e: each turn is walked by a call of its own, from where the one before it ended.
+unfoldable pub live : List ℕ → ℕ → List ℕ → ℕ
+live l e [] = e
+live l e (g ∷ u) = live l (walkNumber l e (g ∷ [])) u
+
+-- From the element e on, after the turns u, with the image l and the factor f that was read from it: the product of the turns is the element to which they
+-- lead from the identity, and there is one state, to which the turns lead one by one, to which they lead in one walk, and to which one `compose` with the
+-- product leads. Both are elements, so none of these calls refuses.
+pub record OneState (l t : List ℕ) (f : Factor) (e : ℕ) (u : List ℕ) : Type 0 where
+  pub product : ℕ
+  pub an-element : product < elementsOf l
+  pub turned : walkNumber l 0 u ≡ product
+  pub state : ℕ
+  pub a-state : state < elementsOf l
+  pub live-lands : live l e u ≡ state
+  pub walked-lands : walkNumber l e u ≡ state
+  pub delayed-lands : reachedPaper (composeAnswer t f (record { 0 = e }) (record { 0 = product })) ≡ valuePaper state

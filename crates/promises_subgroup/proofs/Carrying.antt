@@ -1,0 +1,85 @@
+-- The two maps that the index formulas make of a factor's are those of a direct product.
+-- Assumes nothing.
+use Prim.Native.Nat.{ℕ, _+_, _*_, _/_, _%_, _<_, _≤_}
+use mathlib.Core.Path.{_≡_, sym, _∙_, ap}
+use mathlib.Core.Logic.{_↔_}
+use native.Mathlib.Decide.{ℕ-discrete}
+use native.Mathlib.Omega.{arith}
+use Rattle.build_numbering.specs.Renumber as appear
+use Rattle.subgroup.specs.Indices.{factorIndices, unfactorIndices, withWithin, overOf, subOf}
+use Rattle.subgroup.proofs.IndexLaws.{unfactor-small, below-is, within-is, above-is, below-small, within-small, above-small, unfactor-factor, sub-none, sub-some}
+use Rattle.promises_subgroup.specs.Carried.{Carried}
+
+-- The parts of what the maps give.
+module _ (B A : ℕ) {M N : ℕ} {toOver toSub : ℕ → ℕ} (C : Carried M N toOver toSub) where
+  module _ {e : ℕ} (h : e < B * (N * A)) where
+    inside : toOver (e / B % N) < M
+    inside = C .over-below (within-small B N A e h)
+
+    pub over-small : overOf B M N toOver e < B * (M * A)
+    over-small = unfactor-small B M A (withWithin (factorIndices e B N) (toOver (e / B % N))) (below-small B N A e h) inside (above-small B N A e h)
+
+    pub over-below-is : overOf B M N toOver e % B ≡ e % B
+    over-below-is = below-is B M (withWithin (factorIndices e B N) (toOver (e / B % N))) (below-small B N A e h) inside
+
+    pub over-within-is : overOf B M N toOver e / B % M ≡ toOver (e / B % N)
+    over-within-is = within-is B M (withWithin (factorIndices e B N) (toOver (e / B % N))) (below-small B N A e h) inside
+
+    pub over-above-is : overOf B M N toOver e / B / M ≡ e / B / N
+    over-above-is = above-is B M (withWithin (factorIndices e B N) (toOver (e / B % N))) (below-small B N A e h) inside
+
+    not-none : ¬ (toSub (overOf B M N toOver e / B % M) ≡ appear.none)
+    not-none q =
+        let k : toSub (overOf B M N toOver e / B % M) ≡ e / B % N = ap toSub over-within-is ∙ C .there-and-back (within-small B N A e h) in
+        omega (arith, C .small, within-small B N A e h)
+
+    pub over-and-back : subOf B M N toSub (overOf B M N toOver e) ≡ e
+    over-and-back =
+        sub-some B M N toSub (overOf B M N toOver e) not-none
+        ∙ rw (over-below-is, over-within-is, over-above-is, C .there-and-back (within-small B N A e h)) (unfactor-factor B N e)
+
+  module _ {x : ℕ} (h : x < B * (M * A)) where
+    module _ (k : ¬ (toSub (x / B % M) ≡ appear.none)) where
+      inner : toSub (x / B % M) < N
+      inner = C .sub-below (within-small B M A x h) k
+
+      pub member-small : subOf B M N toSub x < B * (N * A)
+      member-small =
+          rw (sub-some B M N toSub x k) (unfactor-small B N A (withWithin (factorIndices x B M) (toSub (x / B % M))) (below-small B M A x h) inner (above-small B M A x h))
+
+      member-back : overOf B M N toOver (subOf B M N toSub x) ≡ x
+      member-back =
+          ap (overOf B M N toOver) (sub-some B M N toSub x k)
+          ∙ rw (
+            below-is B N (withWithin (factorIndices x B M) (toSub (x / B % M))) (below-small B M A x h) inner,
+            within-is B N (withWithin (factorIndices x B M) (toSub (x / B % M))) (below-small B M A x h) inner,
+            above-is B N (withWithin (factorIndices x B M) (toSub (x / B % M))) (below-small B M A x h) inner,
+            C .back-and-there (within-small B M A x h) k,
+          ) (unfactor-factor B M x)
+
+    part-some : ¬ (subOf B M N toSub x ≡ appear.none) → ¬ (toSub (x / B % M) ≡ appear.none)
+    part-some f q = f (sub-none B M N toSub x q)
+
+    pub none-exactly : B * (N * A) ≤ appear.none → subOf B M N toSub x ≡ appear.none ↔ toSub (x / B % M) ≡ appear.none
+    none-exactly small = (λ q. by q (ℕ-discrete (toSub (x / B % M)) appear.none), sub-none B M N toSub x) where
+      by : subOf B M N toSub x ≡ appear.none → Dec (toSub (x / B % M) ≡ appear.none) → toSub (x / B % M) ≡ appear.none
+      by q (yes z) = z
+      by q (no k) = absurd (omega (arith, member-small k))
+
+  -- The maps of the index formulas undo each other, as those of the factor do.
+  pub carried-product : B * (N * A) ≤ appear.none → Carried (B * (M * A)) (B * (N * A)) (overOf B M N toOver) (subOf B M N toSub)
+  carried-product small = record {
+    small = small;
+    over-below = λ {e} h. over-small h;
+    there-and-back = λ {e} h. over-and-back h;
+    sub-below = λ {x} h f. member-small h (part-some h f);
+    back-and-there = λ {x} h f. member-back h (part-some h f);
+  }
+
+-- Two elements of the subgroup are two of the overgroup; and what the second map knows is what the first gives.
+module _ {M N : ℕ} {toOver toSub : ℕ → ℕ} (C : Carried M N toOver toSub) where
+  pub over-once : {d e : ℕ} → d < N → e < N → toOver d ≡ toOver e → d ≡ e
+  over-once h k q = sym (C .there-and-back h) ∙ ap toSub q ∙ C .there-and-back k
+
+  pub over-known : {e : ℕ} → e < N → ¬ (toSub (toOver e) ≡ appear.none)
+  over-known {e} h q = omega (arith, C .small, C .there-and-back h)

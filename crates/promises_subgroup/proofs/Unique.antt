@@ -1,0 +1,45 @@
+-- Each call on subgroups has one answer and leaves one thing in each lent buffer, by its own contract. Every contract is an equation with a definition over
+-- the values at entry, so two outcomes that meet it are both that.
+-- Assumes nothing.
+use mathlib.Core.Path.{sym, _∙_}
+use Rattle.subgroup_build.specs.Lent.{subgrouping}
+use Rattle.subgroup.proofs.from_generators.Kinds as from-generators-kinds
+use Rattle.subgroup.proofs.from_generators.Reads as from-generators-reads
+use Rattle.subgroup.proofs.product_left.Kinds as product-left-kinds
+use Rattle.subgroup.proofs.product_left.Reads as product-left-reads
+use Rattle.subgroup.proofs.product_right.Kinds as product-right-kinds
+use Rattle.subgroup.proofs.product_right.Reads as product-right-reads
+use Rattle.subgroup.proofs.to_overgroup.Kinds as to-overgroup-kinds
+use Rattle.subgroup.proofs.to_overgroup.Reads as to-overgroup-reads
+use Rattle.subgroup.proofs.to_subgroup.Kinds as to-subgroup-kinds
+use Rattle.subgroup.proofs.to_subgroup.Reads as to-subgroup-reads
+use Rattle.subgroup.proofs.generator.Kinds as generator-kinds
+use Rattle.subgroup.proofs.generator.Reads as generator-reads
+use Rattle.subgroup_predicate.proofs.from_predicate.Kinds as from-predicate-kinds
+use Rattle.subgroup_predicate.proofs.from_predicate.Reads as from-predicate-reads
+use Rattle.promises.specs.Unique.{Unique}
+
+-- The calls that make a subgroup: the verdict and the value, the table, the work and both maps. The overgroup's buffer and the list are only read.
+pub from-generators-unique : Unique 6 from-generators-kinds.ps from-generators-kinds.r from-generators-reads.Post
+    (λ κs a x. subgrouping a (x .1 .1 .1 .0 .now) (x .1 .1 .1 .1 .1 .0 .now) (x .1 .1 .1 .1 .1 .1 .0 .now) (x .1 .1 .1 .1 .1 .1 .1 .0 .now))
+from-generators-unique = λ κs args a b x y p q. p ∙ sym q
+
+pub from-predicate-unique : Unique 6 from-predicate-kinds.ps from-predicate-kinds.r from-predicate-reads.Post
+    (λ κs a x. subgrouping a (x .1 .1 .1 .0 .now) (x .1 .1 .1 .1 .1 .0 .now) (x .1 .1 .1 .1 .1 .1 .0 .now) (x .1 .1 .1 .1 .1 .1 .1 .0 .now))
+from-predicate-unique = λ κs args a b x y p q. p ∙ sym q
+
+-- The products with further factors, and the questions: they write to no buffer.
+pub product-left-unique : Unique 2 product-left-kinds.ps product-left-kinds.r product-left-reads.Post (λ κs a x. a)
+product-left-unique = λ κs args a b x y p q. p ∙ sym q
+
+pub product-right-unique : Unique 2 product-right-kinds.ps product-right-kinds.r product-right-reads.Post (λ κs a x. a)
+product-right-unique = λ κs args a b x y p q. p ∙ sym q
+
+pub to-overgroup-unique : Unique 3 to-overgroup-kinds.ps to-overgroup-kinds.r to-overgroup-reads.Post (λ κs a x. a)
+to-overgroup-unique = λ κs args a b x y p q. p ∙ sym q
+
+pub to-subgroup-unique : Unique 3 to-subgroup-kinds.ps to-subgroup-kinds.r to-subgroup-reads.Post (λ κs a x. a)
+to-subgroup-unique = λ κs args a b x y p q. p ∙ sym q
+
+pub generator-unique : Unique 3 generator-kinds.ps generator-kinds.r generator-reads.Post (λ κs a x. a)
+generator-unique = λ κs args a b x y p q. p ∙ sym q

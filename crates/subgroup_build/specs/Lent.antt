@@ -1,0 +1,38 @@
+-- What a call that makes a subgroup answers and leaves in its four lent buffers, and when they are long enough.
+-- Assumes nothing.
+use Prim.Native.Nat.{ℕ, _+_}
+use mathlib.Core.List.{List, []}
+use mathlib.Core.Bool.{Bool, _&&_}
+use lib.Dec.{ltb, leb}
+use Rattle.egg.specs.declared.Made.{Made}
+use Rattle.egg.specs.Table.{pick}
+use Rattle.build_lending.specs.Finish.{built}
+use Rattle.build_lending.specs.Lending.{tableNeed, workNeed, lentRight, within, madeOf}
+use Rattle.group_handles.specs.declared.Group.{Group}
+use Rattle.group_handles.specs.Handles.{groupOf}
+use Rattle.build_numbering.specs.Build.{Renumbering, renumbering}
+use Rattle.subgroup_build.specs.declared.Subgrouped.{Subgrouped}
+
+-- A length or a position as far as 32 bits can tell: 4,294,967,295 stands for all that is above.
+abbrev pub shown : ℕ → ℕ
+shown i = pick (ltb i 4294967295) i 4294967295
+
+-- The value that goes with a factor that was made, or with a refusal: a refused one has a factor that fits no buffer. Nothing is multiplied on yet.
+abbrev pub subgroupOf : Group → Made → Subgrouped
+subgroupOf over m =
+    record { answer = m .answer; subgroup = record { below = groupOf []; factor = m .factor; over = over; above = groupOf [] } }
+
+-- The answer, then table, work, the map from the overgroup to the subgroup, and the map from the subgroup to the overgroup.
+pub data Subgrouping : Type 0 where
+  subgrouping : Subgrouped → List ℕ → List ℕ → List ℕ → List ℕ → Subgrouping
+
+-- Where this fails it is 4: "A subgroup's maps need the overgroup's count and R", and table and work as for any build with n generators.
+unfoldable pub mapsRight : (table start work inn outw room n M : ℕ) → Bool
+mapsRight table start work inn outw room n M = lentRight table start work room n && (leb M inn && leb room outw)
+
+-- A build's outcome put back into the four buffers that its stretches were lent from, which were as long as k generators and M elements of the overgroup
+-- need; the factor has n generators.
+abbrev pub mapsBack : Group → List ℕ → ℕ → List ℕ → List ℕ → List ℕ → ℕ → ℕ → ℕ → ℕ → Renumbering → Subgrouping
+mapsBack over table start work inn outw M k n room (renumbering (built c t w) i o) =
+    subgrouping (subgroupOf over (madeOf start room n c)) (within table start (start + tableNeed k room) t) (within work 0 (workNeed k room) w)
+    (within inn 0 M i) (within outw 0 room o)

@@ -1,0 +1,80 @@
+-- A letter is found, or none is; a list of letters grows by one; a product by a letter is the product.
+-- Assumes nothing.
+use Prim.Native.Nat.{ℕ, _+_, _-_, _%_, _≤_, _<_}
+use mathlib.Core.Path.{_≡_, refl, sym, ap, _∙_}
+use mathlib.Core.List.{List, [], _∷_}
+use native.Mathlib.Nat.{mod-eq-of-lt}
+use native.Mathlib.Decide.{ℕ-discrete, decLt}
+use native.Mathlib.Omega.{arith}
+use borrow.Author.Tests.{lt-leb}
+use lib.ListN.{length, getD, set, List·getD-eq-default}
+use lib.Seq.{getD-set-same, getD-set-other}
+use Rattle.egg.specs.declared.Factor.{Factor}
+use Rattle.egg.specs.declared.Reached.{Reached}
+use Rattle.egg.specs.Table.{hopOf, lastOf, lengthOf}
+use Rattle.egg.specs.Factor.{stretch, readStep}
+use Rattle.factor_questions.specs.Walks.{ahead, composeIn}
+use Rattle.factor_questions.proofs.Walks.{compose-ahead}
+use Rattle.group_digits.specs.Digits.{composes}
+use Rattle.subgroup_one_factor.specs.Letters.{OneLetter, Letters}
+use Rattle.subgroup_one_factor.proofs.OneFactor.{one-product}
+
+pub no-letter : (s : List ℕ) (n b : ℕ) → OneLetter s n b 0
+no-letter s n b = record { small = omega arith; leads = λ h. absurd (omega arith) }
+
+-- Along one letter.
+ahead-one : (s : List ℕ) (n count a c : ℕ) → c % 8 < n → ahead 1 s n count a c ≡ readStep s n count a (c % 8)
+unfolding ahead
+ahead-one s n count a c z = simp (lt-leb _ _ z)
+
+pub one-letter : (s : List ℕ) (n b : ℕ) {len g : ℕ} → len ≡ lengthOf s n b → len ≡ 1 → g ≡ lastOf s n b → g < n → OneLetter s n b (g + 1)
+one-letter s n b {len} {g} q e w l = record {
+  small = omega arith;
+  leads = λ some count a.
+      let d : g + 1 - 1 ≡ g = omega arith in
+      let short : len ≤ 5 = omega arith in
+      let below : lastOf s n b < n = rw w at l in
+      sym (compose-ahead s n count a b q short refl)
+      ∙ ap (λ (x : ℕ). ahead x s n count a (hopOf s n b)) e
+      ∙ ahead-one s n count a (hopOf s n b) below
+      ∙ ap (λ (x : ℕ). readStep s n count a x) (sym (d ∙ w));
+}
+
+-- As `Letters`, for the generators before i: what a loop that finds them has done so far.
+pub record LettersTo (s : List ℕ) (n count : ℕ) (gens letters : List ℕ) (i : ℕ) : Type 0 where
+  pub each : (g : ℕ) → g < i → OneLetter s n (getD gens g 0 % count) (getD letters g 0)
+
+pub letters-none : (s : List ℕ) (n count : ℕ) (gens letters : List ℕ) → LettersTo s n count gens letters 0
+letters-none s n count gens letters = record { each = λ g h. absurd (omega arith) }
+
+pub letters-next : {s : List ℕ} {n count : ℕ} {gens l : List ℕ} {i b h : ℕ} → LettersTo s n count gens l i → i < length l → b ≡ getD gens i 0
+    → OneLetter s n (b % count) h → LettersTo s n count gens (set l i h) (i + 1)
+letters-next {s} {n} {count} {gens} {l} {i} {b} {h} L inside q new = record { each = λ g k. by g (ℕ-discrete g i) k } where
+  by : (g : ℕ) → Dec (g ≡ i) → g < i + 1 → OneLetter s n (getD gens g 0 % count) (getD (set l i h) g 0)
+  by g (yes e) k = rw (e, getD-set-same l i h 0 inside, ← q) new
+  by g (no d) k = rw (getD-set-other l i g h 0 d) (L .each g (omega arith))
+
+-- Past its end a list has 0.
+pub letters-end : {s : List ℕ} {n count : ℕ} {gens l : List ℕ} {i : ℕ} → LettersTo s n count gens l i → length l ≤ i → Letters s n count gens l
+letters-end {s} {n} {count} {gens} {l} {i} L h = record { all = λ g. by g (decLt g i) } where
+  by : (g : ℕ) → Dec (g < i) → OneLetter s n (getD gens g 0 % count) (getD l g 0)
+  by g (yes k) = L .each g k
+  by g (no k) = let m : length l ≤ g = omega arith in rw (List·getD-eq-default l 0 m) (no-letter s n (getD gens g 0 % count))
+
+-- The letter that was read, for the generator that was read.
+pub letter-read : {s : List ℕ} {n count : ℕ} {gens l : List ℕ} (g : ℕ) {b h : ℕ} → Letters s n count gens l → b ≡ getD gens g 0 → h ≡ getD l g 0
+    → OneLetter s n (b % count) h
+letter-read g L q w = rw (q, w) (L .all g)
+
+pub letter-step : (t : List ℕ) (f : Factor) (a b h : ℕ) {s : List ℕ} {r : Reached} → s ≡ stretch t f
+    → OneLetter (stretch t f) (f .generators) (b % f .elements) h → 0 < h → a < f .elements → r ≡ readStep s (f .generators) (f .elements) a (h - 1)
+    → r ≡ composes t (f ∷ []) a b
+letter-step t f a b h {s} {r} p L some below q =
+    let q′ : r ≡ readStep (stretch t f) (f .generators) (f .elements) a (h - 1) = rw (← p) q in
+    let d : a % f .elements ≡ a = mod-eq-of-lt below in
+    one-product t f a b refl
+    (q′ ∙ sym (L .leads some (f .elements) a) ∙ ap (λ (x : ℕ). composeIn (stretch t f) (f .generators) (f .elements) x (b % f .elements)) (sym d))
+
+-- The letters in the part that is the stretch.
+pub letters-of : {s s′ : List ℕ} {n count : ℕ} {gens l : List ℕ} → s ≡ s′ → Letters s n count gens l → Letters s′ n count gens l
+letters-of p L = rw (← p) L
