@@ -12,8 +12,8 @@ use Rattle.egg.specs.Table.{stepOf}
 use Rattle.build_lending.specs.Finish.{Built, built, zeroed, finishedPlaced}
 use Rattle.build_lending.proofs.Finishing.{refused-counted}
 use Rattle.build_reading.specs.Reading.{readAll}
-use Rattle.promises.specs.Composed.{Taken, Holding}
-use Rattle.promises.proofs.Built.{passed, built-holds, built-work, taken-built}
+use Rattle.build_laws.specs.Taken.{Taken, Holding}
+use Rattle.build_laws.proofs.Built.{passed, built-holds, built-work, taken-built}
 use Rattle.build_numbering_laws.specs.Orbit.{Inside, numberedStep, Appearing}
 use Rattle.build_numbering.specs.Renumber.{Mapped, mapped, mapAll}
 use Rattle.build_numbering_laws.specs.Source.{Answering}

@@ -22,8 +22,8 @@ use Rattle.theory.proofs.AnyCarrier.{any-carrier}
 use Rattle.theory.proofs.IdentityRows.{row-so-far}
 use Rattle.build_reading_laws.specs.Read.{Read, Readable, Refuses}
 use Rattle.build_reading_laws.proofs.Readings.{accepted-read, refused-read, readable-accepted, read-readable}
-use Rattle.promises.proofs.Built.{work-enough, rows-fit}
-use Rattle.promises.proofs.Twelve.{refused-build, refused-reading}
+use Rattle.build_laws.proofs.Built.{work-enough, rows-fit}
+use Rattle.build_laws.proofs.Twelve.{refused-build, refused-reading}
 use Rattle.build_numbering_laws.specs.Orbit.{numberOf, numberedStep, Appearing}
 use Rattle.build_numbering_laws.specs.Source.{Answering}
 use Rattle.build_numbering_laws.specs.Maps.{Renumbered}

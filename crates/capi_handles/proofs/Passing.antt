@@ -9,8 +9,8 @@ use lib.ListN.{take, drop}
 use Rattle.egg.specs.declared.Factor.{Factor}
 use Rattle.egg.specs.Factor.{fitsIn}
 use Rattle.egg.proofs.Rooms.{false-true}
-use Rattle.theory_products.specs.Radix.{stride}
-use Rattle.theory_products.proofs.RadixLaws.{stride-next}
+use Rattle.theory_radix.specs.Radix.{stride}
+use Rattle.theory_radix.proofs.RadixLaws.{stride-next}
 use Rattle.group_handles.specs.Handles.{sizes, elementsOf, generatorsOf, allFit, capped, Looked}
 use Rattle.group_handles.proofs.Caps.{cap-small, cap-times, capped-bound}
 use Rattle.group_handles.proofs.Lists.{sizes-at}

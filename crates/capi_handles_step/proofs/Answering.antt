@@ -14,8 +14,8 @@ use Rattle.egg.specs.declared.Reached.{Reached}
 use Rattle.egg.specs.declared.Reached.the-variants.{Refused}
 use Rattle.build_lending.specs.Lending.{noFactor}
 use Rattle.factor.proofs.Admits.{reach-refused, reach-fine}
-use Rattle.theory_products.specs.Radix.{stride}
-use Rattle.theory_products.proofs.RadixLaws.{stride-small}
+use Rattle.theory_radix.specs.Radix.{stride}
+use Rattle.theory_radix.proofs.RadixLaws.{stride-small}
 use Rattle.group_handles.specs.declared.inner.Limit.the-variants.{Elements, Generators, Number}
 use Rattle.group_handles.specs.Handles.{handles, sizes, elementsOf, generatorsOf, admits, admitsSeen}
 use Rattle.group_digits.specs.Digits.{stepIn}

@@ -17,8 +17,8 @@ use Rattle.egg.specs.Factor.{fitsIn, stretch, readStep}
 use Rattle.egg.proofs.Rooms.{some}
 use Rattle.build_lending.specs.Lending.{noFactor}
 use Rattle.factor_questions.specs.Walks.{onReached}
-use Rattle.theory_products.specs.Radix.{count, stride, project, replace}
-use Rattle.theory_products.proofs.RadixLaws.{high-small, projected-fits, replace-is, replace-small}
+use Rattle.theory_radix.specs.Radix.{count, stride, project, replace}
+use Rattle.theory_radix.proofs.RadixLaws.{high-small, projected-fits, replace-is, replace-small}
 use Rattle.group_handles.specs.Handles.{sizes, elementsOf, generatorsOf, allFit}
 use Rattle.group_digits.specs.Digits.{above, stepIn}
 use Rattle.group_handles.proofs.Lists.{sizes-at, sizes-length, fits-at}

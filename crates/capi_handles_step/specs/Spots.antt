@@ -8,7 +8,7 @@ use mathlib.Core.List.{List}
 use lib.ListN.{length, getD, take}
 use Rattle.egg.specs.declared.Factor.{Factor}
 use Rattle.build_lending.specs.Lending.{noFactor}
-use Rattle.theory_products.specs.Radix.{stride}
+use Rattle.theory_radix.specs.Radix.{stride}
 use Rattle.group_handles.specs.Handles.{handles, sizes, generatorsOf, capped, Looked}
 use Rattle.capi_handles_step.specs.declared.inner.Spot.{Spot}
 use Rattle.capi_handles.specs.Product.{productOf}

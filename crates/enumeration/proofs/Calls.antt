@@ -28,7 +28,7 @@ use Rattle.enumeration_rows.specs.Rows.{Orders}
 use Rattle.enumeration_run.specs.declared.inner.Ran.{Ran}
 use Rattle.enumeration_run.specs.declared.inner.Ran.the-variants as ran
 use Rattle.enumeration_run.specs.Run.{Outcome, outcome, enumerated}
-use Rattle.enumeration_run_laws.specs.Recorded.{Limits}
+use Rattle.enumeration_run.specs.Limits.{Limits}
 use Rattle.enumeration_quick_run.specs.Sweeps.{sweep, swiftly}
 use Rattle.enumeration_quick_laws.proofs.Swift.{swift}
 use Rattle.enumeration.specs.Calls.{ranCount, relating, relatingBy, relates, withWork, related, enumeratedIn, enumerates}

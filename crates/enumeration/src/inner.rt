@@ -2,7 +2,7 @@
 ghost use mathlib.Core.Path.{_≡_};
 ghost use Prim.Native.Nat.{_≤_};
 ghost use lib.ListN.{length};
-ghost use Rattle.enumeration_run_laws.specs.Recorded.{Limits};
+ghost use Rattle.enumeration_run.specs.Limits.{Limits};
 ghost use Rattle.enumeration.specs.Calls.{ranCount, Relating, relates, enumeratedIn};
 ghost use Rattle.enumeration.specs.Quick.{Quick};
 ghost use Rattle.build_lending.specs.Finish.{Built};

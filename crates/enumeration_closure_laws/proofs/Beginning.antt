@@ -9,7 +9,7 @@ use lib.ListN.{length, replicate, length-replicate}
 use Rattle.egg.specs.Table.{startOf}
 use Rattle.enumeration_rows.specs.declared.inner.SideOfGap.{SideOfGap}
 use Rattle.enumeration_rows.specs.Rows.{addedRows}
-use Rattle.enumeration_run_laws.specs.Recorded.{Limits}
+use Rattle.enumeration_run.specs.Limits.{Limits}
 use Rattle.enumeration_run_laws.specs.Invariant.{Known}
 use Rattle.enumeration_run_laws.specs.Stack.{bottom}
 use Rattle.enumeration_run_laws.proofs.Running.{zeros}

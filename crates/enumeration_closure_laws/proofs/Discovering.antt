@@ -19,7 +19,7 @@ use Rattle.enumeration_rows.specs.declared.inner.SideOfGap.the-variants.{Left, 
 use Rattle.enumeration_rows.specs.Rows.{placeAt, readRow, newRow, addedRows}
 use Rattle.enumeration_wake.specs.Waking.{state, link, belowAt}
 use Rattle.enumeration_run.specs.Run.{discovered}
-use Rattle.enumeration_run_laws.specs.Recorded.{Limits}
+use Rattle.enumeration_run.specs.Limits.{Limits}
 use Rattle.enumeration_run_laws.specs.Invariant.{Known}
 use Rattle.enumeration_run_laws.specs.Stack.{Stack, bottom, above}
 use Rattle.enumeration_run_laws.proofs.Spots.{place-link}

@@ -10,7 +10,7 @@ use Rattle.theory.specs.Presentation.{pairs-below}
 use Rattle.enumeration_rows.specs.declared.inner.SideOfGap.{SideOfGap}
 use Rattle.enumeration_rows.specs.declared.inner.SideOfGap.the-variants.{Left, Right}
 use Rattle.enumeration_rows.specs.Rows.{workWidth, listAt}
-use Rattle.enumeration_run_laws.specs.Recorded.{Limits}
+use Rattle.enumeration_run.specs.Limits.{Limits}
 use Rattle.enumeration_run_laws.proofs.Rowing.{new-row-ok}
 use Rattle.enumeration_run_laws.proofs.Waiting.{pairs-twice}
 use Rattle.enumeration_run_laws.proofs.Running.{pairs-full, work-room}

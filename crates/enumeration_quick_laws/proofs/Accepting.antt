@@ -18,9 +18,9 @@ use Rattle.build_checks_laws.specs.Stored.{Kept}
 use Rattle.build_checks_laws.specs.Sound.{Sound}
 use Rattle.factor_laws.proofs.Codes.{code-first, code-second}
 use Rattle.factor_laws.proofs.Relators.{relations-exact, relations-first}
-use Rattle.factor_laws.proofs.Settled.{by-count, settled-kept, settled-sound}
+use Rattle.build_laws.proofs.Settled.{by-count, settled-kept, settled-sound}
 use Rattle.enumeration_run_laws.proofs.Running.{pairs-full}
-use Rattle.enumeration_run_laws.specs.Recorded.{Limits}
+use Rattle.enumeration_run.specs.Limits.{Limits}
 use Rattle.enumeration_loop_laws.specs.Rings.{turn, ring, first, second, Looped}
 use Rattle.enumeration_loop_laws.proofs.Letters.{turn-low}
 use Rattle.enumeration_loop_laws.proofs.Walking.{ring-suc}

@@ -18,7 +18,7 @@ use Rattle.build_reading.specs.Build.{setStep, setWord, adds}
 use Rattle.enumeration_wake.specs.Waking.{State}
 use Rattle.enumeration_run.specs.Run.{discovered, visit, visits}
 use Rattle.enumeration_run_laws.specs.Invariant.{RunOk}
-use Rattle.enumeration_run_laws.specs.Recorded.{Limits}
+use Rattle.enumeration_run.specs.Limits.{Limits}
 use Rattle.enumeration_run_laws.proofs.Growing.{word-length, last-new}
 use Rattle.enumeration_run_laws.proofs.Marking.{set-length}
 use Rattle.enumeration_run_laws.proofs.Settled.{discovered-empty}

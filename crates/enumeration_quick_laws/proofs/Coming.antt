@@ -18,7 +18,7 @@ use Rattle.egg.specs.Table.{pick, stepOf, parentOf, lastOf, lengthOf}
 use Rattle.build_reading.specs.Build.{isNew, setStep, setWord, numbered, adds}
 use Rattle.enumeration_run.specs.Run.{onAdds}
 use Rattle.enumeration_run_laws.specs.Invariant.{RunOk}
-use Rattle.enumeration_run_laws.specs.Recorded.{Limits}
+use Rattle.enumeration_run.specs.Limits.{Limits}
 use Rattle.enumeration_loop_laws.specs.Rings.{Looped}
 use Rattle.enumeration_quick_loops.specs.Loops.{loopFrom}
 use Rattle.enumeration_quick_run.specs.Sweeps.{Swept, swept, settles, sweeps}

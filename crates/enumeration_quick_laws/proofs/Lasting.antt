@@ -12,7 +12,7 @@ use Rattle.egg.specs.Table.{startOf}
 use Rattle.build_reading.specs.Build.{setStep, setWord}
 use Rattle.enumeration_run.specs.Run.{discovered}
 use Rattle.enumeration_run_laws.specs.Invariant.{Known, RunOk}
-use Rattle.enumeration_run_laws.specs.Recorded.{Limits}
+use Rattle.enumeration_run.specs.Limits.{Limits}
 use Rattle.enumeration_run_laws.proofs.Keeping.{Both, settle-keeps}
 use Rattle.enumeration_run_laws.proofs.Knowing.{set-more}
 use Rattle.enumeration_run_laws.proofs.Running.{new-state}

@@ -19,7 +19,7 @@ use Rattle.enumeration_run.specs.Run.{Visit, visits, advanced, Outcome, outcome
 use Rattle.enumeration_run.specs.declared.inner.Run.{Run}
 use Rattle.enumeration_run.specs.declared.inner.Ran.the-variants as ran
 use Rattle.enumeration_run_laws.specs.Invariant.{Known}
-use Rattle.enumeration_run_laws.specs.Recorded.{Limits}
+use Rattle.enumeration_run.specs.Limits.{Limits}
 use Rattle.enumeration_run_laws.proofs.Visiting.{IsDone, doneOf, next}
 use Rattle.enumeration_run_laws.proofs.Running.{zeros}
 use Rattle.enumeration_run_laws.proofs.Going.{VisitedBy, visited, goes-on, first-going}

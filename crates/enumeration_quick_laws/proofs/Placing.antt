@@ -14,7 +14,7 @@ use Rattle.egg.specs.Table.{stepOf, parentOf, lastOf}
 use Rattle.build_reading.specs.Build.{setStep}
 use Rattle.enumeration_run.specs.Run.{visit, visits}
 use Rattle.enumeration_run_laws.specs.Invariant.{Known}
-use Rattle.enumeration_run_laws.specs.Recorded.{Limits}
+use Rattle.enumeration_run.specs.Limits.{Limits}
 use Rattle.enumeration_run_laws.proofs.Marking.{set-length}
 use Rattle.enumeration_run_laws.proofs.Running.{pairs-full}
 use Rattle.enumeration_loop_laws.specs.Rings.{Looped}

@@ -27,7 +27,7 @@ use Rattle.build_lending.specs.Finish.{Built, built, finished}
 use Rattle.factor_relations.specs.Relations.{turned, doubledRow, pairsRow, relationsRow}
 use Rattle.enumeration_run.specs.declared.inner.Ran.the-variants as ran
 use Rattle.enumeration_run.specs.Run.{enumerated, runs, visits, discovered, advanced}
-use Rattle.enumeration_run_laws.specs.Recorded.{Limits}
+use Rattle.enumeration_run.specs.Limits.{Limits}
 use Rattle.enumeration_run_laws.proofs.Sample.{limits}
 use Rattle.enumeration_quick_loops.specs.Loops.{orderFor, loopBy, loopFrom}
 use Rattle.enumeration_quick_run.specs.Sweeps.{settles, sweeps, sweep, sweepFrom, swiftly}

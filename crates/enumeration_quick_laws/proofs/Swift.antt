@@ -15,10 +15,10 @@ use Rattle.build_lending.specs.Finish.{built, finished}
 use Rattle.factor_relations.specs.Relations.{relationsRow}
 use Rattle.enumeration_run.specs.declared.inner.Ran.the-variants as ran
 use Rattle.enumeration_run.specs.Run.{first, enumerated}
-use Rattle.enumeration_run_laws.specs.Recorded.{Limits}
+use Rattle.enumeration_run.specs.Limits.{Limits}
 use Rattle.enumeration_run_laws.proofs.Visiting.{doneOf}
 use Rattle.enumeration_run_laws.proofs.Derivation.{work-long}
-use Rattle.factor_laws.proofs.AnyWork.{any-work}
+use Rattle.build_laws.proofs.AnyWork.{any-work}
 use Rattle.enumeration_quick_run.specs.Sweeps.{Sweep, sweep, sweepFrom, swiftly}
 use Rattle.enumeration_quick_laws.proofs.Sweeping.{sweep-fair}
 use Rattle.enumeration_quick_laws.proofs.Lockstep.{blank-fair, coincides}

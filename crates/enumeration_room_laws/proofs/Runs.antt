@@ -22,7 +22,7 @@ use Rattle.enumeration_wake.specs.Waking.{State, state, link, belowAt}
 use Rattle.enumeration_run.specs.Run.{discovered, Visit, visit, onAdds, visits, advanced, Outcome, outcome, after, runs}
 use Rattle.enumeration_run.specs.declared.inner.Run.{Run}
 use Rattle.enumeration_run.specs.declared.inner.Ran.the-variants as ran
-use Rattle.enumeration_run_laws.specs.Recorded.{Limits}
+use Rattle.enumeration_run.specs.Limits.{Limits}
 use Rattle.enumeration_run_laws.specs.Invariant.{Working, RunOk}
 use Rattle.enumeration_run_laws.proofs.Visiting.{IsDone, next}
 use Rattle.enumeration_run_laws.proofs.Growing.{work-more, written}

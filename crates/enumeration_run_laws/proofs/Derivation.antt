@@ -14,7 +14,8 @@ use Rattle.enumeration_run.specs.Run.{enumerated}
 use Rattle.enumeration_run.specs.declared.inner.Ran.{Ran}
 use Rattle.enumeration_run.specs.declared.inner.Ran.the-variants as ran
 use Rattle.enumeration_run_laws.specs.Invariant.{Worded, RunOk}
-use Rattle.enumeration_run_laws.specs.Recorded.{Limits, words, Sound, AllKnown}
+use Rattle.enumeration_run_laws.specs.Recorded.{words, Sound, AllKnown}
+use Rattle.enumeration_run.specs.Limits.{Limits}
 use Rattle.enumeration_run_laws.proofs.Growing.{step-more}
 use Rattle.enumeration_run_laws.proofs.Running.{Ends, enumerated-ok}
 

@@ -18,7 +18,7 @@ use Rattle.enumeration_run.specs.Run.{Visit, visits, advanced, Outcome, outcome
 use Rattle.enumeration_run.specs.declared.inner.Run.{Run}
 use Rattle.enumeration_run.specs.declared.inner.Ran.{Ran}
 use Rattle.enumeration_run.specs.declared.inner.Ran.the-variants as ran
-use Rattle.enumeration_run_laws.specs.Recorded.{Limits}
+use Rattle.enumeration_run.specs.Limits.{Limits}
 use Rattle.enumeration_run_laws.specs.Invariant.{RunOk}
 use Rattle.egg.proofs.Cells.{inside}
 use Rattle.enumeration_run_laws.proofs.Visiting.{place, next}

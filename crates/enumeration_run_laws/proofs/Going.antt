@@ -29,7 +29,7 @@ use Rattle.enumeration_run.specs.Run.{discovered, Visit, visit, onAdds, visits,
 use Rattle.enumeration_run.specs.declared.inner.Run.{Run}
 use Rattle.enumeration_run.specs.declared.inner.Ran.{Ran}
 use Rattle.enumeration_run.specs.declared.inner.Ran.the-variants as ran
-use Rattle.enumeration_run_laws.specs.Recorded.{Limits}
+use Rattle.enumeration_run.specs.Limits.{Limits}
 use Rattle.enumeration_run_laws.specs.Invariant.{Known}
 use Rattle.enumeration_run_laws.proofs.Visiting.{next}
 use Rattle.enumeration_run_laws.proofs.Knowing.{set-more, set-known}

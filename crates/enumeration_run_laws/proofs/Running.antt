@@ -25,7 +25,7 @@ use Rattle.enumeration_run.specs.Run.{discovered, Visit, visit, onAdds, visits,
 use Rattle.enumeration_run.specs.declared.inner.Run.{Run}
 use Rattle.enumeration_run.specs.declared.inner.Ran.{Ran}
 use Rattle.enumeration_run.specs.declared.inner.Ran.the-variants as ran
-use Rattle.enumeration_run_laws.specs.Recorded.{Limits}
+use Rattle.enumeration_run.specs.Limits.{Limits}
 use Rattle.enumeration_run_laws.specs.Invariant.{TableOk, Working, Link, FactLink, Holds, StateOk, RunOk}
 use Rattle.egg.proofs.Cells.{inside, put-length}
 use Rattle.enumeration_run_laws.proofs.Visiting.{next}

@@ -14,7 +14,8 @@ use Rattle.enumeration_wake.specs.Waking
 use Rattle.enumeration_facts.specs.Facts
 use Rattle.enumeration_run.specs.Run.{enumerated, runs, visits, discovered, advanced}
 use Rattle.enumeration_run.specs.declared.inner.Ran.the-variants as ran
-use Rattle.enumeration_run_laws.specs.Recorded.{Limits, Sound}
+use Rattle.enumeration_run_laws.specs.Recorded.{Sound}
+use Rattle.enumeration_run.specs.Limits.{Limits}
 use Rattle.enumeration_run_laws.proofs.Derivation.{done-sound}
 
 pub limits : Limits 2 (3 ∷ []) 6 48 192

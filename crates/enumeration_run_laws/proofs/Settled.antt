@@ -18,7 +18,7 @@ use Rattle.enumeration_rows.specs.Rows.{workWidth, placeAt, addedRows}
 use Rattle.enumeration_wake.specs.Waking.{State, state, link, belowAt}
 use Rattle.enumeration_facts.specs.Facts.{updated, settleFrom}
 use Rattle.enumeration_run.specs.Run.{discovered}
-use Rattle.enumeration_run_laws.specs.Recorded.{Limits}
+use Rattle.enumeration_run.specs.Limits.{Limits}
 use Rattle.enumeration_run_laws.specs.Invariant.{RunOk}
 use Rattle.enumeration_run_laws.specs.Stack.{Fact, bottom, above, Piled}
 use Rattle.egg.proofs.Cells.{inside, put-same}

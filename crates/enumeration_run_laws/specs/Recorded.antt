@@ -1,6 +1,6 @@
 -- What is said of the table that an enumeration leaves: nothing in it is invented. Demand 3: "enumerating only the first row and inventing the others breaks demand 3".
 -- Assumes nothing.
-use Prim.Native.Nat.{ℕ, suc, _+_, _*_, _-_, _/_, _<_, _≤_}
+use Prim.Native.Nat.{ℕ, suc, _+_, _*_, _<_, _≤_}
 use mathlib.Core.Path.{_≡_}
 use mathlib.Core.List.{List}
 use lib.ListN.{getD, length}
@@ -8,16 +8,6 @@ use Rattle.theory.specs.Words.{word-of}
 use Rattle.theory.specs.Presentation.{order-of}
 use Rattle.egg.specs.Table.{startOf, parentOf, lastOf}
 use Rattle.enumeration_run_laws.specs.Invariant.{Known, Step}
-
--- What refusals 1 to 4 have shown when an enumeration starts: at most 8 generators, an order for each pair, the room, and stretches that are long enough for it.
-pub record Limits (n : ℕ) (o : List ℕ) (room lt lw : ℕ) : Type 0 where
-  pub few : n ≤ 8
-  pub full : length o ≡ n * (n - 1) / 2
-  pub orders : (k : ℕ) → k < length o → (1 ≤ getD o k 0) × (getD o k 0 < 32768)
-  pub some : 1 ≤ room
-  pub limit : room ≤ 65535
-  pub table-room : room * (2 * n + 4) ≤ lt
-  pub work-room : room * (6 * n * n + 4 * n) ≤ lw
 
 -- The words that a table records, by its parents and last generators.
 abbrev pub words : ℕ → List ℕ → ℕ → List ℕ

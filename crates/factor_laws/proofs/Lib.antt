@@ -8,5 +8,3 @@ pub mod FirstWords
 pub mod Unaltered
 pub mod Refuses
 pub mod Papers
-pub mod Settled
-pub mod AnyWork

@@ -21,8 +21,8 @@ use Rattle.egg.specs.Factor.{fitsIn, refusedReach}
 use Rattle.egg.proofs.Rooms.{and-first, and-second, some}
 use Rattle.egg.proofs.Scans.{scan-fine, Scanning, scanning}
 use Rattle.build_lending.specs.Lending.{noFactor}
-use Rattle.theory_products.specs.Radix.{stride, split, join}
-use Rattle.theory_products.proofs.RadixLaws.{stride-next, stride-small}
+use Rattle.theory_radix.specs.Radix.{stride, split, join}
+use Rattle.theory_radix.proofs.RadixLaws.{stride-next, stride-small}
 use Rattle.group_handles.specs.declared.Group.{Group}
 use Rattle.group_handles.specs.Handles.{handles, sizes, elementsOf, allFit, limited}
 use Rattle.group_digits.specs.Splits.{splitTail, digitsLeft, digitRight, digitsRight, fewer, joinTail}

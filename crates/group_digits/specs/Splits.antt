@@ -15,7 +15,7 @@ use Rattle.egg.specs.declared.Counted.the-variants as counted
 use Rattle.egg.specs.Table.{pick}
 use Rattle.egg.specs.Scan.{refusedOf, scan}
 use Rattle.egg.specs.Factor.{refusedReach}
-use Rattle.theory_products.specs.Radix.{split, join}
+use Rattle.theory_radix.specs.Radix.{split, join}
 use Rattle.group_handles.specs.declared.Group.{Group}
 use Rattle.group_handles.specs.Handles.{handles, sizes, limited}
 

@@ -3,7 +3,7 @@ ghost use mathlib.Core.Path.{_≡_};
 ghost use mathlib.Core.Bool.{true};
 ghost use Prim.Native.Nat.{_<_, _≤_};
 ghost use lib.ListN.{length, getD};
-ghost use Rattle.theory_products.specs.Radix.{stride, project, inject};
+ghost use Rattle.theory_radix.specs.Radix.{stride, project, inject};
 ghost use Rattle.group_handles.specs.Handles.{handles, sizes, elementsOf, allFit};
 ghost use Rattle.group_digits.specs.Digits.{digitOf, digitwise, stepIn};
 ghost use Rattle.group_digits.specs.Splits.{digitsLeft, digitsRight, fewer, splitTail, joinTail};

@@ -13,7 +13,7 @@ use Rattle.egg.specs.Factor.{fitsIn}
 use Rattle.egg.proofs.Rooms.{and-first, and-second, some}
 use Rattle.build_lending.proofs.Fits.{fits-small}
 use Rattle.build_lending.specs.Lending.{noFactor}
-use Rattle.theory_products.specs.Radix.{count}
+use Rattle.theory_radix.specs.Radix.{count}
 use Rattle.group_handles.specs.declared.Group.{Group}
 use Rattle.group_handles.specs.Handles.{handles, sizes, elementsOf, allFit}
 use Rattle.group_handles.specs.Alone.{Alone}

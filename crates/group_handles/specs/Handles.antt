@@ -13,7 +13,7 @@ use Rattle.egg.specs.Table.{pick}
 use Rattle.egg.specs.Scan.{refusedOf}
 use Rattle.egg.specs.Factor.{fitsIn}
 use Rattle.build_lending.specs.Lending.{noFactor}
-use Rattle.theory_products.specs.Radix.{count}
+use Rattle.theory_radix.specs.Radix.{count}
 use Rattle.group_handles.specs.declared.Group.{Group}
 use Rattle.group_handles.specs.declared.Grouped.{Grouped}
 use Rattle.group_handles.specs.declared.inner.Seen.{Seen}

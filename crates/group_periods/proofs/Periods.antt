@@ -18,10 +18,10 @@ use Rattle.egg.specs.declared.Counted.{Counted}
 use Rattle.egg.specs.declared.Counted.the-variants as counted
 use Rattle.egg.specs.Factor.{stretch}
 use Rattle.factor_questions.specs.Walks.{composeIn}
-use Rattle.theory_products.specs.Radix.{stride}
-use Rattle.theory_products.specs.Divisors.{euclid, gcd, lcm}
+use Rattle.theory_radix.specs.Radix.{stride}
+use Rattle.theory_radix.specs.Divisors.{euclid, gcd, lcm}
 use Rattle.factor_words.proofs.Words.{never-both, same-count}
-use Rattle.theory_products.proofs.DivisorLaws.{gcd-left, lcm-left, lcm-right, lcm-least, lcm-positive}
+use Rattle.theory_radix.proofs.DivisorLaws.{gcd-left, lcm-left, lcm-right, lcm-least, lcm-positive}
 use Rattle.group_handles.specs.Handles.{sizes}
 use Rattle.group_handles.specs.Counts.{onCounted, onElement}
 use Rattle.group_periods.specs.Periods.{periodFrom, periodOf, periods}

@@ -10,7 +10,7 @@ use Rattle.egg.specs.declared.Counted.the-variants as counted
 use Rattle.egg.specs.Table.{pick}
 use Rattle.egg.specs.Factor.{stretch}
 use Rattle.factor_questions.specs.Walks.{composeIn}
-use Rattle.theory_products.specs.Divisors.{lcm}
+use Rattle.theory_radix.specs.Divisors.{lcm}
 use Rattle.group_handles.specs.Counts.{onCounted, onElement}
 
 -- The powers of a from x, which is the k-th, on: the number of the first that is the identity, among `left` of them. "17 .. none of the first N powers in a

@@ -4,7 +4,7 @@ ghost use mathlib.Core.Bool.{true};
 ghost use Prim.Native.Nat.{_≤_};
 ghost use lib.ListN.{length};
 ghost use Rattle.factor_questions.specs.Walks.{composeIn};
-ghost use Rattle.theory_products.specs.Divisors.{gcd};
+ghost use Rattle.theory_radix.specs.Divisors.{gcd};
 ghost use Rattle.group_handles.specs.Handles.{handles, elementsOf, allFit};
 ghost use Rattle.group_periods.specs.Periods.{periodFrom, periods};
 use egg::Counted;

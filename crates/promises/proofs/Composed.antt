@@ -21,10 +21,11 @@ use Rattle.build_lending.specs.Lending.{tableNeed, workNeed, lentRight, within,
 use Rattle.build_lending.proofs.Lending.{lent-table}
 use Rattle.factor.specs.Composed.{composedIn, composed}
 use Rattle.build_reading.specs.Reading.{composedAt}
-use Rattle.promises.specs.Composed.{RowsRight, Taken, Groupless, Holding, Given}
-use Rattle.promises.proofs.Lent.{refused-making, handle, work-taken, taken-enough, lentTable, by-build, by-refused, stretch-part, fits-still}
-use Rattle.promises.proofs.Built.{built-holds, built-work, taken-built}
-use Rattle.promises.proofs.Twelve.{built-12, groupless-built}
+use Rattle.promises.specs.Composed.{RowsRight, Given}
+use Rattle.build_laws.specs.Taken.{Taken, Groupless, Holding}
+use Rattle.build_laws.proofs.Lent.{refused-making, handle, work-taken, taken-enough, lentTable, by-build, by-refused, stretch-part, fits-still}
+use Rattle.build_laws.proofs.Built.{built-holds, built-work, taken-built}
+use Rattle.build_laws.proofs.Twelve.{built-12, groupless-built}
 
 module _ (table : List ℕ) (start : ℕ) (work rows : List ℕ) (n room : ℕ) (f : Factor) (t w : List ℕ) where
   abbrev accepted : Making

@@ -27,13 +27,14 @@ use Rattle.build_checks_laws.proofs.Inverses.{kept-cell}
 use Rattle.build_checks_laws.proofs.Ruling.{ruled}
 use Rattle.factor_laws.proofs.Relators.{orders-long, relations-exact, relations-first}
 use Rattle.enumeration_run_laws.specs.Invariant.{Worded}
+use Rattle.enumeration_run.specs.Limits.{Limits}
 use Rattle.enumeration_run_laws.specs.Recorded as run
 use Rattle.enumeration_run_laws.proofs.Derivation.{words-traced, work-long, done-sound, sound-derived}
 use Rattle.enumeration_run_laws.proofs.Going.{done-finished}
 use Rattle.enumeration_run_laws.proofs.Ending.{never-paused}
-use Rattle.factor_laws.proofs.Settled.{Settled, by-count, settled-kept, settled-work, settled-sound, settled-hops}
+use Rattle.build_laws.proofs.Settled.{Settled, by-count, settled-kept, settled-work, settled-sound, settled-hops}
 use Rattle.enumeration.proofs.Calls.{by-relations}
-use Rattle.promises.proofs.Built.{below-cells}
+use Rattle.build_laws.proofs.Built.{below-cells}
 
 -- Words recorded alike are the same.
 trace-same : {p p′ l l′ : ℕ → ℕ} → ((x : ℕ) → p x ≡ p′ x) → ((x : ℕ) → l x ≡ l′ x) → (k e : ℕ) → trace p l k e ≡ trace p′ l′ k e
@@ -45,7 +46,7 @@ trace-same {p′ = p′} a b (suc k) (suc e) = rw (a (suc e), b (suc e), trace-s
 pub word-same : {n : ℕ} {word : ℕ → List ℕ} {count : ℕ} {t t′ : List ℕ} {N : ℕ} → Worded n word count t → Kept t t′ n N → (x : ℕ) → x < count → wordOf t′ n x ≡ word x
 word-same W K x h = trace-same (K .parent-same) (K .last-same) x x ∙ words-traced W x h
 
-module _ (o : List ℕ) (n room lt lw : ℕ) (L : run.Limits n o room lt lw) (right : ordersRight o n ≡ verdict.Fine) where
+module _ (o : List ℕ) (n room lt lw : ℕ) (L : Limits n o room lt lw) (right : ordersRight o n ≡ verdict.Fine) where
   -- Rows from N on are zero, so every number from there on is.
   blank-beyond : {N : ℕ} {t : List ℕ} → run.Sound n o room lt N t → (i : ℕ) → N * (2 * n + 4) ≤ i → getD t i 0 ≡ 0
   unfolding startOf

@@ -21,10 +21,11 @@ use Rattle.theory.proofs.Sound.{compose-words}
 use Rattle.theory.proofs.Presented.{presented}
 use Rattle.factor_laws.specs.Accepted.{Accepted, reach}
 use Rattle.factor_laws.proofs.Handles.{compose-answer}
+use Rattle.enumeration_run.specs.Limits.{Limits}
 use Rattle.enumeration_run_laws.specs.Recorded as run
 use Rattle.enumeration.proofs.Calls.{limits}
 use Rattle.promises.specs.Enumerated.{OrdersRight, Enumerated, Demand3}
-use Rattle.promises.proofs.Lent.{refused-making, handle, lentTable, by-build, stretch-part, fits-still}
+use Rattle.build_laws.proofs.Lent.{refused-making, handle, lentTable, by-build, stretch-part, fits-still}
 use Rattle.promises.proofs.Derived.{Related, enumerated-related}
 
 -- Where 1 to 4 pass, the call is the build in its stretches, put back into the buffers.
@@ -65,7 +66,7 @@ module _ (table : List ℕ) (start : ℕ) (work orders : List ℕ) (n room : ℕ
     has-room : hasRoom (length table) start room n ≡ true
     has-room = lent-table (length table) start (length work) room n (B .lent)
 
-    begun-limits : run.Limits n orders room (tableNeed n room) (workNeed n room)
+    begun-limits : Limits n orders room (tableNeed n room) (workNeed n room)
     begun-limits = limits table start work orders n room (B .generators) (B .right) (B .lent)
 
     module _ {N : ℕ} {s v : List ℕ} (R : Related orders n room (tableNeed n room) (workNeed n room) begun-limits (B .right) N s v) where

@@ -32,7 +32,7 @@ use Rattle.build_checks_laws.proofs.Numbers.{each-in, orders-number}
 use Rattle.promises.specs.Composed.{RowsRight}
 use Rattle.promises.specs.Enumerated.{OrdersRight}
 use Rattle.promises.specs.Leaves.{Leaves, untouched, zeros, lentFor, composedNumbers, enumerationNumbers}
-use Rattle.promises.proofs.Lent.{refused-making, work-taken}
+use Rattle.build_laws.proofs.Lent.{refused-making, work-taken}
 use Rattle.enumeration.proofs.Calls.{limits}
 use Rattle.promises.proofs.Zeros.{Zeros, read-zeros, enumerated-zeros}
 

@@ -1,6 +1,3 @@
-pub mod Lent
-pub mod Built
-pub mod Twelve
 pub mod Composed
 pub mod Derived
 pub mod Enumerated
@@ -14,7 +11,6 @@ pub mod Never
 pub mod Stops
 pub mod Unaltered
 pub mod NoneTwice
-pub mod SameRows
 pub mod Roomier
 pub mod Invented
 pub mod Papers

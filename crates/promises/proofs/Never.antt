@@ -15,7 +15,7 @@ use Rattle.enumeration.specs.Calls.{enumerates}
 use Rattle.build_checks_laws.specs.Numbers.{member, every, In}
 use Rattle.build_checks_laws.proofs.Numbers.{each-in, none-of}
 use Rattle.promises.specs.Leaves.{Lent, Cleared, Cells, Leaves, untouched, zeros, composedNumbers, enumerationNumbers}
-use Rattle.promises.proofs.Lent.{within-long, within-cell, within-before, within-after}
+use Rattle.build_laws.proofs.Lent.{within-long, within-cell, within-before, within-after}
 use Rattle.promises.proofs.Leaves.{composed-leaves, enumeration-leaves}
 
 -- A refusal has a number of those that its call may give.

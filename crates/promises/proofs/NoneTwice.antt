@@ -36,9 +36,10 @@ use Rattle.build_checks_laws.specs.Stored.{Stored}
 use Rattle.build_checks_laws.proofs.Inverses.{kept-same}
 use Rattle.build_checks_laws.proofs.Complete.{checks-complete}
 use Rattle.factor_laws.proofs.Relators.{orders-long, relations-exact, relations-identity}
+use Rattle.enumeration_run.specs.Limits.{Limits}
 use Rattle.enumeration_run_laws.specs.Recorded as run
-use Rattle.factor_laws.proofs.Settled.{settle, settled-kept, settled-sound}
-use Rattle.promises.proofs.Lent.{handle, by-build}
+use Rattle.build_laws.proofs.Settled.{settle, settled-kept, settled-sound}
+use Rattle.build_laws.proofs.Lent.{handle, by-build}
 use Rattle.promises.proofs.Enumerated.{enumerates-is-build}
 use Rattle.enumeration.proofs.Calls.{limits}
 use Rattle.promises.proofs.Derived.{enumerated-related, enumerated-steps, steps-enumerated, word-same}
@@ -173,7 +174,7 @@ presented-none-twice T H S D first = record {
   generators = λ {g} {h} hg hh q. omega (arith, presented T H S D (letter hg empty) (letter hh empty) .1 q, first g hg, first h hh);
 }
 
-module _ (o : List ℕ) (n room lt lw : ℕ) (L : run.Limits n o room lt lw) (right : ordersRight o n ≡ verdict.Fine)
+module _ (o : List ℕ) (n room lt lw : ℕ) (L : Limits n o room lt lw) (right : ordersRight o n ≡ verdict.Fine)
     {N : ℕ} (finish : enumerated n o room lt lw .answer ≡ ran.Done N) where
   abbrev T : List ℕ
   T = enumerated n o room lt lw .table

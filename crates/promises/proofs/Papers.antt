@@ -20,7 +20,8 @@ use Rattle.enumeration_run_laws.specs.Recorded.{words}
 use Rattle.build_checks_laws.specs.Numbers.{member, In}
 use Rattle.factor_laws.specs.Papers.{valuePaper}
 use Rattle.factor_laws.proofs.Papers.{paper-fine}
-use Rattle.promises.specs.Composed.{RowsRight, Taken, Given}
+use Rattle.promises.specs.Composed.{RowsRight, Given}
+use Rattle.build_laws.specs.Taken.{Taken}
 use Rattle.promises.specs.Enumerated.{OrdersRight, Enumerated}
 use Rattle.promises.specs.Leaves.{composedNumbers, enumerationNumbers}
 use Rattle.promises.specs.NoneTwice.{NoneTwice}

@@ -14,7 +14,8 @@ use Rattle.build_reading.specs.Reading.{composedAt}
 use Rattle.theory.proofs.Counting.{numbered-table}
 use Rattle.theory.proofs.FirstPlaces.{numbered-spelled}
 use Rattle.theory.proofs.Parting.{groupless-parting}
-use Rattle.promises.specs.Composed.{Groupless, Parted}
+use Rattle.promises.specs.Composed.{Parted}
+use Rattle.build_laws.specs.Taken.{Groupless}
 use Rattle.promises.proofs.Composed.{composed-12}
 
 pub groupless-parted : {src : ℕ → ℕ → ℕ} {n room N : ℕ} → Groupless src n room N ↔ Parted src n room N

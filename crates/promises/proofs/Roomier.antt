@@ -43,22 +43,23 @@ use Rattle.build_checks_laws.proofs.Accepted.{checks-kept, accepted-filled, sou
 use Rattle.build_checks_laws.proofs.Complete.{checks-complete}
 use Rattle.build_reading_laws.specs.Read.{Read}
 use Rattle.build_reading_laws.proofs.Readings.{accepted-read, readable-accepted, read-letters}
+use Rattle.enumeration_run.specs.Limits.{Limits}
 use Rattle.enumeration_run_laws.specs.Recorded as run
 use Rattle.enumeration_run_laws.proofs.Derivation.{work-long, done-sound}
 use Rattle.enumeration_room_laws.specs.Longer.{longer}
 use Rattle.enumeration_room_laws.proofs.Stores.{longer-get, longer-put, longer-length}
 use Rattle.enumeration_room_laws.proofs.Roomier.{more-room}
 use Rattle.promises.specs.Roomier.{Roomier}
-use Rattle.promises.proofs.SameRows.{SameRows, same-cells}
-use Rattle.promises.proofs.Lent.{handle, lentTable, by-build, stretch-cell}
+use Rattle.build_laws.proofs.SameRows.{SameRows, same-cells}
+use Rattle.build_laws.proofs.Lent.{handle, lentTable, by-build, stretch-cell}
 use Rattle.promises.proofs.Derived.{steps-enumerated, enumerated-steps, enumerated-related}
 use Rattle.promises.proofs.Enumerated.{enumerates-is-build}
 use Rattle.enumeration.proofs.Calls.{limits}
 use Rattle.promises.proofs.Enumerated as enumeration
 use Rattle.promises.proofs.Composed as rows-call
 use Rattle.build_reading_laws.proofs.Storing.{read-stored}
-use Rattle.factor_laws.proofs.Settled.{Settled, settle, settled-kept, settled-sound}
-use Rattle.promises.proofs.Built.{passed, passes, work-enough, rows-fit, settled-holds, built-holds}
+use Rattle.build_laws.proofs.Settled.{Settled, settle, settled-kept, settled-sound}
+use Rattle.build_laws.proofs.Built.{passed, passes, work-enough, rows-fit, settled-holds, built-holds}
 
 -- Inverses are found and filled alike in a longer list.
 invert-longer : (k : ℕ) (l : List ℕ) (n j at x : ℕ) → invertFrom j (longer k l) n at x ≡ invertFrom j l n at x
@@ -159,8 +160,8 @@ pub roomier-at : {n start room start′ room′ : ℕ} {f f₀ : Factor} {t t₀
 roomier-at a b r = rw (a, b) r
 
 -- The enumeration: its run is the same with more room, then the checks, then 13.
-module _ (o : List ℕ) (n room lt lw : ℕ) (L : run.Limits n o room lt lw) (right : ordersRight o n ≡ verdict.Fine)
-    (room′ lt′ lw′ : ℕ) (L′ : run.Limits n o room′ lt′ lw′) (more : room ≤ room′) (wider : lt ≤ lt′) (deeper : lw ≤ lw′) where
+module _ (o : List ℕ) (n room lt lw : ℕ) (L : Limits n o room lt lw) (right : ordersRight o n ≡ verdict.Fine)
+    (room′ lt′ lw′ : ℕ) (L′ : Limits n o room′ lt′ lw′) (more : room ≤ room′) (wider : lt ≤ lt′) (deeper : lw ≤ lw′) where
   pub enumerated-roomier : {N : ℕ} {t w : List ℕ} → enumeratedIn lt lw o n room ≡ built (Count N) t w
       → (w′ : List ℕ) × (enumeratedIn lt′ lw′ o n room′ ≡ built (Count N) (longer (lt′ - lt) t) w′)
   unfolding longer

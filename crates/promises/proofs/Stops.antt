@@ -24,7 +24,7 @@ use Rattle.factor.specs.Composed.{composedIn, composed}
 use Rattle.enumeration_run.specs.Run.{Outcome, enumerated}
 use Rattle.enumeration_run.specs.declared.inner.Ran.the-variants as ran
 use Rattle.enumeration.specs.Calls.{enumerates}
-use Rattle.enumeration_run_laws.specs.Recorded.{Limits}
+use Rattle.enumeration_run.specs.Limits.{Limits}
 use Rattle.build_reading_laws.specs.Read.{Refuses}
 use Rattle.build_reading_laws.proofs.Readings.{accepted-read, refused-read, refuses-refused, refused-number}
 use Rattle.promises.proofs.Composed.{composed-is-build}

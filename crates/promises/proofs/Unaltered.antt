@@ -23,7 +23,7 @@ use Rattle.factor_laws.proofs.Unaltered.{unaltered}
 use Rattle.promises.specs.Enumerated.{Demand3}
 use Rattle.promises.specs.Leaves.{Lent, Leaves, untouched, zeros, tableFor}
 use Rattle.promises.specs.Unaltered.{Wrote, nothing, part, Apart}
-use Rattle.promises.proofs.Lent.{within-long, within-apart, handle}
+use Rattle.build_laws.proofs.Lent.{within-long, within-apart, handle}
 use Rattle.promises.proofs.Composed as rows-call
 use Rattle.promises.proofs.Enumerated as orders-call
 use Rattle.promises.proofs.Leaves.{composed-leaves, enumeration-leaves}

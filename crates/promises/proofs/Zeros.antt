@@ -34,6 +34,7 @@ use Rattle.build_checks_laws.proofs.Numbers.{each-in, none-of, ranged-numbers, 
 use Rattle.build_reading_laws.proofs.Readings.{accepted-read, refused-read, refused-number}
 use Rattle.factor_laws.specs.Accepted.{Fails}
 use Rattle.factor_laws.proofs.Relators.{orders-long, relations-identity, relations-fail}
+use Rattle.enumeration_run.specs.Limits.{Limits}
 use Rattle.enumeration_run_laws.specs.Recorded as run
 use Rattle.enumeration_run_laws.specs.Going.{Broken, no-room, long-word}
 use Rattle.enumeration_run_laws.proofs.Derivation.{done-sound}
@@ -109,7 +110,7 @@ module _ (src : ℕ → ℕ → ℕ) (n room size : ℕ) (w₀ : List ℕ) (few 
 fails-number : {n : ℕ} {m step : ℕ → ℕ → ℕ} {e : ℕ} {r : Refusal} → Fails n m step e r → r .number ≡ 13
 fails-number F = ap (λ (x : Refusal). x .number) (F .places)
 
-module _ (o : List ℕ) (n room lt lw : ℕ) (L : run.Limits n o room lt lw) (right : ordersRight o n ≡ verdict.Fine) where
+module _ (o : List ℕ) (n room lt lw : ℕ) (L : Limits n o room lt lw) (right : ordersRight o n ≡ verdict.Fine) where
   module _ (N : ℕ) (D : enumerated n o room lt lw .answer ≡ ran.Done N) where
     abbrev T : List ℕ
     T = enumerated n o room lt lw .table

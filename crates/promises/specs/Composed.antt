@@ -6,19 +6,15 @@ use mathlib.Core.Bool.{true}
 use mathlib.Core.List.{List}
 use lib.ListN.{length, getD, replicate}
 use Rattle.egg.specs.declared.Factor.{Factor}
-use Rattle.egg.specs.Table.{stepOf}
 use Rattle.egg.specs.Factor.{stretch}
-use Rattle.build_word_cells.specs.Hops.{Hops}
 use Rattle.build_lending.specs.Lending.{tableNeed, workNeed, lentRight, within}
 use Rattle.build_reading.specs.Reading.{composedAt}
-use Rattle.theory.specs.Numbering.{IdentityRow}
 use Rattle.theory.specs.Appearance.{recorded}
-use Rattle.theory.specs.AnyGroup.{SomeGroup}
 use Rattle.theory.specs.Parting.{Parting}
-use Rattle.build_checks_laws.specs.Sound.{Sound, Ruled}
 use Rattle.build_checks_laws.specs.Until12.{Until12}
 use Rattle.build_reading_laws.specs.Read.{Readable}
 use Rattle.factor_laws.specs.Accepted.{Accepted, factorStep}
+use Rattle.build_laws.specs.Taken.{Taken}
 
 -- The arguments of a call on composed rows are right, so that its build starts: 1, "more than 8 generators", and 4, "room 0 or above 65,535, or a lent buffer
 -- short", have passed ("a composed list needs Rn entries").
@@ -27,21 +23,6 @@ pub record RowsRight (table : List ℕ) (start : ℕ) (work rows : List ℕ) (n 
   pub lent : lentRight (length table) start (length work) room n ≡ true
   pub listed : room * n ≤ length rows
 
--- What is accepted: numbers that follow the numbering rule with N elements within the room and no recorded word over 4,096 (`Readable`), with identity
--- row 1..n, and that are the right steps of some group, whatever its carrier.
-pub record Taken (src : ℕ → ℕ → ℕ) (n room N : ℕ) : Type 1 where
-  pub readable : Readable src n room N
-  pub identity-row : IdentityRow n src
-  pub group : SomeGroup n N src
-
--- Where 12 is given, "no group has these right steps": the numbers follow the numbering rule with N elements within the room and no recorded word over
--- 4,096, so that reading takes them; of them and their recorded words 8 to 11 pass; and they are the right steps of no group, whatever its carrier.
-pub record Groupless (src : ℕ → ℕ → ℕ) (n room N : ℕ) : Type 1 where
-  pub readable : Readable src n room N
-  pub back : ℕ → ℕ → ℕ
-  pub until-12 : Until12 n N src back (recorded n src)
-  pub no-group : ¬ SomeGroup n N src
-
 -- The same by what a host would see: the numbers are read, 8 to 11 pass, and there are an element and some turns after which a live viewer, and one who composes
 -- once with the product of the turns along its recorded word, would stand on different elements.
 pub record Parted (src : ℕ → ℕ → ℕ) (n room N : ℕ) : Type 0 where
@@ -49,17 +30,6 @@ pub record Parted (src : ℕ → ℕ → ℕ) (n room N : ℕ) : Type 0 where
   pub back : ℕ → ℕ → ℕ
   pub until-12 : Until12 n N src back (recorded n src)
   pub parting : Parting n N src (recorded n src)
-
--- What a stretch of that size holds after acceptance: a sound table by the numbering rule, whose steps are the rows', with the last five letters of each word in
--- one cell, and zeros beyond its last row.
-pub record Holding (src : ℕ → ℕ → ℕ) (n room size N : ℕ) (t : List ℕ) : Type 1 where
-  pub taken : Taken src n room N
-  pub sound : Sound t n N
-  pub ruled : Ruled t n N
-  pub hops : Hops t n N
-  pub size-kept : length t ≡ size
-  pub steps : {e g : ℕ} → e < N → g < n → stepOf t n e g ≡ src e g
-  pub beyond : {i : ℕ} → N * (2 * n + 4) ≤ i → getD t i 0 ≡ 0
 
 -- What an accepted call gives: the handle of the given stretch with so many elements as were taken; a factor that is accepted, whose steps are the rows';
 -- zeros in its rows beyond the last element and in the needed work; and everything else in both buffers as it was.

@@ -8,7 +8,7 @@ use Rattle.build_reading.specs.Reading.{Placed, placed}
 use Rattle.build_lending.specs.Finish.{zeroed, finishedPlaced}
 use Rattle.builder_rereading.specs.Own.{storedAt, copied, ownAll, reachesAll, ownIn}
 use Rattle.builder_rereading.proofs.Copying.{copied-length}
-use Rattle.factor_laws.proofs.AnyWork.{any-work}
+use Rattle.build_laws.proofs.AnyWork.{any-work}
 
 placed-any-work : (p : Placed) (n : ℕ) (w w′ : List ℕ) → length w ≡ length w′ → finishedPlaced p n w ≡ finishedPlaced p n w′
 placed-any-work (placed c t) n w w′ long = any-work c n t w w′ long

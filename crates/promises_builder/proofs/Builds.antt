@@ -20,8 +20,9 @@ use Rattle.builder.specs.Calls.{builds}
 use Rattle.build_reading.specs.Reading.{composedAt}
 use Rattle.theory.proofs.Reading.{numbered-once}
 use Rattle.factor_laws.specs.Accepted.{factorStep}
-use Rattle.promises.specs.Composed.{Taken, Given}
-use Rattle.promises.proofs.Lent.{refused-making}
+use Rattle.promises.specs.Composed.{Given}
+use Rattle.build_laws.specs.Taken.{Taken}
+use Rattle.build_laws.proofs.Lent.{refused-making}
 use Rattle.promises.proofs.Composed.{composed-exactly, composed-given}
 use Rattle.promises_builder.specs.Own.{ownAt, ownRows, Filled}
 use Rattle.promises_builder.proofs.Composed.{least, lent, listed-long, own-rows-at, build-own-rows}

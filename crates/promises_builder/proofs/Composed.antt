@@ -27,7 +27,7 @@ use Rattle.theory.specs.Numbering.{Numbered}
 use Rattle.build_reading_laws.proofs.Readings.{accepted-read}
 use Rattle.promises.proofs.Composed.{composed-is-build}
 use Rattle.promises_builder.specs.Own.{ownAt, ownRows, Filled}
-use Rattle.factor_laws.proofs.AnyWork.{any-work}
+use Rattle.build_laws.proofs.AnyWork.{any-work}
 use Rattle.promises_builder.proofs.AnyWork.{own-in-zeros}
 use Rattle.promises_builder.proofs.Alike.{Alike, all-alike, read-alike}
 

@@ -19,7 +19,7 @@ use Rattle.build_reading.specs.Reading.{composedAt}
 use Rattle.theory.specs.Numbering.{Numbered}
 use Rattle.theory.proofs.Reading.{numbered-once}
 use Rattle.build_checks_laws.specs.Numbers.{member}
-use Rattle.promises.proofs.Lent.{by-refused}
+use Rattle.build_laws.proofs.Lent.{by-refused}
 use Rattle.promises.proofs.Composed.{composed-is-build, work-lent}
 use Rattle.promises_refusals.specs.Faults.{Fault}
 use Rattle.promises_refusals.proofs.Built.{built-fault, fault-built}

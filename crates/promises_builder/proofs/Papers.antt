@@ -9,7 +9,7 @@ use Rattle.builder.specs.Calls.{builds}
 use Rattle.build_reading.specs.Reading.{composedAt}
 use Rattle.build_checks_laws.specs.Numbers.{lateNumbers}
 use Rattle.factor_laws.specs.Papers.{valuePaper}
-use Rattle.promises.specs.Composed.{Taken}
+use Rattle.build_laws.specs.Taken.{Taken}
 use Rattle.promises.specs.Papers.{madePaper}
 use Rattle.promises.proofs.Never.{leaves-number}
 use Rattle.promises.proofs.Papers.{made-fine}

@@ -24,7 +24,7 @@ use Rattle.build_checks_laws.proofs.Numbers.{each-in, none-of}
 use Rattle.build_reading_laws.specs.Read.{Readable, Refuses}
 use Rattle.build_reading_laws.proofs.Readings.{read-readable}
 use Rattle.build_reading_laws.proofs.OnePlace.{refuses-once, readable-not-refused}
-use Rattle.promises.specs.Composed.{Groupless}
+use Rattle.build_laws.specs.Taken.{Groupless}
 use Rattle.promises.proofs.Composed.{composed-12}
 use Rattle.promises_builder.specs.Own.{ownAt, ownNumber, ownRefusal, ownRows, Filled}
 use Rattle.promises_builder.specs.Refusals.{Lacks}

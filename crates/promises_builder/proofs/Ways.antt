@@ -33,9 +33,9 @@ use Rattle.build_checks_laws.specs.Numbers.{member, lateNumbers}
 use Rattle.build_checks_laws.proofs.Numbers.{each-in, full-numbers, checks-number}
 use Rattle.build_reading_laws.specs.Read.{Readable, Refuses}
 use Rattle.build_reading_laws.proofs.Readings.{accepted-read}
-use Rattle.promises.proofs.Lent.{by-build, by-refused}
+use Rattle.build_laws.proofs.Lent.{by-build, by-refused}
 use Rattle.promises.proofs.Passing.{read-ranges}
-use Rattle.promises.proofs.Twelve.{check-refused}
+use Rattle.build_laws.proofs.Twelve.{check-refused}
 use Rattle.promises.proofs.Zeros.{settled-zeros}
 use Rattle.promises_builder.specs.Own.{ownAt, ownNumber, ownRefusal, ownRows, Filled}
 use Rattle.promises_builder.specs.Refusals.{Lacks}

@@ -15,7 +15,7 @@ use Rattle.theory.specs.Numbering.{Numbered}
 use Rattle.build_checks_laws.specs.Numbers.{In, lateNumbers}
 use Rattle.build_reading_laws.specs.Read.{Readable, Refuses}
 use Rattle.factor_laws.specs.Papers.{valuePaper}
-use Rattle.promises.specs.Composed.{Taken}
+use Rattle.build_laws.specs.Taken.{Taken}
 use Rattle.promises_refusals.specs.Faults.{Fault}
 use Rattle.promises_builder.specs.Own.{ownAt, ownNumber, ownRefusal, ownRows, Filled}
 use Rattle.promises_builder.specs.Refusals.{Lacks}

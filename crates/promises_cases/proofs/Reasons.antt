@@ -5,7 +5,7 @@ use mathlib.Core.List.{[], _∷_}
 use lib.ListN.{replicate}
 use Rattle.build_lending.specs.Lending.{tableNeed, workNeed}
 use Rattle.build_reading.specs.Reading.{composedAt}
-use Rattle.promises.specs.Composed.{Groupless}
+use Rattle.build_laws.specs.Taken.{Groupless}
 use Rattle.promises_refusals.specs.Faults.{Lacks, Strays, Twists, Misnumbers}
 use Rattle.promises_refusals.proofs.EachNumber.{composed-8, composed-9, composed-10, composed-11, composed-12}
 use Rattle.promises_cases.specs.Tables.{twisted, repeated, crossed}

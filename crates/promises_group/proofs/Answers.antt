@@ -16,8 +16,8 @@ use Rattle.egg.proofs.Scans.{scan-fine}
 use Rattle.theory.specs.Table.{generator}
 use Rattle.theory.specs.Group.{integer-power, Period}
 use Rattle.factor_laws.specs.Accepted.{reach}
-use Rattle.theory_products.specs.Radix.{split, inject}
-use Rattle.theory_products.proofs.RadixLaws.{join-split, split-digits, split-length, digits-below, project-is}
+use Rattle.theory_radix.specs.Radix.{split, inject}
+use Rattle.theory_radix.proofs.RadixLaws.{join-split, split-digits, split-length, digits-below, project-is}
 use Rattle.theory_products.proofs.ProductLaws.{product-group}
 use Rattle.theory_products.proofs.WordLaws.{product-worded, product-only}
 use Rattle.group_handles.specs.declared.Group.{Group}

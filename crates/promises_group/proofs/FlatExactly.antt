@@ -28,9 +28,9 @@ use Rattle.theory.proofs.FirstPlaces.{numbered-spelled}
 use Rattle.build_reading_laws.specs.Read.{Readable, Refuses}
 use Rattle.build_reading_laws.proofs.Readings.{accepts-exactly, refuses-exactly}
 use Rattle.factor_laws.specs.Accepted.{Accepted}
-use Rattle.promises.specs.Composed.{Taken}
-use Rattle.promises.proofs.Lent.{taken-enough, by-build, by-refused, refused-making}
-use Rattle.promises.proofs.Built.{built-holds, taken-built}
+use Rattle.build_laws.specs.Taken.{Taken}
+use Rattle.build_laws.proofs.Lent.{taken-enough, by-build, by-refused, refused-making}
+use Rattle.build_laws.proofs.Built.{built-holds, taken-built}
 use Rattle.promises.proofs.Stops.{stops-built}
 use Rattle.theory_products.specs.Product as theory
 use Rattle.theory_products.specs.Product.{Each, Worded, Generated}

@@ -28,7 +28,7 @@ use Rattle.build_lending.proofs.Lending.{lent-table}
 use Rattle.factor_questions.specs.Walks.{onReached}
 use Rattle.build_checks_laws.specs.Numbers.{In}
 use Rattle.promises.specs.Leaves.{Leaves, lentFor}
-use Rattle.promises.proofs.Lent.{work-taken}
+use Rattle.build_laws.proofs.Lent.{work-taken}
 use Rattle.promises.proofs.ReadLengths.{placedTable, place-length, row-length}
 use Rattle.promises.proofs.Zeros.{Zeros, zeros-widen, read-zeros}
 use Rattle.promises.proofs.Leaves.{early, late, leaves-early, leaves-late}

@@ -25,8 +25,8 @@ use Rattle.promises.specs.Leaves.{composedNumbers, tableFor}
 use Rattle.promises.specs.Unaltered.{Wrote, part}
 use Rattle.promises.specs.Papers.{madePaper}
 use Rattle.promises.specs.Roomier.{Roomier}
-use Rattle.promises.proofs.Lent.{by-build, refused-making}
-use Rattle.promises.proofs.Built.{built-holds}
+use Rattle.build_laws.proofs.Lent.{by-build, refused-making}
+use Rattle.build_laws.proofs.Built.{built-holds}
 use Rattle.promises.proofs.Never.{leaves-number}
 use Rattle.promises.proofs.Unaltered.{leaves-wrote}
 use Rattle.promises.proofs.Papers.{made-fine}

@@ -18,7 +18,7 @@ use Rattle.build_reading.specs.Reading.{Placed, placed, thenPlaced, readPlace, 
 use Rattle.build_reading.proofs.Readings.{then-same}
 use Rattle.factor.specs.Composed.{composedIn, composed}
 use Rattle.theory_products.specs.Product.{product}
-use Rattle.theory_products.proofs.RadixLaws.{low, high}
+use Rattle.theory_radix.proofs.RadixLaws.{low, high}
 use Rattle.group_handles.specs.declared.Group.{Group}
 use Rattle.group_handles.specs.Handles.{handles, elementsOf, generatorsOf}
 use Rattle.group_digits.specs.Digits.{stepIn}

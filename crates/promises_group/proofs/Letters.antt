@@ -19,7 +19,7 @@ use Rattle.factor_words.specs.Words.{spellBy, spellFrom}
 use Rattle.factor_laws.proofs.Handles.{few-elements}
 use Rattle.factor_laws.proofs.Letters.{word-readable, length-in, spelled}
 use Rattle.theory_products.specs.Product.{product, shift}
-use Rattle.theory_products.proofs.RadixLaws.{low-small, high-small}
+use Rattle.theory_radix.proofs.RadixLaws.{low-small, high-small}
 use Rattle.theory_products.proofs.WordLaws.{shift-length, shift-shift, shift-append, shift-zero}
 use Rattle.group_handles.specs.Handles.{generatorsOf}
 use Rattle.group_words.specs.Words.{lengths, readables, spells, writes}

@@ -15,7 +15,7 @@ use Rattle.factor_laws.proofs.Steps.{read-step, compose-in, inverse-in, conjuga
 use Rattle.factor_laws.proofs.Handles.{few-elements}
 use Rattle.theory_products.specs.Product as theory
 use Rattle.theory_products.specs.Product.{Part, product, ranges, Each, IsGroup, Worded, Parted}
-use Rattle.theory_products.proofs.RadixLaws.{low-small, high-small}
+use Rattle.theory_radix.proofs.RadixLaws.{low-small, high-small}
 use Rattle.theory_products.proofs.ProductLaws.{trivial-group, product-group, each-weaken}
 use Rattle.theory_products.proofs.StepLaws.{side, Side, left, right, step-left, step-right}
 use Rattle.theory_products.proofs.Componentwise.{op-parted, inv-parted, conjugate-parted}

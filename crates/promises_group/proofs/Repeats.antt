@@ -21,8 +21,8 @@ use Rattle.factor_laws.proofs.Steps.{compose-in}
 use Rattle.factor_laws.proofs.Handles.{few-elements}
 use Rattle.theory_products.specs.Product.{product}
 use Rattle.theory_products.specs.Power.{odd-too, halving, negative, powi}
-use Rattle.theory_products.specs.Divisors.{lcm}
-use Rattle.theory_products.proofs.RadixLaws.{low-small, high-small}
+use Rattle.theory_radix.specs.Divisors.{lcm}
+use Rattle.theory_radix.proofs.RadixLaws.{low-small, high-small}
 use Rattle.theory_products.proofs.ProductLaws.{product-group}
 use Rattle.theory_products.proofs.PowerLaws.{powi-is}
 use Rattle.theory_products.proofs.PeriodLaws.{pair-period}

@@ -12,7 +12,7 @@ use Rattle.egg.specs.Factor.{Paper, verdictPaper, reachedPaper, countedPaper}
 use Rattle.theory.specs.Table.{generator}
 use Rattle.theory.specs.Group.{GroupOn, RightSteps, conjugate, integer-power, Period}
 use Rattle.factor_laws.specs.Papers.{valuePaper}
-use Rattle.theory_products.specs.Radix.{split, inject}
+use Rattle.theory_radix.specs.Radix.{split, inject}
 use Rattle.theory_products.specs.Product.{Part}
 use Rattle.group_handles.specs.declared.Group.{Group}
 use Rattle.group_handles.specs.declared.Grouped.{Grouped}

@@ -13,7 +13,7 @@ use Rattle.theory.specs.Words.{walk}
 use Rattle.theory.specs.Group.{GroupOn, RightSteps, conjugate, integer-power, Period}
 use Rattle.factor.specs.Questions as factor
 use Rattle.factor_laws.specs.Accepted.{Accepted, factorStep, factorBack, factorWord, reach}
-use Rattle.theory_products.specs.Radix.{split, inject}
+use Rattle.theory_radix.specs.Radix.{split, inject}
 use Rattle.theory_products.specs.Product.{Part, table-part, product}
 use Rattle.group_handles.specs.declared.Group.{Group}
 use Rattle.group_handles.specs.Handles.{handles, sizes, limited}

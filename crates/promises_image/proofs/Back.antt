@@ -31,11 +31,12 @@ use Rattle.image.specs.Image.{generatorsOf, elementsOf, headNumber, bytesNeed, 
 use Rattle.image_reading.specs.Read.{allPlaced, imageIn}
 use Rattle.image.specs.Read.{headPlace, readImage}
 use Rattle.image.proofs.Checking.{zeros-long}
-use Rattle.promises.specs.Composed.{Taken, Given}
+use Rattle.promises.specs.Composed.{Given}
+use Rattle.build_laws.specs.Taken.{Taken}
 use Rattle.promises.specs.Papers.{madePaper}
-use Rattle.factor_laws.proofs.Settled.{settle}
-use Rattle.promises.proofs.Built.{settled-holds, taken-checked}
-use Rattle.promises.proofs.Lent.{refused-making}
+use Rattle.build_laws.proofs.Settled.{settle}
+use Rattle.build_laws.proofs.Built.{settled-holds, taken-checked}
+use Rattle.build_laws.proofs.Lent.{refused-making}
 use Rattle.promises.proofs.Composed.{composed-exactly, composed-given}
 use Rattle.promises_image.specs.Images.{Bytes, imageStep, WellFormed, GroupImage}
 use Rattle.promises_image.proofs.Heads.{formed, formed-head, listed}

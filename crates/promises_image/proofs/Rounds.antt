@@ -29,7 +29,8 @@ use Rattle.build_checks_laws.proofs.Refused.{regular-same}
 use Rattle.factor_laws.specs.Accepted.{Accepted, factorStep, factorWord}
 use Rattle.factor_laws.proofs.Steps.{read-step}
 use Rattle.factor_laws.proofs.Handles.{few-generators, few-elements}
-use Rattle.promises.specs.Composed.{Taken, Given}
+use Rattle.promises.specs.Composed.{Given}
+use Rattle.build_laws.specs.Taken.{Taken}
 use Rattle.image.specs.Image.{generatorsOf, elementsOf}
 use Rattle.image_writing.specs.Written.{rowsOf, imageSize, imageOf, stepRead, knownRow, allKnown}
 use Rattle.image.specs.Written.{writeCount, writtenImage}

@@ -21,7 +21,8 @@ use Rattle.image_cells.specs.Cells.{halves}
 use Rattle.theory.proofs.Reading.{numbered-once}
 use Rattle.factor_laws.specs.Accepted.{factorStep}
 use Rattle.factor_laws.proofs.Handles.{few-generators}
-use Rattle.promises.specs.Composed.{Taken, Given}
+use Rattle.promises.specs.Composed.{Given}
+use Rattle.build_laws.specs.Taken.{Taken}
 use Rattle.promises.proofs.Composed.{begun, composed-exactly, composed-given}
 use Rattle.promises.proofs.Roomier.{composed-roomier}
 use Rattle.image_writing.specs.Written.{rowsOf, imageOf}

@@ -15,7 +15,7 @@ use Rattle.theory.proofs.Recording.{recorded-once}
 use Rattle.theory.proofs.RuleLaws.{appearance-agree}
 use Rattle.build_checks_laws.specs.Stored.{wordOf}
 use Rattle.build_checks_laws.specs.Sound.{Sound, Ruled}
-use Rattle.promises.proofs.SameRows.{SameRows, same-cells}
+use Rattle.build_laws.proofs.SameRows.{SameRows, same-cells}
 use Rattle.promises_image.specs.Images.{SameTable}
 
 module _ {n N : ℕ} {s s′ : List ℕ} (S : Sound s n N) (S′ : Sound s′ n N) (R : Ruled s n N) (R′ : Ruled s′ n N) (H : Hops s n N) (H′ : Hops s′ n N)

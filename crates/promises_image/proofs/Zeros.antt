@@ -13,7 +13,7 @@ use Rattle.build_lending.specs.Finish.{built, finishedPlaced}
 use Rattle.build_lending.specs.Lending.{tableNeed, workNeed, lentRight, within, noFactor, making}
 use Rattle.build_reading.specs.Reading.{Placed, placed, readAll, composedAt}
 use Rattle.image_cells.specs.Cells.{halves}
-use Rattle.promises.proofs.Lent.{work-taken, by-refused}
+use Rattle.build_laws.proofs.Lent.{work-taken, by-refused}
 use Rattle.promises.proofs.ReadLengths.{placedTable, from-length}
 use Rattle.promises.proofs.Zeros.{finished-zeros}
 use Rattle.image.specs.Image.{generatorsOf, elementsOf}

@@ -16,7 +16,7 @@ use Rattle.image.specs.Written.{writeCount, writtenImage}
 use Rattle.image.specs.Read.{readImage}
 use Rattle.factor_laws.specs.Accepted.{Accepted, factorStep}
 use Rattle.factor_laws.specs.Papers.{valuePaper}
-use Rattle.promises.specs.Composed.{Taken}
+use Rattle.build_laws.specs.Taken.{Taken}
 use Rattle.promises.specs.Leaves.{composedNumbers}
 
 -- Numbers below 256, as every slice of bytes holds.

@@ -17,9 +17,9 @@ use Rattle.build_reading.specs.Build.{numbered}
 use Rattle.build_reading.specs.Reading.{placed, readAll}
 use Rattle.build_reading_laws.specs.Read.{Readable}
 use Rattle.build_reading_laws.proofs.Readings.{accepted-read, refused-read, readable-accepted, refuses-refused}
-use Rattle.promises.specs.Composed.{Taken}
-use Rattle.promises.proofs.Built.{built-holds, taken-built}
-use Rattle.promises.proofs.Twelve.{build-refused, refused-build, groupless-built}
+use Rattle.build_laws.specs.Taken.{Taken}
+use Rattle.build_laws.proofs.Built.{built-holds, taken-built}
+use Rattle.build_laws.proofs.Twelve.{build-refused, refused-build, groupless-built}
 use Rattle.promises_refusals.specs.Faults.{Fault, unread, lacks, strays, twists, misnumbers, groupless}
 use Rattle.promises_refusals.proofs.Checked.{lacks-refused, strays-refused, twists-refused, misnumbers-refused, checked-fault}
 

@@ -32,7 +32,7 @@ use Rattle.build_checks_laws.proofs.Arrivals.{arrivals-right}
 use Rattle.build_checks_laws.proofs.Refused.{Before12, places-12, until-12, refused-no-group, refused-12}
 use Rattle.build_reading_laws.specs.Read.{Read}
 use Rattle.build_reading_laws.proofs.Readings.{read-readable}
-use Rattle.promises.proofs.Built.{work-enough, rows-fit}
+use Rattle.build_laws.proofs.Built.{work-enough, rows-fit}
 use Rattle.build_reading_laws.proofs.Storing.{read-recorded, words-stored, read-columns}
 use Rattle.promises_refusals.specs.Firsts.{FirstOf, FirstPlace}
 use Rattle.promises_refusals.specs.Faults.{Unreached, WrongStep, inverseBy, Fault, lacks, strays, twists, misnumbers, groupless}

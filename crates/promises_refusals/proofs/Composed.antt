@@ -22,7 +22,7 @@ use Rattle.build_lending.specs.Finish.{finishedPlaced}
 use Rattle.build_lending.specs.Lending.{tableNeed, workNeed, lentRight, refusedMade, Making, making, lentBack}
 use Rattle.build_lending.proofs.Lending.{lent-table, lent-enough}
 use Rattle.factor.specs.Composed.{composedIn, composed}
-use Rattle.promises.specs.Composed.{Taken}
+use Rattle.build_laws.specs.Taken.{Taken}
 use Rattle.promises.proofs.Composed.{composed-is-build, work-lent}
 use Rattle.promises_refusals.specs.Faults.{Fault}
 use Rattle.promises_refusals.specs.Papers.{answerOf, paperOf, paper, Enough, ComposedPaper, many, short, taken, fault, OneAnswer}

@@ -10,7 +10,7 @@ use Rattle.egg.specs.Factor.{Paper}
 use Rattle.build_reading.specs.Build.{numbered}
 use Rattle.factor.specs.Composed.{composed}
 use Rattle.build_reading.specs.Reading.{composedAt}
-use Rattle.promises.specs.Composed.{Taken, Groupless}
+use Rattle.build_laws.specs.Taken.{Taken, Groupless}
 use Rattle.promises_refusals.specs.Faults.{Overflows, Overlong, SkipsAhead, Lacks, Strays, Twists, Misnumbers, Fault, lacks, strays, twists, misnumbers, groupless}
 use Rattle.promises_refusals.specs.Papers.{paperOf, paper, Enough, ComposedPaper, many, short, taken, fault}
 use Rattle.promises_refusals.proofs.Numbers.{fault-numbers, fault-5, fault-6, fault-7, overflows, overlong, skips, fault-8, fault-9, fault-10, fault-11, fault-12}

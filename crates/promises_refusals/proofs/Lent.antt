@@ -12,8 +12,8 @@ use Rattle.egg.proofs.Scans.{refused-fine}
 use Rattle.build_lending.specs.Finish.{Built, built, finishedPlaced}
 use Rattle.build_lending.specs.Lending.{lentBack}
 use Rattle.build_reading.specs.Reading.{readAll}
-use Rattle.promises.specs.Composed.{Taken}
-use Rattle.promises.proofs.Built.{built-holds, taken-built}
+use Rattle.build_laws.specs.Taken.{Taken}
+use Rattle.build_laws.proofs.Built.{built-holds, taken-built}
 use Rattle.promises_refusals.specs.Faults.{Fault}
 use Rattle.promises_refusals.specs.Papers.{answerOf}
 use Rattle.promises_refusals.proofs.Built.{built-fault, fault-built}

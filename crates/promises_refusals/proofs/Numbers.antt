@@ -8,7 +8,7 @@ use Rattle.egg.specs.declared.Refusal.{Refusal}
 use Rattle.build_reading.specs.Build.{numbered}
 use Rattle.build_reading_laws.specs.Read.{Held, Stops, skips-ahead, no-room, long-word, Refuses}
 use Rattle.build_reading_laws.proofs.Readings.{refused-number}
-use Rattle.promises.specs.Composed.{Groupless}
+use Rattle.build_laws.specs.Taken.{Groupless}
 use Rattle.promises_refusals.specs.Faults.{Overflows, Overlong, SkipsAhead, Lacks, Strays, Twists, Misnumbers, Fault, unread, lacks, strays, twists, misnumbers, groupless}
 
 reading-number : {k : ℕ} → (k ≡ 7) ⊎ ((k ≡ 5) ⊎ (k ≡ 6)) → (5 ≤ k) × (k ≤ 7)

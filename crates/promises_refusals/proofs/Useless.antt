@@ -28,8 +28,9 @@ use Rattle.factor.specs.Questions.{lengthAnswer}
 use Rattle.theory.specs.Words.{walk}
 use Rattle.factor_laws.specs.Accepted.{Accepted, factorStep, factorWord}
 use Rattle.factor_laws.proofs.Answers.{accepted-answers}
-use Rattle.promises.specs.Composed.{Taken, Given}
-use Rattle.promises.proofs.Lent.{within-cell}
+use Rattle.promises.specs.Composed.{Given}
+use Rattle.build_laws.specs.Taken.{Taken}
+use Rattle.build_laws.proofs.Lent.{within-cell}
 use Rattle.promises.proofs.Composed.{composed-exactly, composed-given, begun}
 use Rattle.promises_refusals.specs.Papers.{Enough}
 use Rattle.promises_refusals.proofs.Composed.{lent-right}

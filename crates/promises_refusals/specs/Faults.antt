@@ -11,7 +11,7 @@ use Rattle.theory.specs.Table.{Columns, generator}
 use Rattle.theory.specs.Appearance.{recorded}
 use Rattle.theory.specs.Regular.{inverse}
 use Rattle.build_reading_laws.specs.Read.{Readable, Held, Refuses}
-use Rattle.promises.specs.Composed.{Groupless}
+use Rattle.build_laws.specs.Taken.{Groupless}
 use Rattle.promises_refusals.specs.Firsts.{FirstOf, FirstPlace}
 
 -- 5, "an element is needed beyond the room": nothing is refused before (e, g); its number is the count, a new element; and the room is full.

@@ -12,7 +12,7 @@ use Rattle.egg.specs.Factor.{Paper, refusalPaper, verdictPaper}
 use Rattle.build_lending.specs.Lending.{tableNeed, workNeed, Making, making}
 use Rattle.factor.specs.Composed.{composed}
 use Rattle.build_reading.specs.Reading.{composedAt}
-use Rattle.promises.specs.Composed.{Taken}
+use Rattle.build_laws.specs.Taken.{Taken}
 use Rattle.promises_refusals.specs.Faults.{Fault}
 
 -- What a call that makes a factor answers, on paper.

@@ -28,7 +28,7 @@ use Rattle.build_lending.proofs.Lending.{lent-table}
 use Rattle.theory.specs.Group.{GroupOn}
 use Rattle.theory.proofs.Reading.{numbered-once}
 use Rattle.build_checks_laws.proofs.Accepted.{sound-group}
-use Rattle.promises.proofs.Lent.{work-taken, taken-enough, handle, lentTable, stretch-part, fits-still}
+use Rattle.build_laws.proofs.Lent.{work-taken, taken-enough, handle, lentTable, stretch-part, fits-still}
 use Rattle.group_handles.specs.declared.Group.{Group}
 use Rattle.group_handles.specs.Handles.{handles, elementsOf, groupOf}
 use Rattle.promises_group.specs.Products.{AllAccepted, direct}

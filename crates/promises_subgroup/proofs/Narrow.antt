@@ -11,8 +11,8 @@ use Rattle.build_lending.specs.Finish.{Built, built, finishedPlaced}
 use Rattle.build_lending.specs.Lending.{tableNeed, workNeed}
 use Rattle.build_reading.specs.Reading.{readAll}
 use Rattle.enumeration_room_laws.specs.Longer.{longer}
-use Rattle.promises.specs.Composed.{Holding}
-use Rattle.promises.proofs.Built.{built-holds, taken-built}
+use Rattle.build_laws.specs.Taken.{Holding}
+use Rattle.build_laws.proofs.Built.{built-holds, taken-built}
 use Rattle.promises.proofs.Roomier.{built-roomier}
 
 cut-longer : (k m : ℕ) (l : List ℕ) → length l ≡ m → take m (longer k l) ≡ l

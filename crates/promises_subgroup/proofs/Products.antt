@@ -9,7 +9,7 @@ use native.Mathlib.Nat.{mod-add-div, mod-lt, add-comm, div-one, one-mul, zero-ad
 use native.Mathlib.Omega.{arith}
 use Rattle.build_numbering.specs.Renumber as appear
 use Rattle.theory_products.specs.Product.{Part, pair, product, Each, none, more, IsGroup}
-use Rattle.theory_products.proofs.RadixLaws.{low, high, joined-small, low-small, high-small}
+use Rattle.theory_radix.proofs.RadixLaws.{low, high, joined-small, low-small, high-small}
 use Rattle.theory_products.proofs.ProductLaws.{product-group}
 use Rattle.subgroup.specs.Indices.{Indices, factorIndices, unfactorIndices, withWithin, overOf, subOf}
 use Rattle.promises_subgroup.specs.Carried.{Carried, Homomorphic}

@@ -23,10 +23,10 @@ use Rattle.build_lending.specs.Lending.{tableNeed, workNeed, lentRight, within}
 use Rattle.build_lending.proofs.Lending.{lent-table, lent-enough}
 use Rattle.factor_laws.specs.Refuses.{ReachedIn}
 use Rattle.factor_laws.proofs.Refuses.{reached-element, reached-on, compose-in}
-use Rattle.promises.specs.Composed.{Holding}
+use Rattle.build_laws.specs.Taken.{Holding}
 use Rattle.promises.specs.Unaltered.{Wrote, part}
-use Rattle.promises.proofs.Lent.{handle, within-cell}
-use Rattle.theory_products.proofs.RadixLaws.{joined-small, high-small, range-pos}
+use Rattle.build_laws.proofs.Lent.{handle, within-cell}
+use Rattle.theory_radix.proofs.RadixLaws.{joined-small, high-small, range-pos}
 use Rattle.group_handles.specs.declared.Group.{Group}
 use Rattle.group_digits.specs.declared.inner.Asked.the-variants.{Compose}
 use Rattle.group_handles.specs.Handles.{handles, elementsOf, allFit, groupOf}

@@ -17,7 +17,7 @@ use Rattle.theory.specs.Group.{GroupOn}
 use Rattle.enumeration_room_laws.specs.Longer.{longer}
 use Rattle.enumeration_room_laws.proofs.Stores.{longer-get}
 use Rattle.promises.proofs.Roomier.{built-roomier}
-use Rattle.promises.proofs.Lent.{handle, stretch-cell}
+use Rattle.build_laws.proofs.Lent.{handle, stretch-cell}
 use Rattle.group_handles.specs.declared.Group.{Group}
 use Rattle.group_handles.specs.Handles.{handles, elementsOf, groupOf}
 use Rattle.promises_group.specs.Products.{AllAccepted}

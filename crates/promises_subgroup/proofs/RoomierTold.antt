@@ -10,7 +10,7 @@ use Rattle.egg.specs.declared.Reached.{Reached}
 use Rattle.egg.specs.declared.Reached.the-variants as reached
 use Rattle.theory.specs.Group.{GroupOn}
 use Rattle.theory.proofs.Reading.{numbered-once}
-use Rattle.promises.specs.Composed.{Taken}
+use Rattle.build_laws.specs.Taken.{Taken}
 use Rattle.build_numbering_laws.specs.Orbit.{numberedStep}
 use Rattle.build_numbering_laws.specs.Subgroup.{rightBy}
 use Rattle.build_numbering_laws.proofs.Order.{appearing}

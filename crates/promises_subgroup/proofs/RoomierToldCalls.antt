@@ -13,7 +13,7 @@ use Rattle.build_lending.specs.Finish.{built}
 use Rattle.build_lending.specs.Lending.{tableNeed, workNeed, within}
 use Rattle.enumeration_room_laws.specs.Longer.{longer}
 use Rattle.enumeration_room_laws.proofs.Stores.{longer-get}
-use Rattle.promises.proofs.Lent.{handle, stretch-cell}
+use Rattle.build_laws.proofs.Lent.{handle, stretch-cell}
 use Rattle.group_handles.specs.declared.Group.{Group}
 use Rattle.group_handles.specs.Handles.{handles, elementsOf, groupOf}
 use Rattle.group_digits.specs.Digits.{composes}

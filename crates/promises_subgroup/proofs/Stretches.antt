@@ -14,7 +14,7 @@ use Rattle.egg.specs.Factor.{hasRoom, fitsIn, stretch}
 use Rattle.egg.proofs.Rooms.{positive, limited, within-length}
 use Rattle.build_lending.specs.Lending.{tableNeed, workNeed, within}
 use Rattle.theory.proofs.RuleLaws.{numbered-agree}
-use Rattle.promises.proofs.Lent.{handle, within-long}
+use Rattle.build_laws.proofs.Lent.{handle, within-long}
 use Rattle.build_numbering_laws.specs.Maps.{Held}
 
 pub fewer-rows : (n k room : ℕ) → n ≤ k → tableNeed n room ≤ tableNeed k room

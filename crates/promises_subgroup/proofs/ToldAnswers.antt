@@ -36,7 +36,7 @@ use Rattle.promises_group.specs.Products.{AllAccepted, direct}
 use Rattle.build_numbering.specs.Build.{Renumbering, renumbering}
 use Rattle.build_numbering_laws.specs.Orbit.{numberedStep}
 use Rattle.build_numbering_laws.specs.Subgroup.{rightBy, FirstIdentity, FirstRepeat, Proper}
-use Rattle.promises.proofs.Twelve.{refused-reading}
+use Rattle.build_laws.proofs.Twelve.{refused-reading}
 use Rattle.build_numbering_laws.proofs.Order.{appearing}
 use Rattle.build_numbering_laws.proofs.Subgroups.{right-inside}
 use Rattle.build_numbering_laws.proofs.Numberings.{refused-5-or-6}

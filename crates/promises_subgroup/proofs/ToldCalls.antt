@@ -24,7 +24,7 @@ use Rattle.build_lending.specs.Finish.{built}
 use Rattle.build_lending.specs.Lending.{tableNeed, workNeed, lentRight, within, noFactor, refusedMade, madeOf}
 use Rattle.build_lending.proofs.Lending.{lent-table}
 use Rattle.theory.specs.Group.{GroupOn}
-use Rattle.promises.proofs.Lent.{work-taken, taken-enough, handle}
+use Rattle.build_laws.proofs.Lent.{work-taken, taken-enough, handle}
 use Rattle.group_handles.specs.declared.Group.{Group}
 use Rattle.group_handles.specs.Handles.{handles, elementsOf, groupOf}
 use Rattle.group_digits.specs.Digits.{composes}

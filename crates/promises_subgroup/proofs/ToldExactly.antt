@@ -16,7 +16,7 @@ use Rattle.build_lending.specs.Lending.{tableNeed, workNeed, within}
 use Rattle.theory.specs.Group.{GroupOn}
 use Rattle.theory.proofs.Reading.{numbered-once}
 use Rattle.build_reading_laws.specs.Read.{Readable}
-use Rattle.promises.proofs.Lent.{handle}
+use Rattle.build_laws.proofs.Lent.{handle}
 use Rattle.group_handles.specs.declared.Group.{Group}
 use Rattle.group_handles.specs.Handles.{handles, elementsOf, groupOf}
 use Rattle.group_digits.specs.Digits.{composes}

@@ -16,8 +16,8 @@ use Rattle.build_reading.specs.Reading.{placed}
 use Rattle.build_lending.specs.Finish.{built, finished}
 use Rattle.build_lending.specs.Lending.{tableNeed, workNeed, within}
 use Rattle.promises.specs.Leaves.{AllCleared}
-use Rattle.factor_laws.proofs.Settled.{settled-kept, settled-work}
-use Rattle.promises.proofs.Built.{passed}
+use Rattle.build_laws.proofs.Settled.{settled-kept, settled-work}
+use Rattle.build_laws.proofs.Built.{passed}
 use Rattle.group_handles.specs.declared.Group.{Group}
 use Rattle.group_handles.specs.Handles.{handles, elementsOf}
 use Rattle.group_digits.specs.Digits.{composes}

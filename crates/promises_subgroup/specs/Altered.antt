@@ -16,7 +16,7 @@ use Rattle.build_lending.specs.Finish.{Built, built, finishedPlaced}
 use Rattle.build_lending.specs.Lending.{tableNeed, workNeed, within, noFactor}
 use Rattle.build_checks_laws.specs.Numbers.{In}
 use Rattle.factor_laws.specs.Accepted.{Accepted, factorStep}
-use Rattle.promises.specs.Composed.{Taken}
+use Rattle.build_laws.specs.Taken.{Taken}
 use Rattle.group_handles.specs.declared.Group.{Group}
 use Rattle.group_handles.specs.Handles.{handles, elementsOf, allFit, groupOf}
 use Rattle.build_numbering.specs.Build.{renumbering}

@@ -5,7 +5,7 @@ use mathlib.Core.Path.{_≡_, _∙_}
 use native.Mathlib.Nat.{mod-add-div, mul-comm, add-comm}
 use borrow.Author.Tests.{eq-eqb, ne-eqb}
 use Rattle.build_numbering.specs.Renumber as appear
-use Rattle.theory_products.proofs.RadixLaws.{low, high, joined-small, low-small, high-small}
+use Rattle.theory_radix.proofs.RadixLaws.{low, high, joined-small, low-small, high-small}
 use Rattle.subgroup.specs.Indices.{Indices, factorIndices, unfactorIndices, subOf}
 
 -- As the digits of a product.

@@ -9,10 +9,10 @@ use native.Mathlib.Omega.{arith}
 use lib.IntN.{ℤ, pos, negsuc}
 use lib.ListN.{length, getD}
 use Rattle.theory.specs.Group.{conjugate, power, integer-power}
-use Rattle.theory_products.specs.Radix as radix
-use Rattle.theory_products.specs.Radix.{Digits, count, split, project, inject}
+use Rattle.theory_radix.specs.Radix as radix
+use Rattle.theory_radix.specs.Radix.{Digits, count, split, project, inject}
 use Rattle.theory_products.specs.Product.{Part, trivial, pair, product, ranges, factor, each, componentwise, gather, Each, none, more, IsGroup, Parted}
-use Rattle.theory_products.proofs.RadixLaws.{low, high, low-small, high-small, project-is, project-small}
+use Rattle.theory_radix.proofs.RadixLaws.{low, high, low-small, high-small, project-is, project-small}
 use Rattle.theory_products.proofs.ProductLaws.{trivial-group, product-group}
 
 -- The elements themselves, and the identity.

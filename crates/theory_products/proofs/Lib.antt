@@ -1,11 +1,9 @@
-pub mod RadixLaws
 pub mod ProductLaws
 pub mod Componentwise
 pub mod StepLaws
 pub mod WordLaws
 pub mod TableParts
 pub mod PowerLaws
-pub mod DivisorLaws
 pub mod PeriodLaws
 pub mod Examples
 pub mod Loops

@@ -7,9 +7,9 @@ use native.Mathlib.Nat.{add-assoc}
 use native.Mathlib.Omega.{arith}
 use lib.ListN.{length, getD, drop}
 use lib.Seq.{drop-cons}
-use Rattle.theory_products.specs.Radix.{stride, project}
+use Rattle.theory_radix.specs.Radix.{stride, project}
 use Rattle.theory_products.specs.Product.{Part, trivial, shift, product, ranges, offset, words-from, factor, gather}
-use Rattle.theory_products.proofs.RadixLaws.{stride-next, quotient-next}
+use Rattle.theory_radix.proofs.RadixLaws.{stride-next, quotient-next}
 use Rattle.theory_products.proofs.Componentwise.{factor-range}
 
 pub offset-next : (ps : List Part) (f : ℕ) → offset ps (suc f) ≡ offset ps f + factor ps f .generators

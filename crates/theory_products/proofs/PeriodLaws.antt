@@ -9,14 +9,14 @@ use native.Mathlib.Omega.{arith}
 use lib.ListN.{length}
 use Rattle.theory.specs.Group.{GroupOn, power, Period}
 use Rattle.theory.proofs.GroupLaws.{power-closed, power-add, power-mul}
-use Rattle.theory_products.specs.Radix.{project}
+use Rattle.theory_radix.specs.Radix.{project}
 use Rattle.theory_products.specs.Product.{Part, pair, product, ranges, factor, Each, none, more, IsGroup}
-use Rattle.theory_products.specs.Divisors.{lcm, lcms}
-use Rattle.theory_products.proofs.RadixLaws.{low, high, low-small, high-small}
+use Rattle.theory_radix.specs.Divisors.{lcm, lcms}
+use Rattle.theory_radix.proofs.RadixLaws.{low, high, low-small, high-small}
 use Rattle.theory_products.proofs.ProductLaws.{product-group}
 use Rattle.theory_products.proofs.Componentwise.{first, power-parted}
 use Rattle.theory_products.proofs.PowerLaws.{power-identity}
-use Rattle.theory_products.proofs.DivisorLaws.{lcm-left, lcm-right, lcm-least, lcm-positive}
+use Rattle.theory_radix.proofs.DivisorLaws.{lcm-left, lcm-right, lcm-least, lcm-positive}
 
 -- The powers that are the identity are those by the multiples of the period.
 module _ {N : ℕ} {op : ℕ → ℕ → ℕ} {inv : ℕ → ℕ} (G : GroupOn N op inv) {a k : ℕ} (ha : a < N) (P : Period op a k) where

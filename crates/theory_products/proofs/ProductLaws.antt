@@ -7,9 +7,9 @@ use native.Mathlib.Nat.{mod-add-div, zero-mod, zero-div, mul-zero, mul-pos}
 use native.Mathlib.Omega.{arith}
 use lib.ListN.{length, getD}
 use Rattle.theory.specs.Group.{GroupOn}
-use Rattle.theory_products.specs.Radix.{count}
+use Rattle.theory_radix.specs.Radix.{count}
 use Rattle.theory_products.specs.Product.{Part, trivial, pair, product, ranges, factor, componentwise, Each, none, more, IsGroup}
-use Rattle.theory_products.proofs.RadixLaws.{low, high, joined-small, low-small, high-small}
+use Rattle.theory_radix.proofs.RadixLaws.{low, high, joined-small, low-small, high-small}
 
 -- What holds of the one-element group, and of a pair if of both, holds of every product.
 pub product-has : {P : Part → Type 0} {ps : List Part} → P trivial → ((p q : Part) → P p → P q → P (pair p q)) → Each P ps → P (product ps)

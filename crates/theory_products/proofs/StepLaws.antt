@@ -9,9 +9,9 @@ use native.Mathlib.Decide.{decLt}
 use lib.ListN.{length, getD, set}
 use borrow.Author.Tests.{lt-ltb, le-ltb}
 use Rattle.theory.specs.Table.{generator}
-use Rattle.theory_products.specs.Radix.{count, split, join, project, inject, replace}
+use Rattle.theory_radix.specs.Radix.{count, split, join, project, inject, replace}
 use Rattle.theory_products.specs.Product.{Part, trivial, pair, product, ranges, factor, offset, Each, Stepped}
-use Rattle.theory_products.proofs.RadixLaws.{low, high, joined-small, low-small, high-small, join-split, replace-is, project-zero, project-is, inject-is}
+use Rattle.theory_radix.proofs.RadixLaws.{low, high, joined-small, low-small, high-small, join-split, replace-is, project-zero, project-is, inject-is}
 use Rattle.theory_products.proofs.ProductLaws.{product-has, trivial-group, pair-group, product-count, ranges-length}
 
 -- A generator of a pair is one of the first, or the g-th of the second.

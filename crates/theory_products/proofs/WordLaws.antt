@@ -12,7 +12,7 @@ use Rattle.theory.proofs.Exact.{unique}
 use Rattle.theory.proofs.Walking.{walk-closed}
 use Rattle.theory.proofs.Complete.{right-table, compose-is-op}
 use Rattle.theory_products.specs.Product.{Part, trivial, shift, pair, product, words-from, Each, Stepped, Worded, Shortest}
-use Rattle.theory_products.proofs.RadixLaws.{low, high, joined-small, low-small, high-small}
+use Rattle.theory_radix.proofs.RadixLaws.{low, high, joined-small, low-small, high-small}
 use Rattle.theory_products.proofs.ProductLaws.{product-has}
 use Rattle.theory_products.proofs.StepLaws.{Side, left, right, side, step-left, step-right, pair-stepped, trivial-stepped}
 

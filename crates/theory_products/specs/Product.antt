@@ -10,7 +10,7 @@ use Rattle.theory.specs.Numbering.{Distinct}
 use Rattle.theory.specs.Words.{Word, walk, Spelled}
 use Rattle.theory.specs.Regular.{compose, inverse}
 use Rattle.theory.specs.Group.{GroupOn, RightSteps}
-use Rattle.theory_products.specs.Radix.{split, join}
+use Rattle.theory_radix.specs.Radix.{split, join}
 
 -- A factor: its elements 0 .. N-1 with the operation and the inverse, its generators 0 .. n-1 with the step by each, and the recorded words.
 -- What these have to be is said apart, below.

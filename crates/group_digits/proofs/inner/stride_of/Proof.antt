@@ -4,7 +4,7 @@ use mathlib.Core.Path.{_≡_, refl, _∙_, ap}
 use lib.ListN.{length}
 use native.Mathlib.Omega.{arith}
 use Rattle.group_handles.specs.Handles.{handles, sizes}
-use Rattle.theory_products.specs.Radix.{stride}
+use Rattle.theory_radix.specs.Radix.{stride}
 use Rattle.group_digits.proofs.Splits.{stride-on, stride-bound}
 use borrow.Author.Needs.{needs}
 use Rattle.group_digits.proofs.inner.stride_of.Statement.{statement}

@@ -2,7 +2,7 @@
 use mathlib.Core.Path.{_≡_, refl, sym, _∙_}
 use native.Mathlib.Nat.{mod-lt}
 use native.Mathlib.Omega.{arith}
-use Rattle.theory_products.specs.Divisors.{gcd}
+use Rattle.theory_radix.specs.Divisors.{gcd}
 use Rattle.group_periods.proofs.Periods.{gcd-next, gcd-end}
 use Rattle.group_periods.proofs.inner.gcd.Statement.{statement}
 use Rattle.group_periods.proofs.inner.gcd.Tie as tie

@@ -4,7 +4,7 @@ use Prim.Native.Nat.{_-_, _+_}
 use lib.ListN.{length}
 use native.Mathlib.Omega.{arith}
 use Rattle.group_handles.specs.Handles.{handles, sizes}
-use Rattle.theory_products.proofs.RadixLaws.{stride-small}
+use Rattle.theory_radix.proofs.RadixLaws.{stride-small}
 use Rattle.group_digits.proofs.Splits.{stride-on}
 use Rattle.group_periods.proofs.Periods.{Multiple, multiple, multiple-stop, multiple-bound, multiple-on, multiple-end, gcd-pos}
 use mathlib.Core.Path.{refl}

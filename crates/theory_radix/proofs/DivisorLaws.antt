@@ -6,7 +6,7 @@ use native.Mathlib.Nat.{le-refl, mod-lt, dvd-refl, dvd-zero, dvd-mod-iff, dvd-mu
 use native.Mathlib.Nat.{dvd-of-mul-dvd-mul-left, mul-dvd-mul-left, mul-dvd-mul-right, mul-div-cancel', div-mul-cancel, pos-of-dvd-of-pos}
 use native.Mathlib.Nat.{div-add-mod, mul-add, mul-assoc, mul-comm, mul-pos}
 use native.Mathlib.Omega.{arith}
-use Rattle.theory_products.specs.Divisors.{euclid, gcd, lcm}
+use Rattle.theory_radix.specs.Divisors.{euclid, gcd, lcm}
 
 -- A remainder is less than what it is a remainder by.
 left-over : (fuel a b : ℕ) → suc b ≤ suc fuel → a % suc b ≤ fuel

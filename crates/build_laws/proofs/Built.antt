@@ -26,8 +26,8 @@ use Rattle.build_checks_laws.proofs.Refused.{regular-same}
 use Rattle.build_reading_laws.specs.Read.{Read}
 use Rattle.build_reading_laws.proofs.Readings.{accepted-read, readable-accepted, read-words, read-readable, read-steps, read-rule, read-appearance}
 use Rattle.build_reading_laws.proofs.Storing.{read-stored}
-use Rattle.factor_laws.proofs.Settled.{Settled, settle, by-check, settled-kept, settled-work, settled-sound, settled-hops}
-use Rattle.promises.specs.Composed.{Taken, Holding}
+use Rattle.build_laws.proofs.Settled.{Settled, settle, by-check, settled-kept, settled-work, settled-sound, settled-hops}
+use Rattle.build_laws.specs.Taken.{Taken, Holding}
 
 -- An accepted count, and then an accepted end of the build.
 pub record Passed (p : Placed) (n N : ℕ) (w t w₁ : List ℕ) : Type 0 where

@@ -25,9 +25,9 @@ use Rattle.build_checks_laws.proofs.Tests.{table-fine, check8-fine}
 use Rattle.build_checks_laws.proofs.Refused.{before-12, places-12, refused-12}
 use Rattle.build_reading_laws.specs.Read.{Read}
 use Rattle.build_reading_laws.proofs.Readings.{accepted-read, refused-read, refused-number, readable-accepted, read-readable}
-use Rattle.promises.specs.Composed.{Groupless}
+use Rattle.build_laws.specs.Taken.{Groupless}
 use Rattle.build_reading_laws.proofs.Storing.{read-recorded, words-stored, read-columns}
-use Rattle.promises.proofs.Built.{work-enough, rows-fit}
+use Rattle.build_laws.proofs.Built.{work-enough, rows-fit}
 
 -- A refused build has a refused reading or a refused check.
 abbrev pub CheckRefused : Placed → ℕ → List ℕ → Refusal → Type 0

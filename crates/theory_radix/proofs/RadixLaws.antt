@@ -10,7 +10,7 @@ use native.Mathlib.Omega.{arith}
 use mathlib.Core.Logic.{⊎-elim}
 use lib.ListN.{length, getD, set}
 use lib.Seq.{getD-set-same, getD-set-other}
-use Rattle.theory_products.specs.Radix.{count, stride, strides, split, join, weigh, Digits, none, more, project, inject, replace}
+use Rattle.theory_radix.specs.Radix.{count, stride, strides, split, join, weigh, Digits, none, more, project, inject, replace}
 
 -- One digit d, and the number x of the others.
 module _ {N d : ℕ} (h : d < N) (x : ℕ) where

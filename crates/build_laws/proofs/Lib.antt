@@ -1,0 +1,6 @@
+pub mod Settled
+pub mod AnyWork
+pub mod Lent
+pub mod SameRows
+pub mod Built
+pub mod Twelve

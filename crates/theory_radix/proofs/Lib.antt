@@ -1,0 +1,2 @@
+pub mod RadixLaws
+pub mod DivisorLaws
