@@ -1,5 +1,4 @@
 -- The hints have stood where the arrivals were counted, and the arrivals stand there again.
--- Assumes nothing.
 use Prim.Native.Nat.{ℕ, _<_}
 use mathlib.Core.Path.{_≡_, refl, sym, _∙_}
 use mathlib.Core.List.{List}

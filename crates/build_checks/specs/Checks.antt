@@ -1,6 +1,5 @@
 -- Refusals 8 to 12 on a table of n generators and `count` elements, in document 01's order: "Reading ends before 8; then 8 to 13 in order. Places are
 -- the first in element order, then generator order; for 8 successors are searched before predecessors."
--- Assumes nothing.
 use Prim.Native.Nat.{ℕ, zero, suc, _+_, _*_}
 use mathlib.Core.List.{List}
 use lib.ListN.{getD}

@@ -1,5 +1,4 @@
 -- Refusals 11 and 12 on a table of n generators and `count` elements: the identity row, the columns and words, and multiplication on the left.
--- Assumes nothing.
 use Prim.Native.Nat.{ℕ, zero, suc, _+_}
 use mathlib.Core.List.{List}
 use lib.ListN.{getD}

@@ -1,5 +1,4 @@
 -- A word that is a letter and then an earlier element's word: how hints grow from parent to child, and the inverses that come by them.
--- Assumes nothing.
 use Prim.Native.Nat.{ℕ, zero, suc, _+_, _*_, _-_, _%_, _≤_, _<_}
 use mathlib.Core.Path.{_≡_, refl, sym, ap, _∙_}
 use mathlib.Core.List.{List}

@@ -2,7 +2,6 @@
 -- the word of e is a letter and then the word of an earlier element, the inverse of e is that element's and then a step back by that letter. In a group's
 -- table that follows the numbering rule every word should be so, since it is the first of those that lead to its element; elsewhere there may be no hint, and the
 -- word is walked. The definitions of the checks have no hints: an inverse that comes by one is proved to be the one that the walk gives.
--- Assumes nothing.
 use Prim.Native.Nat.{ℕ, _+_, _*_, _-_, _/_, _%_, _≤_, _<_}
 use mathlib.Core.Path.{_≡_}
 use mathlib.Core.List.{List}

@@ -1,5 +1,4 @@
 -- The inverses of a table of n generators and `count` elements, and refusal 10 over them.
--- Assumes nothing.
 use Prim.Native.Nat.{ℕ, zero, suc, _+_, _*_}
 use mathlib.Core.List.{List}
 use lib.Dec.{eqb}

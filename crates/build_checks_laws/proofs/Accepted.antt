@@ -1,5 +1,4 @@
 -- What the checks let through is a group's table. Each check is read off as facts of the cells; that the columns are permutations is the pigeonhole.
--- Assumes nothing.
 use Prim.Native.Nat.{ℕ, zero, suc, _+_, _*_, _-_, _≤_, _<_}
 use mathlib.Core.Path.{_≡_, refl, sym, ap, _∙_, subst}
 use mathlib.Core.List.{List, [], _∷_}

@@ -1,6 +1,5 @@
 -- What stands in the work at first decides nothing, nor does its length beyond the elements: only its first N numbers are used, and each is stored before it
 -- is read. So two works give one verdict and one table.
--- Assumes nothing.
 use Prim.Native.Nat.{ℕ, zero, suc, _+_, _≤_, _<_}
 use mathlib.Core.Path.{_≡_, refl, sym, ap, _∙_}
 use mathlib.Core.Logic.{⊎-elim}

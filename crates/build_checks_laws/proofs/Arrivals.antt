@@ -1,6 +1,5 @@
 -- Where the columns are permutations, each element is arrived at once for each generator: after the rows below e and the first g places of row e,
 -- the count at r is the number of generators that lead to r from an element below e, and of the first g of them that lead to r from e.
--- Assumes nothing.
 use Prim.Native.Nat.{ℕ, zero, suc, _+_, _≤_, _<_}
 use mathlib.Core.Path.{_≡_, refl, sym, ap, _∙_}
 use mathlib.Core.Bool.{Bool, true, false}

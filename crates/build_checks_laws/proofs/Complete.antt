@@ -1,5 +1,4 @@
 -- A group's table whose identity row is 1..n passes every check: the theory says what holds in a group, and each check tests just that.
--- Assumes nothing.
 use Prim.Native.Nat.{ℕ, suc, _+_, _*_, _-_, _≤_, _<_}
 use mathlib.Core.Path.{_≡_, sym, ap, _∙_}
 use mathlib.Core.Logic.{_↔_}

@@ -1,5 +1,4 @@
 -- Putting letters before the last ones changes nothing that the checks say of a table: a group's, with its recorded words.
--- Assumes nothing.
 use Prim.Native.Nat.{ℕ, _+_, _*_, _<_}
 use mathlib.Core.Path.{_≡_, refl, sym, ap, _∙_}
 use mathlib.Core.List.{List}

@@ -1,5 +1,4 @@
 -- The work holds multiplication on the left by a generator, found from parent to parent, and the loop over the generators is the theory's check.
--- Assumes nothing.
 use Prim.Native.Nat.{ℕ, zero, suc, _+_, _≤_, _<_}
 use mathlib.Core.Path.{_≡_, refl, sym, _∙_}
 use mathlib.Core.Logic.{_↔_}

@@ -1,5 +1,4 @@
 -- A test that is refused is not passed: what each test of numbers shows where it is fine.
--- Assumes nothing.
 use Prim.Native.Nat.{ℕ, zero, suc, _+_, _≤_, _<_}
 use mathlib.Core.Path.{_≡_, refl, ap, _∙_}
 use mathlib.Core.Logic.{_↔_, _⊎_, inl, inr}

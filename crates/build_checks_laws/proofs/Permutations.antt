@@ -1,5 +1,4 @@
 -- A map of 0 .. N-1 into itself that takes no value twice takes every value; so what undoes it on one side undoes it on the other.
--- Assumes nothing.
 use Prim.Native.Nat.{ℕ, zero, suc, _-_, _≤_, _<_}
 use mathlib.Core.Path.{_≡_, sym, ap, _∙_}
 use native.Mathlib.Decide.{decLt, ℕ-discrete}

@@ -1,5 +1,4 @@
 -- Accepted exactly when some group has the table and its identity row is 1..n; 12 exactly when 8 to 11 pass and no group has it.
--- Assumes nothing.
 use Prim.Native.Nat.{ℕ, zero, suc, _+_, _*_, _≤_, _<_}
 use mathlib.Core.Path.{_≡_, refl, sym, ap, _∙_}
 use mathlib.Core.Logic.{_↔_}

@@ -1,5 +1,4 @@
 -- The checks keep the steps, parents and last generators, so a table that follows the numbering rule before them follows it afterwards.
--- Assumes nothing.
 use Prim.Native.Nat.{ℕ}
 use mathlib.Core.Path.{_≡_, _∙_}
 use mathlib.Core.List.{List}

@@ -1,5 +1,4 @@
 -- What each check of a table has seen when it finds nothing to refuse: exactly what the definition tests, at each place.
--- Assumes nothing.
 use Prim.Native.Nat.{ℕ, _+_, _*_, _≤_, _<_}
 use mathlib.Core.Path.{_≡_}
 use mathlib.Core.Logic.{_↔_, Iff·rfl}

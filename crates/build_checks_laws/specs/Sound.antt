@@ -1,5 +1,4 @@
 -- What an accepted table is: what its checks say of it, and that its numbers follow the numbering rule.
--- Assumes nothing.
 use Prim.Native.Nat.{ℕ, suc, _<_, _≤_}
 use mathlib.Core.Path.{_≡_}
 use mathlib.Core.List.{List}

@@ -1,5 +1,4 @@
 -- What it is for 8 to 11 to pass.
--- Assumes nothing.
 use Prim.Native.Nat.{ℕ, _<_}
 use mathlib.Core.Path.{_≡_}
 use mathlib.Core.List.{List}

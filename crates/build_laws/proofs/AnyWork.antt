@@ -1,5 +1,4 @@
 -- What stands in the work at first decides nothing about the end of a build: two works as long as each other give one outcome.
--- Assumes nothing.
 use Prim.Native.Nat.{ℕ}
 use mathlib.Core.Path.{_≡_, refl, sym, ap, _∙_}
 use mathlib.Core.List.{List}

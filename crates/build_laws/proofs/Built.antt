@@ -1,5 +1,4 @@
 -- A build from the numbers of a source in its stretches: accepted exactly when the rows are taken, and then the table holds them.
--- Assumes nothing.
 use Prim.Native.Nat.{ℕ, suc, _+_, _*_, _≤_, _<_}
 use mathlib.Core.Path.{_≡_, sym, ap, _∙_, subst}
 use mathlib.Core.List.{List}

@@ -1,5 +1,4 @@
 -- What a call lends and gets back: a stretch of the table buffer and one of the work. What holds of the build in its stretches holds of the call.
--- Assumes nothing.
 use Prim.Native.Nat.{ℕ, _+_, _*_, _-_, _≤_, _<_}
 use mathlib.Core.Path.{_≡_, refl, sym, ap, _∙_}
 use mathlib.Core.Logic.{_⊎_, inl, inr}

@@ -1,5 +1,4 @@
 -- Two tables with the same numbers at each place of each row hold the same numbers in every cell of these rows.
--- Assumes nothing.
 use Prim.Native.Nat.{ℕ, zero, suc, _+_, _*_, _-_, _/_, _%_, _<_}
 use mathlib.Core.Path.{_≡_, refl, sym}
 use mathlib.Core.Bool.{Bool, true, false}

@@ -1,5 +1,4 @@
 -- An accepted end of a build, whatever was built: what it keeps of the table before it, and what it gives.
--- Assumes nothing.
 use Prim.Native.Nat.{ℕ, _+_, _*_, _≤_, _<_}
 use mathlib.Core.Path.{_≡_, refl, ap, _∙_, subst}
 use mathlib.Core.List.{List}

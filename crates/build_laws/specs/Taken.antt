@@ -1,5 +1,4 @@
 -- What numbers a build takes, from whatever source they come, and what its stretch holds then; and which are refused by 12.
--- Assumes nothing.
 use Prim.Native.Nat.{ℕ, _+_, _*_, _≤_, _<_}
 use mathlib.Core.Path.{_≡_}
 use mathlib.Core.List.{List}

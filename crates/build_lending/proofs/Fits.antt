@@ -1,5 +1,4 @@
 -- The numbers of a handle that fits its buffer are small.
--- Assumes nothing.
 use Prim.Native.Nat.{ℕ, _≤_}
 use mathlib.Core.Path.{_≡_}
 use mathlib.Core.Bool.{true}

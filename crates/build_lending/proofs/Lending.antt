@@ -1,5 +1,4 @@
 -- Laws of what a build needs to be lent, and of a part of a buffer while it is lent on and when it is back.
--- Assumes nothing.
 use Prim.Native.Nat.{ℕ, _+_, _*_, _-_, _≤_, _<_}
 use mathlib.Core.Path.{_≡_, ap, _∙_}
 use mathlib.Core.Bool.{Bool, true, false}

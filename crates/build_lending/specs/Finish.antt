@@ -1,6 +1,5 @@
 -- The end of a build: the checks 8 to 12, and what the lent stretches hold then. Document 01: "Once it has started, any refusal .. leaves the
 -- needed stretch of table and work .. zero. After acceptance, rows .. beyond the last element and the whole needed work stretch are zero."
--- Assumes nothing.
 use Prim.Native.Nat.{ℕ}
 use mathlib.Core.List.{List}
 use lib.ListN.{length, replicate}

@@ -1,6 +1,5 @@
 -- What a build needs of the lent buffers, and how what it leaves in its stretches stands in them. Document 01: "Longer buffers are taken and the excess
 -- is untouched. A factor may be built into any stretch of a longer table buffer."
--- Assumes nothing.
 use Prim.Native.Nat.{ℕ, _+_, _*_, _≤_}
 use mathlib.Core.Path.{_≡_}
 use mathlib.Core.List.{List, _++_}

@@ -1,5 +1,4 @@
 -- The build by numbering: a zeroed table and fresh maps, numbered into, finished and settled.
--- Assumes nothing.
 use Prim.Native.Nat.{ℕ}
 use mathlib.Core.Path.{_≡_, ap, _∙_}
 use mathlib.Core.List.{List}

@@ -1,5 +1,4 @@
 -- Laws of a numbering: one for each way in which a place ends, and one for each way in which a turn over a row's places and over the rows ends.
--- Assumes nothing.
 use Prim.Native.Nat.{ℕ, suc, _+_, _-_, _≤_, _<_}
 use mathlib.Core.Path.{_≡_, _∙_}
 use mathlib.Core.List.{List, _++_, append-nil}

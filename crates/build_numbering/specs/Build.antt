@@ -1,6 +1,5 @@
 -- A build by numbering, in its stretches. Document 01: "Once it has started, any refusal .. leaves the needed stretch of table and work, and subgroup maps,
 -- zero. After acceptance, rows and map places beyond the last element and the whole needed work stretch are zero."
--- Assumes nothing.
 use Prim.Native.Nat.{ℕ}
 use mathlib.Core.List.{List}
 use lib.ListN.{replicate}

@@ -1,6 +1,5 @@
 -- Numbering in order of first appearance, into a table and two maps. Document 01, module 6: "Numbering in order of first appearance; two maps"; orders 12 and 13.
 -- The source is a step on an outside set, or a refusal (17) where it reads a number that is out of range.
--- Assumes nothing.
 use Prim.Native.Nat.{ℕ, zero, suc, _+_}
 use mathlib.Core.List.{List}
 use lib.ListN.{getD, replicate}

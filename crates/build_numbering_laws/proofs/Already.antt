@@ -1,5 +1,4 @@
 -- A table that follows the numbering rule already is numbered as it is: so what was exported and is read again is the same.
--- Assumes nothing.
 use Prim.Native.Nat.{ℕ, zero, suc, _<_}
 use mathlib.Core.Path.{_≡_, refl, subst}
 use native.Mathlib.Omega.{arith}

@@ -1,5 +1,4 @@
 -- A build by numbering is a build from the numbers of the numbered step, and leaves the two maps; after a refusal they are zero.
--- Assumes nothing.
 use Prim.Native.Nat.{ℕ, _+_, _*_, _≤_}
 use mathlib.Core.Path.{_≡_, refl, sym, _∙_, ap, subst}
 use mathlib.Core.Logic.{_↔_}

@@ -1,6 +1,5 @@
 -- Generators that are chosen one after the other, each outside what the earlier ones generate (`from_subgroup_predicate`): they are different and none is
 -- the identity, so that 9 and 11 are never given. And what they generate, if they are taken from a subgroup and leave none of it out.
--- Assumes nothing.
 use Prim.Native.Nat.{ℕ, _<_, _≤_}
 use mathlib.Core.Path.{_≡_, subst}
 use mathlib.Core.Logic.{_↔_}

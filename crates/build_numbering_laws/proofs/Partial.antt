@@ -1,6 +1,5 @@
 -- A source that may refuse: the numbering is that of the steps which it gives, or is refused as the source was. Nothing else is assumed of it than that its
 -- answers are in range; so this holds of an altered buffer too.
--- Assumes nothing.
 use Prim.Native.Nat.{ℕ, zero, suc, _+_, _<_}
 use mathlib.Core.Path.{_≡_, refl, sym, _∙_, ap}
 use mathlib.Core.Logic.{_⊎_, inl, inr}

@@ -1,6 +1,5 @@
 -- A group's right steps, read from numbers in order of first appearance: which of them the checks refuse. Only 9, for a generator that is the identity, and
 -- 11, for one that is as an earlier one; 8, 10, 12 and 17 never.
--- Assumes nothing.
 use Prim.Native.Nat.{ℕ, suc, _+_, _*_, _<_, _≤_}
 use mathlib.Core.Path.{_≡_, sym, _∙_}
 use mathlib.Core.List.{List}

@@ -1,5 +1,4 @@
 -- More room changes no map: the numbers outside are the same, and so are the elements, with zeros beyond.
--- Assumes nothing.
 use Prim.Native.Nat.{ℕ, _<_}
 use mathlib.Core.Path.{_≡_, sym, _∙_, ap}
 use mathlib.Core.List.{List}

@@ -1,5 +1,4 @@
 -- Definitions seen at work: the subgroup that 4 generates among the numbers modulo 6, in the order 0, 4, 2; and a second generator.
--- Assumes nothing.
 use Prim.Native.Nat.{ℕ, _+_, _*_, _%_}
 use mathlib.Core.Path.{_≡_, refl}
 use mathlib.Core.List.{List, [], _∷_}

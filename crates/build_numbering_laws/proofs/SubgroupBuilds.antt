@@ -1,6 +1,5 @@
 -- A subgroup's build: accepted exactly when its elements are within the room, its words within 4,096, and its generators different and none the identity;
 -- refused by 9 for the first that is the identity, else by 11 for the first that is as an earlier one. (5 and 6 come before, in the numbering.)
--- Assumes nothing.
 use Prim.Native.Nat.{ℕ, suc, _+_, _*_, _<_, _≤_}
 use mathlib.Core.Path.{_≡_, refl, sym, _∙_, ap, subst}
 use mathlib.Core.Logic.{_↔_, _⊎_, inl, inr}

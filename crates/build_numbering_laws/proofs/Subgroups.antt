@@ -1,6 +1,5 @@
 -- In a group on 0 .. M-1, what is reached from the identity by multiplying on the right by generators is the subgroup that they generate; numbered in
 -- order of first appearance it is a group again, of which the maps are an isomorphism.
--- Assumes nothing.
 use Prim.Native.Nat.{ℕ, zero, suc, _<_}
 use mathlib.Core.Path.{_≡_, sym, _∙_, ap, subst}
 use mathlib.Core.Logic.{_↔_}

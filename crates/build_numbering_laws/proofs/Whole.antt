@@ -1,5 +1,4 @@
 -- All of 0 .. M-1 is reached just if there are M elements: what 21 of the cycles asks, and what holds of a product.
--- Assumes nothing.
 use Prim.Native.Nat.{ℕ, _<_, _≤_}
 use mathlib.Core.Path.{_≡_, sym, _∙_, ap, subst}
 use mathlib.Core.Logic.{_↔_}

@@ -1,5 +1,4 @@
 -- What the two maps hold when c elements are known, of which e is elt e outside.
--- Assumes nothing.
 use Prim.Native.Nat.{ℕ, _≤_, _<_}
 use mathlib.Core.Path.{_≡_}
 use mathlib.Core.List.{List}

@@ -1,5 +1,4 @@
 -- The stores of a build one after the other, and one law for each answer of `adds`, by the tests that lead to it.
--- Assumes nothing.
 use Prim.Native.Nat.{ℕ, _+_, _*_, _≤_, _<_}
 use mathlib.Core.Path.{_≡_, sym, ap}
 use mathlib.Core.List.{List}

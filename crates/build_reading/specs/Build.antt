@@ -1,5 +1,4 @@
 -- What building does to the table. Document 01, module 2: `add_successor`, and `set_successor` (overwrites, and says whether the place was new).
--- Assumes nothing.
 use Prim.Native.Nat.{ℕ, _+_, _*_}
 use mathlib.Core.List.{List}
 use mathlib.Core.Bool.{Bool}

@@ -1,6 +1,5 @@
 -- Reading a table of composed numbers. Document 01, module 3: "at (e,g), in order, a number below the count is set, the count itself is a new element,
 -- more is 7." "During reading the order at one place is 7, 5, 6." The source of numbers is a function of element and generator.
--- Assumes nothing.
 use Prim.Native.Nat.{ℕ, zero, suc, _+_, _*_}
 use mathlib.Core.List.{List}
 use lib.ListN.{getD}

@@ -1,5 +1,4 @@
 -- A reading can be stopped at one place only and for one reason, since no place that cannot be read is passed; and what can be read is not stopped.
--- Assumes nothing.
 use Prim.Native.Nat.{ℕ, suc, _<_}
 use mathlib.Core.Path.{_≡_, refl, sym}
 use native.Mathlib.Omega.{arith}

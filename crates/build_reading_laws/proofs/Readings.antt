@@ -1,6 +1,5 @@
 -- Reading composed numbers into a zeroed table: what is accepted and what it leaves, what is refused and why. Each is exact, since the reading comes to
 -- one or the other (Runs) and the two exclude each other (OnePlace).
--- Assumes nothing.
 use Prim.Native.Nat.{ℕ, zero, suc, _+_, _*_, _≤_, _<_}
 use mathlib.Core.Path.{_≡_, refl, sym, ap, _∙_, subst}
 use mathlib.Core.Logic.{_↔_, _⊎_, inl, inr}

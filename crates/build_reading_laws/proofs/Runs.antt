@@ -1,5 +1,4 @@
 -- Reading a row, and row after row: from a state that the invariant describes it comes to a table that is read whole, or to a refusal.
--- Assumes nothing.
 use Prim.Native.Nat.{ℕ, zero, suc, _+_, _*_, _≤_, _<_}
 use mathlib.Core.Path.{_≡_, refl, sym, _∙_}
 use mathlib.Core.List.{List}

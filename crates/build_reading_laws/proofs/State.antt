@@ -1,6 +1,5 @@
 -- The invariant of reading: what holds when the places before row x and column g are read and c elements are known. Each of the three ways in which
 -- one place is read keeps it or refuses.
--- Assumes nothing.
 use Prim.Native.Nat.{ℕ, suc, _+_, _*_, _≤_, _<_}
 use mathlib.Core.Path.{_≡_, refl, ap, _∙_}
 use mathlib.Core.Logic.{⊎-elim}

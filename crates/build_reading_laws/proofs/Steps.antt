@@ -1,5 +1,4 @@
 -- The steps that a reading has stored when it comes to row x and column g with c elements known, and what one more step adds to them.
--- Assumes nothing.
 use Prim.Native.Nat.{ℕ, suc, _+_, _*_, _≤_, _<_}
 use mathlib.Core.Path.{_≡_, sym, _∙_}
 use mathlib.Core.Logic.{_⊎_, ⊎-elim}

@@ -1,6 +1,5 @@
 -- What storing a step and storing a word do to the cells of the rows. Cell k of row e: the n successors are cells g, the n predecessors cells n + g,
 -- parent, last generator and length cells 2n, 2n + 1 and 2n + 2.
--- Assumes nothing.
 use Prim.Native.Nat.{ℕ, suc, _+_, _*_, _≤_, _<_}
 use mathlib.Core.Path.{_≡_, _∙_}
 use mathlib.Core.Logic.{_⊎_, inl, inr}

@@ -1,6 +1,5 @@
 -- The words that a reading has stored when c elements are known: those that the numbers themselves record. A new element's word is its parent's and
 -- one generator, since the place at which it is met is where it first appears.
--- Assumes nothing.
 use Prim.Native.Nat.{ℕ, suc, _+_, _*_, _≤_, _<_}
 use mathlib.Core.Path.{_≡_, sym, _∙_}
 use mathlib.Core.Logic.{⊎-elim}

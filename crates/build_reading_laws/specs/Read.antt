@@ -1,6 +1,5 @@
 -- What reading a table of composed numbers comes to. Document 01, module 3: "at (e,g), in order, a number below the count is set, the count itself is a
 -- new element, more is 7."
--- Assumes nothing.
 use Prim.Native.Nat.{ℕ, suc, _+_, _*_, _≤_, _<_}
 use mathlib.Core.Path.{_≡_}
 use mathlib.Core.List.{List}

@@ -1,6 +1,5 @@
 -- What putting the letters in changes: the cells that they are put into, and nothing else that a table is read by. The last letter of each word stays, and so
 -- do the letters that would be put in.
--- Assumes nothing.
 use Prim.Native.Nat.{ℕ, zero, suc, _+_, _*_, _/_, _%_, _≤_, _<_}
 use mathlib.Core.Path.{_≡_, refl, sym, _∙_}
 use mathlib.Core.Logic.{⊎-elim}

@@ -1,6 +1,5 @@
 -- Letters of recorded words, several in one number. Document 01: "parent, last generator and length per element". A last generator has three bits, and its cell has
 -- room for the four before it and for the element before these: so who walks a word back reads one number for five letters.
--- Assumes nothing.
 use Prim.Native.Nat.{ℕ, zero, suc, _+_, _*_, _/_, _%_, _<_}
 use mathlib.Core.Path.{_≡_}
 use mathlib.Core.List.{List}

@@ -1,6 +1,5 @@
 -- The builder's calls. Document 01: "`add_successor`, `set_successor` (overwrites, and says whether the place was new), `build`"; "Calls on handles check 17
 -- in the handle, then 14", and these "change nothing. Once it has started, any refusal .. leaves the needed stretch of table and work .. zero."
--- Assumes nothing.
 use Prim.Native.Nat.{ℕ, _+_}
 use mathlib.Core.List.{List}
 use mathlib.Core.Bool.{Bool, true, false}

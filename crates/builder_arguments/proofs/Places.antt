@@ -1,5 +1,4 @@
 -- One law for each answer of the tests before a step, and what their passing gives.
--- Assumes nothing.
 use Prim.Native.Nat.{ℕ, _≤_, _<_}
 use mathlib.Core.Path.{_≡_, refl, sym, _∙_}
 use mathlib.Core.Bool.{Bool, true, false}

@@ -1,5 +1,4 @@
 -- What is tested before a step of a build is stored. Document 01: "Calls on handles check 17 in the handle, then 14".
--- Assumes nothing.
 use Prim.Native.Nat.{ℕ}
 use mathlib.Core.List.{List}
 use mathlib.Core.Bool.{Bool, _&&_}

@@ -1,6 +1,5 @@
 -- Laws of the reading of a builder's own rows: one for each way in which a place ends, and one for each way in which a turn over a row's places and over the
 -- rows ends; and that it reads no number but those of the elements' rows.
--- Assumes nothing.
 use Prim.Native.Nat.{ℕ, zero, suc, _+_, _*_, _-_, _≤_, _<_}
 use mathlib.Core.Path.{_≡_, refl, ap, _∙_}
 use mathlib.Core.List.{List}

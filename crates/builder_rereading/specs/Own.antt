@@ -1,6 +1,5 @@
 -- What `build` reads: the builder's own successors, as composed rows are read, so that a factor is what its successors say. Document 01, module 3: "at (e,g),
 -- in order, a number below the count is set, the count itself is a new element, more is 7. .. Rows never reached are not read."
--- Assumes nothing.
 use Prim.Native.Nat.{ℕ, zero, suc, _+_, _*_, _-_}
 use mathlib.Core.List.{List}
 use lib.ListN.{getD, set}

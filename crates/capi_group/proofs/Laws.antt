@@ -1,5 +1,4 @@
 -- An exponent as the machine hands it on.
--- Assumes nothing.
 use Prim.Native.Nat.{ℕ}
 use mathlib.Core.Path.{_≡_, _∙_}
 use mathlib.Core.List.{List}

@@ -1,5 +1,4 @@
 -- What a list holds after the stores of a product's verdict.
--- Assumes nothing.
 use Prim.Native.Nat.{ℕ}
 use mathlib.Core.Path.{_≡_, _∙_}
 use mathlib.Core.List.{List}

@@ -1,5 +1,4 @@
 -- How the verdict on a product is written into a lent list.
--- Assumes nothing.
 use Prim.Native.Nat.{ℕ}
 use mathlib.Core.List.{List}
 use Rattle.egg.specs.Table.{putAt}

@@ -1,5 +1,4 @@
 -- What a pass over the listed handles showed decides as `admits` of their product does.
--- Assumes nothing.
 use Prim.Native.Nat.{ℕ, _<_}
 use mathlib.Core.Path.{_≡_, refl, ap}
 use mathlib.Core.Bool.{true}

@@ -1,5 +1,4 @@
 -- The handles of a product that stand in a list, one by one: for a pass over them that makes no product.
--- Assumes nothing.
 use Prim.Native.Nat.{ℕ, zero, suc, _+_, _*_, _≤_, _<_}
 use mathlib.Core.Path.{_≡_, refl, ap, _∙_}
 use mathlib.Core.Bool.{true}

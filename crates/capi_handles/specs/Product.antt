@@ -1,5 +1,4 @@
 -- How a product crosses the bridge to Rust: its handles stand one after the other in a lent list, five numbers each, and their count beside it.
--- Assumes nothing.
 use Prim.Native.Nat.{ℕ, _+_, _*_}
 use mathlib.Core.List.{List, [], _∷_}
 use lib.ListN.{length, getD}

@@ -1,5 +1,4 @@
 -- Laws of two elements composed or conjugated digit by digit, over the question that is asked.
--- Assumes nothing.
 use Prim.Native.Nat.{ℕ, _+_, _*_, _/_, _%_, _≤_, _<_}
 use mathlib.Core.Path.{_≡_}
 use mathlib.Core.Bool.{true}

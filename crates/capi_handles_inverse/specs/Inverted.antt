@@ -1,6 +1,5 @@
 -- What one pass over the handles of a product shows of the inverse of an element. Document 01: "Calls on handles check 17 in the handle, then 14, then 15,
 -- then 1 to 4, then 17 in what they read", and "First factor is the fastest digit: strides 1, N0, N0·N1..".
--- Assumes nothing.
 use Prim.Native.Nat.{ℕ, _≤_, _<_}
 use mathlib.Core.Path.{_≡_}
 use mathlib.Core.Bool.{true, false}

@@ -1,5 +1,4 @@
 -- What the lent lists hold after a subgroup was made; what the numbers of a subgroup show.
--- Assumes nothing.
 use Prim.Native.Nat.{ℕ, _≤_, _<_}
 use mathlib.Core.Path.{_≡_, refl, ap, _∙_, subst}
 use mathlib.Core.Bool.{Bool}

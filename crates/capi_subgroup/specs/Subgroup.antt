@@ -1,5 +1,4 @@
 -- How a subgroup crosses the bridge to Rust: 128 numbers in a lent list.
--- Assumes nothing.
 use Prim.Native.Nat.{ℕ}
 use mathlib.Core.List.{List}
 use lib.ListN.{getD}

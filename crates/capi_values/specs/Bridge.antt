@@ -1,5 +1,4 @@
 -- How the bridge to Rust passes handles and answers: by numbers.
--- Assumes nothing.
 use Prim.Native.Nat.{ℕ, _+_, _*_}
 use mathlib.Core.List.{List}
 use lib.ListN.{length, getD}

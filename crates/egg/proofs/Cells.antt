@@ -1,5 +1,4 @@
 -- A row has w cells, and cell k of row e stands at e * w + k: inside the list, and at a place of its own. What a store changes and what it leaves.
--- Assumes nothing.
 use Prim.Native.Nat.{ℕ, _+_, _*_, _/_, _<_}
 use mathlib.Core.Path.{_≡_, refl, ap, _∙_}
 use mathlib.Core.Bool.{Bool, true, false}

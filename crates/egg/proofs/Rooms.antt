@@ -1,5 +1,4 @@
 -- Laws of `hasRoom` and `fitsIn`, by the tests that decide them, and what they give.
--- Assumes nothing.
 use Prim.Native.Nat.{ℕ, _+_, _*_, _-_, _≤_, _<_}
 use mathlib.Core.Path.{_≡_, refl, sym, ap, _∙_}
 use mathlib.Core.Bool.{Bool, true, false, _&&_}

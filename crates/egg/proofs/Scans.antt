@@ -1,5 +1,4 @@
 -- Laws of a verdict and what comes after it, and of a scan: of the loop that runs it, of what it means that it is fine, and of where its refusal is from.
--- Assumes nothing.
 use Prim.Native.Nat.{ℕ, zero, suc, _+_, _-_, _≤_, _<_}
 use mathlib.Core.Path.{_≡_, refl, sym, _∙_}
 use mathlib.Core.Logic.{_↔_, _⊎_, inl, inr}

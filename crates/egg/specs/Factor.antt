@@ -1,5 +1,4 @@
 -- The handle of a factor, its stretch of the table buffer, and the answer of one step.
--- Assumes nothing.
 use Prim.Native.Nat.{ℕ, _+_, _*_, _-_}
 use mathlib.Core.List.{List}
 use mathlib.Core.Bool.{Bool, true, false, _&&_}

@@ -1,5 +1,4 @@
 -- The pairs of generators in document 01's order, "(0,1),(0,2),(1,2),(0,3).. ", and the orders given for them.
--- Assumes nothing.
 use Prim.Native.Nat.{ℕ, _*_, _-_, _/_}
 use mathlib.Core.List.{List, [], _∷_}
 use lib.ListN.{length, getD}

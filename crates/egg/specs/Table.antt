@@ -1,5 +1,4 @@
 -- The element-by-generator table as a list of numbers. Document 01: "a build with n generators and room R needs exactly R(2n+4) entries of table".
--- Assumes nothing.
 use Prim.Native.Nat.{ℕ, suc, _+_, _*_, _-_, _%_, _<_}
 use mathlib.Core.Path.{_≡_}
 use mathlib.Core.List.{List}

@@ -1,6 +1,5 @@
 -- The enumeration as it is called: the refusals in front of it, the run in its stretches, the checks, and what every lent buffer holds. Document 01,
 -- module 4, and "13 applies to enumeration".
--- Assumes nothing.
 use Prim.Native.Nat.{ℕ, _+_, _*_}
 use mathlib.Core.List.{List}
 use lib.ListN.{length, take}

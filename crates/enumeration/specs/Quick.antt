@@ -1,6 +1,5 @@
 -- What is promised of the quick way, which enumerates by closed loops and checks what comes of it. "Enumeration follows 000 alone": so an answer that is taken must
 -- be 000's own.
--- Assumes nothing.
 use Prim.Native.Nat.{ℕ}
 use mathlib.Core.Path.{_≡_}
 use mathlib.Core.List.{List}

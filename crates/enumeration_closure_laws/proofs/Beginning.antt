@@ -1,5 +1,4 @@
 -- The machine at the start of a run is `Closed`: there is only the identity, nothing is known, and its rows are open.
--- Assumes nothing.
 use Prim.Native.Nat.{ℕ, _+_, _<_, _≤_}
 use mathlib.Core.Path.{_≡_, refl, sym, _∙_}
 use mathlib.Core.Logic.{inr}

@@ -1,5 +1,4 @@
 -- What is said of rows and of waiting copies holds of a later state too, in which more is known.
--- Assumes nothing.
 use Prim.Native.Nat.{ℕ, suc, _<_, _≤_}
 use mathlib.Core.Path.{_≡_, sym, _∙_}
 use mathlib.Core.Logic.{_⊎_, ⊎-elim}

@@ -1,5 +1,4 @@
 -- `column-known`: where no fact is left and all columns of a live row but one are known, that one is known too.
--- Assumes nothing.
 use Prim.Native.Nat.{ℕ, suc, _*_, _<_, _≤_}
 use mathlib.Core.Path.{_≡_, refl, sym, _∙_}
 use mathlib.Core.Logic.{_⊎_, inl, inr}

@@ -1,5 +1,4 @@
 -- `Closed` holds again after a new element has been made, its rows have begun, and all facts have been taken.
--- Assumes nothing.
 use Prim.Native.Nat.{ℕ, _+_, _*_, _<_, _≤_}
 use mathlib.Core.Path.{_≡_, refl, sym, _∙_}
 use mathlib.Core.Logic.{_⊎_, inl, inr, ⊎-elim}

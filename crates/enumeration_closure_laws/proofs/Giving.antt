@@ -1,5 +1,4 @@
 -- A row whose ends have met gives its step: it is whole then, and all other rows are as before.
--- Assumes nothing.
 use Prim.Native.Nat.{ℕ, suc, _*_, _<_, _≤_}
 use mathlib.Core.Path.{_≡_, ap, _∙_}
 use mathlib.Core.Logic.{_⊎_, inl, inr, ⊎-elim}

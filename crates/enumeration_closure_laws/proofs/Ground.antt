@@ -1,5 +1,4 @@
 -- The limits within which the machine runs, and what they give at each step.
--- Assumes nothing.
 use Prim.Native.Nat.{ℕ, suc, _+_, _*_, _-_, _<_, _≤_}
 use mathlib.Core.Path.{_≡_, ap}
 use mathlib.Core.List.{List, []}

@@ -1,5 +1,4 @@
 -- A step is learnt (`learns`): it becomes a fact on the stack if it was not known, and the waiting lists, the rows and the copies in hand stay.
--- Assumes nothing.
 use Prim.Native.Nat.{ℕ, _+_, _*_, _<_}
 use mathlib.Core.Path.{_≡_, refl, _∙_}
 use mathlib.Core.Logic.{_⊎_, inl, inr, ⊎-elim}

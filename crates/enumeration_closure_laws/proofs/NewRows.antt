@@ -1,5 +1,4 @@
 -- The rows of a new element: each stands at all columns of its loop, and where its first and last column are not known, it is open.
--- Assumes nothing.
 use Prim.Native.Nat.{ℕ, suc, _+_, _*_, _-_, _<_}
 use mathlib.Core.Path.{_≡_, ap, _∙_}
 use mathlib.Core.List.{List}

@@ -1,5 +1,4 @@
 -- A filled row whose ends are apart waits again: its copy goes to the list of a step that is not known, and all other rows are as before.
--- Assumes nothing.
 use Prim.Native.Nat.{ℕ, suc, _<_}
 use mathlib.Core.Path.{_≡_, sym, _∙_}
 use mathlib.Core.Logic.{_⊎_, inl, inr, ⊎-elim}

@@ -1,5 +1,4 @@
 -- Facts are taken from the stack until none is left: the machine stays right, and is `Closed` then.
--- Assumes nothing.
 use Prim.Native.Nat.{ℕ, zero, suc, _+_, _-_}
 use mathlib.Core.Path.{_≡_, refl, sym, subst}
 use mathlib.Core.List.{List, [], _∷_}

@@ -1,5 +1,4 @@
 -- A fact taken from the stack, with all that it wakes, leaves the machine right.
--- Assumes nothing.
 use Prim.Native.Nat.{ℕ, _+_, _<_}
 use mathlib.Core.Path.{_≡_, refl, sym, subst, fun-ext, _∙_}
 use mathlib.Core.Logic.{inl, inr, ⊎-elim}

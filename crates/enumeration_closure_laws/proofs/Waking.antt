@@ -1,5 +1,4 @@
 -- A copy in hand is woken: its row gives its step, or waits again, and the machine stays right.
--- Assumes nothing.
 use Prim.Native.Nat.{ℕ, _*_, _<_}
 use mathlib.Core.Path.{_≡_, refl}
 use mathlib.Core.Bool.{Bool, true, false}

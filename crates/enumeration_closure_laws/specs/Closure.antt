@@ -1,6 +1,5 @@
 -- What the machine of 000 keeps true of its waiting rows, beside steps that are known beforehand (`step`, as in `enumeration_loop_laws`): no row is forgotten. So when no fact is
 -- left, a row of which all columns but one are known has given that one too (`column-known`). `t` and `w` are the table and the work.
--- Assumes nothing.
 use Prim.Native.Nat.{ℕ, suc, _*_, _<_, _≤_}
 use mathlib.Core.Path.{_≡_}
 use mathlib.Core.Logic.{_⊎_}

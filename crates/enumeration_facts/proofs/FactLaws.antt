@@ -1,5 +1,4 @@
 -- Laws of the facts and the rows that they wake: one for each way that a branch or a turn of a loop goes, over plain values, so that a proof only hands over what its calls ensure.
--- Assumes nothing.
 use Prim.Native.Nat.{ℕ, zero, suc, _+_, _-_}
 use mathlib.Core.Path.{_≡_, refl}
 use mathlib.Core.List.{List}

@@ -1,5 +1,4 @@
 -- Rows that stand alike move alike: what lets a list of rows be woken with one filling for all of them. Not in 000; what a list comes to is said without it.
--- Assumes nothing.
 use Prim.Native.Nat.{ℕ, _+_, _-_, _%_, _<_}
 use mathlib.Core.Path.{_≡_}
 use mathlib.Core.List.{List}

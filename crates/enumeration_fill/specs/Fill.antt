@@ -1,5 +1,4 @@
 -- How a row is filled, to be read beside todd_coxeter.rs (000).
--- Assumes nothing.
 use Prim.Native.Nat.{ℕ, zero, suc, _+_, _-_}
 use mathlib.Core.List.{List}
 use lib.ListN.{getD}

@@ -1,5 +1,4 @@
 -- A walk of one end of a row, as the code does it: both loops of 000's `fill` are walks along two columns of the table in turn. That they are is proved; what a row comes to is `backed` and `forwarded`.
--- Assumes nothing.
 use Prim.Native.Nat.{ℕ, zero, suc, _+_, _-_}
 use mathlib.Core.List.{List}
 use lib.ListN.{getD}

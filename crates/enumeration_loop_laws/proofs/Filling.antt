@@ -1,5 +1,4 @@
 -- A row is filled along its loop: its ends go over known columns, and stop where they meet or before a step that is not known.
--- Assumes nothing.
 use Prim.Native.Nat.{ℕ, zero, suc, _+_, _-_, _<_, _≤_}
 use mathlib.Core.Path.{_≡_, refl, sym, ap, _∙_}
 use mathlib.Core.Logic.{⊎-elim}

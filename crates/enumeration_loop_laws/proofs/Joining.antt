@@ -1,5 +1,4 @@
 -- What each cell of a table holds after a step has been set both ways: the four cells of the step and of its step back, and all others as they were.
--- Assumes nothing.
 use Prim.Native.Nat.{ℕ, suc, _+_, _*_, _<_, _≤_}
 use mathlib.Core.Path.{_≡_, ap, _∙_}
 use mathlib.Core.Logic.{_⊎_, inl, inr, ⊎-elim}

@@ -1,5 +1,4 @@
 -- The two letters of a pair are generators, the lesser first, and the elements to which they lead in turn are below N.
--- Assumes nothing.
 use Prim.Native.Nat.{ℕ, zero, suc, _*_, _-_, _%_, _<_, _≤_}
 use mathlib.Core.Path.{_≡_, refl, sym, ap, _∙_}
 use mathlib.Core.Bool.{Bool, true, false, _&&_}

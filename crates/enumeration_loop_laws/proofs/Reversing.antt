@@ -1,5 +1,4 @@
 -- A walk along two letters in turn, taken back; and a loop, taken the other way round and taken twice.
--- Assumes nothing.
 use Prim.Native.Nat.{ℕ, suc, _+_, _-_, _%_, _<_, _≤_}
 use mathlib.Core.Path.{_≡_, sym}
 use mathlib.Core.List.{List}

@@ -1,5 +1,4 @@
 -- A loop of which all steps but one are known, seen from its least element: the one that is not known is one column of the row there.
--- Assumes nothing.
 use Prim.Native.Nat.{ℕ, suc, _+_, _*_, _-_, _%_, _<_, _≤_}
 use mathlib.Core.Path.{_≡_, refl, sym, ap, _∙_}
 use mathlib.Core.Logic.{_⊎_, inl, inr}

@@ -1,5 +1,4 @@
 -- A new element as it is set in a table, with its word, the step to it and the step back: these two steps are known then, and no others that were not.
--- Assumes nothing.
 use Prim.Native.Nat.{ℕ, _+_, _*_, _<_, _≤_}
 use mathlib.Core.Path.{_≡_, _∙_}
 use mathlib.Core.List.{List}

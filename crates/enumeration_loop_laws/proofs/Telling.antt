@@ -1,5 +1,4 @@
 -- `Told` stays true of a table in which a step is set both ways, and of one that gets a new element and the step to it.
--- Assumes nothing.
 use Prim.Native.Nat.{ℕ, suc, _+_, _*_, _<_, _≤_}
 use mathlib.Core.Path.{_≡_, sym, ap, _∙_}
 use mathlib.Core.List.{List}

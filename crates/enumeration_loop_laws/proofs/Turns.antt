@@ -1,5 +1,4 @@
 -- Two letters in turn, as they come from a later place on, forth and back; and that elements which begin as a ring does, and go on as it does, are the ring.
--- Assumes nothing.
 use Prim.Native.Nat.{ℕ, zero, suc, _+_, _-_, _%_, _<_, _≤_}
 use mathlib.Core.Path.{_≡_, sym, _∙_}
 use mathlib.Core.Logic.{_⊎_, inl, inr}

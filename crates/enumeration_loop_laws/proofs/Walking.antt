@@ -1,5 +1,4 @@
 -- A walk in the table that goes all its way follows the loop, and all its steps are known.
--- Assumes nothing.
 use Prim.Native.Nat.{ℕ, zero, suc, _+_, _-_, _<_}
 use mathlib.Core.Path.{_≡_, refl}
 use mathlib.Core.Bool.{Bool, true, false}

@@ -1,7 +1,6 @@
 -- The loops of the pair relations, and a table that knows some of their steps. `step` says beforehand where every step leads: it is read from the table that a
 -- run will leave, and all that is said here of a table on the way is said beside it. The relation of a pair, its two letters in turn and 2m of them, leads from
 -- each element back to it; the elements on the way are the loop.
--- Assumes nothing.
 use Prim.Native.Nat.{ℕ, zero, suc, _+_, _*_, _/_, _%_, _<_, _≤_}
 use mathlib.Core.Path.{_≡_}
 use mathlib.Core.List.{List}

@@ -1,5 +1,4 @@
 -- A table that passes the checks, and 13 at the identity, has steps in which the relations hold, and each of its elements is reached from its parent.
--- Assumes nothing.
 use Prim.Native.Nat.{ℕ, zero, suc, _+_, _*_, _%_, _≤_, _<_}
 use mathlib.Core.Path.{_≡_, refl, sym, ap, _∙_, subst}
 use mathlib.Core.List.{List}

@@ -1,5 +1,4 @@
 -- What holds of every place that has been visited, and of the place that is visited now, holds of all places before the next.
--- Assumes nothing.
 use Prim.Native.Nat.{ℕ, suc, _+_, _<_}
 use mathlib.Core.Path.{_≡_, refl}
 use mathlib.Core.Logic.{⊎-elim}

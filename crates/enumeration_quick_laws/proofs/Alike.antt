@@ -1,5 +1,4 @@
 -- A word that is written into two tables leaves alike what was alike; a step that is set leaves the words, and makes no other step known.
--- Assumes nothing.
 use Prim.Native.Nat.{ℕ, _+_, _*_, _<_, _≤_}
 use mathlib.Core.Path.{_≡_}
 use mathlib.Core.Logic.{_⊎_, inl, inr}

@@ -1,5 +1,4 @@
 -- The two runs side by side: q is the table of the quick one, t and w are the stretches of the other, and F is the table that the quick one will leave.
--- Assumes nothing.
 use Prim.Native.Nat.{ℕ, suc, _+_, _*_, _<_, _≤_}
 use mathlib.Core.Path.{_≡_}
 use mathlib.Core.List.{List}

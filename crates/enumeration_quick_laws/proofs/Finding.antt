@@ -1,5 +1,4 @@
 -- What the quick run has found when a loop says where a step leads: a walk round all of the loop but that step.
--- Assumes nothing.
 use Prim.Native.Nat.{ℕ, zero, suc, _+_, _*_, _-_, _<_, _≤_}
 use mathlib.Core.Path.{_≡_, refl}
 use mathlib.Core.Bool.{Bool, true, false}

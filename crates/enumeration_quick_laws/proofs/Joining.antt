@@ -1,5 +1,4 @@
 -- `Fair` stays true, and `Grows` holds, where a step is set both ways between elements whose steps by that letter were not known.
--- Assumes nothing.
 use Prim.Native.Nat.{ℕ, suc, _+_, _*_, _<_, _≤_}
 use mathlib.Core.Path.{_≡_, sym, _∙_}
 use mathlib.Core.Logic.{⊎-elim}

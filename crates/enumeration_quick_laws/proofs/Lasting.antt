@@ -1,5 +1,4 @@
 -- The facts that are taken after a new element leave all that is known in 000's table known, and its words as they are.
--- Assumes nothing.
 use Prim.Native.Nat.{ℕ, _+_, _*_, _<_, _≤_}
 use mathlib.Core.Path.{_≡_, refl, _∙_}
 use mathlib.Core.List.{List}

@@ -1,5 +1,4 @@
 -- A step that the quick run sets both ways is known at once, and leads in the table that the run will leave where it was set to lead.
--- Assumes nothing.
 use Prim.Native.Nat.{ℕ, _+_, _*_, _<_, _≤_}
 use mathlib.Core.Path.{_≡_}
 use mathlib.Core.List.{List}

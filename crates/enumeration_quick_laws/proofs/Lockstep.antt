@@ -1,5 +1,4 @@
 -- The run by closed loops and 000's go place by place alike: where the first is done with a table in which the relations hold, the other is done with it too.
--- Assumes nothing.
 use Prim.Native.Nat.{ℕ, zero, suc, _+_, _<_, _≤_}
 use mathlib.Core.Path.{_≡_, refl, sym, ap, _∙_, subst}
 use mathlib.Core.Bool.{Bool, true, false}

@@ -1,5 +1,4 @@
 -- One place, visited by both runs: they come to the same count, and are side by side again.
--- Assumes nothing.
 use Prim.Native.Nat.{ℕ, suc, _<_, _≤_}
 use mathlib.Core.Path.{_≡_, sym, _∙_}
 use mathlib.Core.Logic.{⊎-elim}

@@ -1,6 +1,5 @@
 -- Two cases by computing, with `swift` applied to them: the run by closed loops is done with every element of the group, its table is that of 000's run and passes
 -- the checks and the relations, and with one room less both runs are refused alike.
--- Assumes nothing.
 use Prim.Native.Nat.{ℕ, zero, suc, _-_, _<_, _≤_}
 use mathlib.Core.Path.{_≡_, refl}
 use mathlib.Core.List.{List, [], _∷_}

@@ -1,5 +1,4 @@
 -- What the loops say of a step in a fair table: nothing, or an element below the count whose own step by that letter is not known.
--- Assumes nothing.
 use Prim.Native.Nat.{ℕ, zero, suc, _+_, _*_, _-_, _<_, _≤_}
 use mathlib.Core.Path.{_≡_, refl}
 use mathlib.Core.Bool.{Bool, true, false}

@@ -1,5 +1,4 @@
 -- `Fair` stays true all along the run by closed loops, and `Grows` holds from each of its tables to each later one.
--- Assumes nothing.
 use Prim.Native.Nat.{ℕ, zero, suc, _+_, _*_, _-_, _<_, _≤_}
 use mathlib.Core.Path.{_≡_, refl, sym, _∙_, subst}
 use mathlib.Core.Bool.{Bool, true, false}

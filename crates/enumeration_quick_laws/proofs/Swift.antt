@@ -1,5 +1,4 @@
 -- Where the run by closed loops ends in a table that passes the checks, and 13 at the identity, 000's run ends in the same table, and so in the same build.
--- Assumes nothing.
 use Prim.Native.Nat.{ℕ, _≤_}
 use mathlib.Core.Path.{_≡_, refl, sym, ap, _∙_}
 use mathlib.Core.Bool.{Bool, true, false}

@@ -1,5 +1,4 @@
 -- What the run by closed loops keeps true of its table, how one table of that run goes over into a later one, and which rows of 000's run are live beside it.
--- Assumes nothing.
 use Prim.Native.Nat.{ℕ, suc, _+_, _*_, _<_, _≤_}
 use mathlib.Core.Path.{_≡_}
 use mathlib.Core.List.{List}

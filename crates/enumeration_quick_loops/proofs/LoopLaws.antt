@@ -1,5 +1,4 @@
 -- Laws of what a pair relation says of a step: its order, and one for each answer, over plain values.
--- Assumes nothing.
 use Prim.Native.Nat.{ℕ, _+_, _*_, _-_, _≤_, _<_}
 use mathlib.Core.Path.{_≡_, refl}
 use mathlib.Core.Bool.{Bool, true, false}

@@ -1,5 +1,4 @@
 -- What the pair relations say of a step that is not known: one through it of which all other steps are known, a closed loop, says where it leads.
--- Assumes nothing.
 use Prim.Native.Nat.{ℕ, zero, suc, _+_, _*_, _-_}
 use mathlib.Core.List.{List}
 use lib.ListN.{getD}

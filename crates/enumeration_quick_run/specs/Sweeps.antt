@@ -1,7 +1,6 @@
 -- The enumeration by closed loops, which is quicker than 000's and gives the same table wherever it gives one that passes the checks (`enumeration_quick_laws`). The places of
 -- the table are visited in the same order. At one whose step is not known, a pair relation through it of which all other steps are known, a closed loop, says
 -- where the step leads; where there is none, it leads to a new element. No row waits for anything, and but for steps back no step is found before its place is visited.
--- Assumes nothing.
 use Prim.Native.Nat.{ℕ, zero, suc, _+_, _-_}
 use mathlib.Core.List.{List}
 use lib.ListN.{replicate}

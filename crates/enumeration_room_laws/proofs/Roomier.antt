@@ -1,5 +1,4 @@
 -- "More room never changes an accepted table": a run that is done is the same with more room, in longer stretches.
--- Assumes nothing.
 use Prim.Native.Nat.{ℕ, _+_, _-_, _*_, _≤_}
 use mathlib.Core.Path.{_≡_, refl, ap, _∙_}
 use mathlib.Core.Bool.{Bool, true, false}

@@ -1,5 +1,4 @@
 -- A row is read, filled and put at the end of its list alike in longer stretches.
--- Assumes nothing.
 use Prim.Native.Nat.{ℕ, zero, suc, _+_, _*_, _<_, _≤_}
 use mathlib.Core.Path.{_≡_, refl}
 use mathlib.Core.List.{List}

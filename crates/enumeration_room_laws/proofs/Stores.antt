@@ -1,5 +1,4 @@
 -- Reads are the same in a longer list, and so are stores: inside the list, and stores of 0 anywhere.
--- Assumes nothing.
 use Prim.Native.Nat.{ℕ, zero, suc, _+_, _<_}
 use mathlib.Core.Path.{_≡_, refl, ap, _∙_}
 use mathlib.Core.Bool.{Bool, true, false}

@@ -1,5 +1,4 @@
 -- The same numbers in longer stretches. Document 01: "More room never changes an accepted table."
--- Assumes nothing.
 use Prim.Native.Nat.{ℕ, _-_}
 use mathlib.Core.Path.{_≡_}
 use mathlib.Core.List.{List, _++_}

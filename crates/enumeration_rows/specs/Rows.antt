@@ -1,5 +1,4 @@
 -- Relation rows and their waiting lists, as a list of numbers, to be read beside todd_coxeter.rs (000). Document 01: "one pool with links in the work buffer, keeping waiting order".
--- Assumes nothing.
 use Prim.Native.Nat.{ℕ, zero, suc, _+_, _*_, _-_, _/_, _%_, _≤_, _<_}
 use mathlib.Core.List.{List, _∷_, []}
 use lib.ListN.{getD, length}

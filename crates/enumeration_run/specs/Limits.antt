@@ -1,5 +1,4 @@
 -- What refusals 1 to 4 have shown when an enumeration starts.
--- Assumes nothing.
 use Prim.Native.Nat.{ℕ, _+_, _*_, _-_, _/_, _<_, _≤_}
 use mathlib.Core.Path.{_≡_}
 use mathlib.Core.List.{List}

@@ -1,5 +1,4 @@
 -- The enumeration, place by place, to be read beside `construct_group` of todd_coxeter.rs (000).
--- Assumes nothing.
 use Prim.Native.Nat.{ℕ, zero, suc, _+_}
 use mathlib.Core.List.{List}
 use lib.ListN.{replicate}

@@ -1,5 +1,4 @@
 -- What holds of every cell after a store, without a word about its range: a store that does not happen leaves a cell of which it held already.
--- Assumes nothing.
 use Prim.Native.Nat.{ℕ, _<_, _≤_}
 use mathlib.Core.Path.{_≡_}
 use mathlib.Core.Bool.{Bool, true, false}

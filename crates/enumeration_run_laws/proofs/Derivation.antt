@@ -1,5 +1,4 @@
 -- The table of an accepted enumeration is right; with nothing missing it is derived from the relations, which is demand 3's second premise.
--- Assumes nothing.
 use Prim.Native.Nat.{ℕ, zero, suc, _+_, _*_, _<_, _≤_}
 use mathlib.Core.Path.{_≡_, refl, sym, ap, _∙_, subst}
 use mathlib.Core.List.{List, [], _∷_, _++_}

@@ -1,5 +1,4 @@
 -- A whole run is never paused: it visits at most room · n places, and its allowance is larger.
--- Assumes nothing.
 use Prim.Native.Nat.{ℕ, zero, suc, _+_, _*_, _<_, _≤_}
 use mathlib.Core.Path.{_≡_, refl, subst}
 use mathlib.Core.Bool.{Bool, true, false}

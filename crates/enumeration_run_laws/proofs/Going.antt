@@ -1,5 +1,4 @@
 -- Each visit of a run goes on from what has been done, so a run that is done has visited every place, and one that is refused has met 5 or 6.
--- Assumes nothing.
 use Prim.Native.Nat.{ℕ, zero, suc, _+_, _*_, _-_, _<_, _≤_}
 use mathlib.Core.Path.{_≡_, refl, sym, ap, _∙_, subst}
 use mathlib.Core.Logic.{⊎-elim}

@@ -1,5 +1,4 @@
 -- What a step that is set both ways keeps of the table, the facts that are taken from the stack keep.
--- Assumes nothing.
 use Prim.Native.Nat.{ℕ, zero, suc, _+_, _*_, _-_, _<_, _≤_}
 use mathlib.Core.Path.{_≡_, refl}
 use mathlib.Core.Bool.{Bool, true, false}

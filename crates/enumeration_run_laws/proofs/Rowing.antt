@@ -1,5 +1,4 @@
 -- A row that is right stays so when its ends move along known steps; when its ends meet, it gives a right step. A new row is a relator.
--- Assumes nothing.
 use Prim.Native.Nat.{ℕ, zero, suc, _+_, _*_, _-_, _/_, _%_, _<_, _≤_}
 use mathlib.Core.Path.{_≡_, refl, sym, ap}
 use mathlib.Core.Bool.{Bool, true, false}

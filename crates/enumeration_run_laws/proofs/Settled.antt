@@ -1,5 +1,4 @@
 -- After a new element no fact is left: the bound on the facts, the length of the work, is never met, so that it has no say.
--- Assumes nothing.
 use Prim.Native.Nat.{ℕ, zero, suc, _+_, _*_, _-_, _<_, _≤_}
 use mathlib.Core.Path.{_≡_, refl, sym, _∙_}
 use mathlib.Core.Bool.{Bool, true, false}

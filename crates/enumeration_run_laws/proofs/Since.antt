@@ -1,5 +1,4 @@
 -- What has become of a table's cells since: no step has become unknown, a step that is known is known the other way too, and word lengths are as they were.
--- Assumes nothing.
 use Prim.Native.Nat.{ℕ, _+_, _*_, _<_, _≤_}
 use mathlib.Core.Path.{_≡_, _∙_}
 use mathlib.Core.List.{List}

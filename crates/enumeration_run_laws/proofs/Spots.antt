@@ -1,5 +1,4 @@
 -- Each cell of the work is of one kind, and belongs to one place or one copy.
--- Assumes nothing.
 use Prim.Native.Nat.{ℕ, zero, suc, _+_, _*_, _-_, _<_, _≤_}
 use mathlib.Core.Path.{_≡_, refl, sym, _∙_}
 use native.Mathlib.Nat.{mul-le-mul, mod-eq-of-lt, le-of-lt}

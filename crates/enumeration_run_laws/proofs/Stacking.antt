@@ -1,5 +1,4 @@
 -- A fact goes on the stack once at most: what is on the stack and what may still come grows less with each fact taken.
--- Assumes nothing.
 use Prim.Native.Nat.{ℕ, zero, suc, _+_, _*_, _<_, _≤_}
 use mathlib.Core.Path.{_≡_, refl}
 use mathlib.Core.Logic.{⊎-elim}

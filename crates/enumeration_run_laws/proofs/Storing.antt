@@ -1,5 +1,4 @@
 -- A store that fits its cell keeps the work right, and so does a right row that is stored as a copy.
--- Assumes nothing.
 use Prim.Native.Nat.{ℕ, zero, suc, _+_, _-_, _<_, _≤_}
 use mathlib.Core.Path.{_≡_, refl, sym, _∙_, subst}
 use mathlib.Core.List.{List}

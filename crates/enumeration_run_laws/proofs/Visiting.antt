@@ -1,5 +1,4 @@
 -- A run that is done with N elements visits N · n places: with an allowance of so many it is the same, and with fewer it is paused.
--- Assumes nothing.
 use Prim.Native.Nat.{ℕ, zero, suc, _+_, _*_, _<_, _≤_}
 use mathlib.Core.Path.{_≡_, refl, sym, ap, _∙_, subst}
 use mathlib.Core.Bool.{Bool, true, false}

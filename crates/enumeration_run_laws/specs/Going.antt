@@ -1,5 +1,4 @@
 -- What holds of an enumeration's run between two places, at its end, and where it is refused.
--- Assumes nothing.
 use Prim.Native.Nat.{ℕ, _+_, _<_, _≤_}
 use mathlib.Core.Path.{_≡_}
 use mathlib.Core.List.{List}

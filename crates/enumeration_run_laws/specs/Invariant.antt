@@ -1,5 +1,4 @@
 -- What the enumeration keeps true of its two stretches: each known step, and each row that waits, follows from the relations.
--- Assumes nothing.
 use Prim.Native.Nat.{ℕ, zero, suc, _+_, _*_, _-_, _<_, _≤_}
 use mathlib.Core.Path.{_≡_}
 use mathlib.Core.List.{List, [], _∷_, _++_}

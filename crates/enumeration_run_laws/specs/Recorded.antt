@@ -1,5 +1,4 @@
 -- What is said of the table that an enumeration leaves: nothing in it is invented. Demand 3: "enumerating only the first row and inventing the others breaks demand 3".
--- Assumes nothing.
 use Prim.Native.Nat.{ℕ, suc, _+_, _*_, _<_, _≤_}
 use mathlib.Core.Path.{_≡_}
 use mathlib.Core.List.{List}

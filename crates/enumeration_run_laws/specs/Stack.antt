@@ -1,5 +1,4 @@
 -- The stack of facts, threaded through the places of the work: it never holds a place twice, and what it can still grow by is counted.
--- Assumes nothing.
 use Prim.Native.Nat.{ℕ, suc, _+_, _*_, _<_, _≤_}
 use mathlib.Core.Path.{_≡_}
 use mathlib.Core.List.{List, [], _∷_}

@@ -1,5 +1,4 @@
 -- `Begun` holds after `addedRows`: each copy of the new element waits in one of the element's own lists, and the lists of the others are as they were.
--- Assumes nothing.
 use Prim.Native.Nat.{ℕ, zero, suc, _+_, _*_, _-_, _<_, _≤_}
 use mathlib.Core.Path.{_≡_, refl, sym, _∙_}
 use mathlib.Core.Logic.{⊎-elim}

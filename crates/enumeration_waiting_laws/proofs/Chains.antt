@@ -1,5 +1,4 @@
 -- Lists in the work: the first copy is taken off, one is put at the end, and where the cells of a list are as they were, the list is.
--- Assumes nothing.
 use Prim.Native.Nat.{ℕ, suc, _+_, _<_, _≤_}
 use mathlib.Core.Path.{_≡_, refl, _∙_}
 use mathlib.Core.List.{List, [], _∷_, _++_}

@@ -1,5 +1,4 @@
 -- A choice by a test that is decided, and the tests whether two places or two lists are the same.
--- Assumes nothing.
 use Prim.Native.Nat.{ℕ}
 use mathlib.Core.Path.{_≡_, refl, ap}
 use native.Mathlib.Decide.{ℕ-discrete}

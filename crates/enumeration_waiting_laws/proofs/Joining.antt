@@ -1,5 +1,4 @@
 -- `waits` store by store: what each cell of the work holds after a copy has been put at the end of a list.
--- Assumes nothing.
 use Prim.Native.Nat.{ℕ, suc, _+_, _<_, _≤_}
 use mathlib.Core.Path.{_≡_, refl, sym, _∙_}
 use mathlib.Core.List.{List, [], _∷_}

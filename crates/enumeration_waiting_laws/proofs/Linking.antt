@@ -1,5 +1,4 @@
 -- The cell in which the link to one more copy of a list is stored: it is the head of that list or the link of its last copy, and no other cell of the work.
--- Assumes nothing.
 use Prim.Native.Nat.{ℕ, suc, _+_, _*_, _-_, _<_}
 use mathlib.Core.Path.{_≡_, refl, sym, ap, _∙_}
 use mathlib.Core.List.{List}

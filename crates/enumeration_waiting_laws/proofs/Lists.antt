@@ -1,5 +1,4 @@
 -- Lists of copies as lists of addresses: membership, that none is there twice, the last one, and how long a list can be.
--- Assumes nothing.
 use Prim.Native.Nat.{ℕ, zero, suc, _<_, _≤_}
 use mathlib.Core.Path.{_≡_, refl, sym}
 use mathlib.Core.Logic.{_⊎_, inl, inr, ⊎-elim}

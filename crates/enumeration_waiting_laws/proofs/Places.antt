@@ -1,5 +1,4 @@
 -- Where places, lists and copies are in the work: each has cells of its own, so that an address names one of them.
--- Assumes nothing.
 use Prim.Native.Nat.{ℕ, _+_, _*_, _-_, _<_, _≤_}
 use mathlib.Core.Path.{_≡_, refl, sym, ap, _∙_}
 use mathlib.Core.List.{List}

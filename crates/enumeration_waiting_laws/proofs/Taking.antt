@@ -1,5 +1,4 @@
 -- `Pushed` holds after a store in the cell of a place that links the stack, and `Taken` after a place has been emptied.
--- Assumes nothing.
 use Prim.Native.Nat.{ℕ, suc, _+_, _*_, _-_, _<_, _≤_}
 use mathlib.Core.Path.{_≡_, refl, sym, _∙_}
 use mathlib.Core.List.{List, []}

@@ -2,7 +2,6 @@
 -- which list, and what each store of the machine changes of that. A row waits twice, so it has a left copy and a right copy; a copy is named by its address, the
 -- place in the work at which it is stored, and its link to the next copy is the cell five further on. A list is named by the address of its head, which its tail
 -- and its count follow. A link is an address + 1, or 0 for none.
--- Assumes nothing.
 use Prim.Native.Nat.{ℕ, suc, _+_, _*_, _-_, _<_, _≤_}
 use mathlib.Core.Path.{_≡_}
 use mathlib.Core.List.{List, [], _∷_}

@@ -1,5 +1,4 @@
 -- Laws of a new step and the rows that it wakes: one for each way that a branch or a turn of a loop goes, over plain values, so that a proof only hands over what its calls ensure.
--- Assumes nothing.
 use Prim.Native.Nat.{ℕ, zero, suc, _+_, _-_, _≤_, zero-le, suc-le-suc}
 use mathlib.Core.Path.{_≡_, refl, ap, _∙_}
 use mathlib.Core.Bool.{true, false}

@@ -1,5 +1,4 @@
 -- Where the waking of a list has come to, when copies that stand alike are moved on together. Not in 000: what a list comes to is `wakesAll`.
--- Assumes nothing.
 use Prim.Native.Nat.{ℕ}
 use Rattle.enumeration_rows.specs.declared.inner.SideOfGap.{SideOfGap}
 use Rattle.enumeration_wake.specs.declared.inner.Carried.{Carried}

@@ -1,5 +1,4 @@
 -- A new step, and the rows that it wakes, as a machine over the table and the work, to be read beside todd_coxeter.rs (000).
--- Assumes nothing.
 use Prim.Native.Nat.{ℕ, zero, suc, _+_, _-_, _%_}
 use mathlib.Core.List.{List}
 use lib.ListN.{getD}

@@ -1,5 +1,4 @@
 -- Laws of `admits`, one for each of its answers; that it is fine gives the fit of the handle; and what a question answers by its verdict.
--- Assumes nothing.
 use Prim.Native.Nat.{ℕ, _≤_, _<_}
 use mathlib.Core.Path.{_≡_, refl, sym, _∙_}
 use mathlib.Core.Bool.{Bool, true, false}

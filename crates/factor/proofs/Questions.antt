@@ -1,5 +1,4 @@
 -- Laws of the answers about a word: that a count fits its buffer, and the part that is handed back.
--- Assumes nothing.
 use Prim.Native.Nat.{ℕ, _≤_}
 use mathlib.Core.Path.{_≡_, refl, sym, _∙_}
 use mathlib.Core.List.{List}

@@ -1,6 +1,5 @@
 -- A factor from a lent list of composed numbers: the call, its refusals, and what every lent buffer holds. Document 01, module 3: "`from_compose_fn` becomes
 -- a lent table".
--- Assumes nothing.
 use Prim.Native.Nat.{ℕ, _*_}
 use mathlib.Core.List.{List}
 use mathlib.Core.Bool.{_&&_}

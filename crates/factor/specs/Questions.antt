@@ -1,6 +1,5 @@
 -- Questions about an accepted factor. Document 01: "Calls on handles check 17 in the handle, then 14, .. then 17 in what they read." "A refused question
 -- writes nothing." Each is defined on the factor's stretch in `factor_questions` and `factor_words`, and here on the buffer and the handle.
--- Assumes nothing.
 use Prim.Native.Nat.{ℕ}
 use mathlib.Core.List.{List}
 use lib.ListN.{length, take}

@@ -1,5 +1,4 @@
 -- An accepted factor against pair orders. Document 01: "13 applies to enumeration, and to a call that checks an accepted factor against orders."
--- Assumes nothing.
 use Prim.Native.Nat.{ℕ}
 use mathlib.Core.List.{List}
 use lib.ListN.{length}

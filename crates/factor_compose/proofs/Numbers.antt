@@ -1,5 +1,4 @@
 -- Laws of products by the numbers in the rows: how many numbers the rows have, and what product and conjugate come to.
--- Assumes nothing.
 use Prim.Native.Nat.{ℕ, _+_, _*_, _≤_, _<_}
 use mathlib.Core.Path.{_≡_, sym, _∙_}
 use mathlib.Core.Bool.{Bool, true, false}

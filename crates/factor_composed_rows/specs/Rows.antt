@@ -1,5 +1,4 @@
 -- The build from rows of composed numbers in a lent list.
--- Assumes nothing.
 use Prim.Native.Nat.{ℕ}
 use mathlib.Core.List.{List}
 use lib.ListN.{replicate}

@@ -1,5 +1,4 @@
 -- Of an accepted factor every answer is a group's, and no other group's.
--- Assumes nothing.
 use Prim.Native.Nat.{ℕ, _<_}
 use mathlib.Core.Path.{_≡_, sym, ap, _∙_}
 use mathlib.Core.List.{List}

@@ -1,5 +1,4 @@
 -- The codes of the pairs: at the place of the pair (i, j) of the order list stands 8i + j. One test over the 28 pairs of 8 generators.
--- Assumes nothing.
 use Prim.Native.Nat.{ℕ, _+_, _*_, _/_, _%_, _<_}
 use mathlib.Core.Path.{_≡_}
 use mathlib.Core.Bool.{Bool}

@@ -1,5 +1,4 @@
 -- In an accepted factor elements are numbered as they first appear, and recorded so; therefore each recorded word is the first that leads to its element.
--- Assumes nothing.
 use Prim.Native.Nat.{ℕ}
 use mathlib.Core.Path.{refl}
 use mathlib.Core.List.{List}

@@ -1,5 +1,4 @@
 -- The answers through the handle: where it fits and the arguments are in range, they are those of its stretch.
--- Assumes nothing.
 use Prim.Native.Nat.{ℕ, suc, _≤_, _<_}
 use mathlib.Core.Path.{_≡_, refl, sym, _∙_}
 use mathlib.Core.Logic.{_↔_}

@@ -1,5 +1,4 @@
 -- The written word is the recorded one: its letters are read from the last to the first, five from one row, and each is a generator's number and so a byte.
--- Assumes nothing.
 use Prim.Native.Nat.{ℕ, zero, suc, _+_, _≤_, _<_}
 use mathlib.Core.Path.{_≡_, refl, sym, ap, _∙_}
 use mathlib.Core.Bool.{true}

@@ -1,5 +1,4 @@
 -- Of an accepted factor every answer on paper is the group's; and a paper tells its answer apart from any other, since no refusal has the number 0.
--- Assumes nothing.
 use Prim.Native.Nat.{ℕ}
 use mathlib.Core.Path.{_≡_, refl, sym, ap, _∙_}
 use mathlib.Core.Bool.{false}

@@ -1,6 +1,5 @@
 -- Every question is answered or refused by one of its numbers, on every input. Each definition is gone through branch by branch; the walks by induction on the
 -- letters that are left.
--- Assumes nothing.
 use Prim.Native.Nat.{ℕ, zero, suc}
 use mathlib.Core.Path.{_≡_, refl, sym}
 use mathlib.Core.Bool.{Bool, true, false}

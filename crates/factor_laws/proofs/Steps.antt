@@ -1,5 +1,4 @@
 -- One read step, and the walk along a recorded word, forward and back, are the table's own.
--- Assumes nothing.
 use Prim.Native.Nat.{ℕ, zero, suc, _/_, _≤_, _<_}
 use mathlib.Core.Bool.{Bool, true, false}
 use mathlib.Core.Path.{_≡_, refl, sym, ap, _∙_}

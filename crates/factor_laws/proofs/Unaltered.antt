@@ -1,5 +1,4 @@
 -- What an accepted factor answers depends on its stretch only.
--- Assumes nothing.
 use Prim.Native.Nat.{ℕ}
 use mathlib.Core.Path.{_≡_}
 use mathlib.Core.Bool.{true}

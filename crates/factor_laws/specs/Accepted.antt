@@ -1,5 +1,4 @@
 -- What an accepted factor is, and what the answers about it say.
--- Assumes nothing.
 use Prim.Native.Nat.{ℕ, _≤_, _<_}
 use mathlib.Core.Path.{_≡_}
 use mathlib.Core.Logic.{_↔_}

@@ -1,6 +1,5 @@
 -- The words that an accepted factor records are the first of all. Order 11: "no word that reaches the element is shorter, and among those of the same length
 -- none comes earlier by generator number, compared from the first."
--- Assumes nothing.
 use Prim.Native.Nat.{ℕ, _≤_, _<_}
 use mathlib.Core.Path.{_≡_}
 use mathlib.Core.List.{List}

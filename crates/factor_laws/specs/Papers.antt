@@ -1,6 +1,5 @@
 -- The answers about an accepted factor as document 01 sets them out. "When an answer is an enum, a definition sets out this paper's number and values for each
 -- of its cases. The promises use that definition." It is `verdictPaper`, `reachedPaper` and `countedPaper` of egg.
--- Assumes nothing.
 use Prim.Native.Nat.{ℕ, _≤_, _<_}
 use mathlib.Core.Path.{_≡_}
 use mathlib.Core.Logic.{_↔_}

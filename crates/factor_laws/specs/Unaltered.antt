@@ -1,5 +1,4 @@
 -- A factor whose stretch was left alone. Document 01: "its handle and its needed stretch of table come unaltered from the call that accepted it".
--- Assumes nothing.
 use Prim.Native.Nat.{ℕ}
 use mathlib.Core.Path.{_≡_}
 use mathlib.Core.List.{List}

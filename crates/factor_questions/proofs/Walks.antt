@@ -1,5 +1,4 @@
 -- Laws of what is answered by walks, one for each answer, by the tests that lead to it.
--- Assumes nothing.
 use Prim.Native.Nat.{ℕ, _≤_, _<_}
 use mathlib.Core.Path.{_≡_}
 use mathlib.Core.List.{List}

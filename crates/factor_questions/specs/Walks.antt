@@ -1,6 +1,5 @@
 -- What is answered by walks through a factor's stretch s, with n generators and `count` elements: products, inverses, conjugates and the elements of generators.
 -- Document 01: "Calls on handles check 17 in the handle, then 14, .. then 17 in what they read." The handle is looked at before.
--- Assumes nothing.
 use Prim.Native.Nat.{ℕ}
 use mathlib.Core.List.{List}
 use lib.Dec.{ltb, leb}

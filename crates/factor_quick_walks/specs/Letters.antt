@@ -1,5 +1,4 @@
 -- Letters that stand in a number, walked from the first as the code does it, one after the other. What they come to is `ahead`.
--- Assumes nothing.
 use Prim.Native.Nat.{ℕ, _-_, _*_, _/_, _^_, _≤_}
 use mathlib.Core.Path.{_≡_}
 use mathlib.Core.List.{List}

@@ -1,5 +1,4 @@
 -- Laws of the relations: of turning, of one relation at one element, and of the pairs, whose codes are small and of which 8 generators have 28.
--- Assumes nothing.
 use Prim.Native.Nat.{ℕ, zero, suc, _-_, _/_, _%_, _≤_, _<_}
 use mathlib.Core.Path.{_≡_, refl, sym, ap, _∙_}
 use mathlib.Core.Bool.{Bool, true, false, _&&_}

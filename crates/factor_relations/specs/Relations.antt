@@ -1,6 +1,5 @@
 -- Refusal 13, "a relation fails": element, generator, generator. "For each element it tests each generator doubled, then each pair's 2m steps in list
 -- order." A number out of range on the way is 17, as met.
--- Assumes nothing.
 use Prim.Native.Nat.{ℕ, zero, suc, _+_, _/_, _%_}
 use mathlib.Core.List.{List}
 use lib.ListN.{length, getD}

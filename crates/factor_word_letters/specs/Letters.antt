@@ -1,6 +1,5 @@
 -- The letters that stand in one number c, the last lowest, as the code takes them: the k that are left of a word, but no more than j. What it comes to is `readableBy`
 -- and `spellBy`.
--- Assumes nothing.
 use Prim.Native.Nat.{ℕ, zero, suc, _+_, _/_, _%_}
 use mathlib.Core.List.{List}
 use mathlib.Core.Bool.{Bool, true, _&&_}

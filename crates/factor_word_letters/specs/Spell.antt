@@ -1,5 +1,4 @@
 -- The letters of recorded words, on a factor's stretch s with n generators and `count` elements: whether they can be read, and where they are written.
--- Assumes nothing.
 use Prim.Native.Nat.{ℕ, zero, suc, _+_, _/_, _%_}
 use mathlib.Core.List.{List}
 use mathlib.Core.Bool.{Bool, true, _&&_}

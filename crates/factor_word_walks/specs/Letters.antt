@@ -1,5 +1,4 @@
 -- Letters that stand in a number, walked back as the code does it: those of one row at a time. What it comes to is `backBy`.
--- Assumes nothing.
 use Prim.Native.Nat.{ℕ, _+_}
 use mathlib.Core.Path.{_≡_}
 use mathlib.Core.List.{List}

@@ -1,6 +1,5 @@
 -- Walks through a factor's stretch s, with n generators and `count` elements, along the letters of recorded words. Document 01: "Calls on handles check 17 in the
 -- handle, then 14, .. then 17 in what they read." The handle is looked at before.
--- Assumes nothing.
 use Prim.Native.Nat.{ℕ, zero, suc, _+_, _-_, _/_, _%_}
 use mathlib.Core.List.{List}
 use lib.ListN.{getD}

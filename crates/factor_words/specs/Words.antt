@@ -1,5 +1,4 @@
 -- The recorded words of elements, on a factor's stretch s with n generators and `count` elements. Document 01: "A refused question writes nothing."
--- Assumes nothing.
 use Prim.Native.Nat.{ℕ}
 use mathlib.Core.List.{List}
 use lib.Dec.{ltb}

@@ -1,5 +1,4 @@
 -- Laws of the call that joins digits, one for each answer; and a word that the call wrote had room.
--- Assumes nothing.
 use Prim.Native.Nat.{ℕ, _≤_}
 use mathlib.Core.Path.{_≡_, sym, _∙_}
 use mathlib.Core.Bool.{true, false}

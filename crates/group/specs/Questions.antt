@@ -1,6 +1,5 @@
 -- The calls: the refusals in document 01's order, then the answer. "Calls on handles check 17 in the handle, then 14, then 15, then 1 to 4, then 17 in what
 -- they read". Places of 14 are the arguments' positions.
--- Assumes nothing.
 use Prim.Native.Nat.{ℕ}
 use mathlib.Core.List.{List}
 use lib.ListN.{length, getD}

@@ -1,5 +1,4 @@
 -- Laws of the loops over the factors that gather digits: the stride and what has been gathered, in range; and what is left to do gives what the whole does.
--- Assumes nothing.
 use Prim.Native.Nat.{ℕ, zero, suc, _+_, _*_, _-_, _/_, _%_, _≤_, _<_}
 use mathlib.Core.Path.{_≡_, refl, sym, ap, _∙_, subst}
 use mathlib.Core.Bool.{Bool, true, false}

@@ -1,6 +1,5 @@
 -- Questions that are answered factor by factor. Document 01: "First factor is the fastest digit: strides 1, N0, N0·N1.." So an element is x + N·y, where x is an element of the first factor, which has
 -- N, and y one of the product of the others.
--- Assumes nothing.
 use Prim.Native.Nat.{ℕ, _+_, _*_, _-_, _/_, _%_}
 use mathlib.Core.List.{List, [], _∷_}
 use lib.Dec.{ltb}

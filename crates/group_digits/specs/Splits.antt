@@ -1,6 +1,5 @@
 -- The digits of an element in a lent list, and the element of digits in one. Document 01: "First factor is the fastest digit", and "Calls on handles check 17 in
 -- the handle, then 14, then 15, then 1 to 4".
--- Assumes nothing.
 use Prim.Native.Nat.{ℕ}
 use mathlib.Core.List.{List, _++_}
 use lib.ListN.{length, getD, drop}

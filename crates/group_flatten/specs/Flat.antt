@@ -1,6 +1,5 @@
 -- The product read into one factor by its own steps. Document 01: "`flatten` keeps product numbers, so S3 by Z2 is 7 at (0,2) with 6, where the Rust panics;
 -- one factor or none is copied by the same reading, the empty product giving the one-element table."
--- Assumes nothing.
 use Prim.Native.Nat.{ℕ, zero, suc, _+_}
 use mathlib.Core.List.{List}
 use lib.ListN.{length, take, replicate}

@@ -1,5 +1,4 @@
 -- Laws of the refusals before any reading, one for each answer; and what is known where a call goes on.
--- Assumes nothing.
 use Prim.Native.Nat.{ℕ, _%_, _≤_, _<_}
 use mathlib.Core.Path.{_≡_, refl, sym, ap, _∙_}
 use mathlib.Core.Bool.{Bool, true, false, _&&_}

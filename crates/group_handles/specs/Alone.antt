@@ -1,5 +1,4 @@
 -- A product of one factor, which answers as the factor does. Document 01: "factors per product 0 to 8".
--- Assumes nothing.
 use mathlib.Core.Path.{_≡_}
 use mathlib.Core.List.{[], _∷_}
 use lib.ListN.{getD}

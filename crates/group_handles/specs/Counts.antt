@@ -1,5 +1,4 @@
 -- Going on from an answer to a count: document 01's "17 in what they read (13 or 17 as met)", so that the first refusal stands.
--- Assumes nothing.
 use Prim.Native.Nat.{ℕ}
 use Rattle.egg.specs.declared.Reached.{Reached}
 use Rattle.egg.specs.declared.Reached.the-variants.{Element, Refused}

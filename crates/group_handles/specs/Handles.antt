@@ -1,5 +1,4 @@
 -- The handles of a product, what they have together, and the refusals that come before any reading.
--- Assumes nothing.
 use Prim.Native.Nat.{ℕ, _+_, _-_}
 use mathlib.Core.Path.{_≡_}
 use mathlib.Core.List.{List, [], _∷_, _++_}

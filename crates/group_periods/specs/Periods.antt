@@ -1,5 +1,4 @@
 -- Periods: in a factor by walking the powers, in a product by least common multiples.
--- Assumes nothing.
 use Prim.Native.Nat.{ℕ, zero, suc, _+_, _/_, _%_}
 use mathlib.Core.List.{List, [], _∷_}
 use lib.Dec.{eqb}

@@ -1,5 +1,4 @@
 -- The word of an element of a product: the words of its digits, one after the other, where each factor's generators come after those of the factors before.
--- Assumes nothing.
 use Prim.Native.Nat.{ℕ, _+_, _/_, _%_}
 use mathlib.Core.List.{List, [], _∷_}
 use mathlib.Core.Bool.{Bool, true, _&&_}

@@ -1,5 +1,4 @@
 -- Laws of an image's head: one for each answer, and what holds where it is right.
--- Assumes nothing.
 use Prim.Native.Nat.{ℕ, _+_, _*_, _≤_, _<_}
 use mathlib.Core.Path.{_≡_, refl}
 use mathlib.Core.Bool.{Bool, true, false}

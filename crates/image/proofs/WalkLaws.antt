@@ -1,5 +1,4 @@
 -- Laws of a word walked on an image: one for each way in which a turn ends, and one for each answer.
--- Assumes nothing.
 use Prim.Native.Nat.{ℕ, _+_, _-_, _≤_, _<_}
 use mathlib.Core.Path.{_≡_, sym, _∙_}
 use mathlib.Core.Bool.{true, false}

@@ -1,6 +1,5 @@
 -- A stored image and its check. Document 01: "Four bytes, big-endian, the length of what follows; version byte 1; n in one byte; element count N in two;
 -- then the successors, two bytes each, by element and then generator. Length is 4 + 2nN."
--- Assumes nothing.
 use Prim.Native.Nat.{ℕ, _+_, _*_, _<_}
 use mathlib.Core.Path.{_≡_}
 use mathlib.Core.List.{List, _++_}

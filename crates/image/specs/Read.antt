@@ -1,6 +1,5 @@
 -- A factor read back from an image. Document 01: "Checks: total size at least 8, length, version (16), n (1), N not 0 and length formula (16), buffers (4),
 -- then reading with room N; fewer than N reached is 16, before 8."
--- Assumes nothing.
 use Prim.Native.Nat.{ℕ}
 use mathlib.Core.List.{List}
 use lib.ListN.{length, drop, take}

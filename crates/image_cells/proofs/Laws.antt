@@ -1,5 +1,4 @@
 -- What a list of bytes spells, cell by cell: how many cells, what stands in each, what a store of four bytes does, and that zeros spell zeros.
--- Assumes nothing.
 use Prim.Native.Nat.{ℕ, zero, suc, _+_, _*_, _/_, _%_, _≤_, _<_}
 use mathlib.Core.Path.{_≡_, refl, sym, ap, _∙_}
 use mathlib.Core.List.{List, [], _∷_}

@@ -1,5 +1,4 @@
 -- A lent stretch of bytes in two parts, the table before `at` and the work from there on: what one part's call did, when it is back.
--- Assumes nothing.
 use Prim.Native.Nat.{ℕ, _-_, _/_, _≤_}
 use mathlib.Core.Path.{_≡_, sym, ap, _∙_}
 use mathlib.Core.List.{List, _++_, append-nil}

@@ -1,5 +1,4 @@
 -- The turns of check 12 over generators, and what the whole judgement comes to for each answer.
--- Assumes nothing.
 use Prim.Native.Nat.{ℕ, _+_, _-_, _≤_, _<_}
 use mathlib.Core.Path.{_≡_, refl, ap, _∙_}
 use mathlib.Core.List.{List}

@@ -1,6 +1,5 @@
 -- What is left of the checks 8 to 12 after a reading that ended: the successors are there and in range, the words spell their elements and the arrivals
 -- are n each where no predecessor is missing, so these are not tested again.
--- Assumes nothing.
 use Prim.Native.Nat.{ℕ}
 use mathlib.Core.Path.{_≡_}
 use mathlib.Core.List.{List}

@@ -1,5 +1,4 @@
 -- The number of rows read over bytes is the one that `from_composed` gives on the same rows with room N, but for 16 where fewer than N are reached.
--- Assumes nothing.
 use Prim.Native.Nat.{ℕ, _+_, _*_, _≤_, _<_}
 use mathlib.Core.Path.{_≡_, refl, sym, ap, _∙_, subst}
 use mathlib.Core.Bool.{Bool, true, false}

@@ -1,5 +1,4 @@
 -- After a reading that ended, the short checks give the verdict of all of 8 to 12, whatever the work holds: the tests that are left out cannot fail.
--- Assumes nothing.
 use Prim.Native.Nat.{ℕ, _+_, _*_, _≤_, _<_}
 use mathlib.Core.Path.{_≡_, refl, sym, ap, _∙_, subst}
 use mathlib.Core.Bool.{Bool, true, false}

@@ -1,5 +1,4 @@
 -- Laws of the build from an image's rows: one for each answer of its last test, and one for the whole.
--- Assumes nothing.
 use Prim.Native.Nat.{ℕ, _≤_, _<_}
 use mathlib.Core.Path.{_≡_, ap, _∙_}
 use mathlib.Core.List.{List}

@@ -1,5 +1,4 @@
 -- The build from an image's rows. Document 01: "then reading with room N; fewer than N reached is 16, before 8."
--- Assumes nothing.
 use Prim.Native.Nat.{ℕ}
 use mathlib.Core.List.{List}
 use lib.ListN.{replicate}

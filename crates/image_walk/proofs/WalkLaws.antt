@@ -1,5 +1,4 @@
 -- Laws of a word walked on an image's rows: one for each way in which a turn ends.
--- Assumes nothing.
 use Prim.Native.Nat.{ℕ, _+_, _≤_, _<_}
 use mathlib.Core.Path.{_≡_}
 use mathlib.Core.Bool.{true, false}

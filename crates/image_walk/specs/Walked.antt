@@ -1,5 +1,4 @@
 -- A word walked on an image's rows. Document 01: "The walk checks the image head, then the start and each generator (14), then each number read (17)."
--- Assumes nothing.
 use Prim.Native.Nat.{ℕ}
 use mathlib.Core.List.{List, [], _∷_}
 use mathlib.Core.Bool.{Bool, true, _&&_}

@@ -1,6 +1,5 @@
 -- The bytes of an image, and the stores that write them. Document 01: "Four bytes, big-endian, the length of what follows; version byte 1; n in one byte;
 -- element count N in two; then the successors, two bytes each, by element and then generator."
--- Assumes nothing.
 use Prim.Native.Nat.{ℕ, zero, suc, _+_, _*_, _/_, _%_}
 use mathlib.Core.List.{List, [], _∷_, _++_}
 use lib.ListN.{set}

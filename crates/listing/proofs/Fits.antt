@@ -1,6 +1,5 @@
 -- Every listing fits the program's buffer: a refusal is short, and what an accepted enumeration with room 120 prints has at most 120 lines with at most
 -- four steps each, by what is promised of an accepted enumeration.
--- Assumes nothing.
 use Prim.Native.Nat.{ℕ, _+_, _*_, _≤_}
 use mathlib.Core.Path.{_≡_, refl, ap}
 use mathlib.Core.Bool.{Bool, true, false}

@@ -1,5 +1,4 @@
 -- Text after text: what two writes in a row leave is what one write of the joined text leaves. Each function's proof is a chain of these.
--- Assumes nothing.
 use Prim.Native.Nat.{ℕ, zero, suc, _+_, _-_, _/_, _%_, _≤_, _<_}
 use mathlib.Core.Path.{_≡_, refl, sym, ap, _∙_}
 use mathlib.Core.List.{List, [], _∷_, _++_}

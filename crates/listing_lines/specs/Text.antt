@@ -1,6 +1,5 @@
 -- The listing's text. Document 01: "Head: generators, elements. Lines: element, inverse, word length, successors. A refusal prints `refused` and its
 -- number."
--- Assumes nothing.
 use Prim.Native.Nat.{ℕ, zero, suc, _+_, _/_, _%_, _<_}
 use mathlib.Core.Path.{_≡_}
 use mathlib.Core.List.{List, [], _∷_, _++_}

@@ -1,6 +1,5 @@
 -- The listing of an input: document 01's program as a function from bytes to bytes. "The listing program reads standard input: n in a byte, then two bytes
 -- an order. Missing or extra bytes are 2; n of 5 to 8 is 4; its room is 120."
--- Assumes nothing.
 use Prim.Native.Nat.{ℕ, zero, suc, _+_, _*_}
 use mathlib.Core.List.{List, [], _∷_}
 use lib.ListN.{length, getD, replicate}

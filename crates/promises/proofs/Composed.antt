@@ -1,5 +1,4 @@
 -- Demand 2 for composed rows. The call is the build in its stretches, put back into the buffers; so what holds of the build holds of the call.
--- Assumes nothing.
 use Prim.Native.Nat.{ℕ, _+_, _*_, _≤_}
 use mathlib.Core.Path.{_≡_, refl, sym, ap, _∙_}
 use mathlib.Core.Logic.{_↔_}

@@ -1,5 +1,4 @@
 -- An enumeration's build in its stretches: the run is derivable, the checks make it a group's table, and 13 at the identity is 13 everywhere.
--- Assumes nothing.
 use Prim.Native.Nat.{ℕ, zero, suc, _+_, _*_, _/_, _%_, _≤_, _<_}
 use mathlib.Core.Path.{_≡_, refl, ap, _∙_}
 use mathlib.Core.List.{List}

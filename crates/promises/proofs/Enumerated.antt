@@ -1,5 +1,4 @@
 -- Demand 3: whatever the arguments, an enumeration that is accepted gives the group that the pair orders present.
--- Assumes nothing.
 use Prim.Native.Nat.{ℕ, _≤_}
 use mathlib.Core.Path.{_≡_, refl, sym, ap, _∙_}
 use mathlib.Core.Bool.{Bool, true, false}

@@ -1,6 +1,5 @@
 -- Document 01's last useless version: "enumerating only the first row and inventing the others breaks demand 3". Whoever invents a row in which a doubled
 -- generator does not come back has two words that are equal under the relations and reach different numbers.
--- Assumes nothing.
 use Prim.Native.Nat.{ℕ, _<_}
 use mathlib.Core.Path.{_≡_, sym}
 use mathlib.Core.Logic.{_↔_}

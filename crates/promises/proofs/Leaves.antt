@@ -1,5 +1,4 @@
 -- What a refused call leaves: with wrong arguments both buffers as they were, else zeros in the needed stretches and everything else as it was.
--- Assumes nothing.
 use Prim.Native.Nat.{ℕ, _+_, _*_}
 use mathlib.Core.Path.{_≡_, refl, sym, ap, _∙_, subst}
 use mathlib.Core.Logic.{_⊎_, inl, inr, ⊎-elim}

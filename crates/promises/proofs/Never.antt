@@ -1,5 +1,4 @@
 -- By which numbers the calls are refused, by which never, and what a refusal leaves, number by number of each buffer.
--- Assumes nothing.
 use Prim.Native.Nat.{ℕ, _+_, _-_, _<_}
 use mathlib.Core.Path.{_≡_, refl, _∙_}
 use mathlib.Core.Bool.{true}

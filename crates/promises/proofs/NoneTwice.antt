@@ -1,6 +1,5 @@
 -- A finished run is accepted exactly when no two of its words and no two generators are equal under the relations. That this is so for every finished run is a
 -- theorem on the groups of pair orders, and not on the machine.
--- Assumes nothing.
 use Prim.Native.Nat.{ℕ, zero, suc, _+_, _*_, _<_, _≤_}
 use mathlib.Core.Path.{_≡_, refl, sym, ap, _∙_, subst}
 use mathlib.Core.Logic.{_↔_, ⊎-elim}

@@ -1,5 +1,4 @@
 -- 12 is given exactly where live and delayed viewers would part.
--- Assumes nothing.
 use Prim.Native.Nat.{ℕ, _*_, _≤_}
 use mathlib.Core.Path.{_≡_}
 use mathlib.Core.Logic.{_↔_}

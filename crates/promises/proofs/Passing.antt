@@ -1,5 +1,4 @@
 -- Which checks always pass: after any reading and any finished run every stored number is in range, and after a finished run no step is missing.
--- Assumes nothing.
 use Prim.Native.Nat.{ℕ, zero, suc, _+_, _*_, _-_, _<_, _≤_}
 use mathlib.Core.Path.{_≡_, refl}
 use mathlib.Core.List.{List}

@@ -1,6 +1,5 @@
 -- "More room never changes an accepted table": at any larger room, in longer stretches, the same table is accepted, with zeros behind it. A build in a longer
 -- stretch goes as in the shorter one; a call is a build put back into its buffers.
--- Assumes nothing.
 use Prim.Native.Nat.{ℕ, zero, suc, _+_, _*_, _-_, _≤_, _<_}
 use mathlib.Core.Path.{_≡_, refl, sym, ap, _∙_}
 use mathlib.Core.Bool.{Bool, true, false}

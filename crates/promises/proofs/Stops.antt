@@ -1,6 +1,5 @@
 -- Where 5, 6 and 7 come from: in an enumeration 5 and 6 are the run's, at the first place where no element can be made; on composed rows 5, 6 and 7 are the
 -- reading's, exactly.
--- Assumes nothing.
 use Prim.Native.Nat.{ℕ, _+_, _*_, _≤_}
 use mathlib.Core.Path.{_≡_, refl, ap, _∙_}
 use mathlib.Core.Logic.{_↔_, _⊎_, inl, inr, ⊎-elim}

@@ -1,5 +1,4 @@
 -- A build elsewhere in the same buffer leaves an accepted factor as it is, whether the build is accepted or refused.
--- Assumes nothing.
 use Prim.Native.Nat.{ℕ, _+_, _≤_}
 use mathlib.Core.Path.{_≡_, _∙_, ap}
 use mathlib.Core.Bool.{true}

@@ -1,6 +1,5 @@
 -- Live and delayed viewers land on one state. Both answers are walks in the factor's table; that composing is walking along any word which reaches the second
 -- is what check 12 decides.
--- Assumes nothing.
 use Prim.Native.Nat.{ℕ, _<_}
 use mathlib.Core.Path.{_≡_, refl, sym, ap, _∙_}
 use mathlib.Core.List.{List, [], _∷_}

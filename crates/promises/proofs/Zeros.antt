@@ -1,5 +1,4 @@
 -- What a refused build leaves in its stretches, and by which numbers it is refused: from the numbers of a source, and from pair orders.
--- Assumes nothing.
 use Prim.Native.Nat.{ℕ, _+_, _*_, _≤_}
 use mathlib.Core.Path.{_≡_, refl, sym, ap, _∙_, subst}
 use mathlib.Core.Logic.{_⊎_, inl, inr, ⊎-elim}

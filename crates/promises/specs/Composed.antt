@@ -1,5 +1,4 @@
 -- Demand 2 for composed rows: what is accepted, what an accepted call gives, and what is refused by 12.
--- Assumes nothing.
 use Prim.Native.Nat.{ℕ, _+_, _*_, _≤_, _<_}
 use mathlib.Core.Path.{_≡_}
 use mathlib.Core.Bool.{true}

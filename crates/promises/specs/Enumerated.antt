@@ -1,5 +1,4 @@
 -- Demand 3, and what an accepted enumeration gives.
--- Assumes nothing.
 use Prim.Native.Nat.{ℕ, _+_, _*_, _≤_}
 use mathlib.Core.Path.{_≡_}
 use mathlib.Core.Logic.{_↔_}

@@ -1,6 +1,5 @@
 -- What a refused call leaves, one statement for every call that makes a factor. Document 01: "1 to 4, 14, and 15 to 17 given before a build starts (a bad image
 -- head too) change nothing. Once it has started, any refusal (the ninth generator too) leaves the needed stretch of table and work, and subgroup maps, zero."
--- Assumes nothing.
 use Prim.Native.Nat.{ℕ, _+_, _≤_, _<_}
 use mathlib.Core.Path.{_≡_}
 use mathlib.Core.List.{List, [], _∷_}

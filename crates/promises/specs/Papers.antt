@@ -1,6 +1,5 @@
 -- What the calls that make a factor answer, as document 01 sets it out: "a definition sets out this paper's number and values for each of its cases. The
 -- promises use that definition."
--- Assumes nothing.
 use Rattle.egg.specs.Factor.{Paper, verdictPaper}
 use Rattle.build_lending.specs.Lending.{Making, making}
 

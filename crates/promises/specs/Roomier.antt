@@ -1,5 +1,4 @@
 -- "More room never changes an accepted table": what a call gives in other buffers and at least the same room.
--- Assumes nothing.
 use Prim.Native.Nat.{ℕ, _+_, _≤_, _<_}
 use mathlib.Core.Path.{_≡_}
 use mathlib.Core.List.{List}

@@ -1,6 +1,5 @@
 -- What a call writes to a lent buffer, and where a factor stands that it leaves alone. Document 01: "A factor may be built into any stretch of a longer table
 -- buffer."
--- Assumes nothing.
 use Prim.Native.Nat.{ℕ, _+_, _≤_}
 use mathlib.Core.Path.{_≡_}
 use mathlib.Core.Logic.{_⊎_}

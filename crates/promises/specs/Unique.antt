@@ -1,6 +1,5 @@
 -- "Every exported call has a contract that determines its answer and what the lent buffers hold at exit, on all inputs and each refusal. That the answer is
 -- unique is proved."
--- Assumes nothing.
 use Prim.Native.Nat.{ℕ}
 use mathlib.Core.Path.{_≡_}
 use mathlib.Core.List.{List}

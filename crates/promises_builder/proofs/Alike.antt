@@ -1,5 +1,4 @@
 -- The reading of a builder's own rows beside a reading of composed numbers: where both do the same at each place, they come to the same.
--- Assumes nothing.
 use Prim.Native.Nat.{ℕ, zero, suc, _+_, _≤_, _<_}
 use mathlib.Core.Path.{_≡_, refl, sym, subst}
 use mathlib.Core.Bool.{Bool, true, false}

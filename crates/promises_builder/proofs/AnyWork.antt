@@ -1,5 +1,4 @@
 -- What stands in the work at first decides nothing about a build from the builder's own rows.
--- Assumes nothing.
 use Prim.Native.Nat.{ℕ}
 use mathlib.Core.Path.{_≡_, sym, _∙_}
 use mathlib.Core.List.{List}

@@ -1,5 +1,4 @@
 -- `begin`, `add_successor` and `set_successor` come to each answer, builder and table exactly in the case that is set out for it.
--- Assumes nothing.
 use Prim.Native.Nat.{ℕ, _+_, _≤_, _<_}
 use mathlib.Core.Path.{_≡_, refl, sym, ap, _∙_, subst}
 use mathlib.Core.Logic.{_↔_, _⊎_, inl, inr, ⊎-elim}

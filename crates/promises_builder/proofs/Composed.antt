@@ -1,5 +1,4 @@
 -- A builder whose every step is there and leads to one of its elements, all of which are reached: `build` is `from_composed` on the same rows.
--- Assumes nothing.
 use Prim.Native.Nat.{ℕ, suc, _+_, _*_, _-_, _≤_, _<_}
 use mathlib.Core.Path.{_≡_, refl, sym, ap, _∙_, subst}
 use mathlib.Core.Bool.{true}

@@ -1,5 +1,4 @@
 -- 9 to 12 of a builder in theory's words: where all is there and all is reached, it is refused exactly by what its rows have for a fault.
--- Assumes nothing.
 use Prim.Native.Nat.{ℕ, _+_, _*_, _≤_}
 use mathlib.Core.Path.{_≡_, sym, ap, _∙_}
 use mathlib.Core.Logic.{_↔_}

@@ -1,5 +1,4 @@
 -- What the builder's calls leave when they refuse: for a refusal of the arguments everything as it was; once a build is under way, zeros in its stretches.
--- Assumes nothing.
 use Prim.Native.Nat.{ℕ, _+_}
 use mathlib.Core.Path.{_≡_, refl, sym, ap, _∙_, subst}
 use mathlib.Core.Logic.{_⊎_, inl, inr}

@@ -1,6 +1,5 @@
 -- A builder's own rows with steps missing, beside a reading of its numbers: both come to the same. The table has the steps that are there, and a predecessor
 -- is stored exactly where some step leads there.
--- Assumes nothing.
 use Prim.Native.Nat.{ℕ, suc, _+_, _*_, _-_, _≤_, _<_}
 use mathlib.Core.Path.{_≡_, refl, sym, ap, _∙_}
 use mathlib.Core.Logic.{_⊎_, ⊎-elim}

@@ -1,6 +1,5 @@
 -- What `build` comes to in its stretches: the reading is stopped, an element is not reached where there are no generators, 8, or else all steps are there and
 -- all elements reached, and the checks decide.
--- Assumes nothing.
 use Prim.Native.Nat.{ℕ, _+_, _*_, _≤_, _<_}
 use mathlib.Core.Path.{_≡_, refl, sym, ap, _∙_, subst}
 use mathlib.Core.Logic.{⊎-elim}

@@ -1,5 +1,4 @@
 -- By which numbers a reading of a builder's own rows is refused, and what a builder that lacks something has.
--- Assumes nothing.
 use Prim.Native.Nat.{ℕ, _-_, _≤_, _<_}
 use mathlib.Core.Path.{_≡_, refl}
 use mathlib.Core.Logic.{_⊎_, ⊎-elim}

@@ -1,5 +1,4 @@
 -- The builder's calls write nothing, or the stretch of their builder: so a factor elsewhere in the buffer is as it was, whatever they answer.
--- Assumes nothing.
 use Prim.Native.Nat.{ℕ, _+_}
 use mathlib.Core.Path.{_≡_, refl, _∙_}
 use mathlib.Core.Bool.{Bool, true, false}

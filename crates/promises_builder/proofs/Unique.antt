@@ -1,5 +1,4 @@
 -- "That the answer is unique is proved": for each of the builder's calls, over its own contract.
--- Assumes nothing.
 use mathlib.Core.Path.{sym, _∙_}
 use Rattle.build_lending.specs.Lending.{making}
 use Rattle.builder.specs.Calls.{leaving}

@@ -1,5 +1,4 @@
 -- The ways in which `build` is refused, with their numbers, and what they leave; and that an accepted build is `from_composed` on the builder's rows.
--- Assumes nothing.
 use Prim.Native.Nat.{ℕ, suc, _+_, _≤_, _<_}
 use mathlib.Core.Path.{_≡_, refl, sym, ap, _∙_, subst}
 use mathlib.Core.Logic.{_⊎_, inl, inr, ⊎-elim}

@@ -1,5 +1,4 @@
 -- Every answer of `build`, by document 01's number and places, with the case in which it comes. "The first that applies .. is given, and each is given only then."
--- Assumes nothing.
 use Prim.Native.Nat.{ℕ, _<_}
 use mathlib.Core.Path.{_≡_}
 use mathlib.Core.Bool.{true, false}

@@ -1,5 +1,4 @@
 -- When `build` starts, and what it is for it to refuse by a number with its places.
--- Assumes nothing.
 use Prim.Native.Nat.{ℕ, _≤_}
 use mathlib.Core.Path.{_≡_}
 use mathlib.Core.Bool.{true}

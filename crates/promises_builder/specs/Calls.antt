@@ -1,7 +1,6 @@
 -- Every answer of `begin`, `add_successor` and `set_successor`, by document 01's number and places, with the case in which it comes, the builder that is
 -- handed back, and what the table holds then. "When an answer is an enum, a definition sets out this paper's number and values for each of its cases. The
 -- promises use that definition."
--- Assumes nothing.
 use Prim.Native.Nat.{ℕ, _+_, _≤_, _<_}
 use mathlib.Core.Path.{_≡_}
 use mathlib.Core.Bool.{true, false}

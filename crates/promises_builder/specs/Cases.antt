@@ -1,5 +1,4 @@
 -- Builders whose steps were overwritten or altered, by the calls that make them.
--- Assumes nothing.
 use Prim.Native.Nat.{ℕ, _+_}
 use mathlib.Core.Path.{_≡_}
 use mathlib.Core.List.{List, [], _∷_}

@@ -1,5 +1,4 @@
 -- What a builder's rows say, in the words of a reading of composed numbers.
--- Assumes nothing.
 use Prim.Native.Nat.{ℕ, suc, _*_, _-_, _≤_, _<_}
 use mathlib.Core.List.{List, map}
 use lib.Dec.{ltb}

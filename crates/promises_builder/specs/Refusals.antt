@@ -1,5 +1,4 @@
 -- What a builder's rows lack where `build` refuses them by 8, "a successor or predecessor missing".
--- Assumes nothing.
 use Prim.Native.Nat.{ℕ, suc, _<_}
 use mathlib.Core.Path.{_≡_}
 use Rattle.egg.specs.declared.Refusal.{Refusal}

@@ -1,6 +1,5 @@
 -- Each C function of a builder has one answer and leaves one thing in each lent list, by its own contract. Every contract is an equation with a definition
 -- over the values at entry, so two outcomes that meet it are both that.
--- Assumes nothing.
 use mathlib.Core.Path.{sym, _∙_}
 use Rattle.builder.specs.Calls.{leaving}
 use Rattle.capi_values.specs.Bridge.{Bridged, Answered}

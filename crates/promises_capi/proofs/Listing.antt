@@ -1,5 +1,4 @@
 -- The listing's one call has one answer and leaves one text in the lent bytes, by its own contract: an equation for each.
--- Assumes nothing.
 use Prim.Native.Nat.{ℕ}
 use mathlib.Core.Path.{sym, _∙_, ap}
 use mathlib.Core.List.{List}

@@ -1,6 +1,5 @@
 -- Each C function of a subgroup has one answer and leaves one thing in each lent list, by its own contract. Every contract is an equation with a definition
 -- over the values at entry, so two outcomes that meet it are both that.
--- Assumes nothing.
 use mathlib.Core.Path.{sym, _∙_}
 use Rattle.capi_subgroup.specs.Subgroup.{Bridged}
 use Rattle.capi_subgroup.proofs.hg_subgroup.Kinds as hg-subgroup-kinds

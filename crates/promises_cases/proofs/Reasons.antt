@@ -1,5 +1,4 @@
 -- Why each of document 01's refused tables is refused, in theory's words: from the case and what is proved of its number.
--- Assumes nothing.
 use Prim.Native.Nat.{ℕ}
 use mathlib.Core.List.{[], _∷_}
 use lib.ListN.{replicate}

@@ -1,5 +1,4 @@
 -- The tables of the theory's examples, and of those of products, are these.
--- Assumes nothing.
 use mathlib.Core.Path.{_≡_, refl}
 use Rattle.theory.specs.AnyGroup.{SomeGroup}
 use Rattle.theory.proofs.Examples as theory

@@ -1,5 +1,4 @@
 -- Document 01's cases marked P: "The cases marked P are one statement over the definitions". Answers are on paper, by document 01's numbers and places.
--- Assumes nothing.
 use mathlib.Core.Path.{_≡_}
 use mathlib.Core.List.{[], _∷_}
 use lib.ListN.{replicate}

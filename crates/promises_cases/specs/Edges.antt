@@ -1,5 +1,4 @@
 -- Both sides of edges, from pair orders: 1 to 5.
--- Assumes nothing.
 use mathlib.Core.Path.{_≡_}
 use mathlib.Core.List.{[], _∷_}
 use Rattle.promises_refusals.specs.Papers.{paperOf, paper}

@@ -1,5 +1,4 @@
 -- Images beyond the cases marked P: one for each refusal of the check, what writing and reading leave, and walks. Buffers are lent full of other numbers.
--- Assumes nothing.
 use Prim.Native.Nat.{ℕ}
 use mathlib.Core.Path.{_≡_}
 use mathlib.Core.List.{List, [], _∷_, _++_}

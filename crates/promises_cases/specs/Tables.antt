@@ -1,5 +1,4 @@
 -- The tables of document 01's known groups, one copy of each, and the calls on them. Buffers are lent full of other numbers, and exactly as long as needed.
--- Assumes nothing.
 use Prim.Native.Nat.{ℕ, zero, suc, _+_}
 use mathlib.Core.List.{List, [], _∷_}
 use lib.ListN.{replicate}

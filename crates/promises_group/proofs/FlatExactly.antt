@@ -1,7 +1,6 @@
 -- `flatten` of a product of accepted factors, with right arguments: accepted exactly when the product's numbers follow the numbering rule within the room and
 -- with words to 4,096; refused exactly by 7, 5 and 6, at the first place that cannot be read. 8 to 12 never come, since the product is a group whose generators
 -- are distinct and none of which is the identity, and neither does 17, since every step of an accepted factor can be read.
--- Assumes nothing.
 use Prim.Native.Nat.{ℕ, _+_, _*_, _≤_, _<_}
 use mathlib.Core.Path.{_≡_, refl, sym, ap, _∙_, subst}
 use mathlib.Core.Logic.{_↔_}

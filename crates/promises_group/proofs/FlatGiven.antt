@@ -1,5 +1,4 @@
 -- A flattened product of accepted factors is the product: the same elements, steps, composition and inverses.
--- Assumes nothing.
 use Prim.Native.Nat.{ℕ, _-_, _<_}
 use mathlib.Core.Path.{_≡_, sym, ap, _∙_, subst}
 use mathlib.Core.List.{List}

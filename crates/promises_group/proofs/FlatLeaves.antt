@@ -1,6 +1,5 @@
 -- What a refused `flatten` leaves, whatever the handles and the buffers: a refusal of its arguments nothing, any refusal after its start zeros in the needed
 -- stretches and all else as it was. Reading by the product's steps goes as reading from their values does, up to the first step that cannot be read.
--- Assumes nothing.
 use Prim.Native.Nat.{ℕ, zero, suc, _+_, _*_, _-_, _/_, _%_, _≤_, _<_}
 use mathlib.Core.Path.{_≡_, refl, sym, ap, _∙_, subst}
 use mathlib.Core.Bool.{Bool, true, false}

@@ -1,5 +1,4 @@
 -- `flatten` on paper, with no premise on its arguments; "more room never changes an accepted table"; and what is written.
--- Assumes nothing.
 use Prim.Native.Nat.{ℕ, _+_, _*_, _≤_}
 use mathlib.Core.Path.{_≡_, refl, sym, ap, _∙_, subst}
 use mathlib.Core.Logic.{_↔_}

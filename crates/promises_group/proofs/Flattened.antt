@@ -1,6 +1,5 @@
 -- Flattening a product of accepted factors is the call on a list of composed numbers, where the list has the product's own steps: so all that is said of
 -- that call is said of this one.
--- Assumes nothing.
 use Prim.Native.Nat.{ℕ, zero, suc, _+_, _*_, _-_, _/_, _%_, _≤_, _<_}
 use mathlib.Core.Path.{_≡_, refl, sym, ap, _∙_, subst}
 use mathlib.Core.Bool.{Bool, true, false, _&&_}

@@ -1,5 +1,4 @@
 -- Of a product of accepted factors every answer on paper is the direct product's; and `product` answers each number exactly where it is due.
--- Assumes nothing.
 use Prim.Native.Nat.{ℕ, _≤_, _<_}
 use mathlib.Core.Path.{_≡_, refl, sym, ap, _∙_}
 use mathlib.Core.Bool.{Bool, true, false, _&&_}

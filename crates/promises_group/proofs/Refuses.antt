@@ -1,6 +1,5 @@
 -- Every question about a product is answered or refused by one of its numbers, on every input, and a refused one writes nothing. Each definition is gone through
 -- branch by branch, those over the factors by induction on the list of handles.
--- Assumes nothing.
 use Prim.Native.Nat.{ℕ, zero, suc, _+_, _-_, _/_, _%_}
 use mathlib.Core.Path.{_≡_, refl}
 use mathlib.Core.Bool.{Bool, true, false, _&&_}

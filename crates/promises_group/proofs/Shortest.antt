@@ -1,6 +1,5 @@
 -- Of a product of accepted factors no word that leads to an element is shorter than the recorded one: each factor's recorded word is a shortest one, since its
 -- table follows the numbering rule.
--- Assumes nothing.
 use Prim.Native.Nat.{ℕ, _≤_}
 use mathlib.Core.Path.{_≡_}
 use mathlib.Core.List.{List}

@@ -1,5 +1,4 @@
 -- What a product answers depends on its factors' stretches only; so a build elsewhere in the same buffer leaves it as it is, accepted or refused.
--- Assumes nothing.
 use Prim.Native.Nat.{ℕ, _+_, _-_, _/_, _%_}
 use mathlib.Core.Path.{_≡_, refl, sym, ap, _∙_, fun-ext}
 use mathlib.Core.Bool.{true}

@@ -1,6 +1,5 @@
 -- Live and delayed viewers land on one state in a product as well. Both answers are walks by the direct product's steps, and to walk is to multiply by what
 -- the word spells.
--- Assumes nothing.
 use Prim.Native.Nat.{ℕ, _<_}
 use mathlib.Core.Path.{_≡_, refl, sym, ap, _∙_}
 use mathlib.Core.List.{List, [], _∷_}

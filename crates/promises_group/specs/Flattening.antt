@@ -1,5 +1,4 @@
 -- When `flatten` starts, when it is accepted, and what it leaves then.
--- Assumes nothing.
 use Prim.Native.Nat.{ℕ, _+_, _*_, _≤_, _<_}
 use mathlib.Core.Path.{_≡_}
 use mathlib.Core.Bool.{true}

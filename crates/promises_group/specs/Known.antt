@@ -1,6 +1,5 @@
 -- Document 01's S3 by Z2, and S3 by itself, in one table buffer of exactly the length that is needed; both are built from composed rows. What document 01 marks P
 -- of them is in `KnownCases` (crate promises_cases); here is the rest.
--- Assumes nothing.
 use Prim.Native.Nat.{ℕ, _/_, _%_}
 use mathlib.Core.Path.{_≡_}
 use mathlib.Core.List.{List, [], _∷_, _++_}

@@ -1,5 +1,4 @@
 -- What a product of accepted factors is, and what the answers about it say.
--- Assumes nothing.
 use Prim.Native.Nat.{ℕ, zero, suc, _*_, _/_, _%_, _≤_, _<_}
 use mathlib.Core.Path.{_≡_}
 use mathlib.Core.Bool.{true}

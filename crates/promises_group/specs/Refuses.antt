@@ -1,6 +1,5 @@
 -- By which numbers the questions about a product are refused, on every input: whatever the handles, the count, the buffer and the arguments are. Document 01:
 -- "Calls on handles check 17 in the handle, then 14, then 15, then 1 to 4, then 17 in what they read". And "a refused question writes nothing".
--- Assumes nothing.
 use Prim.Native.Nat.{ℕ}
 use mathlib.Core.Path.{_≡_}
 use mathlib.Core.List.{List, [], _∷_}

@@ -1,6 +1,5 @@
 -- A product whose factors' stretches were left alone. Document 01: "its handle and its needed stretch of table come unaltered from the call that accepted it,
 -- in a product for each factor".
--- Assumes nothing.
 use Prim.Native.Nat.{ℕ}
 use mathlib.Core.Path.{_≡_}
 use mathlib.Core.List.{List, [], _∷_}

@@ -1,6 +1,5 @@
 -- Reading an image is `from_composed` on its successors with room N, but for a bad head and for 16 where fewer than N are reached; so the check's number is
 -- the reading's, and what is promised of composed rows holds of an image.
--- Assumes nothing.
 use Prim.Native.Nat.{ℕ, _+_, _*_, _≤_}
 use mathlib.Core.Path.{_≡_, refl, sym, ap, _∙_, subst}
 use mathlib.Core.Logic.{_↔_, _⊎_, inl, inr}

@@ -1,5 +1,4 @@
 -- What the buffers hold after the check and after a refused writing. (After a refused reading: Zeros.)
--- Assumes nothing.
 use Prim.Native.Nat.{ℕ, _≤_, _<_}
 use mathlib.Core.Path.{_≡_}
 use mathlib.Core.List.{List, _++_}

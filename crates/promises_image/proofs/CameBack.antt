@@ -1,6 +1,5 @@
 -- A factor that is written and read back is the same table, whichever call made it. The reading is one of composed rows, so it records each element where it
 -- first appears, as the factor does; the rest follows from the steps.
--- Assumes nothing.
 use Prim.Native.Nat.{ℕ, _≤_}
 use mathlib.Core.Path.{_≡_, ap, _∙_}
 use mathlib.Core.Bool.{true}

@@ -1,6 +1,5 @@
 -- What a refused reading leaves, in the words of every call that makes a factor, and by which numbers it is refused. Where all N elements are reached it is the
 -- call on composed rows, and by 16 otherwise.
--- Assumes nothing.
 use Prim.Native.Nat.{ℕ, _+_, _*_}
 use mathlib.Core.Path.{_≡_, refl, sym, ap, _∙_}
 use mathlib.Core.Bool.{Bool, true, false}

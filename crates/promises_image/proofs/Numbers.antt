@@ -1,5 +1,4 @@
 -- No check refuses with the number 0: so a number of 0 is acceptance.
--- Assumes nothing.
 use Prim.Native.Nat.{ℕ, zero, suc, _+_}
 use mathlib.Core.Path.{_≡_, refl}
 use mathlib.Core.Bool.{false}

@@ -1,5 +1,4 @@
 -- Demand 2: "Images written and read back are the same table, and read and written again the same bytes."
--- Assumes nothing.
 use Prim.Native.Nat.{ℕ, _+_, _≤_, _<_}
 use mathlib.Core.Path.{_≡_, sym, ap, _∙_, subst}
 use mathlib.Core.Bool.{true}

@@ -1,5 +1,4 @@
 -- A factor from composed rows, written and read back, has the same numbers in its stretch: every cell of the rows of its N elements, words and inverses too.
--- Assumes nothing.
 use Prim.Native.Nat.{ℕ, zero, suc, _+_, _*_, _≤_, _<_}
 use mathlib.Core.Path.{_≡_, refl, sym, ap, _∙_}
 use mathlib.Core.Bool.{true}

@@ -1,6 +1,5 @@
 -- Two accepted tables with the same steps, whose elements have their parents and last generators from the places where they first appear, hold the same
 -- numbers: predecessors, words, their letters and inverses follow from the steps.
--- Assumes nothing.
 use Prim.Native.Nat.{ℕ, zero, suc, _<_}
 use mathlib.Core.Path.{_≡_, refl, sym, ap, _∙_, subst}
 use mathlib.Core.List.{List}

@@ -1,5 +1,4 @@
 -- "Version byte 1": an image of any other version is 16 in each call. And an image tells its factor: two factors with one image have the same steps.
--- Assumes nothing.
 use Prim.Native.Nat.{ℕ, _+_, _≤_, _<_}
 use mathlib.Core.Path.{_≡_, sym, ap, _∙_}
 use mathlib.Core.List.{List}

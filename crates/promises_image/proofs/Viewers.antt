@@ -1,5 +1,4 @@
 -- On an image whose check is 0 the walk is the walk in its group, so live and delayed viewers land on one state.
--- Assumes nothing.
 use Prim.Native.Nat.{ℕ, _≤_, _<_}
 use mathlib.Core.Path.{_≡_, refl, sym, ap, _∙_}
 use mathlib.Core.List.{List, [], _∷_}

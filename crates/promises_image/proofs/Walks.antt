@@ -1,6 +1,5 @@
 -- A word walked on a group's image is theory's walk along its steps; and in the factor that is read from the image it is the product of the start with the
 -- element that the word reaches from the identity: live turns and the catch-up product land on one state.
--- Assumes nothing.
 use Prim.Native.Nat.{ℕ, _+_, _≤_, _<_}
 use mathlib.Core.Path.{_≡_, refl, sym, ap, _∙_}
 use mathlib.Core.Logic.{_↔_}

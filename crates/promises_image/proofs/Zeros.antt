@@ -1,5 +1,4 @@
 -- "Once it has started, any refusal .. leaves the needed stretch of table and work .. zero"; 1, 4 and 16 given before "change nothing".
--- Assumes nothing.
 use Prim.Native.Nat.{ℕ, _+_}
 use mathlib.Core.Path.{_≡_, refl, sym, ap, _∙_}
 use mathlib.Core.Bool.{true}

@@ -1,6 +1,5 @@
 -- A build from the numbers of a source, in any stretches that are long enough: refused exactly where there is a fault, with its number and places. So the
 -- numbers alone determine which refusal comes.
--- Assumes nothing.
 use Prim.Native.Nat.{ℕ, _+_, _*_, _≤_}
 use mathlib.Core.Path.{_≡_, refl, sym, _∙_}
 use mathlib.Core.Logic.{_↔_, _⊎_, inl, inr, ⊎-elim}

@@ -1,6 +1,5 @@
 -- The checks 8 to 12 after a reading refuse just where there is a fault, with its number and its places. Each check is decided place by place (Tests);
 -- where 8 has passed, the numbers are in range and the arrivals right.
--- Assumes nothing.
 use Prim.Native.Nat.{ℕ, suc, _+_, _*_, _≤_, _<_}
 use mathlib.Core.Path.{_≡_, refl, sym, ap, _∙_}
 use mathlib.Core.Logic.{_⊎_, inl, inr, ⊎-elim}

@@ -1,6 +1,5 @@
 -- What the call on composed rows answers, on every input: the number and the places are determined by the arguments, in theory's words, and each refusal is
 -- given exactly where document 01 says so.
--- Assumes nothing.
 use Prim.Native.Nat.{ℕ, _+_, _*_, _≤_, _<_}
 use mathlib.Core.Path.{_≡_, refl, sym, ap, _∙_, subst}
 use mathlib.Core.Logic.{_↔_, _⊎_, inl, inr}

@@ -1,5 +1,4 @@
 -- Each answer of the call on composed rows by itself: this number with these places is answered exactly when, in theory's words.
--- Assumes nothing.
 use Prim.Native.Nat.{ℕ, _≤_, _<_}
 use mathlib.Core.Path.{_≡_, refl}
 use mathlib.Core.Logic.{_↔_}

@@ -1,5 +1,4 @@
 -- The same of any call that puts such a build back into the buffers that its stretches were lent from, whatever its source of numbers.
--- Assumes nothing.
 use Prim.Native.Nat.{ℕ, _+_, _*_, _≤_}
 use mathlib.Core.Path.{_≡_, refl, sym, ap}
 use mathlib.Core.Logic.{_↔_}

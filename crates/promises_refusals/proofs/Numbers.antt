@@ -1,5 +1,4 @@
 -- What a fault of each number is, with all three places; and which numbers there are.
--- Assumes nothing.
 use Prim.Native.Nat.{ℕ, _≤_, _<_}
 use mathlib.Core.Path.{_≡_, refl}
 use mathlib.Core.Logic.{_⊎_, inl, inr}

@@ -1,5 +1,4 @@
 -- The check of an accepted factor against pair orders, on every list: which answer comes, with its first place. Each test is decided place by place.
--- Assumes nothing.
 use Prim.Native.Nat.{ℕ, _/_, _%_, _≤_, _<_}
 use mathlib.Core.Path.{_≡_, refl, sym, ap, _∙_, subst}
 use mathlib.Core.Logic.{_↔_, _⊎_, inl, inr, ⊎-elim}

@@ -1,5 +1,4 @@
 -- What each test of 8 to 11 decides after a reading, place by place, in the words of the theory.
--- Assumes nothing.
 use Prim.Native.Nat.{ℕ, zero, suc, _+_, _*_, _≤_, _<_}
 use mathlib.Core.Path.{_≡_, refl}
 use mathlib.Core.Logic.{inl, inr}

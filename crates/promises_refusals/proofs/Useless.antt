@@ -1,7 +1,6 @@
 -- Document 01's useless versions, on every input: "refusing everything, and returning the one-element table each time, both break demand 2's definition;
 -- returning with the buffers untouched breaks the contents asked after acceptance; enumerating only the first row and inventing the others breaks demand
 -- 3. A made-up word length breaks the definition of the recorded word." (Inventing rows: `invented-row`.)
--- Assumes nothing.
 use Prim.Native.Nat.{ℕ, zero, suc, _+_, _*_, _≤_, _<_}
 use mathlib.Core.Path.{_≡_, sym, ap, _∙_}
 use mathlib.Core.List.{List}

@@ -1,6 +1,5 @@
 -- Which words lead to one number, and the numbering rule, determine the whole table. So of all tables by the rule one has what demand 3 asks: whoever
 -- invents a row has another table, and breaks it.
--- Assumes nothing.
 use Prim.Native.Nat.{ℕ, suc, _<_, _≤_}
 use mathlib.Core.Path.{_≡_, refl, sym, ap, _∙_}
 use mathlib.Core.Logic.{_↔_, _⊎_, inl, inr, ⊎-elim}

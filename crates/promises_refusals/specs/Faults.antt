@@ -1,7 +1,6 @@
 -- Why a build from the numbers of a source is refused, and where: each refusal of document 01's table in the words of the theory, with the places that it
 -- carries. "The first that applies, in numeric order unless stated, is given, and each is given only then." "During reading the order at one place is 7, 5,
 -- 6. Reading ends before 8; then 8 to 13 in order."
--- Assumes nothing.
 use Prim.Native.Nat.{ℕ, suc, _<_}
 use mathlib.Core.Path.{_≡_}
 use lib.ListN.{length}

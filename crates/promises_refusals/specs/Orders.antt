@@ -1,5 +1,4 @@
 -- What the check of an accepted factor against pair orders answers: 2, 3 and 13 in the words of the theory, with their places.
--- Assumes nothing.
 use Prim.Native.Nat.{ℕ, _≤_, _<_}
 use mathlib.Core.Path.{_≡_}
 use mathlib.Core.List.{List}

@@ -1,6 +1,5 @@
 -- What a factor from composed rows is answered with, by document 01's numbers: "When an answer is an enum, a definition sets out this paper's number and
 -- values for each of its cases. The promises use that definition."
--- Assumes nothing.
 use Prim.Native.Nat.{ℕ, _+_, _*_, _≤_, _<_}
 use mathlib.Core.Path.{_≡_}
 use mathlib.Core.Logic.{_⊎_}

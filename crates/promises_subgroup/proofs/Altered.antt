@@ -1,5 +1,4 @@
 -- `from_generators` over any buffer, altered or not: it is the build of the steps that are read, or a product is refused by 17, and everything is zero.
--- Assumes nothing.
 use Prim.Native.Nat.{ℕ, _+_, _*_, _≤_}
 use mathlib.Core.Path.{_≡_, refl, sym, ap, _∙_, subst}
 use mathlib.Core.Logic.{_⊎_, inl, inr}

@@ -1,6 +1,5 @@
 -- `from_predicate` over any buffer, altered or not: what is accepted is an accepted factor, by at most eight generators; and by what it is refused once it has
 -- started.
--- Assumes nothing.
 use Prim.Native.Nat.{ℕ, zero, suc, _+_, _≤_}
 use mathlib.Core.Path.{_≡_, refl, sym, ap, _∙_, subst}
 use mathlib.Core.Logic.{_⊎_, inl, inr}

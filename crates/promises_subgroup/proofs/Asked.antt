@@ -1,5 +1,4 @@
 -- The answers of the questions are those of the index formulas; a subgroup as it was made is known, and so is its product with a further group.
--- Assumes nothing.
 use Prim.Native.Nat.{ℕ, _+_, _*_, _/_, _%_, _≤_, _<_}
 use mathlib.Core.Path.{_≡_, refl, sym, ap, _∙_, subst}
 use mathlib.Core.Bool.{Bool, true, false, _&&_}

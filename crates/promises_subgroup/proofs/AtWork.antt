@@ -1,5 +1,4 @@
 -- `from_generators` seen at work: the group of two elements as a subgroup of itself, in buffers that are longer than they need to be.
--- Assumes nothing.
 use Prim.Native.Nat.{ℕ}
 use mathlib.Core.Path.{_≡_, refl}
 use mathlib.Core.List.{List, [], _∷_, _++_}

@@ -1,5 +1,4 @@
 -- `from_generators` in its buffers: refused with nothing touched, or the build put back; what an accepted call gives; and when it is accepted.
--- Assumes nothing.
 use Prim.Native.Nat.{ℕ, _+_, _*_, _≤_, _<_, zero-le}
 use mathlib.Core.Path.{_≡_, refl, sym, ap, _∙_, subst}
 use mathlib.Core.Logic.{_↔_}

@@ -1,5 +1,4 @@
 -- The whole of it for factors in a table: an accepted subgroup of a product, with other factors below and above.
--- Assumes nothing.
 use Prim.Native.Nat.{ℕ, _+_, _*_, _<_, _≤_}
 use mathlib.Core.Path.{_≡_}
 use mathlib.Core.List.{List}

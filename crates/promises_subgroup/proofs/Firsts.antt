@@ -1,6 +1,5 @@
 -- Which predicates are accepted, by the builds alone: exactly where there are elements to be chosen and every build on the way accepts. The elements that may
 -- be chosen below x are the first ones of those that are chosen in the end.
--- Assumes nothing.
 use Prim.Native.Nat.{ℕ, zero, suc, _+_, _<_, _≤_}
 use mathlib.Core.Path.{_≡_, refl, sym, _∙_, ap, subst}
 use mathlib.Core.Logic.{_⊎_, inl, inr}

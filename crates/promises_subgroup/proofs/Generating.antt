@@ -1,5 +1,4 @@
 -- The generators of a subgroup as it was made, asked of it, are the elements that it was made by.
--- Assumes nothing.
 use Prim.Native.Nat.{ℕ, _-_, _/_, _%_, _<_, zero-le}
 use mathlib.Core.Path.{_≡_, refl, sym, ap, _∙_, subst}
 use mathlib.Core.List.{List, []}

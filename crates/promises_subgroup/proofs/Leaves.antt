@@ -1,6 +1,5 @@
 -- What a refused `from_generators` or `from_predicate` leaves, on every input, whatever the handles and the buffers hold: with wrong arguments every buffer as it
 -- was, else exactly the needed stretches and maps zero; and by which numbers in each case.
--- Assumes nothing.
 use Prim.Native.Nat.{ℕ, _+_, _*_, _≤_, _<_}
 use mathlib.Core.Path.{_≡_, refl, sym, ap, _∙_, subst}
 use mathlib.Core.Logic.{_⊎_, inl, inr}

@@ -1,5 +1,4 @@
 -- A refused `from_generators` that has started leaves zeros in its needed stretches. A numbering keeps the lengths of its lists, whatever the source says.
--- Assumes nothing.
 use Prim.Native.Nat.{ℕ, zero, suc, _+_, _≤_}
 use mathlib.Core.Path.{_≡_, refl, sym, ap, _∙_}
 use mathlib.Core.Bool.{Bool, true, false}

@@ -1,6 +1,5 @@
 -- A subgroup as `from_generators` or `from_predicate` made it is known by its maps; so the questions answer by the index formulas, here and in every product with
 -- further groups.
--- Assumes nothing.
 use Prim.Native.Nat.{ℕ, _*_, _≤_}
 use mathlib.Core.Path.{_≡_, sym, _∙_, subst}
 use mathlib.Core.Bool.{true}

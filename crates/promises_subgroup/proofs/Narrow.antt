@@ -1,5 +1,4 @@
 -- A build in a stretch that is longer than it needs: its first part, as long as is needed, holds the same by itself.
--- Assumes nothing.
 use Prim.Native.Nat.{ℕ, _+_, _*_, _-_, _≤_}
 use mathlib.Core.Path.{_≡_, sym, ap, _∙_}
 use mathlib.Core.List.{List, _++_}

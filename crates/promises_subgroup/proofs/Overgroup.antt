@@ -1,5 +1,4 @@
 -- The overgroup as a product of accepted factors: its `compose` answers the product's operation. And what an accepted build by generators gives there.
--- Assumes nothing.
 use Prim.Native.Nat.{ℕ, _+_, _*_, _<_, _≤_}
 use mathlib.Core.Path.{_≡_, subst}
 use mathlib.Core.Logic.{_↔_}

@@ -1,6 +1,5 @@
 -- The maps of the index formulas carry composition, in the direct product of what is below, the factor, and what is above. And the left and the right
 -- product of a pair of maps are the direct product's.
--- Assumes nothing.
 use Prim.Native.Nat.{ℕ, _+_, _*_, _/_, _%_, _<_, _≤_}
 use mathlib.Core.Path.{_≡_, refl, sym, _∙_, ap}
 use mathlib.Core.List.{List, [], _∷_, _++_}

@@ -1,5 +1,4 @@
 -- Every question about a subgroup is answered or refused by one of its numbers, on every input. Each definition is gone through branch by branch.
--- Assumes nothing.
 use Prim.Native.Nat.{ℕ, _-_, _/_, _%_}
 use mathlib.Core.Path.{_≡_, refl}
 use mathlib.Core.Bool.{Bool, true, false, _&&_}

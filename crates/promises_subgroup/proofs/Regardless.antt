@@ -1,6 +1,5 @@
 -- The steps that a call reads in whatever buffer, altered or not: they stay in the overgroup, or are refused by 17; and an accepted build of them, put back, is an
 -- accepted factor with its maps.
--- Assumes nothing.
 use Prim.Native.Nat.{ℕ, _+_, _*_, _/_, _%_, _≤_, _<_}
 use mathlib.Core.Path.{_≡_, refl, sym, ap, _∙_, subst}
 use mathlib.Core.Logic.{_⊎_, inl, inr}

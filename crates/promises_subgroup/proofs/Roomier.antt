@@ -1,5 +1,4 @@
 -- More room changes nothing of what is chosen: where the predicate form is accepted, it is with builds that accept more, by the same elements.
--- Assumes nothing.
 use Prim.Native.Nat.{ℕ, zero, suc, _+_, _<_, _≤_}
 use mathlib.Core.Path.{_≡_, refl, sym, _∙_, ap, subst}
 use mathlib.Core.Logic.{inl, inr}

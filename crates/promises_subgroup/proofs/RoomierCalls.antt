@@ -1,6 +1,5 @@
 -- More room changes nothing: a subgroup that is accepted is accepted with at least that room in any buffers that are not short, with as many elements, the
 -- same numbers in its stretch, and the same maps.
--- Assumes nothing.
 use Prim.Native.Nat.{ℕ, _+_, _*_, _-_, _≤_, _<_}
 use mathlib.Core.Path.{_≡_, refl, sym, ap, _∙_, subst}
 use mathlib.Core.List.{List, []}

@@ -1,5 +1,4 @@
 -- With more room, and longer stretches, the predicate form chooses the same elements and is accepted.
--- Assumes nothing.
 use Prim.Native.Nat.{ℕ, _+_, _*_, _<_, _≤_}
 use mathlib.Core.Path.{_≡_, refl, sym, _∙_, ap, subst}
 use mathlib.Core.List.{List, []}

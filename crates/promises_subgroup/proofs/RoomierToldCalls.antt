@@ -1,6 +1,5 @@
 -- More room changes nothing of what a predicate tells: `from_predicate` with at least that room, in any buffers that are not short, is accepted by the same
 -- elements, with the same numbers in its stretch, and the same maps.
--- Assumes nothing.
 use Prim.Native.Nat.{ℕ, _+_, _*_, _-_, _≤_, _<_}
 use mathlib.Core.Path.{_≡_, refl, sym, ap, _∙_}
 use mathlib.Core.List.{List, []}

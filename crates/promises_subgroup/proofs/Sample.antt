@@ -1,5 +1,4 @@
 -- Definitions seen at work: predicates on the numbers modulo 6.
--- Assumes nothing.
 use Prim.Native.Nat.{ℕ, _+_, _%_}
 use mathlib.Core.Path.{_≡_, refl}
 use mathlib.Core.List.{List, [], _∷_}

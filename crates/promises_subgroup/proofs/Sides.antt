@@ -1,6 +1,5 @@
 -- A subgroup as it was made, by generators or by a predicate, with accepted factors multiplied on below and above: the index formula carries the direct product
 -- of the subgroup's side to that of the overgroup's.
--- Assumes nothing.
 use Prim.Native.Nat.{ℕ, _*_}
 use mathlib.Core.Path.{_≡_}
 use mathlib.Core.List.{List}

@@ -1,5 +1,4 @@
 -- A factor with n generators in a stretch as long as k of them need, n ≤ k: its own stretch is the first part, and its handle fits.
--- Assumes nothing.
 use Prim.Native.Nat.{ℕ, _+_, _*_, _-_, _≤_, _<_}
 use mathlib.Core.Path.{_≡_, ap, _∙_}
 use mathlib.Core.Bool.{true}

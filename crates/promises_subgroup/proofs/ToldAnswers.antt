@@ -1,6 +1,5 @@
 -- `from_predicate` over factors that are not altered answers a number with its places exactly in the case that is set out for it. The choosing ends in one of
 -- the ways, and in one only: what is chosen below x are the first of those that are chosen below a later one.
--- Assumes nothing.
 use Prim.Native.Nat.{ℕ, _+_, _*_, _≤_, _<_}
 use mathlib.Core.Path.{_≡_, refl, sym, ap, _∙_, subst}
 use mathlib.Core.Logic.{_↔_, _⊎_, inl, inr}

@@ -1,5 +1,4 @@
 -- `from_predicate` in its buffers: refused with nothing touched, or the builds put back; and what an accepted call gives.
--- Assumes nothing.
 use Prim.Native.Nat.{ℕ, _+_, _*_, _≤_, _<_}
 use mathlib.Core.Path.{_≡_, refl, sym, ap, _∙_, subst}
 use mathlib.Core.Logic.{_↔_}

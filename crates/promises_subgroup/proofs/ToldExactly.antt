@@ -1,5 +1,4 @@
 -- `from_predicate` is accepted exactly when at most eight elements are chosen and each build on the way can be made.
--- Assumes nothing.
 use Prim.Native.Nat.{ℕ, _+_, _*_, _<_, _≤_}
 use mathlib.Core.Path.{_≡_, refl, sym, _∙_, ap, subst}
 use mathlib.Core.Logic.{_↔_}

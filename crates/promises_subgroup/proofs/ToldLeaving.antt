@@ -1,5 +1,4 @@
 -- A refused `from_predicate` that has started leaves zeros in its needed stretches. Every build keeps the lengths of its lists, or leaves zeros.
--- Assumes nothing.
 use Prim.Native.Nat.{ℕ, zero, suc, _+_}
 use mathlib.Core.Path.{_≡_, refl, sym, ap, _∙_}
 use mathlib.Core.Bool.{Bool, true, false}

@@ -1,6 +1,5 @@
 -- What is answered about a subgroup depends on its handles, the needed part of its maps and the stretches only; and a subgroup that is made depends on the
 -- stretches of its overgroup's factors only.
--- Assumes nothing.
 use Prim.Native.Nat.{ℕ, _-_, _/_, _≤_, _<_}
 use mathlib.Core.Path.{_≡_, refl, sym, ap, _∙_, fun-ext}
 use mathlib.Core.Logic.{_↔_}

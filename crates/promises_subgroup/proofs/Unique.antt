@@ -1,6 +1,5 @@
 -- Each call on subgroups has one answer and leaves one thing in each lent buffer, by its own contract. Every contract is an equation with a definition over
 -- the values at entry, so two outcomes that meet it are both that.
--- Assumes nothing.
 use mathlib.Core.Path.{sym, _∙_}
 use Rattle.subgroup_build.specs.Lent.{subgrouping}
 use Rattle.subgroup.proofs.from_generators.Kinds as from-generators-kinds

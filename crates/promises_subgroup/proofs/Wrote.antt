@@ -1,6 +1,5 @@
 -- What `from_generators` and `from_predicate` never give and never write, on every input: by which numbers they are not refused, that no factor comes with a
 -- refusal, that of each buffer at most the needed stretch is written, and so that a factor elsewhere in the table's buffer is as it was.
--- Assumes nothing.
 use Prim.Native.Nat.{ℕ}
 use mathlib.Core.Path.{_≡_, refl, sym, ap, _∙_}
 use mathlib.Core.Bool.{false}

@@ -1,6 +1,5 @@
 -- What `from_generators` and `from_predicate` answer whatever the overgroup's buffer holds: its stretches may have been altered since they were accepted.
 -- Document 01: "then 17 in what they read (13 or 17 as met)", and "Demand 1 and 17 need no premise".
--- Assumes nothing.
 use Prim.Native.Nat.{ℕ, _+_, _*_, _≤_, _<_}
 use mathlib.Core.Path.{_≡_}
 use mathlib.Core.Bool.{true}

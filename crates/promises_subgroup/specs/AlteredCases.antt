@@ -1,6 +1,5 @@
 -- Overgroups that were altered, for each number by which a call that has started may be refused, but for 6 (a word over 4,096 is too long to be computed
 -- here). So no shorter list of numbers would do: `generatorsAfter`, `predicateAfter`.
--- Assumes nothing.
 use Prim.Native.Nat.{ℕ, suc, _+_, _%_}
 use mathlib.Core.Path.{_≡_}
 use mathlib.Core.List.{List, [], _∷_, _++_}

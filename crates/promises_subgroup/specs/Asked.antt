@@ -1,5 +1,4 @@
 -- What the questions to a subgroup and its maps answer. Document 01: "the same goes for a subgroup's maps": they come unaltered from the call that accepted it.
--- Assumes nothing.
 use Prim.Native.Nat.{ℕ, _≤_, _<_}
 use mathlib.Core.Path.{_≡_}
 use mathlib.Core.Bool.{true}

@@ -1,5 +1,4 @@
 -- What two maps between a subgroup and its overgroup have to be.
--- Assumes nothing.
 use Prim.Native.Nat.{ℕ, _<_, _≤_}
 use mathlib.Core.Path.{_≡_}
 use Rattle.build_numbering.specs.Renumber as appear

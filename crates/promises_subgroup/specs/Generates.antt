@@ -1,5 +1,4 @@
 -- What `from_generators` gives where it is accepted, and when it is.
--- Assumes nothing.
 use Prim.Native.Nat.{ℕ, _+_, _*_, _≤_, _<_}
 use mathlib.Core.Path.{_≡_}
 use mathlib.Core.Bool.{true}

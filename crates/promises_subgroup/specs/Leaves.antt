@@ -1,6 +1,5 @@
 -- What a refused `from_generators` or `from_predicate` leaves, in the words of every call that makes a factor (`Leaves` of promises): its four lent buffers with
 -- their needed stretches, and the numbers that may be given before the build starts and afterwards.
--- Assumes nothing.
 use Prim.Native.Nat.{ℕ}
 use mathlib.Core.List.{List, [], _∷_}
 use Rattle.build_lending.specs.Lending.{workNeed}

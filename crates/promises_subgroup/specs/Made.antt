@@ -1,5 +1,4 @@
 -- What an accepted build of a subgroup by a list of elements gives, over any group on 0 .. M-1.
--- Assumes nothing.
 use Prim.Native.Nat.{ℕ, _+_, _*_, _≤_, _<_}
 use mathlib.Core.Path.{_≡_}
 use mathlib.Core.List.{List}

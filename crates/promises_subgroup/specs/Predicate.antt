@@ -1,5 +1,4 @@
 -- The elements that a predicate chooses, what they generate, and how the choosing ends.
--- Assumes nothing.
 use Prim.Native.Nat.{ℕ, _<_, _≤_}
 use mathlib.Core.Path.{_≡_}
 use mathlib.Core.Logic.{_⊎_}

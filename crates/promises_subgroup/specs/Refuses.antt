@@ -1,7 +1,6 @@
 -- By which numbers the questions about a subgroup and the products with it are refused, on every input: whatever the handles, the counts, the buffers, the
 -- maps and the arguments are. Document 01: "Calls on handles check 17 in the handle, then 14, then 15, then 1 to 4, then 17 in what they read". "A refused
 -- question writes nothing": none of these calls is lent a buffer that it may write to.
--- Assumes nothing.
 use Prim.Native.Nat.{ℕ}
 use mathlib.Core.Path.{_≡_}
 use mathlib.Core.List.{List, [], _∷_}

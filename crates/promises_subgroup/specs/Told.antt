@@ -1,5 +1,4 @@
 -- What an accepted predicate form gives, over any group on 0 .. M-1.
--- Assumes nothing.
 use Prim.Native.Nat.{ℕ, _+_, _*_, _≤_, _<_}
 use mathlib.Core.Path.{_≡_}
 use mathlib.Core.Logic.{_↔_}

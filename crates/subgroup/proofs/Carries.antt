@@ -1,5 +1,4 @@
 -- The map of the index formulas in code: its numbers are within 32 bits, and one law for each answer.
--- Assumes nothing.
 use Prim.Native.Nat.{ℕ, _+_, _*_, _/_, _%_, _≤_, _<_}
 use mathlib.Core.Path.{_≡_, refl, _∙_, subst}
 use mathlib.Core.List.{List}

@@ -1,5 +1,4 @@
 -- The index formulas: splitting and joining undo each other, within their ranges.
--- Assumes nothing.
 use Prim.Native.Nat.{ℕ, _+_, _*_, _/_, _%_, _<_}
 use mathlib.Core.Path.{_≡_, _∙_}
 use native.Mathlib.Nat.{mod-add-div, mul-comm, add-comm}

@@ -1,5 +1,4 @@
 -- Laws of the outline: one for each answer of the functions on it, and that its answers are those by the handles.
--- Assumes nothing.
 use Prim.Native.Nat.{ℕ, _*_, _≤_, _<_}
 use mathlib.Core.Path.{_≡_, refl, sym, ap, _∙_, subst}
 use mathlib.Core.Bool.{Bool, true, false}

@@ -1,6 +1,5 @@
 -- The index formulas of a product in which a subgroup stands for some of the factors. subgroup_action.rs: `factor_indices`, `unfactor_indices`,
 -- `subgroup_to_overgroup`, `overgroup_to_subgroup`.
--- Assumes nothing.
 use Prim.Native.Nat.{ℕ, _+_, _*_, _/_, _%_}
 use lib.Dec.{eqb}
 use Rattle.egg.specs.Table.{pick}

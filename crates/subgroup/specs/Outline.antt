@@ -1,5 +1,4 @@
 -- The questions by the outline of a subgroup: what its handles show together, and no handle.
--- Assumes nothing.
 use Prim.Native.Nat.{ℕ, _*_, _≤_}
 use mathlib.Core.List.{List}
 use mathlib.Core.Bool.{Bool, _&&_}

@@ -1,5 +1,4 @@
 -- The questions to a subgroup and its maps. "Calls on handles check 17 in the handle, then 14, then 15, .. then 17 in what they read."
--- Assumes nothing.
 use Prim.Native.Nat.{ℕ, _/_, _%_}
 use mathlib.Core.List.{List}
 use lib.ListN.{length, getD}

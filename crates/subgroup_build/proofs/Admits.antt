@@ -1,5 +1,4 @@
 -- Laws of the refusals before a build, one for each answer; and what is known where it goes on.
--- Assumes nothing.
 use Prim.Native.Nat.{ℕ, _≤_, _<_}
 use mathlib.Core.Path.{_≡_, refl, sym, ap, _∙_}
 use mathlib.Core.Bool.{Bool, true, false}

@@ -1,5 +1,4 @@
 -- A build of a subgroup in parts of its four buffers: one law for each answer of the call above.
--- Assumes nothing.
 use Prim.Native.Nat.{ℕ, _+_, _-_, _≤_, _<_}
 use mathlib.Core.Path.{_≡_, refl, ap, _∙_}
 use mathlib.Core.Bool.{true, false}

@@ -1,5 +1,4 @@
 -- `from_generators`: the refusals in document 01's order, then the numbering of the overgroup's products.
--- Assumes nothing.
 use Prim.Native.Nat.{ℕ}
 use mathlib.Core.List.{List}
 use mathlib.Core.Bool.{Bool, _&&_}

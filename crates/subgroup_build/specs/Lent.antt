@@ -1,5 +1,4 @@
 -- What a call that makes a subgroup answers and leaves in its four lent buffers, and when they are long enough.
--- Assumes nothing.
 use Prim.Native.Nat.{ℕ, _+_}
 use mathlib.Core.List.{List, []}
 use mathlib.Core.Bool.{Bool, _&&_}

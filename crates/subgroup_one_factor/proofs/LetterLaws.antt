@@ -1,5 +1,4 @@
 -- A letter is found, or none is; a list of letters grows by one; a product by a letter is the product.
--- Assumes nothing.
 use Prim.Native.Nat.{ℕ, _+_, _-_, _%_, _≤_, _<_}
 use mathlib.Core.Path.{_≡_, refl, sym, ap, _∙_}
 use mathlib.Core.List.{List, [], _∷_}

@@ -1,6 +1,5 @@
 -- Generators of one letter. Document 01: "`compose` walks the word of the second from the first": of one letter, that is one step. The definitions have no
 -- letters: a product that comes by one is proved to be the one that they give.
--- Assumes nothing.
 use Prim.Native.Nat.{ℕ, _-_, _%_, _≤_, _<_}
 use mathlib.Core.Path.{_≡_}
 use mathlib.Core.List.{List}

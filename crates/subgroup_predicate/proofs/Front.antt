@@ -1,6 +1,5 @@
 -- The builds of a predicate in the front of the work. A build by numbering takes no more elements than there is room, so that a work as long as the room serves as well as a longer one: both give the same
 -- answer, table and maps, and each work is zero at the end. So all builds may be lent the front, if the whole is cleared once.
--- Assumes nothing.
 use Prim.Native.Nat.{ℕ, zero, suc, _+_, _*_, _≤_}
 use mathlib.Core.Path.{_≡_, refl, sym, ap, _∙_}
 use mathlib.Core.Bool.{Bool, true, false}

@@ -1,5 +1,4 @@
 -- The predicate form: where it starts, its verdict on the handles, and the outcome in its buffers.
--- Assumes nothing.
 use Prim.Native.Nat.{ℕ, _-_, _≤_, _<_}
 use mathlib.Core.Path.{_≡_, refl, sym, ap, _∙_}
 use mathlib.Core.Bool.{Bool, true, false}

@@ -1,6 +1,5 @@
 -- The subgroup that a predicate tells. subgroup_action.rs, `from_subgroup_predicate`: from the subgroup of one element on, element by element of the
 -- overgroup, as `chooses` of `subgroup_predicate_choices` says. Document 01: "rebuilt as 005 does, the first refusal standing".
--- Assumes nothing.
 use Prim.Native.Nat.{ℕ}
 use mathlib.Core.Bool.{_&&_}
 use mathlib.Core.List.{List, []}

@@ -1,7 +1,6 @@
 -- The choice of generators by a predicate. subgroup_action.rs, `from_subgroup_predicate`: element by element of the overgroup, one that is not in the map so far
 -- and whose byte is not 0 becomes the next generator, and the subgroup is built again. Document 01: "rebuilt as 005 does, the first refusal standing";
 -- 15 for "a predicate that needs a ninth generator".
--- Assumes nothing.
 use Prim.Native.Nat.{ℕ, zero, suc, _+_, _≤_}
 use mathlib.Core.Path.{_≡_}
 use mathlib.Core.Bool.{Bool, not, _&&_}

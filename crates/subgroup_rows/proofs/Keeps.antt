@@ -1,5 +1,4 @@
 -- What a place leaves as it was: an element that has a number keeps it, and there are no fewer.
--- Assumes nothing.
 use Prim.Native.Nat.{ℕ, _≤_, _<_}
 use mathlib.Core.Path.{_≡_, refl, sym, ap, _∙_}
 use mathlib.Core.Bool.{Bool, true, false}

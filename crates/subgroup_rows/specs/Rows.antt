@@ -1,5 +1,4 @@
 -- Where the rows of a subgroup's table lead: the overgroup's products.
--- Assumes nothing.
 use Prim.Native.Nat.{ℕ}
 use mathlib.Core.List.{List}
 use lib.ListN.{getD}

@@ -1,5 +1,4 @@
 -- The generators of a subgroup's product: their numbers are within 32 bits and are elements, and one law for each part that has one.
--- Assumes nothing.
 use Prim.Native.Nat.{ℕ, _+_, _*_, _-_, _≤_, _<_}
 use mathlib.Core.Path.{_≡_, sym, ap, _∙_, subst}
 use mathlib.Core.Bool.{Bool, true, false, _&&_}

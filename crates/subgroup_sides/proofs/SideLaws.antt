@@ -1,5 +1,4 @@
 -- Laws of the refusals before a map is read, one for each answer; what is known where a question goes on; and the products with further factors.
--- Assumes nothing.
 use Prim.Native.Nat.{ℕ, suc, _+_, _≤_, _<_}
 use mathlib.Core.Path.{_≡_, refl, sym, _∙_}
 use mathlib.Core.Bool.{Bool, true, false, _&&_}

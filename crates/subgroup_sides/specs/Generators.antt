@@ -1,5 +1,4 @@
 -- The generators of the subgroup's side.
--- Assumes nothing.
 use Prim.Native.Nat.{ℕ, _*_, _-_}
 use mathlib.Core.List.{List}
 use lib.Dec.{ltb}

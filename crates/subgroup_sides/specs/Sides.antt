@@ -1,5 +1,4 @@
 -- The two sides of a subgroup's value, the refusals that come before any reading of a map, and the products with further factors.
--- Assumes nothing.
 use Prim.Native.Nat.{ℕ, _+_}
 use mathlib.Core.List.{List, [], _∷_, _++_}
 use mathlib.Core.Bool.{Bool, _&&_}

@@ -1,5 +1,4 @@
 -- Who says "some group" may mean a group on any carrier: a table has the right steps of one just if it has those of a group on 0 .. N-1.
--- Assumes nothing.
 use mathlib.Core.Path.{_≡_, refl}
 use mathlib.Core.Logic.{_↔_}
 use Prim.Native.Nat.{ℕ, _<_, Fin}

@@ -1,5 +1,4 @@
 -- A column in which each element has a predecessor is a permutation, and in a table of such columns each element is arrived at n times.
--- Assumes nothing.
 use mathlib.Core.Path.{_≡_, refl, sym, ap}
 use mathlib.Core.Logic.{⊎-elim}
 use mathlib.Core.Bool.{Bool}

@@ -1,5 +1,4 @@
 -- If the table's steps are multiplication on the right in some group, the check passes, and the group is the one that `compose` describes.
--- Assumes nothing.
 use mathlib.Core.Path.{_≡_, refl, sym}
 use mathlib.Core.List.{List}
 use Prim.Native.Nat.{ℕ, zero, suc, _<_}

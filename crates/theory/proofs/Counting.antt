@@ -1,5 +1,4 @@
 -- What the numbering rule gives: a table in which each element has the place where it first appears.
--- Assumes nothing.
 use mathlib.Core.Path.{_≡_, refl, _∙_}
 use mathlib.Core.Logic.{⊎-elim}
 use Prim.Native.Nat.{ℕ, _<_, _≤_}

@@ -1,5 +1,4 @@
 -- How the entries of a table are deduced from the relations, as in coset enumeration.
--- Assumes nothing.
 use mathlib.Core.Path.{_≡_}
 use mathlib.Core.List.{List, [], _∷_, _++_, append-nil, append-assoc}
 use Prim.Native.Nat.{ℕ, _<_}

@@ -1,5 +1,4 @@
 -- The check decides whether some group has the table, and which group that is.
--- Assumes nothing.
 use mathlib.Core.Path.{_≡_}
 use mathlib.Core.Logic.{_↔_, Iff·trans}
 use mathlib.Core.List.{List}

@@ -1,5 +1,4 @@
 -- Two tables of document 01, decided by the tests that compute, and two words that are equal under an order.
--- Assumes nothing.
 use mathlib.Core.Path.{_≡_, refl}
 use mathlib.Core.Bool.{not}
 use mathlib.Core.List.{[], _∷_}

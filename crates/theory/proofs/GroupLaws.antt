@@ -1,5 +1,4 @@
 -- What is used of groups on 0 .. N-1.
--- Assumes nothing.
 use mathlib.Core.Path.{_≡_, refl, sym, _∙_, ap}
 use Prim.Native.Nat.{ℕ, zero, suc, _+_, _*_, _/_, _%_, _<_}
 use native.Mathlib.Nat.{add-zero, add-suc, mul-zero, mul-suc}

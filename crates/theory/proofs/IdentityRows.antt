@@ -1,5 +1,4 @@
 -- Numbered by first appearance, a table has the identity row 1..n just if its generators are distinct and none is the identity.
--- Assumes nothing.
 use mathlib.Core.Path.{_≡_, refl, sym, _∙_}
 use mathlib.Core.Logic.{_↔_, ⊎-elim}
 use Prim.Native.Nat.{ℕ, zero, suc, _<_, _≤_}

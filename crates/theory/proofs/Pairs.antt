@@ -1,5 +1,4 @@
 -- The list of pair orders: each pair has its own place in it, and it is n(n-1)/2 long.
--- Assumes nothing.
 use mathlib.Core.Path.{_≡_, refl, ap}
 use Prim.Native.Nat.{ℕ, zero, suc, _+_, _*_, _-_, _/_, _<_, _≤_}
 use native.Mathlib.Nat.{le-refl, mul-sub, div-eq-of-eq-mul-left}

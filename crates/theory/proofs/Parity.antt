@@ -1,5 +1,4 @@
 -- Every relation has an even number of letters, so words that are equal under the relations are both of even or both of odd length.
--- Assumes nothing.
 use Prim.Native.Nat.{ℕ, zero, suc, _+_, _*_, _%_}
 use mathlib.Core.Path.{_≡_, refl, sym, ap, _∙_}
 use mathlib.Core.List.{List, _++_}

@@ -1,6 +1,5 @@
 -- Where the columns are permutations and no group has the table, viewers part, and only there: a place at which the check fails is a generator's element and
 -- turns that part them.
--- Assumes nothing.
 use mathlib.Core.Path.{_≡_, sym, ap, _∙_}
 use mathlib.Core.Logic.{_↔_, ⊎-elim}
 use mathlib.Core.List.{List, [], _∷_, _++_}

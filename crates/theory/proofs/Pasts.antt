@@ -1,5 +1,4 @@
 -- A table in which the relations hold and each word leads to its element has, at every place that a run visited, the number that the numbering rule asks for.
--- Assumes nothing.
 use Prim.Native.Nat.{ℕ, suc, _+_, _<_, _≤_}
 use mathlib.Core.Path.{_≡_, refl, sym, ap, _∙_}
 use mathlib.Core.Logic.{⊎-elim}

@@ -1,5 +1,4 @@
 -- Every element of a group on 0 .. N-1 has a period, which is at most N.
--- Assumes nothing.
 use mathlib.Core.Path.{_≡_}
 use mathlib.Core.Bool.{Bool}
 use Prim.Native.Nat.{ℕ, zero, suc, _+_, _-_, _<_, _≤_}

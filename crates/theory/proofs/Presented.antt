@@ -1,5 +1,4 @@
 -- The group of a table is the one that the relations present: two words lead to the same element just if they are equal up to the relations.
--- Assumes nothing.
 use mathlib.Core.Path.{_≡_, refl, sym, _∙_}
 use mathlib.Core.Logic.{_↔_}
 use mathlib.Core.List.{List, _++_, append-nil, append-assoc}

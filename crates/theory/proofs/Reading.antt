@@ -1,6 +1,5 @@
 -- The reading that computes follows the numbering rule: it counts N elements just if the table has N rows by the rule, and refuses by 7 just where
 -- the rule first fails.
--- Assumes nothing.
 use mathlib.Core.Path.{_≡_, refl, _∙_, ap, subst}
 use mathlib.Core.Logic.{_↔_}
 use Prim.Native.Nat.{ℕ, zero, suc, _+_, _*_, _-_, _<_, _≤_}

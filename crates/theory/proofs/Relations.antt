@@ -1,5 +1,4 @@
 -- What is used of relators, and of words that are equal under the relations.
--- Assumes nothing.
 use mathlib.Core.Path.{_≡_}
 use mathlib.Core.Logic.{_↔_}
 use mathlib.Core.List.{List, _++_, append-assoc}

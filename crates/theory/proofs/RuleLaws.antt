@@ -1,5 +1,4 @@
 -- Further laws of the numbering rule: what it records as far as it has held, that a place's count is one, and that what is not in the table has no say.
--- Assumes nothing.
 use Prim.Native.Nat.{ℕ, suc, _≤_, _<_}
 use mathlib.Core.Path.{_≡_, refl, sym, ap, _∙_}
 use mathlib.Core.Logic.{⊎-elim}

@@ -1,5 +1,4 @@
 -- The recorded word of an element is the first of all the words that lead to it, by length and then as in a dictionary.
--- Assumes nothing.
 use mathlib.Core.Path.{_≡_, refl, sym}
 use mathlib.Core.Logic.{_⊎_, inl, inr}
 use mathlib.Core.List.{List, [], _∷_, _++_, append-nil, append-assoc}

@@ -1,5 +1,4 @@
 -- If the check passes, the composition is a group's, and the table's steps are multiplication on the right.
--- Assumes nothing.
 use mathlib.Core.Path.{_≡_, refl, sym, ap}
 use mathlib.Core.List.{List, _∷_, _++_}
 use Prim.Native.Nat.{ℕ, _<_}

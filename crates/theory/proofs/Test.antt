@@ -1,5 +1,4 @@
 -- The test that computes is exact: by the numbering rule, it passes just if some group has the table.
--- Assumes nothing.
 use mathlib.Core.Logic.{_↔_}
 use mathlib.Core.List.{List}
 use Prim.Native.Nat.{ℕ}

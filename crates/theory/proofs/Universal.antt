@@ -1,5 +1,4 @@
 -- The textbook's other account of a group that relations present: it goes over, in one way only, into every group in which the relations hold.
--- Assumes nothing.
 use mathlib.Core.Path.{_≡_, refl, sym, _∙_}
 use mathlib.Core.List.{List, [], _∷_, _++_}
 use Prim.Native.Nat.{ℕ, _<_}

@@ -1,5 +1,4 @@
 -- The definitions as a program meets them: words and tables that are written out in lists.
--- Assumes nothing.
 use mathlib.Core.Path.{_≡_}
 use mathlib.Core.List.{List, [], _∷_}
 use Prim.Native.Nat.{ℕ, zero, suc, _+_, _*_, _<_}

@@ -1,5 +1,4 @@
 -- Groups on any carrier whatever, and the tables that are one of them numbered: who says "some group" means any group.
--- Assumes nothing.
 use mathlib.Core.Path.{_≡_}
 use mathlib.Core.List.{List, [], _∷_}
 use Prim.Native.Nat.{ℕ, _<_}

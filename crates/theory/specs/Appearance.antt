@@ -1,5 +1,4 @@
 -- Where an element first appears, when a table is read row by row: from there come its parent, its last generator and its recorded word.
--- Assumes nothing.
 use mathlib.Core.Path.{_≡_}
 use mathlib.Core.List.{List}
 use Prim.Native.Nat.{ℕ, _<_}

@@ -1,5 +1,4 @@
 -- Tests and sums over the numbers below a bound, as they compute.
--- Assumes nothing.
 use mathlib.Core.Bool.{Bool, true, false, _&&_}
 use Prim.Native.Nat.{ℕ, zero, suc, _+_}
 

@@ -1,5 +1,4 @@
 -- Groups on the numbers 0 .. N-1 with identity 0, and the tables that are right multiplication by the generators.
--- Assumes nothing.
 use mathlib.Core.Path.{_≡_}
 use Prim.Native.Nat.{ℕ, zero, suc, _<_, _≤_}
 use lib.IntN.{ℤ, pos, negsuc}

@@ -1,7 +1,6 @@
 -- The numbering rule: the elements are numbered as they first appear when the table is read row by row.
 -- "At (e,g), in order, a number below the count is set, the count itself is a new element, more is 7.
 -- That numbering, with identity row 1..n, is the numbering rule."
--- Assumes nothing.
 use mathlib.Core.Path.{_≡_}
 use mathlib.Core.Bool.{true, false}
 use Prim.Native.Nat.{ℕ, zero, suc, _<_}

@@ -1,5 +1,4 @@
 -- What goes wrong in a table that no group has: "once they did not" land on one state.
--- Assumes nothing.
 use mathlib.Core.Path.{_≡_}
 use mathlib.Core.List.{List}
 use Prim.Native.Nat.{ℕ, _<_}

@@ -1,5 +1,4 @@
 -- What an enumeration has done so far, said of the words of its elements only: so it stays true whatever steps are set later.
--- Assumes nothing.
 use Prim.Native.Nat.{ℕ, _+_, _<_}
 use mathlib.Core.Path.{_≡_}
 use mathlib.Core.List.{List, [], _∷_, _++_}

@@ -1,5 +1,4 @@
 -- Words under pair orders: the group given by involutions and the orders of their products in pairs (Coxeter and Moser).
--- Assumes nothing.
 use mathlib.Core.Path.{_≡_}
 use mathlib.Core.List.{List, [], _∷_, _++_}
 use Prim.Native.Nat.{ℕ, zero, suc, _+_, _<_}

@@ -1,5 +1,4 @@
 -- The composition and the inverse that a table and its words describe, and the check that they are a group's.
--- Assumes nothing.
 use mathlib.Core.Path.{_≡_}
 use mathlib.Core.List.{List}
 use Prim.Native.Nat.{ℕ, _<_}

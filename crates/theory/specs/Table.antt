@@ -1,6 +1,5 @@
 -- A table: for each element and each generator the element to which that generator leads.
 -- Nothing is said here of groups. Everything is for any n and N.
--- Assumes nothing.
 use mathlib.Core.Path.{_≡_}
 use mathlib.Core.List.{List}
 use Prim.Native.Nat.{ℕ, _+_, _*_, _<_}

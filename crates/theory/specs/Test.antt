@@ -1,5 +1,4 @@
 -- Refusals 11 and 12 as tests that compute, on the table alone.
--- Assumes nothing.
 use mathlib.Core.Bool.{Bool, _&&_}
 use mathlib.Core.List.{List}
 use Prim.Native.Nat.{ℕ, suc}

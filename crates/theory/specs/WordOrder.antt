@@ -1,5 +1,4 @@
 -- Words by length, and those of one length as in a dictionary.
--- Assumes nothing.
 use mathlib.Core.Path.{_≡_}
 use mathlib.Core.Logic.{_⊎_}
 use mathlib.Core.List.{List, _∷_}

@@ -1,5 +1,4 @@
 -- Words, the walks that they describe, and the words that are recorded for the elements.
--- Assumes nothing.
 use mathlib.Core.Path.{_≡_}
 use mathlib.Core.List.{List, [], _∷_, _++_}
 use Prim.Native.Nat.{ℕ, zero, suc, _<_}

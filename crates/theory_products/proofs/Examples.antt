@@ -1,5 +1,4 @@
 -- Cases of document 01: powers in S3, and S3 by Z2.
--- Assumes nothing.
 use mathlib.Core.Path.{_≡_, refl}
 use mathlib.Core.List.{[], _∷_}
 use Prim.Native.Nat.{ℕ, zero, suc, _<_, _≤_}

@@ -1,5 +1,4 @@
 -- The generators of a product of factors whose generators are distinct, and none of them the identity, are so too.
--- Assumes nothing.
 use Prim.Native.Nat.{ℕ, suc, _+_, _*_, _≤_, _<_}
 use mathlib.Core.Path.{_≡_, sym, ap, _∙_}
 use mathlib.Core.List.{List}

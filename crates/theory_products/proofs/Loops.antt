@@ -1,5 +1,4 @@
 -- One turn of a loop over the factors, at the factor f: the stride, what is left to split, the offset and the factor's digits go on as they do in the code.
--- Assumes nothing.
 use mathlib.Core.Path.{_≡_, refl, sym, _∙_, ap}
 use mathlib.Core.List.{List, [], _∷_, _++_}
 use Prim.Native.Nat.{ℕ, zero, suc, _+_, _*_, _/_, _%_, _<_}

@@ -1,5 +1,4 @@
 -- The period of an element of a product is the least common multiple of the periods of its digits.
--- Assumes nothing.
 use mathlib.Core.Path.{_≡_, refl, sym, _∙_, ap}
 use mathlib.Core.Logic.{⊎-elim}
 use mathlib.Core.List.{List}

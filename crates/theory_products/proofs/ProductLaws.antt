@@ -1,5 +1,4 @@
 -- The direct product of groups is a group, with identity 0.
--- Assumes nothing.
 use mathlib.Core.Path.{_≡_, refl, ap, subst₃, fun-ext}
 use mathlib.Core.List.{List, [], _∷_, map}
 use Prim.Native.Nat.{ℕ, zero, suc, _+_, _*_, _/_, _%_, _<_}

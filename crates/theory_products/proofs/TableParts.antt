@@ -1,5 +1,4 @@
 -- An accepted table is a factor whose group, steps and words are in order; by the numbering rule its words are the shortest.
--- Assumes nothing.
 use Prim.Native.Nat.{ℕ}
 use mathlib.Core.List.{List}
 use Rattle.theory.specs.Table.{Table, Columns}

@@ -1,5 +1,4 @@
 -- What is used of the greatest common divisor and the least common multiple.
--- Assumes nothing.
 use mathlib.Core.Path.{_≡_, sym, _∙_, ap}
 use Prim.Native.Nat.{ℕ, zero, suc, _+_, _*_, _/_, _%_, _<_, _≤_, _∣_}
 use native.Mathlib.Nat.{le-refl, mod-lt, dvd-refl, dvd-zero, dvd-mod-iff, dvd-mul-left, dvd-mul-right, dvd-mul-right-of-dvd, dvd-add-iff-right}
