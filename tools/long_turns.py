@@ -2,7 +2,7 @@
 """long_turns.py COMMAND ..: runs COMMAND, and all that it starts, as a batch of work that takes turns of 100 ms.
 
 More checks are started at a time than there are cores, since rt waits for all that it started together. In the few
-milliseconds of an ordinary turn each pushes the others' memory out of the caches (docs/SPEED.md has what that costs). A
+milliseconds of an ordinary turn each pushes the others' memory out of the caches (docs/GATE.md has what that costs). A
 program may ask for longer turns from Linux 6.12 on, and needs no right for it. An older one takes no notice of the length;
 where a system does not know the call at all, COMMAND just runs.
 """
