@@ -1,12 +1,14 @@
-// Each check looks at the places in document 01's order and answers the first refusal. They are total on any contents,
-// so that a build over an altered buffer is refused as well: 17 where a number is out of range.
+// The checks of a table that was built to its end. Each looks at the places in document 01's order and answers the
+// first refusal. They are total on any contents, so that a build over an altered buffer is refused as well: with 17
+// where a number is out of range.
 ghost use mathlib.Core.Path.{_≡_};
 ghost use Rattle.build_checks.specs.Checks.{missingRow, missing, check8, rangeRow, linksOf, ranges, wrongAt, wrongRow, wrong, check-table, wiped, arriveRow, arrivals, countsRight, Checked, check-rest, check-group};
 use egg::GeneratorId;
 use egg::GroupElementId;
 use egg::Verdict;
 
-// 8 in one row: the first generator whose number, from `shift` on, is not known.
+// Refusal 8 in one row: the first generator whose number is not known. The numbers stand in the row from `shift` on,
+// which is 0 for the successors and n for the predecessors.
 fn missing_row(t: &[u32], n: u8, shift: u8, e: GroupElementId) -> Verdict
     ensures { λ r. ⌜ r ≡ missingRow (now (t .entry)) n shift (e .0) ⌝ }
 {
@@ -20,6 +22,7 @@ fn missing_row(t: &[u32], n: u8, shift: u8, e: GroupElementId) -> Verdict
     Verdict::Fine
 }
 
+// Refusal 8 in the successors of the whole table, or, with the shift n, in its predecessors.
 fn missing(t: &[u32], n: u8, count: u32, shift: u8) -> Verdict
     ensures { λ r. ⌜ r ≡ missing (now (t .entry)) n count shift ⌝ }
 {
@@ -34,7 +37,7 @@ fn missing(t: &[u32], n: u8, count: u32, shift: u8) -> Verdict
     Verdict::Fine
 }
 
-// 8: a successor missing, and only then a predecessor.
+// Refusal 8: for a successor that is missing, and only then for a predecessor.
 pub fn check8(t: &[u32], n: u8, count: u32) -> Verdict
     ensures { λ r. ⌜ r ≡ check8 (now (t .entry)) n count ⌝ }
 {
@@ -45,7 +48,7 @@ pub fn check8(t: &[u32], n: u8, count: u32) -> Verdict
     missing(t, n, count, n)
 }
 
-// 17 in one row: a step or a step back beyond the elements.
+// Refusal 17 in one row: a step or a step back that leads beyond the elements.
 fn range_row(t: &[u32], n: u8, count: u32, e: GroupElementId) -> Verdict
     ensures { λ r. ⌜ r ≡ rangeRow (now (t .entry)) n count (e .0) ⌝ }
 {
@@ -59,7 +62,8 @@ fn range_row(t: &[u32], n: u8, count: u32, e: GroupElementId) -> Verdict
     Verdict::Fine
 }
 
-// 17 in the record of a word: it is not too long, its parent is an earlier element, its last letter a generator.
+// Refusal 17 in the record of a word: it is too long, its parent is no earlier element, or its last letter is no
+// generator.
 fn links(t: &[u32], n: u8, e: GroupElementId) -> Verdict
     ensures { λ r. ⌜ r ≡ linksOf (now (t .entry)) n (e .0) ⌝ }
 {
@@ -78,6 +82,7 @@ fn links(t: &[u32], n: u8, e: GroupElementId) -> Verdict
     Verdict::Fine
 }
 
+// Refusal 17 in all rows and in the records of all words.
 fn ranges(t: &[u32], n: u8, count: u32) -> Verdict
     ensures { λ r. ⌜ r ≡ ranges (now (t .entry)) n count ⌝ }
 {
@@ -96,7 +101,8 @@ fn ranges(t: &[u32], n: u8, count: u32) -> Verdict
     Verdict::Fine
 }
 
-// 9 at one place (003): a step that stays, or that only the identity may have.
+// Refusal 9 at one place, as 003 tests it: a step that stays where it is, or one to a generator's element, which only
+// the identity may have by that generator.
 fn wrong_at(t: &[u32], n: u8, e: GroupElementId, g: GeneratorId) -> Verdict
     ensures { λ r. ⌜ r ≡ wrongAt (now (t .entry)) n (e .0) (g .0) ⌝ }
 {
@@ -113,6 +119,7 @@ fn wrong_at(t: &[u32], n: u8, e: GroupElementId, g: GeneratorId) -> Verdict
     Verdict::Fine
 }
 
+// Refusal 9 at the first such place of a row.
 fn wrong_row(t: &[u32], n: u8, e: GroupElementId) -> Verdict
     ensures { λ r. ⌜ r ≡ wrongRow (now (t .entry)) n (e .0) ⌝ }
 {
@@ -127,6 +134,7 @@ fn wrong_row(t: &[u32], n: u8, e: GroupElementId) -> Verdict
     Verdict::Fine
 }
 
+// Refusal 9 at the first such place of the table.
 fn wrong(t: &[u32], n: u8, count: u32) -> Verdict
     ensures { λ r. ⌜ r ≡ wrong (now (t .entry)) n count ⌝ }
 {
@@ -141,7 +149,7 @@ fn wrong(t: &[u32], n: u8, count: u32) -> Verdict
     Verdict::Fine
 }
 
-// 8, then 17 in what is stored, then the rows of 9.
+// What is tested on the table alone: 8, then 17 in what is stored, then 9 but for its counts.
 pub fn check_table(t: &[u32], n: u8, count: u32) -> Verdict
     ensures { λ r. ⌜ r ≡ check-table (now (t .entry)) n count ⌝ }
 {
@@ -167,6 +175,7 @@ fn wipe(w: &mut [u32], count: u32)
     }
 }
 
+// Counts the arrivals by the steps from one element.
 fn arrive_row(t: &[u32], w: &mut [u32], n: u8, e: GroupElementId)
     ensures { λ r. ⌜ now (w .exit) ≡ arriveRow n (now (t .entry)) n (e .0) (now (w .entry)) 0 ⌝ }
 {
@@ -179,7 +188,7 @@ fn arrive_row(t: &[u32], w: &mut [u32], n: u8, e: GroupElementId)
     }
 }
 
-// How often each element is arrived at, over all generators together (003).
+// Counts in the work how often each element is arrived at, over all generators together (003).
 fn arrivals(t: &[u32], w: &mut [u32], n: u8, count: u32)
     ensures { λ r. ⌜ now (w .exit) ≡ arrivals count (now (t .entry)) n (now (w .entry)) 0 ⌝ }
 {
@@ -190,7 +199,7 @@ fn arrivals(t: &[u32], w: &mut [u32], n: u8, count: u32)
     }
 }
 
-// 9 for a count: each element is arrived at n times.
+// Refusal 9 for a count: the first element that is not arrived at n times.
 fn counts_right(w: &[u32], n: u8, count: u32) -> Verdict
     ensures { λ r. ⌜ r ≡ countsRight (now (w .entry)) n count ⌝ }
 {
@@ -204,7 +213,7 @@ fn counts_right(w: &[u32], n: u8, count: u32) -> Verdict
     Verdict::Fine
 }
 
-// 10 to 12, once the inverses are written.
+// Refusals 10, 11 and 12, once the inverses are written.
 fn check_rest(t: &[u32], w: &mut [u32], n: u8, count: u32) -> Verdict
     ensures { λ r. ⌜ Checked.checked r (now (t .entry)) (now (w .exit)) ≡ check-rest (now (t .entry)) (now (w .entry)) n count ⌝ }
 {
@@ -219,7 +228,8 @@ fn check_rest(t: &[u32], w: &mut [u32], n: u8, count: u32) -> Verdict
     build_checks_group::inner::check12(t, w, n, count)
 }
 
-// 8 to 12, with the inverses written.
+// Refusals 8 to 12 in order; writes the inverses when 9 has passed. The hints by which inverses are found stand in the
+// work for that time only.
 pub fn check_group(t: &mut [u32], w: &mut [u32], n: u8, count: u32) -> Verdict
     ensures { λ r. ⌜ Checked.checked r (now (t .exit)) (now (w .exit)) ≡ check-group (now (t .entry)) (now (w .entry)) n count ⌝ }
 {

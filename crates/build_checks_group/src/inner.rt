@@ -7,7 +7,7 @@ use egg::GeneratorId;
 use egg::GroupElementId;
 use egg::Verdict;
 
-// 11: the identity row is 1..n.
+// Refusal 11: the first generator at which the identity row is not 1..n.
 fn identity_row(t: &[u32], n: u8) -> Verdict
     ensures { λ r. ⌜ r ≡ identityRow (now (t .entry)) n ⌝ }
 {
@@ -29,7 +29,7 @@ fn back(t: &[u32], n: u8, e: GroupElementId, g: GeneratorId) -> GroupElementId
     egg::inner::element(egg::inner::cell(t, n, e, n, k as u32))
 }
 
-// 12, first part: each step back is undone by the step, so that the columns are permutations.
+// The first part of 12, in one row: each step back is undone by the step, so that the columns are permutations.
 fn columns_row(t: &[u32], n: u8, e: GroupElementId) -> Verdict
     ensures { λ r. ⌜ r ≡ columnsRow (now (t .entry)) n (e .0) ⌝ }
 {
@@ -44,7 +44,7 @@ fn columns_row(t: &[u32], n: u8, e: GroupElementId) -> Verdict
     Verdict::Fine
 }
 
-// 12, second part: the recorded word leads to its element.
+// The second part of 12, for one element: its recorded word leads to it, and has the recorded length.
 fn spelled_row(t: &[u32], n: u8, e: GroupElementId) -> Verdict
     ensures { λ r. ⌜ r ≡ spelledRow (now (t .entry)) n (e .0) ⌝ }
 {
@@ -66,6 +66,7 @@ fn spelled_row(t: &[u32], n: u8, e: GroupElementId) -> Verdict
     Verdict::Fine
 }
 
+// Both parts for all elements.
 fn spelled(t: &[u32], n: u8, count: u32) -> Verdict
     ensures { λ r. ⌜ r ≡ spelled (now (t .entry)) n count ⌝ }
 {
@@ -84,7 +85,7 @@ fn spelled(t: &[u32], n: u8, count: u32) -> Verdict
     Verdict::Fine
 }
 
-// What generator s on the left makes of x, where the work has it for the elements before x.
+// The product s·x, where the work has s times each element before x: it goes on from the parent of x.
 fn left_of(t: &[u32], w: &[u32], n: u8, s: GeneratorId, x: GroupElementId) -> GroupElementId
     ensures { λ r. ⌜ r .0 ≡ leftOf (now (t .entry)) n (s .0) (now (w .entry)) (x .0) ⌝ }
 {
@@ -96,7 +97,7 @@ fn left_of(t: &[u32], w: &[u32], n: u8, s: GeneratorId, x: GroupElementId) -> Gr
     egg::inner::step(t, n, GroupElementId(0), s)
 }
 
-// Multiplication on the left by generator s, into the start of the work.
+// Writes s·x for every element x into the start of the work.
 fn fill_left(t: &[u32], w: &mut [u32], n: u8, count: u32, s: GeneratorId)
     ensures { λ r. ⌜ now (w .exit) ≡ fillLeft count (now (t .entry)) n (s .0) (now (w .entry)) 0 ⌝ }
 {
@@ -108,8 +109,9 @@ fn fill_left(t: &[u32], w: &mut [u32], n: u8, count: u32, s: GeneratorId)
     }
 }
 
-// Whether multiplication on the left commutes with every step from x, where each number that is read is in range: one test
-// for each of the two rows, and for a place none but of the number that leads into the work. False may only mean that one is not, and `goes_with_care` has the answer.
+// Answers true where multiplication on the left commutes with every step from x. It makes one test for each of the two
+// rows that it reads, and one for each number that leads into the work; false may only mean that a number is out of
+// range, and then `goes_with_care` has the answer.
 fn goes_at_once(t: &[u32], w: &[u32], n: u8, x: GroupElementId) -> bool
     ensures { λ r. ⌜ (r ≡ true → goesRow (now (t .entry)) (now (w .entry)) n (x .0) ≡ Verdict.Fine) ⌝ }
 {
@@ -141,6 +143,7 @@ fn goes_at_once(t: &[u32], w: &[u32], n: u8, x: GroupElementId) -> bool
     true
 }
 
+// The third part of 12 at x, with every number looked at.
 fn goes_with_care(t: &[u32], w: &[u32], n: u8, x: GroupElementId) -> Verdict
     ensures { λ r. ⌜ r ≡ goesRow (now (t .entry)) (now (w .entry)) n (x .0) ⌝ }
 {
@@ -156,7 +159,7 @@ fn goes_with_care(t: &[u32], w: &[u32], n: u8, x: GroupElementId) -> Verdict
     Verdict::Fine
 }
 
-// 12, last part: multiplication on the left commutes with every step from x.
+// The third part of 12 at x: multiplication on the left, as the work has it, commutes with every step from x.
 fn goes_row(t: &[u32], w: &[u32], n: u8, x: GroupElementId) -> Verdict
     ensures { λ r. ⌜ r ≡ goesRow (now (t .entry)) (now (w .entry)) n (x .0) ⌝ }
 {
@@ -166,6 +169,7 @@ fn goes_row(t: &[u32], w: &[u32], n: u8, x: GroupElementId) -> Verdict
     goes_with_care(t, w, n, x)
 }
 
+// The third part of 12 at all elements, for the generator whose products the work has.
 fn all_go(t: &[u32], w: &[u32], n: u8, count: u32) -> Verdict
     ensures { λ r. ⌜ r ≡ allGo (now (t .entry)) (now (w .entry)) n count ⌝ }
 {
@@ -180,6 +184,7 @@ fn all_go(t: &[u32], w: &[u32], n: u8, count: u32) -> Verdict
     Verdict::Fine
 }
 
+// The third part of 12 for each generator in turn.
 pub fn check12(t: &[u32], w: &mut [u32], n: u8, count: u32) -> Verdict
     ensures { λ r. ⌜ Lefts.left r (now (w .exit)) ≡ lefts n (now (t .entry)) n count (now (w .entry)) 0 ⌝ }
 {
@@ -195,7 +200,8 @@ pub fn check12(t: &[u32], w: &mut [u32], n: u8, count: u32) -> Verdict
     Verdict::Fine
 }
 
-// 11, then the first parts of 12: that the columns are permutations, and the recorded words lead to their elements.
+// Refusal 11, then the first two parts of 12: the columns are permutations, and the recorded words lead to their
+// elements.
 pub fn check_steps(t: &[u32], n: u8, count: u32) -> Verdict
     ensures { λ r. ⌜ r ≡ check-steps (now (t .entry)) n count ⌝ }
 {

@@ -1,4 +1,4 @@
-// Inverses of a table's elements. Like the checks they are total on any contents.
+// The inverses of a table's elements, and refusal 10 over them. Like the checks they are total on any contents.
 ghost use mathlib.Core.Path.{_≡_};
 ghost use mathlib.Core.Bool.{true};
 ghost use Prim.Native.Nat.{_<_};
@@ -30,7 +30,8 @@ fn invert(t: &[u32], n: u8, e: GroupElementId) -> GroupElementId
     GroupElementId(x)
 }
 
-// A hint: the element that the word leads to without its first letter, and that letter, in one number. 0 is no hint.
+// A hint for the inverse of an element: the element that its word without the first letter leads to, and that letter,
+// in one number. 0 means that there is no hint.
 pub fn pack(tail: GroupElementId, first: u32) -> u32
     ensures { λ r. ⌜ (first < 256 → Packs (tail .0) first r) ⌝ }
 {
@@ -38,7 +39,8 @@ pub fn pack(tail: GroupElementId, first: u32) -> u32
     if h < 4294967296 { h as u32 } else { 0 }
 }
 
-// Whether the word of y, an earlier element than e, is that of `from` and the last letter of e, and one letter shorter.
+// Answers true where the word of y, an earlier element than e, is that of `from` and the last letter of e, and one
+// letter shorter than the word of e.
 fn follows_on(t: &[u32], n: u8, from: GroupElementId, y: GroupElementId, e: GroupElementId) -> bool
     ensures { λ r. ⌜ (r ≡ true → Follows (now (t .entry)) n (from .0) (y .0) (e .0)) ⌝ }
 {
@@ -58,8 +60,8 @@ fn follows_on(t: &[u32], n: u8, from: GroupElementId, y: GroupElementId, e: Grou
     (egg::inner::word_length(t, n, e) as usize) == long + 1
 }
 
-// The hint of e, where the work has those of the elements before it. The first letter of a word is that of its parent's
-// word, and what comes after it is one letter longer.
+// The hint of e, where the work has those of the elements before it. The word of e and its parent's word have the same
+// first letter, and without it the word of e is the parent's and one letter.
 fn hint_of(t: &[u32], w: &[u32], n: u8, e: GroupElementId) -> u32
     ensures { λ r. ⌜ (Hints (now (t .entry)) (now (w .entry)) n (e .0) → Hint (now (t .entry)) n (e .0) r) ⌝ }
 {
@@ -89,7 +91,7 @@ fn hint_of(t: &[u32], w: &[u32], n: u8, e: GroupElementId) -> u32
     pack(y, (h - 1) % 256)
 }
 
-// The hints of all elements, into the start of the work.
+// Writes the hints of all elements into the start of the work.
 pub fn fill_hints(t: &[u32], w: &mut [u32], n: u8, count: u32)
     ensures { λ r. ⌜ Hinted (now (t .entry)) (now (w .entry)) (now (w .exit)) n count ⌝ }
 {
@@ -101,7 +103,8 @@ pub fn fill_hints(t: &[u32], w: &mut [u32], n: u8, count: u32)
     }
 }
 
-// The inverse of e by its hint: one step back from an inverse that is written already, and not a walk of the word.
+// The inverse of e by its hint: one step back from an inverse that is written already, instead of a walk along the
+// word.
 fn inverse_by(t: &[u32], n: u8, e: GroupElementId, h: u32) -> GroupElementId
     ensures { λ r. ⌜ r .0 ≡ inverseBy (now (t .entry)) n (e .0) h ⌝ }
 {
@@ -113,6 +116,7 @@ fn inverse_by(t: &[u32], n: u8, e: GroupElementId, h: u32) -> GroupElementId
     egg::inner::element(egg::inner::cell(t, n, GroupElementId(x), n, (h - 1) % 256))
 }
 
+// Writes the inverse of every element into the table, by the hints in the work.
 pub fn fill_inverses(t: &mut [u32], w: &[u32], n: u8, count: u32)
     requires { ⌜ Hints (now t) (now w) n count ⌝ }
     ensures { λ r. ⌜ now (t .exit) ≡ fillInverses count (now (t .entry)) n 0 ⌝ }
@@ -126,7 +130,7 @@ pub fn fill_inverses(t: &mut [u32], w: &[u32], n: u8, count: u32)
     }
 }
 
-// The arrivals again, where the hints were: they are n at each element, or 9 would have been given.
+// Puts the arrivals back where the hints stood: they are n at each element, or 9 would have been given.
 pub fn count_again(w: &mut [u32], n: u8, count: u32)
     ensures { λ r. ⌜ CountedAgain (now (w .entry)) (now (w .exit)) n count count ⌝ }
 {
@@ -137,7 +141,7 @@ pub fn count_again(w: &mut [u32], n: u8, count: u32)
     }
 }
 
-// 10: the inverse of the inverse.
+// Refusal 10: the first element that is not the inverse of its inverse.
 pub fn inverses_right(t: &[u32], n: u8, count: u32) -> Verdict
     ensures { λ r. ⌜ r ≡ inversesRight (now (t .entry)) n count ⌝ }
 {

@@ -1,4 +1,4 @@
--- Which numbers a refusal may have.
+-- Which numbers a refusal may have: lists of refusal numbers, and that a refusal's is among them.
 use Prim.Native.Nat.{ℕ}
 use mathlib.Core.Path.{_≡_}
 use mathlib.Core.Bool.{Bool, true, false}
@@ -7,20 +7,20 @@ use lib.Dec.{eqb}
 use Rattle.egg.specs.declared.Refusal.{Refusal}
 use Rattle.egg.specs.Table.{pick}
 
--- k is one of these.
+-- True where k is in the list.
 abbrev pub member : ℕ → List ℕ → Bool
 member k [] = false
 member k (x ∷ l) = pick (eqb k x) true (member k l)
 
--- p holds of each of these.
+-- True where p holds of each number of the list.
 abbrev pub every : (ℕ → Bool) → List ℕ → Bool
 every p [] = true
 every p (x ∷ l) = pick (p x) (every p l) false
 
--- The refusal has one of these numbers.
+-- The refusal's number is in the list.
 abbrev pub In : List ℕ → Refusal → Type 0
 In l r = member (r .number) l ≡ true
 
--- The numbers of the checks after 8.
+-- The numbers of the refusals that are checked after 8.
 abbrev pub lateNumbers : List ℕ
 lateNumbers = 9 ∷ 10 ∷ 11 ∷ 12 ∷ []

@@ -25,9 +25,9 @@ pub record Sound (t : List ℕ) (n N : ℕ) : Type 0 where
   pub short : {e : ℕ} → e < N → lengthOf t n e ≤ 4096
   pub inverses : {e : ℕ} → e < N → inverseOf t n e ≡ inverse (backOf t n) (wordOf t n) e
 
--- And what says by which numbers the elements go: "at (e,g), in order, a number below the count is set, the count itself is a new element, more is 7. That
--- numbering, with identity row 1..n, is the numbering rule"; and "each element's word is its parent's word and one generator", those of the place where the
--- element first appears. The identity, whose word is empty, has zeros for both.
+-- The elements are numbered by the rule: "at (e,g), in order, a number below the count is set, the count itself is a new element, more is 7. That
+-- numbering, with identity row 1..n, is the numbering rule"; and "each element's word is its parent's word and one generator", those of the place
+-- where the element first appears. The identity, whose word is empty, has zeros for both.
 pub record Ruled (t : List ℕ) (n N : ℕ) : Type 0 where
   pub rule : NumberingRule n N (stepOf t n)
   pub appearance : FirstAppearance n N (stepOf t n) (parentOf t n) (lastOf t n)

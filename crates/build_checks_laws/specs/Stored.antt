@@ -1,4 +1,4 @@
--- What it is for a list of numbers to hold a table.
+-- What it is for a list of numbers to hold a table, and to be kept but for what is filled in at the end of a build.
 use Prim.Native.Nat.{ℕ, suc, _+_, _*_, _<_}
 use mathlib.Core.Path.{_≡_}
 use mathlib.Core.List.{List}

@@ -1,4 +1,4 @@
--- What numbers a build takes, from whatever source they come, and what its stretch holds then; and which are refused by 12.
+-- Which numbers a build takes, from whatever source they come, and what its stretch of table holds then; and which numbers are refused by 12.
 use Prim.Native.Nat.{ℕ, _+_, _*_, _≤_, _<_}
 use mathlib.Core.Path.{_≡_}
 use mathlib.Core.List.{List}
@@ -14,23 +14,24 @@ use Rattle.build_checks_laws.specs.Sound.{Sound, Ruled}
 use Rattle.build_checks_laws.specs.Until12.{Until12}
 use Rattle.build_reading_laws.specs.Read.{Readable}
 
--- What is accepted: numbers that follow the numbering rule with N elements within the room and no recorded word over 4,096 (`Readable`), with identity
--- row 1..n, and that are the right steps of some group, whatever its carrier.
+-- What is accepted: numbers that follow the numbering rule with N elements within the room and no recorded word over 4,096 (`Readable`), with
+-- identity row 1..n, and that are the right steps of some group, whatever its type of elements.
 pub record Taken (src : ℕ → ℕ → ℕ) (n room N : ℕ) : Type 1 where
   pub readable : Readable src n room N
   pub identity-row : IdentityRow n src
   pub group : SomeGroup n N src
 
--- Where 12 is given, "no group has these right steps": the numbers follow the numbering rule with N elements within the room and no recorded word over
--- 4,096, so that reading takes them; of them and their recorded words 8 to 11 pass; and they are the right steps of no group, whatever its carrier.
+-- Where 12 is given, "no group has these right steps": the numbers follow the numbering rule with N elements within the room and no recorded word
+-- over 4,096, so that reading takes them; 8 to 11 pass for them and their recorded words; and they are the right steps of no group, whatever its type
+-- of elements.
 pub record Groupless (src : ℕ → ℕ → ℕ) (n room N : ℕ) : Type 1 where
   pub readable : Readable src n room N
   pub back : ℕ → ℕ → ℕ
   pub until-12 : Until12 n N src back (recorded n src)
   pub no-group : ¬ SomeGroup n N src
 
--- What a stretch of that size holds after acceptance: a sound table by the numbering rule, whose steps are the rows', with the last five letters of each word in
--- one cell, and zeros beyond its last row.
+-- What a stretch of `size` numbers holds after acceptance: a sound table by the numbering rule, whose steps are the source's, with the last five
+-- letters of each word in one cell, and zeros beyond its last row.
 pub record Holding (src : ℕ → ℕ → ℕ) (n room size N : ℕ) (t : List ℕ) : Type 1 where
   pub taken : Taken src n room N
   pub sound : Sound t n N

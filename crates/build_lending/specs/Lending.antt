@@ -16,23 +16,25 @@ use Rattle.egg.specs.Scan.{refusedOf}
 use Rattle.egg.specs.Table.{workOf}
 use Rattle.build_lending.specs.Finish.{Built, built}
 
--- "A build with n generators and room R needs exactly R(2n+4) entries of table and R(6n²+4n) of work."
+-- "A build with n generators and room R needs exactly R(2n+4) entries of table .."
 abbrev pub tableNeed : ℕ → ℕ → ℕ
 tableNeed n room = room * (2 * n + 4)
 
+-- ".. and R(6n²+4n) of work."
 abbrev pub workNeed : ℕ → ℕ → ℕ
 workNeed n room = room * workOf n
 
--- Where this fails it is 4, "room 0 or above 65,535, or a lent buffer short". (`hasRoom` also asks for at most 8 generators, which 1 has shown by then.)
+-- True where refusal 4, "room 0 or above 65,535, or a lent buffer short", is not due. (`hasRoom` also asks for at most 8 generators, which 1 has
+-- shown by then.)
 unfoldable pub lentRight : (table start work room n : ℕ) → Bool
 lentRight table start work room n = hasRoom table start room n && leb (workNeed n room) work
 
--- Where a stretch of k numbers that starts at `start` ends, in a buffer of so many.
+-- r is where a stretch of k numbers ends that starts at `start`, and it is within a buffer of `len` numbers.
 pub record Ends (r start k len : ℕ) : Type 0 where
   pub at : r ≡ start + k
   pub inside : r ≤ len
 
--- l with p in the place of its part from a to b.
+-- The list l with p in the place of its part from a to b.
 unfoldable pub within : List ℕ → ℕ → ℕ → List ℕ → List ℕ
 within l a b p = take a l ++ (p ++ drop b l)
 
@@ -40,7 +42,7 @@ within l a b p = take a l ++ (p ++ drop b l)
 pub data Making : Type 0 where
   making : Made → List ℕ → List ℕ → Making
 
--- No factor: a handle that fits no buffer.
+-- The handle that stands beside a refusal: it fits no buffer.
 abbrev pub noFactor : Factor
 noFactor = record { start = 0; room = 0; generators = 0; elements = 0 }
 
@@ -50,7 +52,7 @@ madeOf start room n (Count count) =
     record { answer = verdict.Fine; factor = record { start = start; room = room; generators = n; elements = count } }
 madeOf start room n (Refused r) = record { answer = verdict.Refused r; factor = noFactor }
 
--- A refusal that is given before a build starts.
+-- The answer of a call that is refused before its build starts.
 abbrev pub refusedMade : ℕ → ℕ → Made
 refusedMade number a = record { answer = refusedOf number a 0 0; factor = noFactor }
 

@@ -9,8 +9,8 @@ use egg::Factor;
 use egg::Made;
 use egg::Verdict;
 
-// The end of every build: 8 to 12, and the stretches as document 01 wants them left, the words of an accepted table by five
-// letters.
+// The end of every build, after a reading or an enumeration that left a count or a refusal: checks 8 to 12, and leaves
+// the stretches as document 01 wants them. An accepted table gets its words by five letters in a cell.
 pub fn finish(t: &mut [u32], w: &mut [u32], n: u8, read: Counted) -> Counted
     ensures { λ r. ⌜ Built.built r (now (t .exit)) (now (w .exit)) ≡ finished read n (now (t .entry)) (now (w .entry)) ⌝ }
 {
@@ -35,19 +35,21 @@ pub fn finish(t: &mut [u32], w: &mut [u32], n: u8, read: Counted) -> Counted
     }
 }
 
+// How many numbers of table a build needs.
 pub fn table_need(n: u8, room: u32) -> usize
     ensures { λ r. ⌜ r ≡ tableNeed n room ⌝ }
 {
     (room as usize) * egg::inner::width(n)
 }
 
+// How many numbers of work a build needs.
 pub fn work_need(n: u8, room: u32) -> usize
     ensures { λ r. ⌜ r ≡ workNeed n room ⌝ }
 {
     (room as usize) * egg::inner::work_width(n)
 }
 
-// 4 is not given: the room is within its limits, and neither table nor work is short.
+// True where refusal 4 is not due: the room is within its limits, and neither table nor work is short.
 pub fn lent_right(table: usize, start: usize, work: usize, room: u32, n: u8) -> bool
     ensures { λ r. ⌜ r ≡ lentRight table start work room n ⌝ }
 {
@@ -57,7 +59,7 @@ pub fn lent_right(table: usize, start: usize, work: usize, room: u32, n: u8) -> 
     work_need(n, room) <= work
 }
 
-// Where the stretch of a build ends that has room.
+// Where a build's stretch of the table buffer ends, if there is room for it.
 pub fn stretch_end(len: usize, start: usize, room: u32, n: u8) -> usize
     requires { ⌜ hasRoom len start room n ≡ true ⌝ }
     ensures { λ r. ⌜ Ends r start (tableNeed n room) len ⌝ }
@@ -65,7 +67,7 @@ pub fn stretch_end(len: usize, start: usize, room: u32, n: u8) -> usize
     start + table_need(n, room)
 }
 
-// A handle that fits no buffer.
+// The handle that stands beside a refusal: it fits no buffer.
 pub fn no_factor() -> Factor
     ensures { λ r. ⌜ r ≡ noFactor ⌝ }
 {
@@ -77,6 +79,7 @@ pub fn no_factor() -> Factor
     }
 }
 
+// The answer of a call that was refused before its build started.
 pub fn refused_made(number: u32, a: u32) -> Made
     ensures { λ r. ⌜ r ≡ refusedMade number a ⌝ }
 {
@@ -86,7 +89,7 @@ pub fn refused_made(number: u32, a: u32) -> Made
     }
 }
 
-// The handle of what was built, or the refusal.
+// The answer of a call whose build came to this: the handle of what was built, or the refusal.
 pub fn made(start: usize, room: u32, n: u8, count: Counted) -> Made
     ensures { λ r. ⌜ r ≡ madeOf start room n count ⌝ }
 {

@@ -1,4 +1,6 @@
-// The work of a numbering in order of first appearance, in the stretches and maps that were lent.
+// The work of a numbering in order of first appearance, in the stretches and maps that were lent. The outside elements
+// are those that are numbered; `inn` has the number of each of them, or 4,294,967,295 where it has none yet, and `outw`
+// has the outside element of each number.
 ghost use mathlib.Core.Path.{_≡_};
 ghost use Rattle.egg.specs.Table.{putAt};
 ghost use lib.ListN.{length, replicate};
@@ -10,7 +12,8 @@ use egg::GeneratorId;
 use egg::GroupElementId;
 use egg::Reached;
 
-// One place of a numbering, whatever the outside elements come from: x has a number, or gets the next; 5, then 6.
+// Numbers what stands at one place: x is the outside element to which g leads from e. It has a number, which is set, or
+// gets the next. Refuses 5 where that is beyond the room, then 6 where its word would pass 4,096.
 pub fn place(
     t: &mut [u32],
     inn: &mut [u32],
@@ -40,6 +43,7 @@ pub fn place(
     }
 }
 
+// Fills a map with 4,294,967,295, which is no element number.
 fn mark(s: &mut [u32])
     ensures { λ r. ⌜ now (s .exit) ≡ replicate (length (now (s .entry))) none ⌝ }
 {
@@ -50,7 +54,7 @@ fn mark(s: &mut [u32])
     }
 }
 
-// Before a numbering nothing outside has a number but x, which is element 0.
+// Sets the maps as they are before a numbering: of the outside elements x alone has a number, 0.
 pub fn start(inn: &mut [u32], outw: &mut [u32], x: GroupElementId)
     ensures { λ r. ⌜ (now (inn .exit) ≡ putAt (replicate (length (now (inn .entry))) none) (x .0) 0) × (now (outw .exit) ≡ putAt (replicate (length (now (outw .entry))) 0) 0 (x .0)) ⌝ }
 {
@@ -61,7 +65,7 @@ pub fn start(inn: &mut [u32], outw: &mut [u32], x: GroupElementId)
     egg::inner::put(outw, 0, outside as usize);
 }
 
-// After a refusal the maps are zero.
+// Leaves the maps as document 01 wants them: zero after a refusal.
 pub fn settle(inn: &mut [u32], outw: &mut [u32], made: Counted) -> Counted
     ensures { λ r. ⌜ (r ≡ made) × ((now (inn .exit) ≡ keptAfter made (now (inn .entry))) × (now (outw .exit) ≡ keptAfter made (now (outw .entry)))) ⌝ }
 {

@@ -1,2 +1,3 @@
-// Numbering in order of first appearance, into a table and two maps: all of it in `inner`, for the layers above.
+// From subgroup_action.rs: numbering in order of first appearance, into a table and two maps. All of it is in `inner`,
+// for the layers above.
 pub mod inner;

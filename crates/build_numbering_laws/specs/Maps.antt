@@ -1,4 +1,5 @@
--- What the two maps hold when c elements are known, of which e is elt e outside.
+-- What the two maps of a numbering hold, during it and after it. `inn` leads from the set outside, 0 .. M-1, to the numbers, `outw` from the numbers
+-- to the set outside; they have M and K numbers.
 use Prim.Native.Nat.{ℕ, _≤_, _<_}
 use mathlib.Core.Path.{_≡_}
 use mathlib.Core.List.{List}
@@ -7,7 +8,8 @@ use Rattle.theory.specs.Numbering.{Numbered}
 use Rattle.build_numbering_laws.specs.Orbit.{Orbit}
 use Rattle.build_numbering.specs.Renumber.{none}
 
--- `inn` has, for each of 0 .. M-1, its number, or `none`; `outw` has an element of the outside for each number, and zero beyond the last.
+-- When c elements are known, of which e is `elt e` outside: `inn` has the number of each of these and `none` for the others; `outw` has the outside
+-- element of each number, and zero beyond the last.
 pub record Filled (M room K : ℕ) (elt : ℕ → ℕ) (c : ℕ) (inn outw : List ℕ) : Type 0 where
   pub within : c ≤ room
   pub inn-size : length inn ≡ M
@@ -30,7 +32,7 @@ pub record Renumbered (n M : ℕ) (out : ℕ → ℕ → ℕ) (x₀ c : ℕ) (st
   pub once : {d e : ℕ} → d < c → e < c → outw d ≡ outw e → d ≡ e
   pub steps : {e g : ℕ} → e < c → g < n → outw (step e g) ≡ out (outw e) g
 
--- The same of two lists, which say besides what is not reached: it is `none`, and beyond the last element the other map is zero.
+-- The same of two lists, which say besides what is not reached: `inn` has `none` for it. Beyond the last element `outw` is zero.
 pub record Held (n M room K : ℕ) (out : ℕ → ℕ → ℕ) (x₀ c : ℕ) (step : ℕ → ℕ → ℕ) (inn outw : List ℕ) : Type 0 where
   pub renumbered : Renumbered n M out x₀ c step (λ x. getD inn x 0) (λ e. getD outw e 0)
   pub reached : {x : ℕ} → x < M → ¬ (getD inn x 0 ≡ none) → Orbit n out x₀ x

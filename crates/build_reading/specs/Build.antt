@@ -1,4 +1,5 @@
--- What building does to the table. Document 01, module 2: `add_successor`, and `set_successor` (overwrites, and says whether the place was new).
+-- What the stores of a build do to the table. Document 01, module 2: "`add_successor`, `set_successor` (overwrites, and says whether the place was
+-- new)".
 use Prim.Native.Nat.{ℕ, _+_, _*_}
 use mathlib.Core.List.{List}
 use mathlib.Core.Bool.{Bool}
@@ -11,29 +12,31 @@ use Rattle.egg.specs.declared.Reached.{Reached}
 use Rattle.egg.specs.declared.Reached.the-variants.{Element, Refused}
 use Rattle.egg.specs.Table.{pick, putAt, startOf, succAt, predAt, lengthOf}
 
--- The step is not known yet.
+-- True where the step is not known yet.
 abbrev pub isNew : List ℕ → ℕ → GroupElementId → GeneratorId → Bool
 isNew t n e g = eqb (getD t (succAt n e g) 0) 0
 
--- The step e·g = r, both ways.
+-- The table with the step e·g = r and the step back stored; what stood there is overwritten.
 unfoldable pub setStep : (t : List ℕ) (n : ℕ) (e : GroupElementId) (g : GeneratorId) (r : GroupElementId) → List ℕ
 setStep t n e g r = putAt (putAt t (succAt n e g) (r .0 + 1)) (predAt n r g) (e .0 + 1)
 
--- The word of a new element: parent, last generator, length. "Each element's word is its parent's word and one generator."
+-- The table with the word of a new element recorded, by parent, last generator and length. "Each element's word is its parent's word and one
+-- generator."
 unfoldable pub setWord : (t : List ℕ) (n : ℕ) (new e : GroupElementId) (g : GeneratorId) (len : ℕ) → List ℕ
 setWord t n new e g len =
     putAt (putAt (putAt t (startOf n (new .0) + 2 * n) (e .0)) (startOf n (new .0) + 2 * n + 1) (g .0)) (startOf n (new .0) + 2 * n + 2) len
 
--- A refusal by its number and places.
+-- The refusal with this number and these places.
 abbrev pub numbered : ℕ → ℕ → ℕ → ℕ → Refusal
 numbered k a b c = record { number = k; a = a; b = b; c = c }
 
--- A new element's answer and table.
+-- What adding an element answers, and the table then.
 pub record Adds : Type 0 where
   pub answer : Reached
   pub table : List ℕ
 
--- The element that is added has the count for its number. 5: "an element is needed beyond the room"; 6: "its word would pass 4,096".
+-- A new element, reached from e by g; it has the count for its number. 5 comes first, "an element is needed beyond the room", then 6, "its word would
+-- pass 4,096".
 unfoldable pub adds : (t : List ℕ) (n room count : ℕ) (e : GroupElementId) (g : GeneratorId) → Adds
 adds t n room count e g =
     pick (leb room count) (record { answer = Refused (numbered 5 (e .0) (g .0) 0); table = t })

@@ -1,4 +1,6 @@
-// The stores of a build, and one place of a reading, whatever its numbers come from, in the stretch that was lent.
+// The stores of a build, and one place of a reading. A place is an element and a generator; a reading takes the number
+// that a source has there, whatever the source is (a lent list, an image, a builder's own rows ..), and stores it in
+// the stretch that was lent.
 ghost use mathlib.Core.Path.{_≡_};
 ghost use Rattle.build_reading.specs.Build.{isNew, setStep, setWord, adds};
 ghost use Rattle.build_reading.specs.Reading.{Placed, readPlace};
@@ -8,7 +10,7 @@ use egg::GroupElementId;
 use egg::Reached;
 use egg::Refusal;
 
-// Sets the step both ways; says whether it was not known before.
+// Sets the step from e by g to r and the step back; answers whether the step was not known before.
 pub fn set_successor(
     t: &mut [u32],
     n: u8,
@@ -47,7 +49,8 @@ pub fn record_word(
     egg::inner::put(t, at + 2, len as usize);
 }
 
-// A new element, reached from e by g: 5 beyond the room, 6 where its word would pass 4,096.
+// Adds a new element, reached from e by g. Refuses 5 where it is beyond the room, then 6 where its word would pass
+// 4,096.
 pub fn add_successor(
     t: &mut [u32],
     n: u8,
@@ -83,7 +86,8 @@ pub fn add_successor(
     Reached::Element(new)
 }
 
-// One place of a reading, whatever the numbers come from: 7, then 5, then 6.
+// Reads one place, whose number is v: a number below the count is set, the count itself is a new element. Refuses 7
+// where v skips ahead, then 5, then 6 as `add_successor` does.
 pub fn place(
     t: &mut [u32],
     n: u8,

@@ -1,5 +1,5 @@
--- What reading a table of composed numbers comes to. Document 01, module 3: "at (e,g), in order, a number below the count is set, the count itself is a
--- new element, more is 7."
+-- What reading a table of composed numbers comes to, in the words of the theory: what an accepted reading leaves, which numbers it takes, and why
+-- others are refused. Document 01, module 3: "at (e,g), in order, a number below the count is set, the count itself is a new element, more is 7."
 use Prim.Native.Nat.{ℕ, suc, _+_, _*_, _≤_, _<_}
 use mathlib.Core.Path.{_≡_}
 use mathlib.Core.List.{List}
@@ -37,15 +37,15 @@ pub record Readable (src : ℕ → ℕ → ℕ) (n room N : ℕ) : Type 0 where
   pub within : N ≤ room
   pub short : {e : ℕ} → e < N → length (recorded n src e) ≤ 4096
 
--- Nothing is to be refused before row x and column g: the numbering rule has held so far, the c elements that are known are within the room, and their
--- words within 4,096.
+-- Nothing was to be refused before row x and column g: the numbering rule has held so far, the c elements that are known are within the room, and
+-- their words are within 4,096.
 pub record Held (src : ℕ → ℕ → ℕ) (n room x g c : ℕ) : Type 0 where
   pub known : Known n src x g c
   pub within : c ≤ room
   pub short : {e : ℕ} → e < c → length (recorded n src e) ≤ 4096
 
--- Why the place at row x and column g cannot be read. "During reading the order at one place is 7, 5, 6."
--- 7: "a composed number skips ahead"; 5: "an element is needed beyond the room"; 6: "its word would pass 4,096".
+-- Why the place at row x and column g cannot be read: 7, "a composed number skips ahead"; 5, "an element is needed beyond the room"; or 6, "its word
+-- would pass 4,096". "During reading the order at one place is 7, 5, 6."
 pub data Stops (src : ℕ → ℕ → ℕ) (n room x g c : ℕ) : Refusal → Type 0 where
   skips-ahead : c < src x g → Stops src n room x g c (numbered 7 x g (src x g))
   no-room : src x g ≡ c → c ≡ room → Stops src n room x g c (numbered 5 x g 0)

@@ -1,4 +1,5 @@
-// The pass over an accepted table that puts the letters in.
+// The pass over an accepted table that writes five letters into the cell of each last generator. Such a number is
+// called a hop: who walks a word back goes five letters with it.
 ghost use mathlib.Core.Path.{_≡_};
 ghost use Rattle.build_word_cells.specs.Hops.{hopFrom, withHops};
 use egg::GroupElementId;
@@ -20,7 +21,8 @@ fn hop_of(t: &[u32], n: u8, e: GroupElementId) -> usize
     a + 8 * (b + 8 * (c + 8 * (d + 8 * (f + 8 * before))))
 }
 
-// Parents and last letters stay as they are, so that the order of the elements does not matter.
+// Writes these numbers for all elements. Parents and last letters stay as they are, so that the order of the elements
+// does not matter.
 pub fn fill_hops(t: &mut [u32], n: u8, count: u32)
     ensures { λ r. ⌜ now (t .exit) ≡ withHops count (now (t .entry)) n ⌝ }
 {

@@ -36,21 +36,23 @@ storedPaper (stored.Refused r) = refusalPaper r
 pub data Leaving (A : Type 0) : Type 0 where
   leaving : A → List ℕ → Leaving A
 
--- A table buffer with p in the stretch of a factor.
+-- The table buffer with p in the stretch of a factor.
 abbrev pub withStretch : List ℕ → Factor → List ℕ → List ℕ
 withStretch t f p = within t (f .start) (f .start + tableNeed (f .generators) (f .room)) p
 
--- The handle of a build that knows so many elements; and the one that fits no buffer.
+-- The handle of a build that knows `count` elements.
 abbrev pub builderOf : ℕ → ℕ → ℕ → ℕ → Builder
 builderOf start room n count = record { 0 = record { start = start; room = room; generators = n; elements = count } }
 
+-- The handle that stands beside a refusal: it fits no buffer.
 abbrev pub noBuilder : Builder
 noBuilder = record { 0 = noFactor }
 
+-- The answer of a `begin` that was refused.
 abbrev pub refusedBegun : ℕ → ℕ → Begun
 refusedBegun number a = record { answer = refusedOf number a 0 0; builder = noBuilder }
 
--- `begin`: 1, then 4; else the identity alone, in a stretch of zeros.
+-- What `begin` does: refusal 1, then 4; else a stretch of zeros, which has the identity alone.
 unfoldable pub begins : List ℕ → ℕ → ℕ → ℕ → Leaving Begun
 begins table start room n =
     pick (ltb 8 n) (leaving (refusedBegun 1 n) table)
@@ -59,43 +61,45 @@ begins table start room n =
     (within table start (start + tableNeed n room) (replicate (tableNeed n room) 0)))
     (leaving (refusedBegun 4 0) table))
 
--- A new element's builder knows one element more; a refusal ends the build: zeros in its stretch, and no builder.
+-- What adding an element comes to: the builder knows one element more; or a refusal ends the build, with zeros in its stretch and a handle that fits
+-- no buffer.
 abbrev pub grownBy : Factor → Reached → List ℕ → Leaving Grown
 grownBy f (reached.Element e) s =
     leaving (record { answer = reached.Element e; builder = builderOf (f .start) (f .room) (f .generators) (f .elements + 1) }) s
 grownBy f (reached.Refused r) s = leaving (record { answer = reached.Refused r; builder = noBuilder }) (zeroed s)
 
--- 5, 17, 6, or the new element.
+-- What `add_successor` does in the stretch: refusal 5, then 17 for a recorded length over 4,096, then 6, else the new element.
 unfoldable pub grown : List ℕ → Factor → GroupElementId → GeneratorId → Leaving Grown
 grown s f e g =
     pick (overLong s f e) (grownBy f (refusedReach 17 0) s)
     (grownBy f (adds s (f .generators) (f .room) (f .elements) e g .answer) (adds s (f .generators) (f .room) (f .elements) e g .table))
 
--- 17 in the handle and 14 change nothing, and the builder stands.
+-- What the whole call comes to by the test of its arguments: 17 in the handle and 14 change nothing, and the builder stands.
 abbrev pub growsBy : List ℕ → Factor → Verdict → Leaving Grown → Leaving Grown
 growsBy t f verdict.Fine (leaving x s) = leaving x (withStretch t f s)
 growsBy t f (verdict.Refused r) l = leaving (record { answer = reached.Refused r; builder = record { 0 = f } }) t
 
--- `add_successor`: a new element, reached from e by g.
+-- What `add_successor` does: a new element, reached from e by g.
 unfoldable pub grows : List ℕ → Builder → GroupElementId → GeneratorId → Leaving Grown
 grows t b e g = growsBy t (b .0) (placed (length t) (b .0) e g) (grown (stretch t (b .0)) (b .0) e g)
 
--- "says whether the place was new"
+-- The answer of a stored step, which "says whether the place was new".
 abbrev pub newOr : Bool → Stored
 newOr true = stored.New
 newOr false = stored.Known
 
+-- What storing a step comes to by the test of its arguments: a refusal changes nothing.
 abbrev pub storesBy : List ℕ → Verdict → Bool → List ℕ → Leaving Stored
 storesBy t verdict.Fine new t₁ = leaving (newOr new) t₁
 storesBy t (verdict.Refused r) new t₁ = leaving (stored.Refused r) t
 
--- `set_successor`: the step e·g = r, both ways.
+-- What `set_successor` does: it sets the step e·g = r and the step back.
 unfoldable pub stores : (t : List ℕ) (b : Builder) (e : GroupElementId) (g : GeneratorId) (r : GroupElementId) → Leaving Stored
 stores t b e g r =
     storesBy t (placedStep (length t) (b .0) e g r) (isNew (stretch t (b .0)) (b .0 .generators) e g)
     (withStretch t (b .0) (setStep (stretch t (b .0)) (b .0 .generators) e g r))
 
--- `build`: 17 in the handle, 4 for the work, then the reading of the builder's own successors, and 8 to 12.
+-- What `build` does: 17 in the handle, then 4 for the work, then the reading of the builder's own successors, and 8 to 12.
 unfoldable pub builds : List ℕ → Builder → List ℕ → Making
 builds t b w =
     pick (fitsIn (length t) (b .0))

@@ -10,6 +10,7 @@ use egg::GeneratorId;
 use egg::GroupElementId;
 use egg::Reached;
 
+// The answer of a `begin` that was refused.
 pub fn refused_begun(number: u32, a: u32) -> Begun
     ensures { λ r. ⌜ r ≡ refusedBegun number a ⌝ }
 {
@@ -19,7 +20,8 @@ pub fn refused_begun(number: u32, a: u32) -> Begun
     }
 }
 
-// A new element in the stretch of a build, and the builder that knows it.
+// Adds an element in the stretch of a build, and answers the builder that knows it. A refusal (5, 17 for a recorded
+// length over 4,096, 6) zeroes the stretch and ends the build.
 pub fn grow(t: &mut [u32], f: Factor, e: GroupElementId, g: GeneratorId) -> Grown
     requires { ⌜ f .elements ≤ 65535 ⌝ }
     ensures { λ x. ⌜ Leaving.leaving x (now (t .exit)) ≡ grown (now (t .entry)) f e g ⌝ }

@@ -1,4 +1,4 @@
-// builder.rs: a table built element by element.
+// From builder.rs: a table that is built element by element, by `begin`, `add_successor`, `set_successor` and `build`.
 ghost use mathlib.Core.Path.{_≡_};
 ghost use Rattle.build_lending.specs.Lending.{Making};
 ghost use Rattle.builder.specs.Calls.{Leaving, begins, grows, stores, builds};
@@ -12,10 +12,11 @@ use egg::Verdict;
 
 pub mod inner;
 
-// The handle of a build that goes on: a factor's numbers under a name of their own, since its table is not checked yet.
+// The handle of a build that is under way: a factor's numbers under a type of their own, since its table is not checked
+// yet.
 pub struct Builder(pub Factor);
 
-// What beginning answers; the handle fits no buffer where it was refused.
+// What beginning answers: a verdict, and the handle, which fits no buffer where the call was refused.
 pub struct Begun {
     pub answer: Verdict,
     pub builder: Builder,
@@ -27,14 +28,15 @@ pub struct Grown {
     pub builder: Builder,
 }
 
-// What storing a step answers.
+// What storing a step answers: whether the step was new or had been known.
 pub enum Stored {
     New,
     Known,
     Refused(Refusal),
 }
 
-// Begins a build in the stretch of `table` that starts at `start`.
+// Begins a build in the stretch of `table` that starts at `start`, with the identity alone. Refuses 1 for more than 8
+// generators, then 4 for a room that is 0 or above 65,535 or a table that is too short.
 pub fn begin(table: &mut [u32], start: usize, room: u32, n: u8) -> Begun
     ensures { λ r. ⌜ Leaving.leaving r (now (table .exit)) ≡ begins (now (table .entry)) start room n ⌝ }
 {
@@ -57,7 +59,10 @@ pub fn begin(table: &mut [u32], start: usize, room: u32, n: u8) -> Begun
     }
 }
 
-// A new element, reached from e by g: 17 in the handle and 14 touch nothing; 5, 17 in the length that is read, and 6 end the build.
+// Adds a new element, reached from e by g, and answers it with the builder that knows it. Refuses in this order: 17 for
+// a handle that does not fit and 14 for an element (place 0) or a generator (place 1) that the build does not have,
+// which change nothing; then 5 for an element beyond the room, 17 for a recorded length over 4,096 and 6 for a word
+// that would pass 4,096, which end the build: its stretch is zero then.
 pub fn add_successor(table: &mut [u32], b: Builder, e: GroupElementId, g: GeneratorId) -> Grown
     ensures { λ r. ⌜ Leaving.leaving r (now (table .exit)) ≡ grows (now (table .entry)) b e g ⌝ }
 {
@@ -75,7 +80,9 @@ pub fn add_successor(table: &mut [u32], b: Builder, e: GroupElementId, g: Genera
     }
 }
 
-// The step e·g = r, both ways; it overwrites, and says whether the place was new.
+// Sets the step e·g = r and the step back; it overwrites, and answers whether the place was new. Refuses 17 for a
+// handle that does not fit, then 14 for an element (place 0), a generator (1) or a second element (2) that the build
+// does not have.
 pub fn set_successor(
     table: &mut [u32],
     b: Builder,
@@ -100,7 +107,10 @@ pub fn set_successor(
     }
 }
 
-// Reads the builder's own successors as composed rows are read, for steps may have been overwritten; checks what was read, 8 to 12, and makes it a factor.
+// Makes a factor of what was built, and answers its handle. The builder's own successors are read again as composed
+// rows are, since steps may have been overwritten. Refuses in this order: 17 for a handle that does not fit, 4 for a
+// work buffer that is too short; then, leaving both stretches zero, what the reading refuses (7 or 6, or 17 for a
+// number that is no element's), and 8 to 12.
 pub fn build(table: &mut [u32], b: Builder, work: &mut [u32]) -> Made
     ensures { λ r. ⌜ Making.making r (now (table .exit)) (now (work .exit)) ≡ builds (now (table .entry)) b (now (work .entry)) ⌝ }
 {

@@ -12,17 +12,18 @@ use Rattle.egg.specs.Table.{pick, lengthOf}
 use Rattle.egg.specs.Scan.{refusedOf, andThen}
 use Rattle.egg.specs.Factor.{fitsIn}
 
--- 17 in the handle, then 14 for an element and a generator.
+-- Refusal 17 in the handle, then 14 for an element (place 0) and a generator (place 1).
 unfoldable pub placed : ℕ → Factor → GroupElementId → GeneratorId → Verdict
 placed len f e g =
     pick (fitsIn len f)
     (pick (leb (f .elements) (e .0)) (refusedOf 14 0 0 0) (pick (leb (f .generators) (g .0)) (refusedOf 14 1 0 0) verdict.Fine))
     (refusedOf 17 0 0 0)
 
--- The same, then 14 for a second element.
+-- The same, then 14 for a second element (place 2).
 unfoldable pub placedStep : (len : ℕ) (f : Factor) (e : GroupElementId) (g : GeneratorId) (r : GroupElementId) → Verdict
 placedStep len f e g r = andThen (placed len f e g) (pick (leb (f .elements) (r .0)) (refusedOf 14 2 0 0) verdict.Fine)
 
--- 17, "a number read from it is out of range": there is room, since 5 comes before, and the recorded word of e is longer than any word may be.
+-- True where 17 is due, "a number read from it is out of range": there is room, since 5 comes before, and the recorded word of e is longer than any
+-- word may be.
 unfoldable pub overLong : List ℕ → Factor → GroupElementId → Bool
 overLong s f e = ltb (f .elements) (f .room) && ltb 4096 (lengthOf s (f .generators) (e .0))

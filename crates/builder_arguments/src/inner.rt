@@ -1,4 +1,5 @@
-// What is tested before a step of a build is stored: the handle, the place, and the word that a new element would go on.
+// What is tested before a step of a build is stored: the handle, the arguments, and the length of the word that a new
+// element's word would extend.
 ghost use mathlib.Core.Path.{_≡_};
 ghost use lib.ListN.{length};
 ghost use Rattle.builder_arguments.specs.Places.{placed, placedStep, overLong};
@@ -7,7 +8,8 @@ use egg::GeneratorId;
 use egg::GroupElementId;
 use egg::Verdict;
 
-// 17 in the handle, then 14 for an element and a generator.
+// Refuses 17 for a handle that does not fit, then 14 for an element (place 0) or a generator (place 1) that the build
+// does not have.
 pub fn place(table: &[u32], f: Factor, e: GroupElementId, g: GeneratorId) -> Verdict
     ensures { λ r. ⌜ r ≡ placed (length (now (table .entry))) f e g ⌝ }
 {
@@ -23,7 +25,7 @@ pub fn place(table: &[u32], f: Factor, e: GroupElementId, g: GeneratorId) -> Ver
     Verdict::Fine
 }
 
-// The same, then 14 for the element that a step leads to.
+// The same, then refuses 14 for the element that the step leads to (place 2).
 pub fn place_step(
     table: &[u32],
     f: Factor,
@@ -43,7 +45,8 @@ pub fn place_step(
     Verdict::Fine
 }
 
-// Whether there is room, and the recorded word of e is longer than any word may be.
+// True where 17 is due for a recorded length: there is room, since 5 comes first, and the word of e is longer than any
+// may be.
 pub fn over_long(t: &[u32], f: Factor, e: GroupElementId) -> bool
     ensures { λ r. ⌜ r ≡ overLong (now (t .entry)) f e ⌝ }
 {

@@ -19,20 +19,20 @@ use Rattle.build_lending.specs.Finish.{Built, zeroed, finishedPlaced}
 abbrev pub storedAt : List ℕ → ℕ → ℕ → ℕ → ℕ
 storedAt s n e g = getD s (startOf n e + g) 0
 
--- One place (e, g) of a builder with so many elements, where x stands: a missing step is passed over, and left to 8; 17, "a number read from it is out of
--- range", where it is no element's; any other is read as a composed number is.
+-- One place (e, g) of a builder with so many elements, where x stands: a missing step is passed over and left to 8; a number that is no element's is
+-- 17, "a number read from it is out of range"; any other is read as a composed number is.
 unfoldable pub ownPlace : (t : List ℕ) (n room elements count e g x : ℕ) → Placed
 ownPlace t n room elements count e g x =
     pick (eqb x 0) (placed (Count count) t)
     (pick (ltb elements x) (placed (Refused (numbered 17 0 0 0)) t) (readPlace t n room count e g (x - 1)))
 
--- The k places of row e from generator g on.
+-- The k places of row e from generator g on, in order.
 unfoldable pub ownRow : (k : ℕ) (own : ℕ → ℕ → ℕ) (n room elements e g count : ℕ) (t : List ℕ) → Placed
 ownRow zero own n room elements e g count t = placed (Count count) t
 ownRow (suc k) own n room elements e g count t =
     thenPlaced (ownPlace t n room elements count e g (own e g)) (λ c t′. ownRow k own n room elements e (g + 1) c t′)
 
--- Rows from e on, while there is an element e; k of them at most. "Rows never reached are not read."
+-- The rows from e on, while e is an element that is known; k of them at most. "Rows never reached are not read."
 unfoldable pub ownFrom : (k : ℕ) (own : ℕ → ℕ → ℕ) (n room elements e count : ℕ) (t : List ℕ) → Placed
 ownFrom zero own n room elements e count t = placed (Count count) t
 ownFrom (suc k) own n room elements e count t =
@@ -43,19 +43,20 @@ ownFrom (suc k) own n room elements e count t =
 abbrev pub ownAll : (own : ℕ → ℕ → ℕ) (n room elements : ℕ) (t : List ℕ) → Placed
 ownAll own n room elements t = ownFrom elements own n room elements 0 1 t
 
--- "Rows never reached are not read", so in the table that was read into all their steps are missing: 8 over all the builder's elements, "successors are
--- searched before predecessors", which refuses the first element that is not reached at the latest. Without generators there is none by which a step could
--- be missing, and only a handle that was altered has more than the identity: 17.
+-- The verdict on a reading that has reached `count` elements. "Rows never reached are not read", so in the table that was read into all their steps
+-- are missing: 8 is tested over all the builder's elements, "successors are searched before predecessors", and refuses at the first element that is
+-- not reached at the latest. Without generators no step can be missing, and only a handle that was altered has more than the identity: 17.
 unfoldable pub allReached : List ℕ → ℕ → ℕ → ℕ → Verdict
 allReached t n elements count =
     pick (leb elements count) verdict.Fine
     (pick (eqb n 0) (refusedOf 17 0 0 0) (check8 t n elements))
 
--- The count, unless it is refused.
+-- The count, unless the verdict is a refusal.
 abbrev pub countUnless : ℕ → Verdict → Counted
 countUnless count verdict.Fine = Count count
 countUnless count (verdict.Refused r) = Refused r
 
+-- What a reading comes to with that verdict: a refusal of the reading stands.
 abbrev pub reachesAll : ℕ → ℕ → Placed → Placed
 reachesAll n elements (placed (Count count) t) = placed (countUnless count (allReached t n elements count)) t
 reachesAll n elements (placed (Refused r) t) = placed (Refused r) t
@@ -74,8 +75,8 @@ unfoldable pub copied : (k : ℕ) (t : List ℕ) (n e : ℕ) (w : List ℕ) → 
 copied zero t n e w = w
 copied (suc k) t n e w = copied k t n (e + 1) (copiedRow n t n e 0 w)
 
--- The build in its stretches: the table's is zeroed first, and what stood there is read into it; then the checks, in the work as the copy has left it. What
--- the work holds then decides nothing: the checks store a number of it before they read it, and it is zeroed at their end.
+-- The build in its stretches: the table's is zeroed first, and what stood there is read into it; then come the checks, in the work as the copying has
+-- left it. What the work holds then decides nothing: the checks store each number of it before they read it, and it is zeroed at their end.
 unfoldable pub ownIn : (s w : List ℕ) (n room elements : ℕ) → Built
 ownIn s w n room elements =
     finishedPlaced (reachesAll n elements (ownAll (storedAt s n) n room elements (zeroed s))) n (copied elements s n 0 w)

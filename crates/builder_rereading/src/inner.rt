@@ -1,4 +1,5 @@
-// The work of `build` in the stretches that were lent.
+// The work of `build` in the stretches that were lent: the builder's own successors are copied into the work and read
+// again into a table of zeros.
 ghost use mathlib.Core.Path.{_≡_};
 ghost use Prim.Native.Nat.{_*_, _≤_};
 ghost use lib.ListN.{length, set};
@@ -11,7 +12,7 @@ use egg::GroupElementId;
 use egg::Refusal;
 use egg::Verdict;
 
-// Stores x at i; nothing past the end.
+// Stores x at i; does nothing past the end.
 fn keep(w: &mut [u32], i: usize, x: u32)
     ensures { λ r. ⌜ now (w .exit) ≡ set (now (w .entry)) i x ⌝ }
 {
@@ -20,6 +21,7 @@ fn keep(w: &mut [u32], i: usize, x: u32)
     }
 }
 
+// Copies the successors of one element.
 fn copy_row(t: &[u32], w: &mut [u32], n: u8, e: GroupElementId)
     ensures { λ r. ⌜ now (w .exit) ≡ copiedRow n (now (t .entry)) n (e .0) 0 (now (w .entry)) ⌝ }
 {
@@ -32,7 +34,7 @@ fn copy_row(t: &[u32], w: &mut [u32], n: u8, e: GroupElementId)
     }
 }
 
-// The successors of all elements to the front of the work, so that nothing is read from what is being written.
+// Copies the successors of all elements to the front of the work, so that nothing is read from what is being written.
 fn copy_rows(t: &[u32], w: &mut [u32], n: u8, elements: u32)
     ensures { λ r. ⌜ now (w .exit) ≡ copied elements (now (t .entry)) n 0 (now (w .entry)) ⌝ }
 {
@@ -43,7 +45,8 @@ fn copy_rows(t: &[u32], w: &mut [u32], n: u8, elements: u32)
     }
 }
 
-// One place of the builder's own rows: a missing step is left to 8, and a number that is no element's is 17.
+// Reads one place of the builder's own rows, where x stands: a missing step is left to 8, and a number that is no
+// element's is 17.
 fn own_place(
     t: &mut [u32],
     n: u8,
@@ -70,6 +73,7 @@ fn own_place(
     build_reading::inner::place(t, n, room, count, e, g, x - 1)
 }
 
+// Reads one row, place by place.
 fn own_row(
     t: &mut [u32],
     w: &[u32],
@@ -95,7 +99,7 @@ fn own_row(
     Counted::Count(count)
 }
 
-// Rows in the order of their elements, as long as there is a next element.
+// Reads the rows in the order of their elements, as long as there is a next element that is known.
 fn own_rows(t: &mut [u32], w: &[u32], n: u8, room: u32, elements: u32) -> Counted
     ensures { λ r. ⌜ Placed.placed r (now (t .exit)) ≡ ownAll (copyAt (now (w .entry)) n) n room elements (now (t .entry)) ⌝ }
 {
@@ -115,7 +119,7 @@ fn own_rows(t: &mut [u32], w: &[u32], n: u8, room: u32, elements: u32) -> Counte
     Counted::Count(count)
 }
 
-// 8 where an element is not reached: its row was not read, so that its successors are missing.
+// Refusal 8 where an element was not reached: its row was not read, so that its successors are missing.
 fn reached_all(t: &[u32], n: u8, elements: u32, read: Counted) -> Counted
     ensures { λ r. ⌜ Placed.placed r (now (t .entry)) ≡ reachesAll n elements (Placed.placed read (now (t .entry))) ⌝ }
 {
@@ -139,7 +143,8 @@ fn reached_all(t: &[u32], n: u8, elements: u32, read: Counted) -> Counted
     }
 }
 
-// The end of a build by steps, which may have been overwritten: the table afresh from its successors, then `finish`.
+// Ends a build by steps, which may have been overwritten: makes the table afresh from its successors, and then does as
+// every build ends.
 pub fn complete(t: &mut [u32], w: &mut [u32], n: u8, room: u32, elements: u32) -> Counted
     requires { ⌜ elements * n ≤ length (now w) ⌝ }
     ensures { λ r. ⌜ Built.built r (now (t .exit)) (now (w .exit)) ≡ ownIn (now (t .entry)) (now (w .entry)) n room elements ⌝ }

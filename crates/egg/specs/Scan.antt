@@ -1,4 +1,5 @@
--- Checks that look at one place after the other and stop at the first refusal. Document 01: "Places are the first in element order, then generator order".
+-- How checks go: they look at one place after the other and stop at the first refusal. Document 01: "Places are the first in element order, then
+-- generator order".
 use Prim.Native.Nat.{ℕ, zero, suc, _+_}
 use Rattle.egg.specs.declared.Refusal.{Refusal}
 use Rattle.egg.specs.declared.Verdict.{Verdict}

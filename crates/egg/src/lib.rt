@@ -1,4 +1,5 @@
-// egg.rs: the element-by-generator table, in a lent stretch of 32-bit numbers, and the handle of a factor that stands in one.
+// From egg.rs: the element-by-generator table, in a lent stretch of 32-bit numbers, and the handle of a factor that
+// stands in one.
 ghost use mathlib.Core.Path.{_≡_};
 ghost use mathlib.Core.Bool.{Bool};
 ghost use Prim.Native.Nat.{_+_, _*_, _<_, _≤_};
@@ -47,13 +48,15 @@ pub struct Factor {
     pub elements: u32,
 }
 
-// What a call that makes a factor answers; the handle stands beside the verdict, and fits no buffer where it was refused.
+// What a call that makes a factor answers: a verdict, and beside it the handle, which fits no buffer where the call was
+// refused.
 pub struct Made {
     pub answer: Verdict,
     pub factor: Factor,
 }
 
-// Whether a buffer of `len` numbers has a stretch for `room` elements of n generators from `start` on.
+// Answers whether a buffer of `len` numbers has a stretch for `room` elements of n generators from `start` on, within
+// document 01's limits: at most 8 generators and a room of 1 to 65,535.
 pub fn has_room(len: usize, start: usize, room: u32, n: u8) -> bool
     ensures { λ r. ⌜ r ≡ hasRoom len start room n ⌝ }
 {
@@ -73,7 +76,8 @@ pub fn has_room(len: usize, start: usize, room: u32, n: u8) -> bool
     start <= len - need
 }
 
-// Whether the handle fits its buffer; where it does not, every call answers 17.
+// Whether the handle fits its buffer: its stretch lies within it, and it has 1 to `room` elements. Where it does not,
+// every call on it answers 17.
 pub fn fits(table: &[u32], f: Factor) -> bool
     ensures { λ r. ⌜ r ≡ fitsIn (length (now (table .entry))) f ⌝ }
 {
@@ -86,7 +90,9 @@ pub fn fits(table: &[u32], f: Factor) -> bool
     has_room(table.len(), f.start, f.room, f.generators)
 }
 
-// The step from an element by a generator: 17 in the handle, then 14, then 17 in what is read.
+// Answers the element to which a generator leads from an element. Refuses in this order: 17 for a handle that does not
+// fit, 14 for an element (place 0) or a generator (place 1) that the factor does not have, 17 for a number read from
+// the table that is out of range.
 pub fn step(table: &[u32], f: Factor, e: GroupElementId, g: GeneratorId) -> Reached
     ensures { λ r. ⌜ r ≡ stepAnswer (now (table .entry)) f e g ⌝ }
 {

@@ -1,4 +1,5 @@
-// A build from pair orders: the quick way, else the run of 000; the checks and the relations after either.
+// A build from pair orders in its stretches: the quick way, else the run of 000; and after either the checks and the
+// relations.
 ghost use mathlib.Core.Path.{_≡_};
 ghost use Prim.Native.Nat.{_≤_};
 ghost use lib.ListN.{length};
@@ -11,7 +12,7 @@ use egg::GroupElementId;
 use egg::Verdict;
 use enumeration_run::inner::Ran;
 
-// How a run ended, as a count or a refusal. With the largest allowance none is paused.
+// How a run ended, as a count or a refusal. With the largest allowance no run is paused.
 fn counted(r: Ran) -> Counted
     ensures { λ x. ⌜ x ≡ ranCount r ⌝ }
 {
@@ -22,7 +23,8 @@ fn counted(r: Ran) -> Counted
     }
 }
 
-// 13, at the identity: of a table that has passed 8 to 12 that is as good as at every element. A failure zeroes the table.
+// Refusal 13, tested at the identity: for a table that has passed 8 to 12 that is as good as at every element. A
+// failure zeroes the table.
 fn relate(t: &mut [u32], orders: &[u32], n: u8, read: Counted) -> Counted
     requires { ⌜ length (now orders) ≤ 28 ⌝ }
     ensures { λ r. ⌜ Relating.relating r (now (t .exit)) ≡ relates n (now (orders .entry)) read (now (t .entry)) ⌝ }
@@ -45,8 +47,8 @@ fn relate(t: &mut [u32], orders: &[u32], n: u8, read: Counted) -> Counted
     }
 }
 
-// The quick way: the run by closed loops, 8 to 12, then 13. What it accepts is what the build below gives (`enumeration_quick_laws`): the
-// element count. 0 where it accepts nothing, which says nothing of the build below.
+// The quick way: the run by closed loops, 8 to 12, then 13. Answers the element count where it accepts, and that is
+// what the build by 000 gives (`enumeration_quick_laws`); else 0, which says nothing of that build.
 fn enumerate_swiftly(t: &mut [u32], w: &mut [u32], orders: &[u32], n: u8, room: u32) -> u32
     requires { ⌜ Limits n (now orders) room (length (now t)) (length (now w)) ⌝ }
     ensures { λ r. ⌜ Quick (length (now (t .entry))) (length (now (w .entry))) (now (orders .entry)) n room r (now (t .exit)) (now (w .exit)) ⌝ }

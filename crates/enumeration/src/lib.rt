@@ -1,4 +1,4 @@
-// todd_coxeter.rs: a checked factor from pair orders.
+// From todd_coxeter.rs: a checked factor from pair orders.
 ghost use mathlib.Core.Path.{_≡_};
 ghost use Prim.Native.Nat.{_+_, _*_, _<_, _≤_};
 ghost use lib.ListN.{length};
@@ -10,8 +10,11 @@ use egg::Verdict;
 
 pub mod inner;
 
-// `construct_group`: the group that the pair orders present, in the stretch of `table` that starts at `start`. The
-// orders are in the order (0,1),(0,2),(1,2),(0,3)..
+// 000's `construct_group`: makes a factor of the group that the pair orders present, in the stretch of `table` that
+// starts at `start`, and answers its handle. The orders come in the order (0,1),(0,2),(1,2),(0,3).. . Refuses in this
+// order: 1 for more than 8 generators, 2 for a list of the wrong length, 3 for the first order outside 2..32,767, 4 for
+// a room that is 0 or above 65,535 or a table or work that is too short; then, leaving both stretches zero, 5 or 6 at
+// the first place where no element can be added, 8 to 12, and 13.
 pub fn enumerate(
     table: &mut [u32],
     start: usize,

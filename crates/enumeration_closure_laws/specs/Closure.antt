@@ -1,5 +1,6 @@
--- What the machine of 000 keeps true of its waiting rows, beside steps that are known beforehand (`step`, as in `enumeration_loop_laws`): no row is forgotten. So when no fact is
--- left, a row of which all columns but one are known has given that one too (`column-known`). `t` and `w` are the table and the work.
+-- What the machine of 000 keeps true of its waiting rows, beside steps that are known beforehand (`step`, as in `enumeration_loop_laws`): no row is
+-- forgotten. So when no fact is left, a row of which all columns but one are known has given that one too (`column-known`). `t` and `w` are the table
+-- and the work.
 use Prim.Native.Nat.{ℕ, suc, _*_, _<_, _≤_}
 use mathlib.Core.Path.{_≡_}
 use mathlib.Core.Logic.{_⊎_}
@@ -14,8 +15,8 @@ use Rattle.enumeration_run_laws.specs.Stack.{Stack}
 use Rattle.enumeration_loop_laws.specs.Rings.{turn, ring, first, second, Told, Column, rowAt}
 use Rattle.enumeration_waiting_laws.specs.Queues.{In, placeOf, copyAt, Held, Queues}
 
--- The copy on a side of the row of u and the pair at place k: its ends are at columns of the row's loop, with elements below the count there, and every column
--- outside of them is known.
+-- What is stored in the copy, on a side, of the row of u and the pair at place k: its ends are at columns of the row's loop, with elements below the
+-- count there, and every column outside of them is known.
 pub record Rowed (count : ℕ) (step : ℕ → ℕ → ℕ) (o t w : List ℕ) (n u k : ℕ) (side : SideOfGap) : Type 0 where
   pub left : ℕ
   pub right : ℕ
@@ -27,8 +28,8 @@ pub record Rowed (count : ℕ) (step : ℕ → ℕ → ℕ) (o t w : List ℕ) (
   pub before : (j : ℕ) → j < left → Column n t step u k j
   pub behind : (j : ℕ) → right < j → j < 2 * getD o k 0 → Column n t step u k j
 
--- The copy p waits for the step from e by g, and will be woken: that step is not known yet, or it is a fact on the stack, still to be taken. Or p is in hand, taken
--- from its list and to be woken next.
+-- The copy p waits for the step from e by g, and will be woken: that step is not known yet, or it is a fact on the stack, still to be taken. Or p is
+-- in hand: it has been taken from its list and is still to be woken.
 pub data Awaits (n : ℕ) (t : List ℕ) (held : Held) (facts : List ℕ) (hand : SideOfGap → List ℕ) (side : SideOfGap) (p e g : ℕ) : Type 0 where
   listed : In p (held side e g) → (Known n t e g → In (placeOf n e g) facts) → Awaits n t held facts hand side p e g
   in-hand : In p (hand side) → Awaits n t held facts hand side p e g
@@ -47,10 +48,10 @@ pub record Open (n : ℕ) (step : ℕ → ℕ → ℕ) (t w : List ℕ) (held : 
 abbrev pub Whole : (n : ℕ) (step : ℕ → ℕ → ℕ) (o t : List ℕ) (u k : ℕ) → Type 0
 Whole n step o t u k = (j : ℕ) → j < 2 * getD o k 0 → Column n t step u k j
 
--- The machine at any moment, with `count` elements: `held` says which copies wait where, `facts` what is on the stack, and `hand` which copies have been taken from
--- their lists and are still to be woken. Every live row is whole or open. `Live` says which rows are live, and a theorem that uses this chooses it; it cannot be all
--- rows: "A new element also gets its step back, which is no fact", so no fact wakes the rows of that element that begin or end with the step back. `lt` and `lw` are
--- the lengths of the two stretches, and the work beyond the elements is blank.
+-- The machine at any moment, with `count` elements: `held` says which copies wait where, `facts` what is on the stack, and `hand` which copies have
+-- been taken from their lists and are still to be woken. Every live row is whole or open. `Live` says which rows are live, and a theorem that uses
+-- this chooses it; it cannot be all rows: "A new element also gets its step back, which is no fact", so no fact wakes the rows of that element that
+-- begin or end with the step back. `lt` and `lw` are the lengths of the two stretches, and the work beyond the elements is blank.
 pub record Machine (n : ℕ) (o : List ℕ) (step : ℕ → ℕ → ℕ) (Live : ℕ → ℕ → Type 0) (count lt lw : ℕ) (held : Held) (facts : List ℕ) (hand : SideOfGap → List ℕ) (s : State) : Type 0 where
   pub told : Told n count step (s .table)
   pub stack : Stack n count (s .table) (s .work) (s .top) facts

@@ -1,2 +1,3 @@
-// What the machine of the enumeration has closed when no fact is left: definitions in specs/, theorems in proofs/. There is no code, and a crate needs a function.
+// That the machine of the enumeration has forgotten no row when no fact is left: definitions in specs/, theorems in
+// proofs/. There is no code; the one function is here because a crate needs one.
 pub fn nothing() {}

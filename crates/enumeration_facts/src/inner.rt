@@ -1,12 +1,13 @@
-// Facts of the enumeration, and what follows from them. Facts are places of the work stretch, on a stack that is a list
-// through the places themselves, since a place becomes a fact once at most.
+// Facts of the enumeration, and what follows from them. A fact is a step that is newly known. Facts are kept by their
+// places in the work stretch, on a stack that is a list through the places themselves, since a place becomes a fact
+// once at most.
 ghost use mathlib.Core.Path.{_≡_};
 ghost use Prim.Native.Nat.{_<_};
 ghost use Rattle.enumeration_wake.specs.Waking.{state, wakesAll};
 ghost use Rattle.enumeration_facts.specs.Facts.{emptied, updated, settled};
 use enumeration_rows::inner::SideOfGap;
 
-// The copies of one list in order, as many as it counts.
+// Wakes the copies of one list in order, as many as it counts. Answers the link of the stack's top.
 pub fn wake_all(
     t: &mut [u32],
     w: &mut [u32],
@@ -47,7 +48,7 @@ pub fn wake_all(
     now_top
 }
 
-// 000, mem::take: both lists of a place, and its link of the fact stack.
+// 000's `mem::take`: empties both lists of a place, and its link of the fact stack.
 pub fn empty(w: &mut [u32], place: usize)
     requires { ⌜ place < 36028797018963968 ⌝ }
     ensures { λ x. ⌜ now (w .exit) ≡ emptied (now (w .entry)) place ⌝ }
@@ -61,7 +62,8 @@ pub fn empty(w: &mut [u32], place: usize)
     egg::inner::put(w, place + 6, 0);
 }
 
-// 000, update_with_fact: takes both lists, then wakes the left rows, then the right rows.
+// 000's `update_with_fact`: takes both lists of a place, then wakes the left copies, then the right ones. Answers the
+// link of the stack's top.
 pub fn update_with_fact(t: &mut [u32], w: &mut [u32], n: u8, place: usize, top: u32) -> u32
     requires { ⌜ place < 36028797018963968 ⌝ }
     ensures { λ r. ⌜ state (now (t .exit)) (now (w .exit)) r ≡ updated n place (state (now (t .entry)) (now (w .entry)) top) ⌝ }
@@ -75,7 +77,8 @@ pub fn update_with_fact(t: &mut [u32], w: &mut [u32], n: u8, place: usize, top: 
     wake_all(t, w, n, rights, right_count, SideOfGap::Right, top1)
 }
 
-// Facts, last in first out, until none is left. A run never has as many facts as there are numbers of work.
+// Takes facts from the stack, last in first out, until none is left. A run never has as many facts as there are numbers
+// of work.
 pub fn settle(t: &mut [u32], w: &mut [u32], n: u8, first: u32) -> u32
     ensures { λ r. ⌜ state (now (t .exit)) (now (w .exit)) r ≡ settled n (state (now (t .entry)) (now (w .entry)) first) ⌝ }
 {

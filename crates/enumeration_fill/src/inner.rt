@@ -1,4 +1,5 @@
-// The filling of a row: its two ends walk into its gap along the columns of the table, leg by leg.
+// The filling of a row: its two ends walk into its gap along the columns of the table. A walk is made in legs: a leg is
+// the part of a walk in which every two steps lead equally many element numbers on.
 ghost use mathlib.Core.Path.{_≡_};
 ghost use mathlib.Core.Bool.{true};
 ghost use Prim.Native.Nat.{_+_, _<_, _≤_};
@@ -17,7 +18,8 @@ pub struct Walked {
     pub left: u32,
 }
 
-// A part of a walk: where it ends, whether there is more of the walk, and how many numbers on its last two steps led.
+// A leg of a walk: where it ends, how many steps are left, whether there is more of the walk, and by how many numbers
+// its last two steps led on.
 pub struct Leg {
     pub element: GroupElementId,
     pub left: u32,
@@ -25,15 +27,16 @@ pub struct Leg {
     pub jump: u32,
 }
 
-// The generator of the columns beside one of that index.
+// The generator of the columns next to the one of that index.
 pub fn beside(pair: u32, index: u32) -> GeneratorId
     ensures { λ r. ⌜ r ≡ genOf pair (index + 1) ⌝ }
 {
     enumeration_rows::inner::generator(pair, index % 2 + 1)
 }
 
-// Walks on from an element along two columns of the table's rows in turn, at most `steps` steps, as long as two steps lead
-// `jump` numbers on. The guess costs a test, and lets a processor read on before the cell that it waits for has come.
+// Walks on from an element along two columns of the table's rows in turn, at most `steps` steps, as long as two steps
+// lead `jump` numbers on. That guess costs a test, and lets a processor read on before the cell that it waits for has
+// come.
 pub fn walk_leg(
     t: &[u32],
     n: u8,
@@ -96,7 +99,7 @@ pub fn walk_leg(
     }
 }
 
-// A whole walk, leg by leg; round a long relation a leg has even jumps.
+// A whole walk, leg by leg. Round a long relation the jumps are equal, so that a leg is long.
 pub fn walk(
     t: &[u32],
     n: u8,
@@ -122,7 +125,7 @@ pub fn walk(
     Walked { element: e, left }
 }
 
-// 000, fill, its first loop: the right end goes back as far as it can.
+// The first loop of 000's `fill`: the right end goes back as far as it can.
 pub fn back(t: &[u32], n: u8, row: RelationTableRow) -> RelationTableRow
     ensures { λ r. ⌜ r ≡ backed (now (t .entry)) n row ⌝ }
 {
@@ -145,7 +148,7 @@ pub fn back(t: &[u32], n: u8, row: RelationTableRow) -> RelationTableRow
     }
 }
 
-// 000, fill, its second loop: the left end goes forward as far as it can.
+// The second loop of 000's `fill`: the left end goes forward as far as it can.
 pub fn forward(t: &[u32], n: u8, row: RelationTableRow) -> RelationTableRow
     ensures { λ r. ⌜ r ≡ forwarded (now (t .entry)) n row ⌝ }
 {
@@ -173,14 +176,14 @@ pub fn forward(t: &[u32], n: u8, row: RelationTableRow) -> RelationTableRow
     }
 }
 
-// 000, fill.
+// 000's `fill`: moves both ends into the gap as far as steps are known.
 pub fn fill(t: &[u32], n: u8, row: RelationTableRow) -> RelationTableRow
     ensures { λ r. ⌜ r ≡ filled (now (t .entry)) n row ⌝ }
 {
     forward(t, n, back(t, n, row))
 }
 
-// Whether a row stands as `before` does, with more than so many columns in its gap.
+// Answers true where a row stands as `before` does, with more than so many columns in its gap.
 pub fn alike(row: RelationTableRow, before: RelationTableRow, columns: u32) -> bool
     ensures { λ r. ⌜ (r ≡ true → Alike row before columns) ⌝ }
 {

@@ -12,7 +12,7 @@ use Rattle.enumeration_rows.specs.declared.inner.RelationTableRow.{RelationTabl
 use Rattle.enumeration_rows.specs.Rows.{rowOf}
 use Rattle.enumeration_run_laws.specs.Invariant.{Known}
 
--- Letter j of a, b, a, b ..
+-- Letter j of the word a, b, a, b .. , counted from 0.
 abbrev pub turn : ℕ → ℕ → ℕ → ℕ
 turn a b j = pick (eqb (j % 2) 0) a b
 
@@ -21,14 +21,15 @@ abbrev pub ring : (step : ℕ → ℕ → ℕ) (a b u : ℕ) → ℕ → ℕ
 ring step a b u zero = u
 ring step a b u (suc j) = step (ring step a b u j) (turn a b j)
 
--- The two generators of the pair at place k of the list, "in the order (0,1),(0,2),(1,2),(0,3).."; they are kept as one number, 8a + b.
+-- The first generator of the pair at place k of the list, "in the order (0,1),(0,2),(1,2),(0,3).."; the pair is coded as 8a + b.
 abbrev pub first : ℕ → ℕ
 first k = pairCode k / 8 % 8
 
+-- The second generator of that pair.
 abbrev pub second : ℕ → ℕ
 second k = pairCode k % 8
 
--- The steps of N elements, in which the relations of the orders o hold at every element: "each generator doubled, then each pair's 2m steps" lead back to it.
+-- The relations of the orders o hold at each of the N elements in these steps: "each generator doubled, then each pair's 2m steps" lead back to it.
 pub record Looped (n N : ℕ) (o : List ℕ) (step : ℕ → ℕ → ℕ) : Type 0 where
   pub below : {e g : ℕ} → e < N → g < n → step e g < N
   pub twice : {e g : ℕ} → e < N → g < n → step (step e g) g ≡ e
@@ -43,8 +44,8 @@ pub record Told (n count : ℕ) (step : ℕ → ℕ → ℕ) (t : List ℕ) : Ty
   pub both : (e g : ℕ) → g < n → Known n t e g → Known n t (step e g) g
   pub back : (e g : ℕ) → g < n → getD t (startOf n e + (n + g)) 0 ≡ getD t (startOf n e + g) 0
 
--- "A row has 2m places": column j of the row of u and the pair at place k is the step by letter j from the element that comes before it on the loop. That step
--- is known.
+-- Column j of the row of u and the pair at place k is known. "A row has 2m places": column j is the step by letter j from the element that comes
+-- before it on the loop.
 abbrev pub Column : (n : ℕ) (t : List ℕ) (step : ℕ → ℕ → ℕ) (u k j : ℕ) → Type 0
 Column n t step u k j = Known n t (ring step (first k) (second k) u j) (turn (first k) (second k) j)
 

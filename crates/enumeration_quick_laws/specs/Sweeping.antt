@@ -1,4 +1,5 @@
--- What the run by closed loops keeps true of its table, how one table of that run goes over into a later one, and which rows of 000's run are live beside it.
+-- What the run by closed loops keeps true of its table, what stays from one table of that run to a later one, and which rows of 000's run are live
+-- beside it.
 use Prim.Native.Nat.{ℕ, suc, _+_, _*_, _<_, _≤_}
 use mathlib.Core.Path.{_≡_}
 use mathlib.Core.List.{List}
@@ -7,8 +8,8 @@ use Rattle.egg.specs.Table.{startOf, lastOf}
 use Rattle.enumeration_run_laws.specs.Invariant.{Known}
 use Rattle.enumeration_loop_laws.specs.Rings.{first, second}
 
--- A table of so many numbers with `count` elements: each row holds the same numbers for its steps back as for its steps, a known step leads to an element below
--- the count whose step by the same letter leads back, and rows from the count on are blank.
+-- A table of lt numbers with `count` elements, as the run by closed loops keeps it: each row holds the same numbers for its steps back as for its
+-- steps, a known step leads to an element below the count whose step by the same letter leads back, and rows from the count on are blank.
 pub record Fair (n count lt : ℕ) (t : List ℕ) : Type 0 where
   pub back : (e g : ℕ) → g < n → getD t (startOf n e + (n + g)) 0 ≡ getD t (startOf n e + g) 0
   pub turned : (e g r : ℕ) → g < n → getD t (startOf n e + g) 0 ≡ suc r → (r < count) × (getD t (startOf n r + g) 0 ≡ suc e)
@@ -21,7 +22,8 @@ pub record Grows (n count count′ : ℕ) (t t′ : List ℕ) : Type 0 where
   pub known : (e g : ℕ) → g < n → Known n t e g → getD t′ (startOf n e + g) 0 ≡ getD t (startOf n e + g) 0
   pub rest : (e k : ℕ) → e < count → 2 * n ≤ k → k < 2 * n + 4 → getD t′ (startOf n e + k) 0 ≡ getD t (startOf n e + k) 0
 
--- The rows that are live for `Machine` of `enumeration_closure_laws`, where F is the table that the run by closed loops will leave: those of the identity, and of an element whose last
--- letter is neither generator of the pair at place k. By that letter the element has its step back, "which is no fact".
+-- Which rows are live, in the sense of `Machine` of `enumeration_closure_laws`, where F is the table that the run by closed loops will leave: those
+-- of the identity, and those of an element whose last letter is neither generator of the pair at place k. By that letter the element has its step
+-- back, "which is no fact".
 abbrev pub Live : (n : ℕ) (F : List ℕ) (u k : ℕ) → Type 0
 Live n F u k = 0 < u → (lastOf F n u ≡ first k → ⊥) × (lastOf F n u ≡ second k → ⊥)

@@ -1,4 +1,5 @@
--- What the pair relations say of a step that is not known: one through it of which all other steps are known, a closed loop, says where it leads.
+-- What the pair relations say of a step that is not known: a relation through it of which all other steps are known, a closed loop, says where it
+-- leads.
 use Prim.Native.Nat.{ℕ, zero, suc, _+_, _*_, _-_}
 use mathlib.Core.List.{List}
 use lib.ListN.{getD}
@@ -12,18 +13,19 @@ use Rattle.enumeration_fill.specs.Walk.{walkFrom}
 unfoldable pub orderFor : List ℕ → ℕ → ℕ → ℕ
 orderFor o g h = pick (ltb g h) (getD o (pairCount h + g) 0) (getD o (pairCount g + h) 0)
 
--- A walk that went all its way to an element whose step by g is not known: that element's number + 1, else 0.
+-- What such a walk says: where it went all its way, to an element whose step by g is not known, that element's number + 1; else 0, for nothing.
 abbrev pub endBy : (t : List ℕ) (n g : ℕ) → Walked → ℕ
 endBy t n g x = pick (eqb (x .left) 0) (pick (eqb (getD t (startOf n (x .element .0) + g) 0) 0) (x .element .0 + 1) 0) 0
 
--- Where the relation of g and h says that e·g leads: to the end of h g h .. from e, all letters of the relation but one. Of an element whose word has fewer than
--- m - 1 letters a relation of order m is not asked, which saves long walks. It should not be able to say it there; that is no theorem, and only time rests on it.
+-- Where the relation of g and h says that e·g leads: to the end of h g h .. from e, all letters of the relation but one. A relation of order m is not
+-- asked at an element whose word has fewer than m - 1 letters, which saves long walks. It should not be able to say anything there; that is no
+-- theorem, and only time rests on it.
 unfoldable pub loopBy : (t o : List ℕ) (n e g h : ℕ) → ℕ
 loopBy t o n e g h =
     pick (eqb h g) 0
     (pick (ltb (lengthOf t n e + 1) (orderFor o g h)) 0 (endBy t n g (walkFrom (2 * orderFor o g h - 1) t n e h g)))
 
--- The first generator from h on, of f, whose relation says it.
+-- What the first relation says that says anything, of f generators from h on.
 unfoldable pub loopFrom : (f : ℕ) (t o : List ℕ) (n e g h : ℕ) → ℕ
 loopFrom zero t o n e g h = 0
 loopFrom (suc f) t o n e g h = pick (eqb (loopBy t o n e g h) 0) (loopFrom f t o n e g (h + 1)) (loopBy t o n e g h)

@@ -1,4 +1,5 @@
-// Of the enumeration by closed loops: what one pair relation says of a step, and the first relation that says anything.
+// What closed loops say of a step. A pair relation of which all steps but one are known is a closed loop: it says where
+// that one leads. Here is what one relation says, and the first relation that says anything.
 ghost use mathlib.Core.Path.{_≡_};
 ghost use Prim.Native.Nat.{_*_, _-_, _<_};
 ghost use Rattle.egg.specs.Table.{lengthOf};
@@ -9,7 +10,7 @@ use egg::GeneratorId;
 use egg::GroupElementId;
 use enumeration_fill::inner::Walked;
 
-// The order of the pair of two generators.
+// The order of the pair of two generators, whichever of them is less.
 fn order_for(orders: &[u32], g: GeneratorId, h: GeneratorId) -> u32
     ensures { λ r. ⌜ r ≡ orderFor (now (orders .entry)) (g .0) (h .0) ⌝ }
 {
@@ -22,7 +23,7 @@ fn order_for(orders: &[u32], g: GeneratorId, h: GeneratorId) -> u32
     }
 }
 
-// The letters of a relation but one.
+// How many letters a relation of that order has, without the one that is asked for.
 fn letters(order: u32) -> u32
     requires { ⌜ order < 32768 ⌝ }
     ensures { λ r. ⌜ r ≡ 2 * order - 1 ⌝ }
@@ -34,7 +35,8 @@ fn letters(order: u32) -> u32
     all - 1
 }
 
-// A walk along two columns of the table's rows in turn. Most are of a few steps, so there is nothing to guess.
+// A walk along two columns of the table's rows in turn. Most have a few steps, so that nothing is guessed as in
+// `enumeration_fill`.
 fn loop_end(
     t: &[u32],
     n: u8,
@@ -79,7 +81,8 @@ fn loop_end(
     }
 }
 
-// Where the relation of g and h says that e·g leads, as the number + 1; 0 where it says nothing. `length` is that of e's word.
+// Where the relation of g and h says that e·g leads, as the number + 1; 0 where it says nothing. `length` is the length
+// of e's word.
 fn loop_by(
     t: &[u32],
     orders: &[u32],
@@ -112,7 +115,7 @@ fn loop_by(
     last.0 + 1
 }
 
-// The same by the first relation of g that says it.
+// Where the relations of g say that e·g leads, by the first that says it; 0 where none does.
 pub fn loop_from(t: &[u32], orders: &[u32], n: u8, e: GroupElementId, g: GeneratorId) -> u32
     requires { ⌜ Orders (now orders) × (e .0 < 4294967295) ⌝ }
     ensures { λ r. ⌜ r ≡ loopFrom n (now (t .entry)) (now (orders .entry)) n (e .0) (g .0) 0 ⌝ }

@@ -1,4 +1,5 @@
-// The machine of the enumeration by closed loops: one visit of a place, by what `enumeration_quick_loops` says of its step, and the run.
+// The quick run, by closed loops: one visit of a place, by what `enumeration_quick_loops` says of its step, and the run
+// over all places.
 ghost use mathlib.Core.Path.{_≡_};
 ghost use Prim.Native.Nat.{_<_};
 ghost use lib.ListN.{length};
@@ -11,7 +12,8 @@ use egg::Reached;
 use enumeration_run::inner::Ran;
 use enumeration_run::inner::Run;
 
-// A step that is not known, by what the loops say of it: the element count after it, or 5 or 6.
+// Settles a step that is not known: it leads where the loops say (`found`, the number + 1), or to a new element where
+// they say nothing. Answers the element count after it, or 5 or 6.
 fn settle_step(
     t: &mut [u32],
     n: u8,
@@ -38,7 +40,7 @@ fn settle_step(
     }
 }
 
-// One place: a known step is skipped.
+// One place: a known step is skipped, else it is settled.
 fn sweep_place(
     t: &mut [u32],
     orders: &[u32],
@@ -58,7 +60,7 @@ fn sweep_place(
     settle_step(t, n, room, count, e, g, found)
 }
 
-// At most `allowance` places, in order.
+// Visits at most `allowance` places, in order.
 fn sweep(t: &mut [u32], orders: &[u32], n: u8, room: u32, from: Run, allowance: u64) -> Ran
     requires { ⌜ Orders (now orders) × (from .generator < n) ⌝ }
     ensures { λ r. ⌜ sweep r (now (t .exit)) ≡ sweepFrom allowance n (now (orders .entry)) room from (now (t .entry)) ⌝ }

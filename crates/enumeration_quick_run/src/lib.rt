@@ -1,2 +1,3 @@
-// The enumeration by closed loops: quicker than todd_coxeter.rs, and the same table where it gives one that passes the checks.
+// The quick enumeration, by closed loops: quicker than todd_coxeter.rs, and with the same table where it gives one that
+// passes the checks.
 pub mod inner;

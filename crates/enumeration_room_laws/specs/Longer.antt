@@ -1,4 +1,4 @@
--- The same numbers in longer stretches. Document 01: "More room never changes an accepted table."
+-- The same run in longer stretches: what "More room never changes an accepted table" (document 01) says of a run.
 use Prim.Native.Nat.{ℕ, _-_}
 use mathlib.Core.Path.{_≡_}
 use mathlib.Core.List.{List, _++_}
@@ -7,26 +7,29 @@ use Rattle.enumeration_wake.specs.Waking.{State, state}
 use Rattle.enumeration_run.specs.Run.{Visit, visit, Outcome, outcome, enumerated}
 use Rattle.enumeration_run.specs.declared.inner.Ran.the-variants as ran
 
--- With k zeros behind.
+-- The list with k zeros behind.
 unfoldable pub longer : ℕ → List ℕ → List ℕ
 longer k l = l ++ replicate k 0
 
--- A list of so many numbers, and the same with k zeros behind.
+-- The list l has `len` numbers, and l′ is l with k zeros behind.
 pub record Long (k len : ℕ) (l l′ : List ℕ) : Type 0 where
   pub same : l′ ≡ longer k l
   pub wide : length l ≡ len
 
--- The table longer by a, the work longer by b.
+-- A state with a longer table, by a zeros, and a longer work, by b.
 abbrev pub longerState : ℕ → ℕ → State → State
 longerState a b s = state (longer a (s .table)) (longer b (s .work)) (s .top)
 
+-- The same of what a visit leaves.
 abbrev pub longerVisit : ℕ → ℕ → Visit → Visit
 longerVisit a b v = visit (v .answer) (longer a (v .table)) (longer b (v .work))
 
+-- The same of what a run leaves.
 abbrev pub longerOutcome : ℕ → ℕ → Outcome → Outcome
 longerOutcome a b x = outcome (x .answer) (longer a (x .table)) (longer b (x .work))
 
--- A run that is done with N elements has with more room, in longer stretches, the same answer and the same numbers; what is behind them is zero.
+-- A run that is done with N elements gives, with more room and in longer stretches, the same answer and the same numbers; what is behind them is
+-- zero.
 pub record SameRun (n : ℕ) (o : List ℕ) (room lt lw room′ lt′ lw′ N : ℕ) : Type 0 where
   pub answer : enumerated n o room′ lt′ lw′ .answer ≡ ran.Done N
   pub table : enumerated n o room′ lt′ lw′ .table ≡ enumerated n o room lt lw .table ++ replicate (lt′ - lt) 0

@@ -1,7 +1,12 @@
-// Relation rows and waiting lists in the lent work stretch. The block of element e starts at e * (6n² + 4n): ten numbers
-// for each generator (head, tail and count of its left list, then of its right list, the link of the fact stack, three
-// spare), then six for each of the n(n - 1) copies of rows (pair, left index, right index, left element, right element,
-// next). A link is a place in the stretch + 1, and 0 is none, so that a block never used is zero.
+// Relation rows and their waiting lists, in the lent work stretch. A row belongs to an element and a pair of
+// generators: the letters of the pair in turn, 2m of them for the order m, lead from the element back to it, and the
+// row keeps how far that is known from either end, with a gap between. It waits twice, so it is stored in two copies:
+// one waits for the step on the left of the gap, one for the step on the right. A fact is a new step, and wakes the
+// copies that wait for it.
+// The block of element e starts at e * (6n² + 4n). It has a place for each generator, ten numbers (head, tail and count
+// of its left list, then of its right list, the link of the fact stack, three spare), and then six numbers for each of
+// its n(n - 1) copies of rows (pair, left index, right index, left element, right element, next). A link is a position
+// in the stretch + 1, and 0 is none, so that a block never used is zero.
 ghost use mathlib.Core.Path.{_≡_};
 ghost use Prim.Native.Nat.{_+_, _*_, _<_, _≤_};
 ghost use Rattle.egg.specs.Table.{Place};
@@ -9,8 +14,8 @@ ghost use Rattle.enumeration_rows.specs.Rows.{placeAt, rowsAt, genOf, re
 use egg::GeneratorId;
 use egg::GroupElementId;
 
-// 000, RelationTableRow: the pair (a, b) as 8a + b, the columns on the left and the right of the gap, and the elements
-// there.
+// 000's `RelationTableRow`: the pair (a, b) as 8a + b, the columns on the left and the right of the gap, and the
+// elements there.
 pub struct RelationTableRow {
     pub pair: u32,
     pub left: u32,
@@ -25,6 +30,7 @@ pub enum SideOfGap {
     Right,
 }
 
+// Where the place of an element and a generator stands in the work.
 pub fn place_at(n: u8, e: GroupElementId, g: GeneratorId) -> usize
     ensures { λ r. ⌜ Place r (placeAt n e g) 9007199254740992 ⌝ }
 {
@@ -33,6 +39,7 @@ pub fn place_at(n: u8, e: GroupElementId, g: GeneratorId) -> usize
     (x as usize) * egg::inner::work_width(n) + 10 * (k as usize)
 }
 
+// Where the copies of an element's rows start in the work.
 pub fn rows_at(n: u8, e: GroupElementId) -> usize
     ensures { λ r. ⌜ Place r (rowsAt n e) 9007199254740992 ⌝ }
 {
@@ -40,7 +47,7 @@ pub fn rows_at(n: u8, e: GroupElementId) -> usize
     (x as usize) * egg::inner::work_width(n) + 10 * (n as usize)
 }
 
-// 000, generator: of a column of the row.
+// 000's `generator`: the generator of a column of the row.
 pub fn generator(pair: u32, index: u32) -> GeneratorId
     ensures { λ r. ⌜ r ≡ genOf pair index ⌝ }
 {
@@ -51,7 +58,7 @@ pub fn generator(pair: u32, index: u32) -> GeneratorId
     }
 }
 
-// One test for the whole row, on the way that every run of 000 takes.
+// Reads a row. One test serves for the whole row, on the way that every run of 000 takes.
 pub fn read_row(w: &[u32], at: usize) -> RelationTableRow
     requires { ⌜ at < 36028797018963968 ⌝ }
     ensures { λ r. ⌜ r ≡ readRow (now (w .entry)) at ⌝ }
@@ -76,6 +83,7 @@ pub fn read_row(w: &[u32], at: usize) -> RelationTableRow
     }
 }
 
+// Stores a row; its link is left as it is.
 pub fn write_row(w: &mut [u32], at: usize, row: RelationTableRow)
     requires { ⌜ at < 36028797018963968 ⌝ }
     ensures { λ x. ⌜ now (w .exit) ≡ writeRow (now (w .entry)) at row ⌝ }
@@ -100,7 +108,7 @@ pub fn write_row(w: &mut [u32], at: usize, row: RelationTableRow)
     egg::inner::put(w, at + 4, to as usize);
 }
 
-// Where the link to a new last row goes: to the head of an empty list, else to the last row's next.
+// Where the link to a new last copy goes: to the head of an empty list, else to the last copy's link.
 pub fn link_at(list: usize, tail: u32) -> usize
     requires { ⌜ list < 36028797018963968 ⌝ }
     ensures { λ r. ⌜ r ≡ linkAt list tail ⌝ }
@@ -111,7 +119,7 @@ pub fn link_at(list: usize, tail: u32) -> usize
     (tail as usize) + 4
 }
 
-// The row at `at` goes to the end of the list whose head, tail and count stand at `list`.
+// Puts the copy at `at` at the end of the list whose head, tail and count stand at `list`.
 pub fn append(w: &mut [u32], list: usize, at: usize)
     requires { ⌜ (list < 36028797018963968) × (at < 36028797018963968) ⌝ }
     ensures { λ x. ⌜ now (w .exit) ≡ appended (now (w .entry)) list at ⌝ }
@@ -124,7 +132,7 @@ pub fn append(w: &mut [u32], list: usize, at: usize)
     egg::inner::put(w, list + 2, (count as usize) + 1);
 }
 
-// The list that a row waits in.
+// Where the list stands in which a row waits on a side.
 pub fn list_at(n: u8, row: RelationTableRow, side: SideOfGap) -> usize
     ensures { λ r. ⌜ Place r (listAt n row side) 18014398509481984 ⌝ }
 {
@@ -134,7 +142,7 @@ pub fn list_at(n: u8, row: RelationTableRow, side: SideOfGap) -> usize
     }
 }
 
-// 000, add_row_left and add_row_right: stores a copy and puts it at the end of the list that it waits in.
+// 000's `add_row_left` and `add_row_right`: stores a copy and puts it at the end of the list that it waits in.
 pub fn wait(w: &mut [u32], n: u8, at: usize, row: RelationTableRow, side: SideOfGap)
     requires { ⌜ at < 36028797018963968 ⌝ }
     ensures { λ x. ⌜ now (w .exit) ≡ waits (now (w .entry)) n at row side ⌝ }
@@ -143,7 +151,7 @@ pub fn wait(w: &mut [u32], n: u8, at: usize, row: RelationTableRow, side: SideOf
     append(w, list_at(n, row, side), at);
 }
 
-// 000, add_row of a new_row: both copies of the row of a pair at an element; the right copy stands after the left.
+// 000's `add_row` of a `new_row`: both copies of the row of a pair at an element; the right copy stands after the left.
 pub fn add_row(w: &mut [u32], n: u8, e: GroupElementId, at: usize, pair: u32, order: u32)
     requires { ⌜ (at < 18014398509481984) × ((1 ≤ order) × (order < 32768)) ⌝ }
     ensures { λ x. ⌜ now (w .exit) ≡ addedRow (now (w .entry)) n e at pair order ⌝ }
@@ -161,7 +169,7 @@ pub fn add_row(w: &mut [u32], n: u8, e: GroupElementId, at: usize, pair: u32, or
     append(w, list_at(n, row, SideOfGap::Right), at + 6);
 }
 
-// A row for each pair, at a new element.
+// Adds a row for each pair, at a new element.
 pub fn add_rows(w: &mut [u32], orders: &[u32], n: u8, e: GroupElementId)
     requires { ⌜ Orders (now orders) ⌝ }
     ensures { λ x. ⌜ now (w .exit) ≡ addedRows (now (w .entry)) (now (orders .entry)) n e ⌝ }

@@ -1,4 +1,4 @@
--- The enumeration, place by place, to be read beside `construct_group` of todd_coxeter.rs (000).
+-- The enumeration's run, place by place, to be read beside `construct_group` of todd_coxeter.rs (000).
 use Prim.Native.Nat.{ℕ, zero, suc, _+_}
 use mathlib.Core.List.{List}
 use lib.ListN.{replicate}
@@ -19,7 +19,8 @@ use Rattle.enumeration_run.specs.declared.inner.Run.{Run}
 use Rattle.enumeration_run.specs.declared.inner.Ran.{Ran}
 use Rattle.enumeration_run.specs.declared.inner.Ran.the-variants as ran
 
--- What follows from a new element, e·g = new: "A new element also gets its step back, which is no fact"; its rows begin; and the step itself is the first fact, alone on the stack.
+-- What follows from a new element, e·g = new: "A new element also gets its step back, which is no fact"; its rows begin; and the step itself is the
+-- first fact, alone on the stack.
 unfoldable pub discovered : (n : ℕ) (o : List ℕ) (e : GroupElementId) (g : GeneratorId) (new : GroupElementId) (t w : List ℕ) → State
 discovered n o e g new t w =
     settled n
@@ -31,18 +32,20 @@ pub record Visit : Type 0 where
   pub table : List ℕ
   pub work : List ℕ
 
+-- The visit with this answer, table and work.
 abbrev pub visit : Counted → List ℕ → List ℕ → Visit
 visit a t w = record { answer = a; table = t; work = w }
 
--- What comes of an element that is added, by its answer; the table goes with it.
+-- What comes after an element was to be added, by the answer: f goes on from the element, h from a refusal; the table goes with either.
 abbrev pub onReached : {A : Type 0} → Reached → List ℕ → (GroupElementId → List ℕ → A) → (Refusal → List ℕ → A) → A
 onReached (reached.Element e) t f h = f e t
 onReached (reached.Refused r) t f h = h r t
 
+-- The same from what adding it left.
 abbrev pub onAdds : {A : Type 0} → Adds → (GroupElementId → List ℕ → A) → (Refusal → List ℕ → A) → A
 onAdds a f h = onReached (a .answer) (a .table) f h
 
--- One place (element, generator) of 000's inner loop: a known step is skipped; else there is a new element, or 5 or 6.
+-- The visit of one place (element, generator) of 000's inner loop: a known step is skipped; else there is a new element, or 5 or 6.
 unfoldable pub visits : (n : ℕ) (o : List ℕ) (room count : ℕ) (e : GroupElementId) (g : GeneratorId) (t w : List ℕ) → Visit
 visits n o room count e g t w =
     pick (isNew t n e g)
@@ -63,18 +66,21 @@ pub record Outcome : Type 0 where
   pub table : List ℕ
   pub work : List ℕ
 
+-- The outcome with this answer, table and work.
 abbrev pub outcome : Ran → List ℕ → List ℕ → Outcome
 outcome a t w = record { answer = a; table = t; work = w }
 
--- What comes of a visit, by its answer; both stretches go with it.
+-- What comes after a visit, by its answer: f goes on from a count, h from a refusal; both stretches go with either.
 abbrev pub onVisit : {A : Type 0} → Counted → List ℕ → List ℕ → (ℕ → List ℕ → List ℕ → A) → (Refusal → List ℕ → List ℕ → A) → A
 onVisit (counted.Count c) t w f h = f c t w
 onVisit (counted.Refused r) t w f h = h r t w
 
+-- The same from what the visit left.
 abbrev pub after : {A : Type 0} → Visit → (ℕ → List ℕ → List ℕ → A) → (Refusal → List ℕ → List ℕ → A) → A
 after v f h = onVisit (v .answer) (v .table) (v .work) f h
 
--- The places in order, at most k of them: done when no element is left (000, `while element_id < g.element_count()`), paused where the allowance is spent before that, refused at the first place that refuses.
+-- The places in order, at most k of them: the run is done when no element is left (000, `while element_id < g.element_count()`), paused where the
+-- allowance k is spent before that, refused at the first place that refuses.
 unfoldable pub runs : (k n : ℕ) (o : List ℕ) (room : ℕ) (at : Run) (t w : List ℕ) → Outcome
 runs zero n o room at t w =
     pick (ltb (at .element) (at .count)) (outcome (ran.Paused at) t w) (outcome (ran.Done (at .count)) t w)
@@ -85,11 +91,12 @@ runs (suc k) n o room at t w =
     (λ why t₁ w₁. outcome (ran.Refused why) t₁ w₁))
     (outcome (ran.Done (at .count)) t w)
 
--- The identity is the one element at the start, and its rows begin.
+-- Where a run starts: the identity is the one element, and its place of generator 0 is next.
 abbrev pub first : Run
 first = record { element = 0; generator = 0; count = 1 }
 
--- A whole run, in stretches of these lengths: both cleared, the identity's rows begun, the places visited in order. With no generators there is no place.
+-- A whole run, in stretches of lt and lw numbers: both are cleared, the identity's rows are begun, and the places are visited in order. With no
+-- generators there is no place.
 unfoldable pub enumerated : (n : ℕ) (o : List ℕ) (room lt lw : ℕ) → Outcome
 enumerated n o room lt lw =
     pick (eqb n 0) (outcome (ran.Done 1) (replicate lt 0) (addedRows (replicate lw 0) o n (record { 0 = 0 })))

@@ -1,4 +1,5 @@
-// The machine of the enumeration: one visit of a place, the run.
+// The machine of the enumeration: one visit of a place, that is of an element and a generator, and the run over all of
+// them.
 ghost use mathlib.Core.Path.{_≡_};
 ghost use Prim.Native.Nat.{_+_, _<_, _≤_};
 ghost use lib.ListN.{length};
@@ -10,7 +11,7 @@ use egg::GroupElementId;
 use egg::Reached;
 use egg::Refusal;
 
-// Where a run stands: the place to visit next, and the elements so far.
+// Where a run stands: the place to visit next, by its element and generator, and how many elements there are so far.
 pub struct Run {
     pub element: u32,
     pub generator: u8,
@@ -24,7 +25,8 @@ pub enum Ran {
     Refused(Refusal),
 }
 
-// What follows from a new element: its step back, which is no fact, its rows, and all that the step to it settles.
+// Does what follows from a new element: sets its step back, which is no fact, adds its rows, and settles all that
+// follows from the step to it.
 fn discover(
     t: &mut [u32],
     w: &mut [u32],
@@ -45,7 +47,8 @@ fn discover(
     enumeration_facts::inner::settle(t, w, n, ((place + 1) % 4294967296) as u32);
 }
 
-// One place (element, generator) of the inner loop of 000: the element count after it, or 5 or 6.
+// One place of 000's inner loop: a known step is skipped, else there is a new element. Answers the element count after
+// it, or 5 or 6.
 fn visit_place(
     t: &mut [u32],
     w: &mut [u32],
@@ -71,7 +74,7 @@ fn visit_place(
     }
 }
 
-// The place after this one.
+// The place after this one: the next generator, or the next element's first.
 pub fn advance(n: u8, at: Run, count: u32) -> Run
     requires { ⌜ (at .generator < n) × (at .element < 4294967295) ⌝ }
     ensures { λ r. ⌜ r ≡ advanced n at count ⌝ }
@@ -91,7 +94,7 @@ pub fn advance(n: u8, at: Run, count: u32) -> Run
     }
 }
 
-// At most `allowance` places, in order.
+// Visits at most `allowance` places, in order.
 fn go(
     t: &mut [u32],
     w: &mut [u32],

@@ -11,8 +11,8 @@ use Rattle.theory.specs.Past.{Past}
 use Rattle.build_reading.specs.Build.{numbered}
 use Rattle.enumeration_run_laws.specs.Invariant.{RunOk, Known}
 
--- Between two places: what holds of both stretches, what has been done, that every step that was visited is known, that a known step is known the other way
--- too, and that no word is over 4,096.
+-- Between two places, with c elements and the place of x and g next: both stretches are right (`run`), the places before have been visited (`past`),
+-- every step that was visited is known, a known step is known the other way too, and no word is over 4,096.
 pub record Going (n : ℕ) (o : List ℕ) (room lt lw x g c : ℕ) (t w : List ℕ) : Type 1 where
   pub run : RunOk n (order-of o) room lt lw c t w
   pub past : Past n (order-of o) (run .word) x g c

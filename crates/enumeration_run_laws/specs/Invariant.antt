@@ -1,4 +1,4 @@
--- What the enumeration keeps true of its two stretches: each known step, and each row that waits, follows from the relations.
+-- What the enumeration keeps true of its two stretches: each known step, and what each waiting row says, follows from the relations.
 use Prim.Native.Nat.{ℕ, zero, suc, _+_, _*_, _-_, _<_, _≤_}
 use mathlib.Core.Path.{_≡_}
 use mathlib.Core.List.{List, [], _∷_, _++_}
@@ -19,7 +19,8 @@ pub record Step (n : ℕ) (m : ℕ → ℕ → ℕ) (word : ℕ → List ℕ) (c
 abbrev pub Known : ℕ → List ℕ → ℕ → ℕ → Type 0
 Known n t e g = getD t (startOf n e + g) 0 ≡ 0 → ⊥
 
--- What the number v in cell i of the table may be.
+-- What the number v in cell i of the table may be: it is 0 in rows beyond the count, and a step or a step back that it holds follows from the
+-- relations.
 pub record Marked (n : ℕ) (m : ℕ → ℕ → ℕ) (word : ℕ → List ℕ) (count i v : ℕ) : Type 0 where
   pub inside : (e k : ℕ) → k < 2 * n + 4 → i ≡ startOf n e + k → (v ≡ 0 → ⊥) → e < count
   pub succ : (e g r : ℕ) → g < n → i ≡ startOf n e + g → v ≡ suc r → Step n m word count e g r
@@ -37,17 +38,17 @@ pub record Worded (n : ℕ) (word : ℕ → List ℕ) (count : ℕ) (t : List �
 pub record Made (n count : ℕ) (t : List ℕ) : Type 0 where
   pub made : (e : ℕ) → 0 < e → e < count → Known n t (parentOf t n e) (lastOf t n e)
 
--- The table: every number in it is right, and so are the words.
+-- The table is right: every number in it is (`Marked`), and its words are those of the elements.
 pub record TableOk (n : ℕ) (m : ℕ → ℕ → ℕ) (word : ℕ → List ℕ) (count : ℕ) (t : List ℕ) : Type 0 where
   pub marks : (i : ℕ) → Marked n m word count i (getD t i 0)
   pub words : Worded n word count t
 
--- The letters of a pair's row from a column on, k of them.
+-- The letters of a pair's row from column l on, k of them.
 unfoldable pub letters : ℕ → ℕ → ℕ → List ℕ
 letters pair l zero = []
 letters pair l (suc k) = genOf pair l .0 ∷ letters pair (suc l) k
 
--- A row says that the letters of its gap, both ends included, lead from its left element to its right one. It says so rightly.
+-- A row claims that the letters of its gap, both ends included, lead from its left element to its right one; that claim follows from the relations.
 pub record RowOk (n : ℕ) (m : ℕ → ℕ → ℕ) (word : ℕ → List ℕ) (count : ℕ) (r : RelationTableRow) : Type 0 where
   pub small : r .pair < 64
   pub wide : r .right < 65536
@@ -57,12 +58,13 @@ pub record RowOk (n : ℕ) (m : ℕ → ℕ → ℕ) (word : ℕ → List ℕ) (
   pub to-below : r .to .0 < count
   pub leads : Equiv n m (word (r .from .0) ++ letters (r .pair) (r .left) (suc (r .right - r .left))) (word (r .to .0))
 
--- Cell i of the work is of kind k. The first seven cells of a place have the kinds 0 to 6; the link to the next copy has 7, and the five numbers of a row have 12 down to 8.
+-- Cell i of the work is of kind k. The first seven cells of a place have the kinds 0 to 6; the link to the next copy has 7, and the five numbers of a
+-- row have 12 down to 8.
 pub data Spot (n i k : ℕ) : Type 0 where
   in-place : (e g : ℕ) → g < n → k < 7 → i ≡ e * workWidth n + (10 * g + k) → Spot n i k
   in-copy : (e j d : ℕ) → j < n * (n - 1) → d < 6 → i ≡ e * workWidth n + (10 * n + (6 * j + d)) → k + d ≡ 12 → Spot n i k
 
--- A copy of a row stands at p, within so many numbers.
+-- A copy of a row stands at p, within the first `len` numbers of the work.
 pub record Copy (n len p : ℕ) : Type 0 where
   pub element : ℕ
   pub number : ℕ
@@ -70,17 +72,18 @@ pub record Copy (n len p : ℕ) : Type 0 where
   pub stands : p ≡ element * workWidth n + (10 * n + 6 * number)
   pub within : p + 6 ≤ len
 
--- A link to a copy that has begun, or none.
+-- The number v is a link to a copy of which S holds, or none.
 pub data Link (S : ℕ → Type 0) (v : ℕ) : Type 0 where
   none : v ≡ 0 → Link S v
   to : (p : ℕ) → S p → v ≡ suc p → Link S v
 
--- A link to the place of a fact, or none.
+-- The number v is a link to the place of a fact, or none.
 pub data FactLink (n v : ℕ) : Type 0 where
   none : v ≡ 0 → FactLink n v
   to : (e g : ℕ) → g < n → v ≡ suc (e * workWidth n + 10 * g) → FactLink n v
 
--- What a cell of each kind may hold: heads, tails and nexts are links to copies, the cell below a fact is a link to a place.
+-- What a cell of each kind may hold: heads, tails and nexts are links to copies, and the cell of a place that links the stack is a link to the place
+-- of the fact below; counts and rows are not limited here.
 abbrev pub Holds : ℕ → (ℕ → Type 0) → ℕ → ℕ → Type 0
 Holds n S zero v = Link S v
 Holds n S (suc zero) v = Link S v
@@ -96,18 +99,18 @@ Holds n S (suc (suc (suc (suc (suc (suc (suc (suc k)))))))) v = Unit {0}
 pub record CellsOk (n : ℕ) (S : ℕ → Type 0) (w : List ℕ) : Type 0 where
   pub holds : (i k : ℕ) → Spot n i k → Holds n S k (getD w i 0)
 
--- The work: S says which copies have begun. Each stands at its place, and what is stored there is right.
+-- The work is right, where S says which copies have begun to be used: each stands where a copy stands, and the row that is stored there is right.
 pub record WorkOk (n : ℕ) (m : ℕ → ℕ → ℕ) (word : ℕ → List ℕ) (count : ℕ) (S : ℕ → Type 0) (w : List ℕ) : Type 0 where
   pub cells : CellsOk n S w
   pub place : (p : ℕ) → S p → Copy n (length w) p
   pub rows : (p : ℕ) → S p → RowOk n m word count (readRow w p)
 
--- Some copies have begun, and the work is right.
+-- The work is right for the copies that have begun to be used.
 pub record Working (n : ℕ) (m : ℕ → ℕ → ℕ) (word : ℕ → List ℕ) (count : ℕ) (w : List ℕ) : Type 1 where
   pub begun : ℕ → Type 0
   pub right : WorkOk n m word count begun w
 
--- The table, the work, and the top of the stack.
+-- The table, the work and the top of the stack are right.
 pub record StateOk (n : ℕ) (m : ℕ → ℕ → ℕ) (word : ℕ → List ℕ) (count lt lw : ℕ) (S : ℕ → Type 0) (s : State) : Type 0 where
   pub table : TableOk n m word count (s .table)
   pub made : Made n count (s .table)
@@ -116,7 +119,7 @@ pub record StateOk (n : ℕ) (m : ℕ → ℕ → ℕ) (word : ℕ → List ℕ)
   pub table-length : length (s .table) ≡ lt
   pub work-length : length (s .work) ≡ lw
 
--- Between two places: there are words for which both stretches are right.
+-- Between two visits, with `count` elements: there are words for which both stretches are right.
 pub record RunOk (n : ℕ) (m : ℕ → ℕ → ℕ) (room lt lw count : ℕ) (t w : List ℕ) : Type 1 where
   pub word : ℕ → List ℕ
   pub table : TableOk n m word count t

@@ -1,4 +1,5 @@
--- What is said of the table that an enumeration leaves: nothing in it is invented. Demand 3: "enumerating only the first row and inventing the others breaks demand 3".
+-- What is said of the table that an enumeration leaves: nothing in it is invented. Document 01: "enumerating only the first row and inventing the
+-- others breaks demand 3".
 use Prim.Native.Nat.{ℕ, suc, _+_, _*_, _<_, _≤_}
 use mathlib.Core.Path.{_≡_}
 use mathlib.Core.List.{List}
@@ -12,7 +13,8 @@ use Rattle.enumeration_run_laws.specs.Invariant.{Known, Step}
 abbrev pub words : ℕ → List ℕ → ℕ → List ℕ
 words n t = word-of (parentOf t n) (lastOf t n)
 
--- N elements stand in a table of lt numbers. A successor or predecessor that is known is a number below N, and follows from the orders o; rows from N on are zero.
+-- The table of lt numbers has N elements. A successor or predecessor that is known is a number below N, and follows from the orders o; rows from N on
+-- are zero.
 pub record Sound (n : ℕ) (o : List ℕ) (room lt N : ℕ) (t : List ℕ) : Type 0 where
   pub some : 1 ≤ N
   pub fits : N ≤ room
@@ -24,6 +26,6 @@ pub record Sound (n : ℕ) (o : List ℕ) (room lt N : ℕ) (t : List ℕ) : Typ
   pub succ : (e g r : ℕ) → g < n → getD t (startOf n e + g) 0 ≡ suc r → Step n (order-of o) (words n t) N e g r
   pub back : (e g r : ℕ) → g < n → getD t (startOf n e + n + g) 0 ≡ suc r → Step n (order-of o) (words n t) N r g e
 
--- Every successor is known: what refusal 8 has tested by then.
+-- Every successor is known, which refusal 8 has tested by then.
 abbrev pub AllKnown : ℕ → ℕ → List ℕ → Type 0
 AllKnown n N t = (e g : ℕ) → e < N → g < n → Known n t e g

@@ -14,12 +14,12 @@ use Rattle.enumeration_rows.specs.Rows.{workWidth, placeAt, rowsAt, genOf, read
 use Rattle.enumeration_run_laws.specs.Invariant.{Spot}
 use Rattle.enumeration_run_laws.specs.Stack.{Absent, Six}
 
--- p is one of these.
+-- The number p is in the list.
 pub data In (p : ℕ) : List ℕ → Type 0 where
   here : {q : ℕ} {ps : List ℕ} → q ≡ p → In p (q ∷ ps)
   there : {q : ℕ} {ps : List ℕ} → In p ps → In p (q ∷ ps)
 
--- None of these is there twice.
+-- No number is in the list twice.
 abbrev pub Once : List ℕ → Type 0
 Once [] = Unit {0}
 Once (p ∷ ps) = Absent p ps × Once ps
@@ -28,12 +28,12 @@ Once (p ∷ ps) = Absent p ps × Once ps
 abbrev pub placeOf : ℕ → ℕ → ℕ → ℕ
 placeOf n e g = placeAt n (record { 0 = e }) (record { 0 = g })
 
--- The list of that place on a side.
+-- The address of that place's list on a side.
 abbrev pub listOf : ℕ → SideOfGap → ℕ → ℕ → ℕ
 listOf n Left e g = placeOf n e g
 listOf n Right e g = placeOf n e g + 3
 
--- The copy on a side of the row that element u has for the pair at place k.
+-- The address of the copy, on a side, of the row that element u has for the pair at place k.
 abbrev pub copyAt : ℕ → ℕ → ℕ → SideOfGap → ℕ
 copyAt n u k Left = rowsAt n (record { 0 = u }) + 12 * k
 copyAt n u k Right = rowsAt n (record { 0 = u }) + 12 * k + 6
@@ -53,14 +53,14 @@ pub record Waiter (n count pairs : ℕ) (side : SideOfGap) (w : List ℕ) (list 
   pub stands : p ≡ copyAt n element number side
   pub waits-in : listAt n (readRow w p) side ≡ list
 
--- The copies ps hang together from the link `at` on, each is one that waits in that list, and none is there twice. This holds of a list that has been taken from
--- its place too.
+-- The copies ps hang together from the link `at` on, each is one that waits in that list, and none is there twice. This also holds of a list in hand,
+-- that is of one that has been taken from its place to be woken.
 pub record Hand (n count pairs : ℕ) (side : SideOfGap) (w : List ℕ) (list at : ℕ) (ps : List ℕ) : Type 0 where
   pub chain : Chain w at ps
   pub mine : (p : ℕ) → In p ps → Waiter n count pairs side w list p
   pub once : Once ps
 
--- The link to the last of these, 0 if there is none.
+-- The link to the last copy of the list, or 0 if there is none.
 abbrev pub lastLink : List ℕ → ℕ
 lastLink [] = 0
 lastLink (p ∷ []) = suc p

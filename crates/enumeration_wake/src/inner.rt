@@ -1,4 +1,5 @@
-// What the waking of a copy of a row comes to, and the copies that stand as it stood, carried on with it.
+// What the waking of a copy of a row comes to, and how the copies behind it in its list that stand as it stood are
+// moved on with it. (The head of enumeration_rows' inner.rt says what rows, copies, places and facts are.)
 ghost use mathlib.Core.Path.{_≡_};
 ghost use mathlib.Core.Bool.{true};
 ghost use Prim.Native.Nat.{_<_, _≤_};
@@ -12,7 +13,7 @@ use egg::GroupElementId;
 use enumeration_rows::inner::RelationTableRow;
 use enumeration_rows::inner::SideOfGap;
 
-// Sets one step; where it is new, its place goes on the stack of facts. The top comes back.
+// Sets one step; where it is new, its place goes on the stack of facts. Answers the link of the stack's top.
 pub fn learn(
     t: &mut [u32],
     w: &mut [u32],
@@ -33,7 +34,8 @@ pub fn learn(
     }
 }
 
-// 000, `match row.fill(g)`: what a filled row gives where its ends have met, else the copy waits again.
+// 000's `match row.fill(g)`: where the ends of a filled row have met, sets the step that it gives, both ways; else the
+// copy waits again. Answers the link of the stack's top.
 pub fn wake(
     t: &mut [u32],
     w: &mut [u32],
@@ -56,8 +58,8 @@ pub fn wake(
     }
 }
 
-// How far the waking of a list has come: the link of the copy that is due, the copies left, how many numbers on the last
-// link led, and whether more of them may stand alike.
+// How far the waking of a list has come: the link of the copy that is due, how many copies are left, by how many
+// numbers the last link led on, and whether more of them may stand alike.
 pub struct Carried {
     pub at: u32,
     pub left: u32,
@@ -65,8 +67,8 @@ pub struct Carried {
     pub more: bool,
 }
 
-// Moves copies on that stand as `before` stood, which was filled to `after`, as long as each link leads `step` numbers on.
-// The guess costs a test, and lets a processor read on before the copy that it waits for has come.
+// Moves on the copies that stand as `before` stood, which was filled to `after`, as long as each link leads `step`
+// numbers on. That guess costs a test, and lets a processor read on before the copy that it waits for has come.
 pub fn carry_leg(
     t: &[u32],
     w: &mut [u32],
@@ -138,7 +140,8 @@ pub fn carry_leg(
     }
 }
 
-// Whether it is worth while to look for copies that stand as this row did: it waits again, and only long lists have many.
+// Answers whether it is worth while to look for copies that stand as this row did: it waits again, and only long lists
+// have many.
 pub fn worth_carrying(count: u32, after: RelationTableRow) -> bool
     ensures { λ r. ⌜ (r ≡ true → after .left < after .right) ⌝ }
 {
@@ -148,7 +151,8 @@ pub fn worth_carrying(count: u32, after: RelationTableRow) -> bool
     after.left < after.right
 }
 
-// The copies at the start of what is left of a list that stand as `before` stood, which was filled to `after`, leg by leg.
+// Moves on the copies at the start of what is left of a list that stand as `before` stood, which was filled to `after`:
+// in parts, in each of which the copies are equally far apart.
 pub fn carry(
     t: &[u32],
     w: &mut [u32],

@@ -1,5 +1,5 @@
--- A factor from a lent list of composed numbers: the call, its refusals, and what every lent buffer holds. Document 01, module 3: "`from_compose_fn` becomes
--- a lent table".
+-- The call that makes a factor from a lent list of composed numbers: its refusals, and what every lent buffer holds then. Document 01, module 3:
+-- "`from_compose_fn` becomes a lent table".
 use Prim.Native.Nat.{ℕ, _*_}
 use mathlib.Core.List.{List}
 use mathlib.Core.Bool.{_&&_}
@@ -9,7 +9,7 @@ use Rattle.egg.specs.Table.{pick}
 use Rattle.build_lending.specs.Lending.{tableNeed, workNeed, lentRight, refusedMade, Making, making, lentBack}
 unfoldable pub use Rattle.factor_composed_rows.specs.Rows.{composedIn}
 
--- 1, then 4, with every buffer as it was; then the build. "A composed list needs Rn entries."
+-- What `from_composed` does: refusal 1, then 4, with every buffer as it was; then the build. "A composed list needs Rn entries."
 unfoldable pub composed : (table : List ℕ) (start : ℕ) (work rows : List ℕ) (n room : ℕ) → Making
 composed table start work rows n room =
     pick (ltb 8 n) (making (refusedMade 1 n) table work)

@@ -1,4 +1,5 @@
--- An accepted factor against pair orders. Document 01: "13 applies to enumeration, and to a call that checks an accepted factor against orders."
+-- The call that checks an accepted factor against pair orders. Document 01: "13 applies to enumeration, and to a call that checks an accepted factor
+-- against orders."
 use Prim.Native.Nat.{ℕ}
 use mathlib.Core.List.{List}
 use lib.ListN.{length}
@@ -10,7 +11,7 @@ use Rattle.egg.specs.Factor.{stretch}
 use Rattle.factor_relations.specs.Relations.{relations}
 use Rattle.factor.specs.Questions.{admits}
 
--- 17 in the handle, 2, 3, then 13 or 17 as met.
+-- What `check` answers: 17 in the handle, then 2, then 3, then "13 or 17 as met".
 unfoldable pub checkAnswer : List ℕ → Factor → List ℕ → Verdict
 checkAnswer t f orders =
     andThen (admits (length t) f 0 0)

@@ -1,4 +1,4 @@
-// What every question tests first.
+// What every question about a factor tests first: its handle and its element arguments.
 ghost use mathlib.Core.Path.{_≡_};
 ghost use lib.ListN.{length};
 ghost use Rattle.factor.specs.Questions.{admits};
@@ -6,7 +6,9 @@ use egg::Factor;
 use egg::GroupElementId;
 use egg::Verdict;
 
-// 17 in the handle, then 14 for two elements; with one element, the identity stands for the other.
+// Refuses 17 for a handle that does not fit, then 14 for the first (place 0) or the second (place 1) of two elements
+// that the factor does not have. A question about fewer elements takes the identity for the others, which is always
+// there.
 pub fn admit(table: &[u32], f: Factor, a: GroupElementId, b: GroupElementId) -> Verdict
     ensures { λ r. ⌜ r ≡ admits (length (now (table .entry))) f (a .0) (b .0) ⌝ }
 {

@@ -1,4 +1,4 @@
-// abstract_group.rs: a checked factor from composed rows, and what may be asked of it.
+// From abstract_group.rs: a checked factor from composed rows, and what may be asked of it.
 ghost use mathlib.Core.Path.{_≡_};
 ghost use Prim.Native.Nat.{_+_, _*_, _<_, _≤_};
 ghost use lib.ListN.{length};
@@ -16,8 +16,10 @@ use egg::Verdict;
 
 pub mod inner;
 
-// `from_compose_fn`, with a lent table of numbers in the place of the closure. The factor is built into the stretch of
-// `table` that starts at `start`.
+// Makes a factor from composed numbers, and answers its handle. It is `from_compose_fn`, with a lent list of numbers in
+// the place of the closure; the factor is built into the stretch of `table` that starts at `start`. Refuses in this
+// order: 1 for more than 8 generators; 4 for a room that is 0 or above 65,535, or a table, work or list of rows that is
+// too short; then, leaving both stretches zero, 7, 5 or 6 at the first place that cannot be read, and 8 to 12.
 pub fn from_composed(
     table: &mut [u32],
     start: usize,
@@ -49,6 +51,7 @@ pub fn from_composed(
     build_lending::inner::made(start, room, n, count)
 }
 
+// Answers the number of elements. Refuses 17 for a handle that does not fit.
 pub fn element_count(table: &[u32], f: Factor) -> Counted
     ensures { λ r. ⌜ r ≡ countAnswer (now (table .entry)) f ⌝ }
 {
@@ -58,7 +61,8 @@ pub fn element_count(table: &[u32], f: Factor) -> Counted
     }
 }
 
-// The element of a generator: what stands in the identity's row.
+// Answers the element of a generator, which stands in the identity's row. Refuses in this order: 17 for a handle that
+// does not fit, 14 for a generator that the factor does not have, 17 for a number read that is out of range.
 pub fn generator(table: &[u32], f: Factor, g: GeneratorId) -> Reached
     ensures { λ r. ⌜ r ≡ generatorAnswer (now (table .entry)) f g ⌝ }
 {
@@ -73,6 +77,8 @@ pub fn generator(table: &[u32], f: Factor, g: GeneratorId) -> Reached
     }
 }
 
+// Answers the length of the recorded word of e. Refuses in this order: 17 for a handle that does not fit, 14 for an
+// element that the factor does not have, 17 for a recorded length over 4,096.
 pub fn word_length(table: &[u32], f: Factor, e: GroupElementId) -> Counted
     ensures { λ r. ⌜ r ≡ lengthAnswer (now (table .entry)) f e ⌝ }
 {
@@ -86,6 +92,8 @@ pub fn word_length(table: &[u32], f: Factor, e: GroupElementId) -> Counted
     }
 }
 
+// Answers the inverse of a. Refuses in this order: 17 for a handle that does not fit, 14 for an element that the factor
+// does not have, 17 for a number read that is out of range.
 pub fn inverse(table: &[u32], f: Factor, a: GroupElementId) -> Reached
     ensures { λ r. ⌜ r ≡ inverseAnswer (now (table .entry)) f a ⌝ }
 {
@@ -100,6 +108,8 @@ pub fn inverse(table: &[u32], f: Factor, a: GroupElementId) -> Reached
     }
 }
 
+// Answers the product a·b. Refuses in this order: 17 for a handle that does not fit, 14 for the first (place 0) or the
+// second (place 1) of two elements that the factor does not have, 17 for a number read that is out of range.
 pub fn compose(table: &[u32], f: Factor, a: GroupElementId, b: GroupElementId) -> Reached
     ensures { λ r. ⌜ r ≡ composeAnswer (now (table .entry)) f a b ⌝ }
 {
@@ -115,7 +125,7 @@ pub fn compose(table: &[u32], f: Factor, a: GroupElementId, b: GroupElementId) -
     }
 }
 
-// a·b·a⁻¹.
+// Answers a·b·a⁻¹, and refuses as `compose` does.
 pub fn conjugate(table: &[u32], f: Factor, a: GroupElementId, b: GroupElementId) -> Reached
     ensures { λ r. ⌜ r ≡ conjugateAnswer (now (table .entry)) f a b ⌝ }
 {
@@ -131,7 +141,10 @@ pub fn conjugate(table: &[u32], f: Factor, a: GroupElementId, b: GroupElementId)
     }
 }
 
-// Writes the recorded word of e into the start of a lent byte buffer and answers its length.
+// Writes the recorded word of e into the start of a lent byte buffer, and answers its length. Refuses in this order,
+// with nothing written: 17 for a handle that does not fit, 14 for an element that the factor does not have, 17 for a
+// recorded length over 4,096, 4 for a buffer that is shorter than the word, 17 for a letter or an element on the word's
+// way that is out of range.
 pub fn write_word(table: &[u32], f: Factor, e: GroupElementId, out: &mut [u8]) -> Counted
     ensures { λ r. ⌜ (r ≡ writeAnswer (now (table .entry)) f e (length (now (out .entry)))) × (now (out .exit) ≡ written (now (table .entry)) f e (now (out .entry))) ⌝ }
 {
@@ -147,7 +160,8 @@ pub fn write_word(table: &[u32], f: Factor, e: GroupElementId, out: &mut [u8]) -
     }
 }
 
-// The same, with the filled part handed back; refused: the empty start, and `write_word` tells the number.
+// Writes the recorded word of e as `write_word` does, and hands the filled part of the buffer back. Where that is
+// refused, it is the buffer's empty start, and `write_word` tells the number.
 pub fn word<'a>(table: &[u32], f: Factor, e: GroupElementId, out: &'a mut [u8]) -> &'a mut [u8]
     ensures { λ r. ⌜ now r ≡ wordPart (now (table .entry)) f e (now (out .entry)) ⌝ }
 {
@@ -157,7 +171,9 @@ pub fn word<'a>(table: &[u32], f: Factor, e: GroupElementId, out: &'a mut [u8]) 
     }
 }
 
-// Checks an accepted factor against pair orders.
+// Checks an accepted factor against pair orders. Refuses in this order: 17 for a handle that does not fit, 2 for a list
+// of the wrong length, 3 for the first order that is out of its limits; then 13 for the first relation that fails or 17
+// for a number read that is out of range, whichever is met first.
 pub fn check(table: &[u32], f: Factor, orders: &[u32]) -> Verdict
     ensures { λ r. ⌜ r ≡ checkAnswer (now (table .entry)) f (now (orders .entry)) ⌝ }
 {

@@ -1,5 +1,6 @@
-// Products by the numbers in the rows: quick, by the walks of `factor_quick_walks`, where every number that is looked at is in range and, for a
-// word of more than five letters, the second's inverse has no longer one; else as `factor_questions` answers by the definition.
+// Products and conjugates by as few reads as they can be had. They are found by the quick walks of `factor_quick_walks`
+// where every number that is looked at is in range and, for a second element whose word has more than five letters, its
+// inverse has no longer word; else they are found as `factor_questions` defines them.
 ghost use mathlib.Core.Path.{_≡_};
 ghost use mathlib.Core.Bool.{true};
 ghost use Prim.Native.Nat.{_+_, _*_, _<_, _≤_};
@@ -8,17 +9,17 @@ ghost use Rattle.factor_questions.specs.Walks.{composeIn, conjugateIn};
 use egg::GroupElementId;
 use egg::Reached;
 
-// Whether the rows of all elements stand in the stretch.
+// Answers whether the rows of all elements stand in the stretch.
 fn rows_within(s: &[u32], n: u8, count: u32) -> bool
     ensures { λ r. ⌜ (r ≡ true → count * (2 * n + 4) ≤ length (now (s .entry))) ⌝ }
 {
     (count as usize) * egg::inner::width(n) <= s.len()
 }
 
-// The product of two elements by the numbers in their rows, where these serve; else the count, and `compose_with_care` has the
-// answer. A word of at most five letters is in its own row, and waits for no other. Of the two ways
-// back along a longer one both read and look at an inverse at the end: so they join with no branch, which a processor would
-// guess wrong every other time.
+// The number of a·b, where the quick walks find it; else the count, and then `compose_with_care` has the answer. A word
+// of at most five letters stands in its own row, and no other is waited for. A longer one is walked back in one of two
+// ways, and both read an inverse at the end, so that they join without a branch, which a processor would guess wrong
+// every other time.
 fn product_number(s: &[u32], n: u8, count: u32, a: GroupElementId, b: GroupElementId) -> u32
     ensures { λ r. ⌜ (r < count → composeIn (now (s .entry)) n count (a .0) (b .0) ≡ Reached.Element (record { 0 = r })) ⌝ }
 {
@@ -72,6 +73,7 @@ fn product_number(s: &[u32], n: u8, count: u32, a: GroupElementId, b: GroupEleme
     egg::inner::chosen(inverted, z, x)
 }
 
+// The product a·b: quick where it can be, else with care.
 pub fn compose_elements(
     s: &[u32],
     n: u8,
@@ -88,7 +90,7 @@ pub fn compose_elements(
     factor_questions::inner::compose_with_care(&s[..], n, count, a, b)
 }
 
-// a·b·a⁻¹ as `product_number` gives a product.
+// The number of a·b·a⁻¹, or the count, as `product_number` gives a product.
 fn conjugate_number(s: &[u32], n: u8, count: u32, a: GroupElementId, b: GroupElementId) -> u32
     ensures { λ r. ⌜ (r < count → conjugateIn (now (s .entry)) n count (a .0) (b .0) ≡ Reached.Element (record { 0 = r })) ⌝ }
 {
@@ -103,6 +105,7 @@ fn conjugate_number(s: &[u32], n: u8, count: u32, a: GroupElementId, b: GroupEle
     product_number(&s[..], n, count, GroupElementId(c), GroupElementId(i))
 }
 
+// The conjugate a·b·a⁻¹: quick where it can be, else with care.
 pub fn conjugate_elements(
     s: &[u32],
     n: u8,

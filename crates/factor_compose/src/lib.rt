@@ -1,2 +1,3 @@
-// abstract_group.rs: products and conjugates again, by as few reads as they can be had.
+// From abstract_group.rs: products and conjugates, by as few reads as they can be had. All of it is in `inner`, for the
+// layers above.
 pub mod inner;

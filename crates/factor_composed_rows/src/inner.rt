@@ -1,4 +1,4 @@
-// The build from composed rows, in its stretches.
+// The build from composed rows, in the stretches that were lent.
 ghost use mathlib.Core.Path.{_≡_};
 ghost use lib.ListN.{length};
 ghost use Rattle.build_lending.specs.Finish.{Built};
@@ -8,6 +8,7 @@ use egg::Counted;
 use egg::GeneratorId;
 use egg::GroupElementId;
 
+// Reads one row, place by place.
 fn read_row(t: &mut [u32], rows: &[u32], n: u8, room: u32, e: GroupElementId, first: u32) -> Counted
     ensures { λ r. ⌜ Placed.placed r (now (t .exit)) ≡ readRow n (composedAt (now (rows .entry)) n) n room (e .0) 0 first (now (t .entry)) ⌝ }
 {
@@ -26,7 +27,7 @@ fn read_row(t: &mut [u32], rows: &[u32], n: u8, room: u32, e: GroupElementId, fi
     Counted::Count(count)
 }
 
-// Rows in the order of their elements, as long as there is a next element.
+// Reads the rows in the order of their elements, as long as there is a next element that is known.
 fn read_rows(t: &mut [u32], rows: &[u32], n: u8, room: u32) -> Counted
     ensures { λ r. ⌜ Placed.placed r (now (t .exit)) ≡ readAll (composedAt (now (rows .entry)) n) n room (now (t .entry)) ⌝ }
 {
@@ -46,7 +47,7 @@ fn read_rows(t: &mut [u32], rows: &[u32], n: u8, room: u32) -> Counted
     Counted::Count(count)
 }
 
-// The whole build from composed rows, in its stretches.
+// The whole build: zeroes the table, reads the rows into it, and ends as every build does.
 pub fn compose_in(t: &mut [u32], w: &mut [u32], rows: &[u32], n: u8, room: u32) -> Counted
     ensures { λ r. ⌜ Built.built r (now (t .exit)) (now (w .exit)) ≡ composedIn (length (now (t .entry))) (now (w .entry)) (now (rows .entry)) n room ⌝ }
 {

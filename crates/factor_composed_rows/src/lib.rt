@@ -1,2 +1,3 @@
-// abstract_group.rs: the build of a factor from a lent list of composed numbers. There are no calls of its own.
+// From abstract_group.rs: the build of a factor from a lent list of composed numbers. All of it is in `inner`, for the
+// layers above.
 pub mod inner;

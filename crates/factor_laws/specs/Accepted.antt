@@ -26,23 +26,25 @@ use Rattle.theory.specs.Presentation.{order-of, alternate, Relator, Holds}
 use Rattle.build_checks_laws.specs.Stored.{wordOf}
 use Rattle.build_checks_laws.specs.Sound.{Sound, Ruled}
 
--- A factor that was accepted, whichever call made it: its handle fits the buffer, its stretch holds a table that the checks let through, and that table
--- follows the numbering rule, with the parent and last generator of each element's first appearance; and above its last generator each row has the letters
--- before it, so that a word is read five letters at a time. Document 01: "its handle and its needed stretch of table come unaltered from the call that
--- accepted it".
+-- A factor that was accepted, whichever call made it: its handle fits the buffer, its stretch holds a table that the checks let through, and that
+-- table follows the numbering rule, with the parent and last generator of each element's first appearance. In each row the cell of the last generator
+-- also has the letters before it, so that a word is read five letters at a time. Document 01: "its handle and its needed stretch of table come
+-- unaltered from the call that accepted it".
 pub record Accepted (t : List ℕ) (f : Factor) : Type 0 where
   pub fits : fitsIn (length t) f ≡ true
   pub sound : Sound (stretch t f) (f .generators) (f .elements)
   pub ruled : Ruled (stretch t f) (f .generators) (f .elements)
   pub hops : Hops (stretch t f) (f .generators) (f .elements)
 
--- The step, the step back and the recorded word that the factor's stretch holds.
+-- The step that the factor's stretch holds.
 abbrev pub factorStep : List ℕ → Factor → ℕ → ℕ → ℕ
 factorStep t f = stepOf (stretch t f) (f .generators)
 
+-- The step back that the factor's stretch holds.
 abbrev pub factorBack : List ℕ → Factor → ℕ → ℕ → ℕ
 factorBack t f = backOf (stretch t f) (f .generators)
 
+-- The recorded word that the factor's stretch holds.
 abbrev pub factorWord : List ℕ → Factor → ℕ → List ℕ
 factorWord t f = wordOf (stretch t f) (f .generators)
 
@@ -50,7 +52,8 @@ factorWord t f = wordOf (stretch t f) (f .generators)
 abbrev pub reach : ℕ → Reached
 reach e = Element (record { 0 = e })
 
--- r is 13, "a relation fails", with its places, "element, generator, generator"; and a relator of these two generators does not lead from e back to e.
+-- The refusal r is 13, "a relation fails", with its places, "element, generator, generator"; and a relator of these two generators does not lead from
+-- e back to e.
 pub record Fails (n : ℕ) (m step : ℕ → ℕ → ℕ) (e : ℕ) (r : Refusal) : Type 0 where
   pub first : ℕ
   pub second : ℕ

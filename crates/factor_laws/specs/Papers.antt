@@ -16,7 +16,7 @@ use Rattle.theory.specs.Group.{GroupOn, RightSteps, conjugate}
 use Rattle.theory.specs.Presentation.{order-of, Holds}
 use Rattle.factor_laws.specs.Accepted.{factorStep, factorWord}
 
--- No refusal, and this value: an element or a count. A verdict has none, and 0 stands there.
+-- The paper of an answer that is no refusal and has this value, an element or a count. A verdict has none, and 0 stands for it.
 abbrev pub valuePaper : ℕ → Paper
 valuePaper k = record { number = 0; a = k; b = 0; c = 0 }
 

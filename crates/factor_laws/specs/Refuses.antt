@@ -1,5 +1,5 @@
--- By which numbers the questions about a factor are refused, on every input: whatever the handle, the buffer and the arguments are. Document 01: "Calls on
--- handles check 17 in the handle, then 14, then 15, then 1 to 4, then 17 in what they read (13 or 17 as met)."
+-- By which numbers the questions about a factor may be refused, on every input: whatever the handle, the buffer and the arguments are. Document 01:
+-- "Calls on handles check 17 in the handle, then 14, then 15, then 1 to 4, then 17 in what they read (13 or 17 as met)."
 use Prim.Native.Nat.{ℕ}
 use mathlib.Core.Path.{_≡_}
 use mathlib.Core.List.{List, [], _∷_}
@@ -20,17 +20,19 @@ use Rattle.factor.specs.Questions.{writeAnswer, written, wordPart}
 use Rattle.factor.specs.Relations.{checkAnswer}
 use Rattle.build_checks_laws.specs.Numbers.{In}
 
--- If it is refused, then by one of these numbers.
+-- If the check is refused, then by one of the numbers of l.
 pub record VerdictIn (l : List ℕ) (v : Verdict) : Type 0 where
   pub of : (r : Refusal) → v ≡ verdict.Refused r → In l r
 
+-- The same of an answer that is an element.
 pub record ReachedIn (l : List ℕ) (x : Reached) : Type 0 where
   pub of : (r : Refusal) → x ≡ reached.Refused r → In l r
 
+-- The same of an answer that is a count.
 pub record CountedIn (l : List ℕ) (x : Counted) : Type 0 where
   pub of : (r : Refusal) → x ≡ counted.Refused r → In l r
 
--- Each question's answer is an answer, or a refusal by one of these.
+-- Each question is answered, or refused by one of the numbers that stand here.
 pub record Refuses (t : List ℕ) (f : Factor) : Type 0 where
   pub steps : (e : GroupElementId) (g : GeneratorId) → ReachedIn (14 ∷ 17 ∷ []) (stepAnswer t f e g)
   pub generators : (g : GeneratorId) → ReachedIn (14 ∷ 17 ∷ []) (generatorAnswer t f g)

@@ -1,2 +1,3 @@
-// A library with no function of its own: what the answers about an accepted factor mean is proved in proofs/.
+// What an accepted factor is, and what the answers about it mean: statements in specs/, theorems in proofs/. There is
+// no code; the one function is here because a crate needs one.
 pub fn nothing() {}

@@ -1,5 +1,5 @@
--- What is answered by walks through a factor's stretch s, with n generators and `count` elements: products, inverses, conjugates and the elements of generators.
--- Document 01: "Calls on handles check 17 in the handle, then 14, .. then 17 in what they read." The handle is looked at before.
+-- What is answered by walks through a factor's stretch s, with n generators and `count` elements: products, inverses, conjugates and the elements of
+-- generators. Document 01: "Calls on handles check 17 in the handle, then 14, .. then 17 in what they read." The handle is looked at before.
 use Prim.Native.Nat.{ℕ}
 use mathlib.Core.List.{List}
 use lib.Dec.{ltb, leb}
@@ -7,18 +7,19 @@ use Rattle.egg.specs.declared.Reached.{Reached}
 use Rattle.egg.specs.declared.Reached.the-variants.{Element}
 use Rattle.egg.specs.Table.{pick, hopOf, lengthOf, inverseOf}
 use Rattle.egg.specs.Factor.{refusedReach, readStep}
--- The walks themselves, passed on.
+-- The walks themselves, for those who use the answers.
 pub use Rattle.factor_word_walks.specs.Walks.{onReached, backAlong}
 unfoldable pub use Rattle.factor_word_walks.specs.Walks.{along, readBack, ahead, backBy}
 
--- The inverse was found when the table was built, and stands in the row.
+-- The inverse, which was found when the table was built and stands in the row; 17 where it is beyond the elements.
 unfoldable pub inverseIn : List ℕ → ℕ → ℕ → ℕ → Reached
 inverseIn s n count a = pick (leb count (inverseOf s n a)) (refusedReach 17 0) (Element (record { 0 = inverseOf s n a }))
 
--- "`compose` walks the word of the second from the first": forward along the word of the second where that has at most five letters, which stand in its row; else,
--- where the first's word is shorter, back along that from the inverse of the second, to the inverse of the product; else back along the word of the second's inverse,
--- or, where that is longer, forward along the second's own. On an accepted factor all of these lead to the same element. An inverse beyond the elements is 17, where it
--- is read, and so is a length of the second over 4,096; the other lengths are only compared with that.
+-- "`compose` walks the word of the second from the first": forward along the word of the second where that has at most five letters, which stand in
+-- its row; else, where the first's word is shorter, back along that from the inverse of the second, to the inverse of the product; else back along
+-- the word of the second's inverse, or, where that is longer, forward along the second's own. On an accepted factor all of these lead to the same
+-- element. An inverse beyond the elements is 17 where it is read, and so is a length of the second over 4,096; the other lengths are only compared
+-- with that.
 unfoldable pub composeIn : (s : List ℕ) (n count a b : ℕ) → Reached
 composeIn s n count a b =
     pick (leb (lengthOf s n b) 5) (ahead (lengthOf s n b) s n count a (hopOf s n b))

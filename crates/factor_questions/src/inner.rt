@@ -1,14 +1,15 @@
-// What is answered by walks through a factor's own stretch; every number is looked at before it is used.
+// Products, inverses, conjugates and generators in a factor's own stretch, by walks along recorded words as their
+// definition has them. Every number is looked at before it is used.
 ghost use mathlib.Core.Path.{_≡_};
 ghost use Rattle.factor_questions.specs.Walks.{inverseIn, composeIn, conjugateIn, generatorIn};
 use egg::GeneratorId;
 use egg::GroupElementId;
 use egg::Reached;
 
-// Along a word of at most five letters by the cell that has them all. Back along the word of the inverse the letters come in
-// the order in which they are walked, so that nothing waits for a return; where that word is longer, along the element's own.
-// Where the first's word is shorter than the second's, back along that from the second's inverse, to the inverse of the
-// product.
+// The product a·b. A word of b with at most five letters is walked by the cell that has them all. Where the word of a
+// is shorter than that of b, the walk goes back along it from the inverse of b, to the inverse of the product. Else the
+// walk goes back along the word of b's inverse, so that the letters come in the order in which they are walked and
+// nothing waits for a return; or, where that word is longer, forward along b's own.
 pub fn compose_with_care(
     s: &[u32],
     n: u8,
@@ -50,6 +51,7 @@ pub fn compose_with_care(
     factor_word_walks::inner::back_along(s, n, count, a, GroupElementId(i), back)
 }
 
+// The inverse of a, which stands in its row.
 pub fn inverse_in(s: &[u32], n: u8, count: u32, a: GroupElementId) -> Reached
     ensures { λ r. ⌜ r ≡ inverseIn (now (s .entry)) n count (a .0) ⌝ }
 {
@@ -60,6 +62,7 @@ pub fn inverse_in(s: &[u32], n: u8, count: u32, a: GroupElementId) -> Reached
     Reached::Element(GroupElementId(i))
 }
 
+// The conjugate a·b·a⁻¹, by two products.
 pub fn conjugate_with_care(
     s: &[u32],
     n: u8,
@@ -78,6 +81,7 @@ pub fn conjugate_with_care(
     }
 }
 
+// The element of a generator, which stands in the identity's row; refuses 14 for a generator that is none.
 pub fn generator_in(s: &[u32], n: u8, count: u32, g: GeneratorId) -> Reached
     ensures { λ r. ⌜ r ≡ generatorIn (now (s .entry)) n count (g .0) ⌝ }
 {

@@ -1,2 +1,3 @@
-// abstract_group.rs: products, inverses and conjugates of elements by walking recorded words.
+// From abstract_group.rs: products, inverses and conjugates of elements by walking recorded words. All of it is in
+// `inner`, for the layers above.
 pub mod inner;

@@ -1,5 +1,6 @@
-// Quick walks by the numbers in the rows. Every cell that is read is proved to be there; each number is looked at before it is
-// used, and where one is out of range there is no answer.
+// Quick walks along recorded words by the numbers in the rows. Every cell that is read is proved to be there; each
+// number is looked at before it is used, and where one is out of range there is no answer, which is said by 0 or by the
+// count.
 ghost use mathlib.Core.Path.{_≡_};
 ghost use Prim.Native.Nat.{_+_, _*_, _-_, _<_, _≤_};
 ghost use lib.ListN.{length, getD};
@@ -11,7 +12,8 @@ ghost use Rattle.factor_quick_walks.specs.Letters.{Onward};
 use egg::GroupElementId;
 use egg::Reached;
 
-// One of the four numbers behind the steps of a row: parent, last letters, length, inverse.
+// One of the four numbers behind the steps of a row, by k: 0 the parent, 1 the cell with the last five letters, 2 the
+// length, 3 the inverse.
 pub fn recorded(s: &[u32], n: u8, count: u32, e: GroupElementId, k: usize) -> u32
     requires { ⌜ (count * (2 * n + 4) ≤ length (now s)) × ((e .0 < count) × (k < 4)) ⌝ }
     ensures { λ r. ⌜ r ≡ getD (now (s .entry)) (startOf n (e .0) + 2 * n + k) 0 ⌝ }
@@ -19,9 +21,9 @@ pub fn recorded(s: &[u32], n: u8, count: u32, e: GroupElementId, k: usize) -> u3
     egg::inner::read(s, egg::inner::start(n, e) + 2 * (n as usize) + k)
 }
 
-// The step from the element that is stored as y, one more than its number, or for `shift` n the step back: the next row need not
-// wait for the 1 to be taken off. What the letter takes off is reckoned in 32 bits, so that the compiler leaves it whole, and
-// nothing but one sum waits for the row.
+// The step from the element that is stored as y, which is one more than its number; with n for `shift` the step back.
+// The row is found from y itself, so that it need not wait for the 1 to be taken off. What the letter takes off is
+// reckoned in 32 bits, so that the compiler leaves it whole and nothing but one sum waits for the row.
 fn stored_step(s: &[u32], n: u8, count: u32, shift: u8, y: u32, letter: u32) -> u32
     requires { ⌜ (count * (2 * n + 4) ≤ length (now s)) × ((0 < y) × ((y ≤ count) × ((letter < n) × (shift ≤ n)))) ⌝ }
     ensures { λ r. ⌜ r ≡ getD (now (s .entry)) (startOf n (y - 1) + shift + letter) 0 ⌝ }
@@ -33,15 +35,18 @@ fn stored_step(s: &[u32], n: u8, count: u32, shift: u8, y: u32, letter: u32) -> 
     )
 }
 
+// Whether the first length is less than the second: the test as a value, by which `chosen` takes one of two numbers
+// without a branch.
 pub fn fewer(own: u32, len: u32) -> bool
     ensures { λ r. ⌜ r ≡ ltb own len ⌝ }
 {
     own < len
 }
 
-// One letter of a cell, the k-th from below, from the element that is stored as y: what is stored for the element that it
-// leads to, or y again where the word has not so many letters; 0 where a number is out of range. Both are worked out, so that no
-// branch has to guess how long the word is. (Above a short word an accepted table has letters 0.)
+// The step by one letter of a cell, the k-th from below, from the element that is stored as y: answers what is stored
+// for the element that it leads to, or y again where the word has no more than k letters; 0 where a number is out of
+// range. Both are worked out, so that no branch has to guess how long the word is. (Above a short word an accepted
+// table has letters 0.)
 fn one_letter(s: &[u32], n: u8, count: u32, y: u32, cell: u32, k: u32, letters: u32) -> u32
     requires { ⌜ (count * (2 * n + 4) ≤ length (now s)) × ((0 < y) × ((y ≤ count) × (k < 5))) ⌝ }
     ensures { λ r. ⌜ (0 < r → Onward (now (s .entry)) n count cell letters (k + 1) y k r) ⌝ }
@@ -60,8 +65,8 @@ fn one_letter(s: &[u32], n: u8, count: u32, y: u32, cell: u32, k: u32, letters: 
     egg::inner::chosen(fewer(k, letters), x, y)
 }
 
-// The first two of five letters. In a large group nearly all words that are walked forward have more than three, in a small one
-// few: that is a branch.
+// The steps by the first two of five letters. In a large group nearly all words that are walked forward have more than
+// three letters, in a small one few: so that is a branch.
 fn advance_two(s: &[u32], n: u8, count: u32, y: u32, cell: u32, letters: u32) -> u32
     requires { ⌜ (count * (2 * n + 4) ≤ length (now s)) × ((0 < y) × (y ≤ count)) ⌝ }
     ensures { λ r. ⌜ (0 < r → Onward (now (s .entry)) n count cell letters 5 y 3 r) ⌝ }
@@ -76,8 +81,9 @@ fn advance_two(s: &[u32], n: u8, count: u32, y: u32, cell: u32, letters: u32) ->
     one_letter(s, n, count, x, cell, 3, letters)
 }
 
-// From an element along the letters in a cell, the first of them first; the count where a number is out of range. The empty word
-// is a branch: who multiplies again and again by the identity, as powers do, need not wait for any row.
+// Walks from an element along the letters in a cell, the first of the word first; answers the count where a number is
+// out of range. The empty word is a branch: who multiplies again and again by the identity, as powers do, need not wait
+// for any row.
 pub fn advance(s: &[u32], n: u8, count: u32, from: GroupElementId, cell: u32, letters: u32) -> u32
     requires { ⌜ (count * (2 * n + 4) ≤ length (now s)) × ((from .0 < count) × (letters ≤ 5)) ⌝ }
     ensures { λ r. ⌜ (r < count → ahead letters (now (s .entry)) n count (from .0) cell ≡ Reached.Element (record { 0 = r })) ⌝ }
@@ -105,8 +111,8 @@ pub fn advance(s: &[u32], n: u8, count: u32, from: GroupElementId, cell: u32, le
     last - 1
 }
 
-// From the element that is stored as `from` back along the letters lowest in a cell: what is stored for the element that they
-// lead to, or 0 where a number is out of range.
+// Walks from the element that is stored as `from` back along the lowest letters of a cell: answers what is stored for
+// the element that they lead to, or 0 where a number is out of range.
 fn retrace_letters(s: &[u32], n: u8, count: u32, from: u32, cell: u32, letters: u32) -> u32
     requires { ⌜ (count * (2 * n + 4) ≤ length (now s)) × ((0 < from) × (from ≤ count)) ⌝ }
     ensures { λ r. ⌜ (0 < r → (r ≤ count) × LettersBack (now (s .entry)) n count (from - 1) cell letters (Reached.Element (record { 0 = r - 1 }))) ⌝ }
@@ -133,7 +139,8 @@ fn retrace_letters(s: &[u32], n: u8, count: u32, from: u32, cell: u32, letters: 
     y
 }
 
-// From an element back along a word, five letters for each cell that is read; the count where a number is out of range.
+// Walks from an element back along the last `letters` letters of the word of e, five for each cell that is read;
+// answers the count where a number is out of range.
 pub fn retrace(
     s: &[u32],
     n: u8,

@@ -1,2 +1,3 @@
-// abstract_group.rs: walks along recorded words again, quick ones by the numbers in the rows.
+// From abstract_group.rs: quick walks along recorded words, by the numbers in the rows. All of it is in `inner`, for
+// the layers above.
 pub mod inner;

@@ -1,4 +1,4 @@
-// Refusals 2 and 3, of a list of pair orders, and 13, a relation fails, on a factor's own stretch.
+// Refusals 2 and 3 of a list of pair orders, and refusal 13, a relation that fails, on a factor's own stretch.
 ghost use mathlib.Core.Path.{_≡_};
 ghost use Prim.Native.Nat.{_≤_};
 ghost use lib.ListN.{length};
@@ -9,7 +9,7 @@ use egg::GroupElementId;
 use egg::Reached;
 use egg::Verdict;
 
-// 2 and 3: the list of pair orders is as long as there are pairs, and each is within 2..32,767.
+// Refuses 2 where the list is not as long as there are pairs, then 3 for the first order outside 2..32,767.
 pub fn orders_right(orders: &[u32], n: u8) -> Verdict
     ensures { λ r. ⌜ r ≡ ordersRight (now (orders .entry)) n ⌝ }
 {
@@ -31,7 +31,7 @@ pub fn orders_right(orders: &[u32], n: u8) -> Verdict
     Verdict::Fine
 }
 
-// From e by a and then b, so many times both.
+// Walks from e by a and then b, `times` times both.
 pub fn turned(
     s: &[u32],
     n: u8,
@@ -60,7 +60,7 @@ pub fn turned(
     Reached::Element(x)
 }
 
-// 13 at one element for one relation, or 17 on the way.
+// Refuses 13 where one relation does not lead from e back to e, or 17 where a number read on the way is out of range.
 pub fn relation_at(
     s: &[u32],
     n: u8,
@@ -84,6 +84,7 @@ pub fn relation_at(
     }
 }
 
+// The relations of one element by which each generator doubled leads back.
 fn doubled_row(s: &[u32], n: u8, count: u32, e: GroupElementId) -> Verdict
     ensures { λ r. ⌜ r ≡ doubledRow (now (s .entry)) n count (e .0) ⌝ }
 {
@@ -98,6 +99,7 @@ fn doubled_row(s: &[u32], n: u8, count: u32, e: GroupElementId) -> Verdict
     Verdict::Fine
 }
 
+// The relations of one element by which each pair, as often as its order says, leads back.
 fn pairs_row(s: &[u32], n: u8, count: u32, orders: &[u32], e: GroupElementId) -> Verdict
     requires { ⌜ length (now orders) ≤ 28 ⌝ }
     ensures { λ r. ⌜ r ≡ pairsRow (now (s .entry)) n count (now (orders .entry)) (e .0) ⌝ }
@@ -122,7 +124,7 @@ fn pairs_row(s: &[u32], n: u8, count: u32, orders: &[u32], e: GroupElementId) ->
     Verdict::Fine
 }
 
-// Every relation at one element: each generator doubled, then each pair.
+// Every relation at one element: each generator doubled, then each pair; the first refusal.
 pub fn relations_row(s: &[u32], n: u8, count: u32, orders: &[u32], e: GroupElementId) -> Verdict
     requires { ⌜ length (now orders) ≤ 28 ⌝ }
     ensures { λ r. ⌜ r ≡ relationsRow (now (s .entry)) n count (now (orders .entry)) (e .0) ⌝ }
@@ -134,6 +136,7 @@ pub fn relations_row(s: &[u32], n: u8, count: u32, orders: &[u32], e: GroupEleme
     pairs_row(&s[..], n, count, &orders[..], e)
 }
 
+// Every relation at every element, in order: the first refusal.
 pub fn relations(s: &[u32], n: u8, count: u32, orders: &[u32]) -> Verdict
     requires { ⌜ length (now orders) ≤ 28 ⌝ }
     ensures { λ r. ⌜ r ≡ relations (now (s .entry)) n count (now (orders .entry)) ⌝ }

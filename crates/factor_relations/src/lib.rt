@@ -1,2 +1,2 @@
-// Refusals 2 and 3, of a list of pair orders, and 13, added by design: whether their relations hold in a table.
+// Refusals 2 and 3 of a list of pair orders, and 13, which document 01 adds: whether their relations hold in a table.
 pub mod inner;

@@ -1,4 +1,5 @@
-// The letters of a recorded word, five in each number: whether all can be read, and their way into a lent byte buffer or a list of our own.
+// The letters of a recorded word, five in each number: whether all can be read, and how they get into a lent byte
+// buffer or an array of our own.
 ghost use mathlib.Core.Path.{_≡_};
 ghost use mathlib.Core.Bool.{true};
 ghost use Prim.Native.Nat.{_+_, _≤_};
@@ -7,8 +8,8 @@ ghost use Rattle.factor_word_letters.specs.Spell.{readable, spellFrom, s
 ghost use Rattle.factor_word_letters.specs.Letters.{lettersInBelow, lettersPut};
 use egg::GroupElementId;
 
-// Whether all five letters in a number are generators. Those before a word's first one are, in an accepted table: the
-// identity's row has zeros there, and where there is a word there is a generator 0.
+// Answers true where all five letters in a number are generators. In an accepted table those before a word's first
+// letter are too: the identity's row has zeros there, and where there is a word there is a generator 0.
 fn five_below(n: u8, c: u32) -> bool
     ensures { λ r. ⌜ (r ≡ true → lettersInBelow 5 5 n c ≡ true) ⌝ }
 {
@@ -28,7 +29,8 @@ fn five_below(n: u8, c: u32) -> bool
     c / 8 / 8 / 8 / 8 % 8 < m
 }
 
-// Whether those are that the word has: `left` letters, but no more than five.
+// Answers whether the letters in a number that belong to the word are generators: `left` letters, but no more than
+// five.
 fn letters_below(n: u8, c: u32, left: u32) -> bool
     ensures { λ r. ⌜ r ≡ lettersInBelow left 5 n c ⌝ }
 {
@@ -52,7 +54,7 @@ fn letters_below(n: u8, c: u32, left: u32) -> bool
     true
 }
 
-// Whether every letter of the word can be read, so that nothing is written where one cannot.
+// Answers whether every letter of the word can be read; it is asked first, so that nothing is written where one cannot.
 pub fn readable(s: &[u32], n: u8, count: u32, e: GroupElementId, len: u32) -> bool
     ensures { λ r. ⌜ r ≡ readable len (now (s .entry)) n count (e .0) ⌝ }
 {
@@ -75,7 +77,7 @@ pub fn readable(s: &[u32], n: u8, count: u32, e: GroupElementId, len: u32) -> bo
     true
 }
 
-// The letters in a number to their places: `left` letters, but no more than five.
+// Writes the letters in a number to their places: `left` letters, but no more than five.
 fn put_letters(c: u32, left: u32, start: usize, offset: u32, out: &mut [u8])
     requires { ⌜ start ≤ 1099511627776 ⌝ }
     ensures { λ r. ⌜ now (out .exit) ≡ lettersPut left 5 c start offset (now (out .entry)) ⌝ }
@@ -95,7 +97,7 @@ fn put_letters(c: u32, left: u32, start: usize, offset: u32, out: &mut [u8])
     }
 }
 
-// The letters of a word to the places from `start` on, each moved up by `offset`.
+// Writes the letters of a word to the places from `start` on, each moved up by `offset`.
 pub fn spell_from(
     s: &[u32],
     n: u8,
@@ -121,7 +123,7 @@ pub fn spell_from(
     }
 }
 
-// All five letters of a number, to the five places from `place` on.
+// Writes all five letters of a number to the five places from `place` on.
 fn put_five(c: u32, place: usize, held: &mut [u8])
     requires { ⌜ place + 5 ≤ length (now held) ⌝ }
     ensures { λ r. ⌜ now (held .exit) ≡ lettersPut 5 5 c place 0 (now (held .entry)) ⌝ }
@@ -133,10 +135,11 @@ fn put_five(c: u32, place: usize, held: &mut [u8])
     held[place] = (c / 8 / 8 / 8 / 8 % 8) as u8;
 }
 
-// The letters of a word to a list of our own, from the last to the first, and whether each can be read: so one walk is
-// enough, and nothing is written where one cannot. The word stands there behind four places, so that the first letters
-// need no turn of their own: they are taken by five like the others, and what is before the first goes to these places.
-// A letter that is no generator may be one of those, and who asked has to look with care.
+// Writes the letters of a word to an array of our own, from the last to the first, and answers whether each can be
+// read: so one walk is enough, and nothing is written to the caller's buffer where one cannot. The word stands behind
+// four places, so that the first letters need no case of their own: they are taken by five like the others, and what is
+// before the first goes to these places. Where it answers false, the letter that is no generator may be one of those,
+// and the caller has to look with care.
 pub fn gather(s: &[u32], n: u8, count: u32, e: GroupElementId, len: u32, held: &mut [u8]) -> bool
     requires { ⌜ len + 4 ≤ length (now held) ⌝ }
     ensures { λ r. ⌜ (r ≡ true → (readable len (now (s .entry)) n count (e .0) ≡ true) × (drop 4 (now (held .exit)) ≡ spell len (now (s .entry)) n (e .0) (drop 4 (now (held .entry))))) ⌝ }

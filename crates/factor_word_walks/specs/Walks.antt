@@ -1,5 +1,5 @@
--- Walks through a factor's stretch s, with n generators and `count` elements, along the letters of recorded words. Document 01: "Calls on handles check 17 in the
--- handle, then 14, .. then 17 in what they read." The handle is looked at before.
+-- Walks through a factor's stretch s, with n generators and `count` elements, along the letters of recorded words. Document 01: "Calls on handles
+-- check 17 in the handle, then 14, .. then 17 in what they read." The handle is looked at before.
 use Prim.Native.Nat.{ℕ, zero, suc, _+_, _-_, _/_, _%_}
 use mathlib.Core.List.{List}
 use lib.ListN.{getD}
@@ -9,12 +9,13 @@ use Rattle.egg.specs.declared.Reached.the-variants.{Element, Refused}
 use Rattle.egg.specs.Table.{pick, startOf, parentOf, hopOf, lastOf}
 use Rattle.egg.specs.Factor.{refusedReach, readStep}
 
--- What goes on from an element; a refusal stands.
+-- What comes after an answer: f goes on from an element, and a refusal stands.
 abbrev pub onReached : Reached → (ℕ → Reached) → Reached
 onReached (Element e) f = f (e .0)
 onReached (Refused r) f = Refused r
 
--- From an element along the last k letters of the recorded word that ends at e: first to the parent's element, then by the last letter.
+-- The walk from an element along the last k letters of the recorded word that ends at e: first along those of the parent's word, then by the last
+-- letter.
 unfoldable pub along : (k : ℕ) (s : List ℕ) (n count from e : ℕ) → Reached
 along zero s n count from e = Element (record { 0 = from })
 along (suc k) s n count from e =
@@ -22,20 +23,20 @@ along (suc k) s n count from e =
     (pick (leb n (lastOf s n e)) (refusedReach 17 0)
     (onReached (along k s n count from (parentOf s n e)) (λ x. readStep s n count x (lastOf s n e))))
 
--- A stored step back read for an answer, as `readStep` reads a step.
+-- The answer for a stored step back, as `readStep` of egg gives that for a step.
 unfoldable pub readBack : (s : List ℕ) (n count e g : ℕ) → Reached
 readBack s n count e g =
     pick (eqb (getD s (startOf n e + n + g) 0) 0) (refusedReach 17 0)
     (pick (ltb count (getD s (startOf n e + n + g) 0)) (refusedReach 17 0) (Element (record { 0 = getD s (startOf n e + n + g) 0 - 1 })))
 
--- From an element along the k letters that stand in c, the last lowest.
+-- The walk from an element along the k letters that stand in c, the last of the word lowest.
 unfoldable pub ahead : (k : ℕ) (s : List ℕ) (n count from c : ℕ) → Reached
 ahead zero s n count from c = Element (record { 0 = from })
 ahead (suc k) s n count from c =
     pick (leb n (c % 8)) (refusedReach 17 0) (onReached (ahead k s n count from (c / 8)) (λ x. readStep s n count x (c % 8)))
 
--- From an element back along the last k letters of a recorded word, the last letter first. Of these j stand in c, the last lowest, and above them the element at
--- which the word ends without them; where none is left there, that element's row has five more (`build_word_cells`).
+-- The walk from an element back along the last k letters of a recorded word, the last letter first. Of these j stand in c, the last lowest, and above
+-- them the element at which the word ends without them; where none is left there, that element's row has five more (`build_word_cells`).
 unfoldable pub backBy : (k j : ℕ) (s : List ℕ) (n count from c : ℕ) → Reached
 backBy zero j s n count from c = Element (record { 0 = from })
 backBy (suc k) zero s n count from c =
@@ -45,6 +46,6 @@ backBy (suc k) zero s n count from c =
 backBy (suc k) (suc j) s n count from c =
     pick (leb n (c % 8)) (refusedReach 17 0) (onReached (readBack s n count from (c % 8)) (λ x. backBy k j s n count x (c / 8)))
 
--- .. of the word that ends at e.
+-- The walk from an element back along the last k letters of the word that ends at e.
 abbrev pub backAlong : (k : ℕ) (s : List ℕ) (n count from e : ℕ) → Reached
 backAlong k s n count from e = backBy k 0 s n count from e

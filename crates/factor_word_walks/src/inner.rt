@@ -1,4 +1,5 @@
-// Walks through a factor's own stretch by the letters of a word; every number is looked at before it is used.
+// Walks through a factor's own stretch along the letters of recorded words; every number is looked at before it is
+// used, and 17 is the answer where one is out of range.
 ghost use mathlib.Core.Path.{_≡_};
 ghost use Rattle.factor_word_walks.specs.Walks.{along, readBack, ahead, backAlong};
 ghost use Rattle.factor_word_walks.specs.Letters.{LettersBack};
@@ -6,7 +7,7 @@ use egg::GeneratorId;
 use egg::GroupElementId;
 use egg::Reached;
 
-// From an element along the last `left` letters of the word that ends at e.
+// Walks from an element along the last `left` letters of the word that ends at e.
 pub fn along(
     s: &[u32],
     n: u8,
@@ -34,7 +35,7 @@ pub fn along(
     }
 }
 
-// The step back in the stretch of a factor, or 17.
+// The step back in the stretch of a factor, or 17 where the number read is out of range.
 fn previous(s: &[u32], n: u8, count: u32, e: GroupElementId, g: GeneratorId) -> Reached
     ensures { λ r. ⌜ r ≡ readBack (now (s .entry)) n count (e .0) (g .0) ⌝ }
 {
@@ -48,7 +49,7 @@ fn previous(s: &[u32], n: u8, count: u32, e: GroupElementId, g: GeneratorId) -> 
     Reached::Element(GroupElementId(x - 1))
 }
 
-// From an element along the k letters that stand in c, the last lowest.
+// Walks from an element along the k letters that stand in c, the last of the word lowest.
 pub fn ahead(s: &[u32], n: u8, count: u32, from: GroupElementId, c: u32, k: u32) -> Reached
     ensures { λ r. ⌜ r ≡ ahead k (now (s .entry)) n count (from .0) c ⌝ }
 {
@@ -65,7 +66,7 @@ pub fn ahead(s: &[u32], n: u8, count: u32, from: GroupElementId, c: u32, k: u32)
     }
 }
 
-// From an element back along the letters that are lowest in a number, the last letter first.
+// Walks from an element back along the lowest letters of a number, the last of the word first.
 fn letters_back(
     s: &[u32],
     n: u8,
@@ -95,8 +96,9 @@ fn letters_back(
     Reached::Element(x)
 }
 
-// From an element back along the last `letters` letters of the word that ends at e, five for each row that is read. (`&s[..]`:
-// a slice that is itself passed on is copied at the start of its function, and a call would wait there for the one before it.)
+// Walks from an element back along the last `letters` letters of the word that ends at e, five for each row that is
+// read. (`&s[..]` is passed on, and not `s`: a slice that is itself passed on is copied at the start of its function,
+// and a call would wait there for the one before it.)
 pub fn back_along(
     s: &[u32],
     n: u8,

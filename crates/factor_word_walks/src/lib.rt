@@ -1,2 +1,3 @@
-// abstract_group.rs: walks along recorded words, letter by letter, forward and back.
+// From abstract_group.rs: walks along recorded words, letter by letter, forward and back. All of it is in `inner`, for
+// the layers above.
 pub mod inner;

@@ -9,6 +9,7 @@ use egg::Counted;
 use egg::GroupElementId;
 use egg::Refusal;
 
+// A refused question about a count, with the refusal's number.
 pub fn refused_count(number: u32) -> Counted
     ensures { λ r. ⌜ r ≡ Counted.Refused (record { number = number; a = 0; b = 0; c = 0 }) ⌝ }
 {
@@ -20,6 +21,7 @@ pub fn refused_count(number: u32) -> Counted
     })
 }
 
+// The recorded length of e's word; refuses 17 where it is over 4,096.
 pub fn length_in(s: &[u32], n: u8, e: GroupElementId) -> Counted
     ensures { λ r. ⌜ r ≡ lengthIn (now (s .entry)) n (e .0) ⌝ }
 {
@@ -30,7 +32,8 @@ pub fn length_in(s: &[u32], n: u8, e: GroupElementId) -> Counted
     Counted::Count(len)
 }
 
-// In two walks, which look at the word's own letters alone: in an altered table others may stand before its first.
+// Writes a word in two walks, of which the first only looks, and answers whether it was written. They look at the
+// word's own letters alone: in an altered table numbers that are no letters may stand before its first.
 fn write_with_care(
     s: &[u32],
     n: u8,
@@ -48,8 +51,9 @@ fn write_with_care(
     true
 }
 
-// The word is written when all of it has been read. Few letters need no long list, which would have to be zeroed; the list is
-// lent to nothing but `gather`, so that the compiler knows the copy's two ends apart.
+// Writes a short word when all of it has been read, and answers whether it was. Few letters need no long array, which
+// would have to be zeroed. The array is lent to nothing but `gather`, so that the compiler knows that the copy's two
+// ends are apart.
 fn write_short(s: &[u32], n: u8, count: u32, e: GroupElementId, len: u32, out: &mut [u8]) -> bool
     requires { ⌜ (len ≤ 64) × (len ≤ length (now out)) ⌝ }
     ensures { λ r. ⌜ (r ≡ readable len (now (s .entry)) n count (e .0)) × (now (out .exit) ≡ pick r (spell len (now (s .entry)) n (e .0) (now (out .entry))) (now (out .entry))) ⌝ }
@@ -62,6 +66,7 @@ fn write_short(s: &[u32], n: u8, count: u32, e: GroupElementId, len: u32, out: &
     true
 }
 
+// The same for any word.
 fn write_long(s: &[u32], n: u8, count: u32, e: GroupElementId, len: u32, out: &mut [u8]) -> bool
     requires { ⌜ (len ≤ 4096) × (len ≤ length (now out)) ⌝ }
     ensures { λ r. ⌜ (r ≡ readable len (now (s .entry)) n count (e .0)) × (now (out .exit) ≡ pick r (spell len (now (s .entry)) n (e .0) (now (out .entry))) (now (out .entry))) ⌝ }
@@ -74,6 +79,8 @@ fn write_long(s: &[u32], n: u8, count: u32, e: GroupElementId, len: u32, out: &m
     true
 }
 
+// Writes the recorded word of e and answers its length. Refuses 17 for a length over 4,096, then 4 for a buffer that is
+// shorter, then 17 for a letter that cannot be read.
 pub fn write_in(s: &[u32], n: u8, count: u32, e: GroupElementId, out: &mut [u8]) -> Counted
     ensures { λ r. ⌜ (r ≡ writeIn (now (s .entry)) n count (e .0) (length (now (out .entry)))) × (now (out .exit) ≡ writtenBy (writeIn (now (s .entry)) n count (e .0) (length (now (out .entry)))) (now (s .entry)) n (e .0) (now (out .entry))) ⌝ }
 {

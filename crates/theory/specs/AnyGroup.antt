@@ -1,9 +1,10 @@
--- Groups on any carrier whatever, and the tables that are one of them numbered: who says "some group" means any group.
+-- Groups on any type of elements, and the tables that are such a group with its elements numbered. "Some group" in a promise means any group at all,
+-- so it is stated with these and not with the groups on numbers of Group.antt.
 use mathlib.Core.Path.{_≡_}
 use mathlib.Core.List.{List, [], _∷_}
 use Prim.Native.Nat.{ℕ, _<_}
 
--- The textbook's group once more, on the elements of a type.
+-- The textbook's group, on the elements of a type.
 pub record Group (A : Type 0) : Type 0 where
   pub op : A → A → A
   pub unit : A
@@ -14,7 +15,8 @@ pub record Group (A : Type 0) : Type 0 where
   pub left-inverse : (a : A) → op (inv a) a ≡ unit
   pub right-inverse : (a : A) → op a (inv a) ≡ unit
 
--- The group's elements are numbered 0 .. N-1, each once, and the identity is 0: `num` and `elt` undo each other.
+-- The group's elements are numbered 0 .. N-1, each once, and the identity is 0: `num` gives an element's number, `elt` the element that has a number,
+-- and they undo each other.
 pub record Numbers {A : Type 0} (G : Group A) (N : ℕ) : Type 0 where
   pub num : A → ℕ
   pub elt : ℕ → A
@@ -23,7 +25,8 @@ pub record Numbers {A : Type 0} (G : Group A) (N : ℕ) : Type 0 where
   pub num-elt : {e : ℕ} → e < N → num (elt e) ≡ e
   pub num-unit : num (G .unit) ≡ 0
 
--- The table has the right steps of some group: a step by g is multiplication on the right by an element `gen g` of it.
+-- The table has the right steps of some group: a step by g is multiplication on the right by an element `gen g` of it. Refusal 12 is "no group has
+-- these right steps".
 pub record SomeGroup (n N : ℕ) (step : ℕ → ℕ → ℕ) : Type 1 where
   pub Carrier : Type 0
   pub group : Group Carrier

@@ -1,4 +1,4 @@
--- Tests and sums over the numbers below a bound, as they compute.
+-- Tests, searches and sums over the numbers below a bound, written so that they compute.
 use mathlib.Core.Bool.{Bool, true, false, _&&_}
 use Prim.Native.Nat.{ℕ, zero, suc, _+_}
 
@@ -17,7 +17,7 @@ abbrev pub sum : ℕ → (ℕ → ℕ) → ℕ
 sum zero f = 0
 sum (suc k) f = sum k f + f k
 
--- 1 for a test that passes.
+-- 1 for a test that passes, 0 for one that fails: so that `sum` counts.
 abbrev pub one : Bool → ℕ
 one true = 1
 one false = 0

@@ -4,7 +4,7 @@ use Prim.Native.Nat.{ℕ, zero, suc, _<_, _≤_}
 use lib.IntN.{ℤ, pos, negsuc}
 use Rattle.theory.specs.Table.{generator}
 
--- The textbook's group.
+-- The textbook's group, on the numbers 0 .. N-1.
 pub record GroupOn (N : ℕ) (op : ℕ → ℕ → ℕ) (inv : ℕ → ℕ) : Type 0 where
   pub identity : 0 < N
   pub op-closed : {a b : ℕ} → a < N → b < N → op a b < N
@@ -31,7 +31,7 @@ pub record RightRegular (n N : ℕ) (step : ℕ → ℕ → ℕ) : Type 0 where
 abbrev pub conjugate : (ℕ → ℕ → ℕ) → (ℕ → ℕ) → ℕ → ℕ → ℕ
 conjugate op inv a b = op (op a b) (inv a)
 
--- a·a·..·a, k times; 0 times is the identity.
+-- a·a·..·a, with a taken k times; for k = 0 it is the identity.
 abbrev pub power : (ℕ → ℕ → ℕ) → ℕ → ℕ → ℕ
 power op a zero = 0
 power op a (suc k) = op (power op a k) a

@@ -25,11 +25,12 @@ pub record Numbered (n N : ℕ) (step : ℕ → ℕ → ℕ) : Type 0 where
 abbrev pub IdentityRow : ℕ → (ℕ → ℕ → ℕ) → Type 0
 IdentityRow n step = (g : ℕ) → g < n → generator step g ≡ suc g
 
+-- The numbering rule as a whole: "That numbering, with identity row 1..n".
 pub record NumberingRule (n N : ℕ) (step : ℕ → ℕ → ℕ) : Type 0 where
   pub numbered : Numbered n N step
   pub identity-row : IdentityRow n step
 
--- What the identity row 1..n comes to: the generators are distinct, and none is the identity.
+-- What the identity row 1..n implies: the generators are distinct elements, and none is the identity.
 pub record Distinct (n : ℕ) (step : ℕ → ℕ → ℕ) : Type 0 where
   pub moves : {g : ℕ} → g < n → ¬ (generator step g ≡ 0)
   pub apart : {g h : ℕ} → g < n → h < n → generator step g ≡ generator step h → g ≡ h
@@ -42,13 +43,14 @@ pub record Skips (n : ℕ) (step : ℕ → ℕ → ℕ) (x g t : ℕ) : Type 0 w
   pub number : step x g ≡ t
   pub ahead : count < t
 
--- The same rule as a program follows it. What reading comes to:
+-- What a reading by the rule comes to, when it is run as a program.
 pub data Outcome : Type 0 where
   numbers : ℕ → Outcome  -- all rows that were reached are read, and there are so many
   skips : ℕ → ℕ → ℕ → Outcome  -- refused by 7: element, generator, number
   unread : Outcome  -- some are left to read
 
--- Reading on from row x and column g, when c elements are known. A row of n places takes n + 1 steps, and at most k are made.
+-- The rule as a program follows it: reading on from row x and column g, when c elements are known. A row of n places takes n + 1 steps, and at most k
+-- are made.
 abbrev pub read : (n : ℕ) (step : ℕ → ℕ → ℕ) (k x g c : ℕ) → Outcome
 read n step zero x g c = unread
 read n step (suc k) x g c = elim (ltb g n) [

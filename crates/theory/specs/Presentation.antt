@@ -5,12 +5,13 @@ use Prim.Native.Nat.{ℕ, zero, suc, _+_, _<_}
 use lib.ListN.{getD}
 use Rattle.theory.specs.Words.{walk}
 
--- The orders come in a list: "pairs in the order (0,1),(0,2),(1,2),(0,3)..". Before the pairs (0,j), (1,j), .. stand those of numbers below j,
--- which are 0 + 1 + .. + (j-1).
+-- How many pairs there are of numbers below j: 0 + 1 + .. + (j-1). The orders come in a list with the "pairs in the order (0,1),(0,2),(1,2),(0,3)..",
+-- so that these stand before the pairs (0,j), (1,j), .. .
 abbrev pub pairs-below : ℕ → ℕ
 pairs-below zero = 0
 pairs-below (suc j) = pairs-below j + j
 
+-- The place of the pair (i, j), for i < j, in that list.
 abbrev pub pair-place : ℕ → ℕ → ℕ
 pair-place i j = pairs-below j + i
 
@@ -39,7 +40,7 @@ pub data Equiv (n : ℕ) (m : ℕ → ℕ → ℕ) : List ℕ → List ℕ → T
 pub record Holds (n N : ℕ) (m step : ℕ → ℕ → ℕ) : Type 0 where
   pub holds : {e : ℕ} {r : List ℕ} → e < N → Relator n m r → walk step e r ≡ e
 
--- The same as it is tested, "each generator doubled, then each pair's 2m steps".
+-- The same as it is tested: "For each element it tests each generator doubled, then each pair's 2m steps in list order."
 pub record Tested (n N : ℕ) (m step : ℕ → ℕ → ℕ) : Type 0 where
   pub doubled : {e g : ℕ} → e < N → g < n → step (step e g) g ≡ e
   pub paired : {e i j : ℕ} → e < N → i < j → j < n → walk step e (alternate i j (m i j)) ≡ e

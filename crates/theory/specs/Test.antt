@@ -8,7 +8,7 @@ use Rattle.theory.specs.Table.{generator}
 use Rattle.theory.specs.Appearance.{recorded}
 use Rattle.theory.specs.Regular.{left}
 
--- 11, "identity row is not 1..n", is where this fails.
+-- True where refusal 11, "identity row is not 1..n", is not due.
 abbrev pub identity-row-test : ℕ → (ℕ → ℕ → ℕ) → Bool
 identity-row-test n step = all n λ g. eqb (generator step g) (suc g)
 
@@ -16,14 +16,14 @@ identity-row-test n step = all n λ g. eqb (generator step g) (suc g)
 abbrev pub back-of : ℕ → (ℕ → ℕ → ℕ) → ℕ → ℕ → ℕ
 back-of N step e g = least N (λ x. eqb (step x g) e)
 
--- Each column is a permutation, which is so if every element has a predecessor in it.
+-- True where each column is a permutation, which is so if every element has a predecessor in it.
 abbrev pub columns-test : ℕ → ℕ → (ℕ → ℕ → ℕ) → Bool
 columns-test n N step = all n λ g. all N λ e. ltb (back-of N step e g) N
 
--- The check: n·n·N tests.
+-- True where multiplication on the left by each generator commutes with every step, which is the `Check` of Regular.antt: n·n·N tests.
 abbrev pub check-test : ℕ → ℕ → (ℕ → ℕ → ℕ) → (ℕ → List ℕ) → Bool
 check-test n N step word = all n λ s. all n λ g. all N λ x. eqb (left step word s (step x g)) (step (left step word s x) g)
 
--- Both, by the recorded words: a numbered table passes exactly when some group has it (`group-test-exact`).
+-- Both tests, with the recorded words: a numbered table passes exactly when some group has it (`group-test-exact`).
 abbrev pub group-test : ℕ → ℕ → (ℕ → ℕ → ℕ) → Bool
 group-test n N step = columns-test n N step && check-test n N step (recorded n step)

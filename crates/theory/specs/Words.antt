@@ -3,7 +3,7 @@ use mathlib.Core.Path.{_≡_}
 use mathlib.Core.List.{List, [], _∷_, _++_}
 use Prim.Native.Nat.{ℕ, zero, suc, _<_}
 
--- A word is a list of generators.
+-- A word over n generators is a list of numbers below n.
 pub data Word (n : ℕ) : List ℕ → Type 0 where
   empty : Word n []
   letter : {g : ℕ} {w : List ℕ} → g < n → Word n w → Word n (g ∷ w)
@@ -35,11 +35,12 @@ pub record Recorded (N : ℕ) (parent last : ℕ → ℕ) (word : ℕ → List �
   pub start : word 0 ≡ []
   pub grow : {e : ℕ} → 0 < e → e < N → word e ≡ word (parent e) ++ last e ∷ []
 
--- Such words are found by going from parent to parent: at most k times, and e times are enough.
+-- Such words are found by going from parent to parent, here at most k times; e times are enough, since a parent is earlier.
 abbrev pub trace : (ℕ → ℕ) → (ℕ → ℕ) → ℕ → ℕ → List ℕ
 trace parent last zero e = []
 trace parent last (suc k) zero = []
 trace parent last (suc k) (suc e) = trace parent last k (parent (suc e)) ++ last (suc e) ∷ []
 
+-- The word of e by its parents and last generators.
 abbrev pub word-of : (ℕ → ℕ) → (ℕ → ℕ) → ℕ → List ℕ
 word-of parent last e = trace parent last e e

@@ -1,4 +1,4 @@
--- Direct products, for any number of factors.
+-- Direct products of any number of factors, for any n and N: what they are, and how their elements are numbered.
 use Prim.Native.Nat.{ℕ, zero, suc, _+_, _*_, _-_, _/_, _%_, _<_, _≤_}
 use mathlib.Core.Path.{_≡_}
 use mathlib.Core.Bool.{Bool, true, false}
@@ -11,8 +11,8 @@ use Rattle.theory.specs.Regular.{compose, inverse}
 use Rattle.theory.specs.Group.{GroupOn, RightSteps}
 use Rattle.theory_radix.specs.Radix.{split, join}
 
--- A factor: its elements 0 .. N-1 with the operation and the inverse, its generators 0 .. n-1 with the step by each, and the recorded words.
--- What these have to be is said apart, below.
+-- A factor's data: its elements 0 .. N-1 with the operation and the inverse, its generators 0 .. n-1 with the step by each, and the recorded words.
+-- That these are a group's is said below, in `IsGroup` and after it.
 pub record Part : Type 0 where
   pub elements : ℕ
   pub generators : ℕ
@@ -30,6 +30,7 @@ table-part n N step back word =
 abbrev pub trivial : Part
 trivial = record { elements = 1; generators = 0; op = λ a b. 0; inv = λ a. 0; step = λ e g. e; word = λ e. [] }
 
+-- The first number where the test holds, else the second.
 abbrev pub choose : Bool → ℕ → ℕ → ℕ
 choose true x y = x
 choose false x y = y
@@ -53,75 +54,78 @@ pair p q = record {
   word = λ e. p .word (e % p .elements) ++ shift (p .generators) (q .word (e / p .elements));
 }
 
+-- The product of a list of factors; "First factor is the fastest digit".
 abbrev pub product : List Part → Part
 product [] = trivial
 product (p ∷ ps) = pair p (product ps)
 
--- The numbers of elements: the ranges of the digits.
+-- The numbers of elements of the factors: they are the ranges of the digits.
 abbrev pub ranges : List Part → List ℕ
 ranges [] = []
 ranges (p ∷ ps) = p .elements ∷ ranges ps
 
--- How many generators the first f factors have: what is added to a generator of the factor f.
+-- How many generators the first f factors have together: this is added to a generator of the factor f to number it in the product.
 abbrev pub offset : List Part → ℕ → ℕ
 offset ps zero = 0
 offset [] (suc f) = 0
 offset (p ∷ ps) (suc f) = p .generators + offset ps f
 
--- The factors' words one after the other, where the generators are counted from o on.
+-- The words of the factors one after the other, each generator moved up by those of the factors before it; they are counted from o on.
 abbrev pub words-from : ℕ → List Part → ℕ → List ℕ
 words-from o [] e = []
 words-from o (p ∷ ps) e = shift o (p .word (e % p .elements)) ++ words-from (o + p .generators) ps (e / p .elements)
 
--- The factor f; one that is not there is the group of one element.
+-- The factor f; beyond the last it is the group of one element.
 abbrev pub factor : List Part → ℕ → Part
 factor ps f = getD ps f trivial
 
--- F of each factor and its digits of a and b.
+-- The list of F p a b over the factors p with their digits a and b.
 abbrev pub each : (Part → ℕ → ℕ → ℕ) → List Part → List ℕ → List ℕ → List ℕ
 each F [] xs ys = []
 each F (p ∷ ps) [] ys = []
 each F (p ∷ ps) (a ∷ xs) [] = []
 each F (p ∷ ps) (a ∷ xs) (b ∷ ys) = F p a b ∷ each F ps xs ys
 
--- "Factor by factor": split both, take F of the digits, and join.
+-- F taken factor by factor: split both elements into digits, take F of the digits, and join the results.
 abbrev pub componentwise : (Part → ℕ → ℕ → ℕ) → List Part → ℕ → ℕ → ℕ
 componentwise F ps a b = join (ranges ps) (each F ps (split (ranges ps) a) (split (ranges ps) b))
 
--- The same as a loop runs: s is the stride, a and b are what is left to split, and what has been joined is in `sum`.
+-- The same as a loop does it: s is the stride, a and b are what is left to split, and what has been joined so far is in `sum`.
 abbrev pub gather : (Part → ℕ → ℕ → ℕ) → ℕ → List Part → ℕ → ℕ → ℕ → ℕ
 gather F s [] a b sum = sum
 gather F s (p ∷ ps) a b sum = gather F (s * p .elements) ps (a / p .elements) (b / p .elements) (sum + F p (a % p .elements) (b % p .elements) * s)
 
--- P of each factor.
+-- P holds of each factor.
 pub data Each (P : Part → Type 0) : List Part → Type 0 where
   none : Each P []
   more : {p : Part} {ps : List Part} → P p → Each P ps → Each P (p ∷ ps)
 
+-- The factor is a group.
 pub record IsGroup (p : Part) : Type 0 where
   pub laws : GroupOn (p .elements) (p .op) (p .inv)
 
--- F is taken factor by factor: it takes elements to elements, and of a pair it is F of the first digits and F of the second.
+-- F can be taken factor by factor: it takes elements to elements, and of a pair it is F of the first digits and F of the second.
 pub record Parted (F : Part → ℕ → ℕ → ℕ) : Type 0 where
   pub closed : {p : Part} {a b : ℕ} → IsGroup p → a < p .elements → b < p .elements → F p a b < p .elements
   pub at-pair : {p q : Part} {a b : ℕ} → IsGroup p → IsGroup q → a < p .elements * q .elements → b < p .elements * q .elements
       → F (pair p q) a b ≡ F p (a % p .elements) (b % p .elements) + p .elements * F q (a / p .elements) (b / p .elements)
 
--- The steps are the group's, by the elements of the generators; and each word leads to its element.
+-- The factor is a group, and its steps are multiplication on the right by the elements of its generators.
 pub record Stepped (p : Part) : Type 0 where
   pub group : IsGroup p
   pub steps : RightSteps (p .generators) (p .elements) (p .step) (p .op)
 
+-- Besides, each recorded word leads to its element.
 pub record Worded (p : Part) : Type 0 where
   pub stepped : Stepped p
   pub spelled : Spelled (p .generators) (p .elements) (p .step) (p .word)
 
--- Besides, no word that leads to an element is shorter than its recorded one.
+-- Besides, no word that leads to an element is shorter than its recorded one (order 11).
 pub record Shortest (p : Part) : Type 0 where
   pub worded : Worded p
   pub shortest : {e : ℕ} {w : List ℕ} → Word (p .generators) w → walk (p .step) 0 w ≡ e → length (p .word e) ≤ length w
 
--- The steps are the group's, and its generators are distinct and none is the identity.
+-- The steps are the group's, its generators are distinct, and none of them is the identity.
 pub record Generated (p : Part) : Type 0 where
   pub stepped : Stepped p
   pub distinct : Distinct (p .generators) (p .step)

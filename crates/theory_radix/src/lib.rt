@@ -1,2 +1,4 @@
-// Numbers by digits of different ranges, and common divisors and multiples: what a product's element numbers and periods are reckoned by. Definitions in specs/, theorems in proofs/. There is no code, and a crate needs a function.
+// Numbers whose digits have different ranges, and common divisors and multiples: by these a product numbers its
+// elements and finds its periods. Definitions are in specs/, theorems in proofs/. There is no code; the one function is
+// here because a crate needs one.
 pub fn nothing() {}
