@@ -3,8 +3,8 @@
 docs/promises/ names in a table stands, declared pub, in the file beside it.
 
 In these pages the last column of every table is `file` and the one before it has the names. A row names one file or
-several, then each name stands in one of them. A row without a file or without a name, a row that begins with ".." and a
-row whose file is "the same" are errors: each row is read by itself."""
+several, then each name stands in one of them. Definitions stand in specs/, statements in proofs/. A row without a file or
+without a name, a row that begins with ".." and a row whose file is "the same" are errors: each row is read by itself."""
 import glob
 import os
 import re
@@ -40,9 +40,9 @@ for page in promises:
         # A stroke in a cell is written \|.
         cells = [c.strip() for c in re.split(r"(?<!\\)\|", line.strip())[1:-1]]
         if rows == 1:
-            if len(cells) < 3 or cells[-1] != "file":
-                bad.append(f"{where}: the last column of this table is not `file`")
-            width = len(cells)
+            width, folder = len(cells), {"definition": "specs", "statement": "proofs"}.get(cells[-2] if len(cells) > 2 else "")
+            if not folder or cells[-1] != "file":
+                bad.append(f"{where}: the last columns of this table are not `statement` or `definition`, and `file`")
             continue
         if rows == 2:
             continue
@@ -62,5 +62,7 @@ for page in promises:
         for path in files:
             if not any(declared(name, path) for name in names):
                 bad.append(f"{where}: none of the names stands in {path}")
+            if path.split("/")[2] != folder:
+                bad.append(f"{where}: {path} is not in {folder}/")
 print("\n".join(bad + [f"{seen} names looked up, {len(bad)} missing"]))
 sys.exit(1 if bad else 0)
