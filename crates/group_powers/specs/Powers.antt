@@ -37,7 +37,7 @@ unfoldable pub powers : ℕ → (ℕ → ℕ → Reached) → (ℕ → Reached) 
 powers half op inv a (pos k) = halves k op a k
 powers half op inv a (negsuc k) = onReached (inv a) (λ i. negated (eqb (suc k) (half + half)) half op i (suc k))
 
--- `powi` in one factor, which abstract_group.rs has no call for.
+-- `powi` in one factor: the crate `factor` has no such call.
 unfoldable pub powiAlone : List ℕ → Factor → GroupElementId → ℤ → Reached
 powiAlone t f a i =
     ifReach (admits (length t) f (a .0) 0)
