@@ -103,8 +103,8 @@ fn product_rows(
     Counted::Count(count)
 }
 
-// Fills the same row where the overgroup is one factor: its handle is 24 bytes, and a product's of 200 would be copied at each place. What stands at
-// e is read once, since new elements come behind it.
+// Fills the same row where the overgroup is one factor: its handle is 24 bytes, and the 200 bytes of a product would be copied at each place. What
+// stands at e is read once, since new elements come behind it.
 fn factor_row(
     t: &mut [u32],
     inn: &mut [u32],
