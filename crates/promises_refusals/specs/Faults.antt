@@ -1,6 +1,6 @@
--- Why a build from the numbers of a source is refused, and where: each refusal of document 01's table in the words of the theory, with the places that it
--- carries. "The first that applies, in numeric order unless stated, is given, and each is given only then." "During reading the order at one place is 7, 5,
--- 6. Reading ends before 8; then 8 to 13 in order."
+-- This file defines why a build from the numbers of a source is refused, and where: each refusal of document 01's table in the words of the theory,
+-- with the places that it carries. "The first that applies, in numeric order unless stated, is given, and each is given only then." "During reading
+-- the order at one place is 7, 5, 6. Reading ends before 8; then 8 to 13 in order."
 use Prim.Native.Nat.{ℕ, suc, _<_}
 use mathlib.Core.Path.{_≡_}
 use lib.ListN.{length}
@@ -38,7 +38,7 @@ pub record SkipsAhead (src : ℕ → ℕ → ℕ) (n room e g v : ℕ) : Type 0 
   pub number : src e g ≡ v
   pub ahead : count < v
 
--- By the generator g no element leads to e.
+-- By the generator g no element leads to e: it has no predecessor there.
 abbrev pub Unreached : ℕ → (ℕ → ℕ → ℕ) → ℕ → ℕ → Type 0
 Unreached N src e g = (x : ℕ) → x < N → ¬ (src x g ≡ e)
 
@@ -89,7 +89,8 @@ pub record Misnumbers (src : ℕ → ℕ → ℕ) (n room g : ℕ) : Type 0 wher
   pub turns : {x : ℕ} → x < elements → inverseBy src n back (inverseBy src n back x) ≡ x
   pub first : FirstOf n (λ x. ¬ (generator src x ≡ suc x)) g
 
--- All that can be refused, one case for a number; 5, 6 and 7 are the reading's (above, `fault-5` to `fault-7`), and 12 is `Groupless`.
+-- All that can be refused, one case for a number. 5, 6 and 7 are the reading's: the first three records above, as `fault-5` to `fault-7` prove; and
+-- 12 is `Groupless`.
 pub data Fault (src : ℕ → ℕ → ℕ) (n room : ℕ) : Refusal → Type 1 where
   unread : {r : Refusal} → Refuses src n room r → Fault src n room r
   lacks : {e g : ℕ} → Lacks src n room e g → Fault src n room (numbered 8 e g 0)
