@@ -1,6 +1,7 @@
-// The calls on direct products of factors, from group.rs. A product is a value: up to eight handles of factors that stand in one table buffer, the
-// fastest digit first. Every call checks, in this order: 17 for each handle, 14 for its arguments, 15, 1 to 4, and then 17 in what it reads. Where a
-// product has one factor alone, that factor is asked itself, since there is nothing to split.
+// The calls on direct products of factors, from group.rs. A product is a value: up to eight handles of factors that stand in one table buffer. An
+// element of it is numbered by its digits, one element of each factor, of which the first factor's is the fastest. Every call checks, in this order:
+// 17 for each handle, 14 for its arguments, 15, 1 to 4, and then 17 in what it reads. Where a product has one factor alone, that factor is asked
+// itself, since there is nothing to split.
 ghost use mathlib.Core.Path.{_≡_};
 ghost use lib.ListN.{length};
 ghost use Rattle.build_lending.specs.Lending.{Making};

@@ -36,8 +36,8 @@ composes t hs a b = digitwise (digitOf Compose t) hs a b
 abbrev pub inverts : List ℕ → List Factor → ℕ → Reached
 inverts t hs a = digitwise (digitOf Inverse t) hs a 0
 
--- The step from e by the generator x: the first factor's generators come first, then those of the others. A generator of no factor is out of range,
--- 14.
+-- The step from e by the generator x: the first factor's generators come first, then those of the others. Refuses with 14 a generator that no factor
+-- has.
 unfoldable pub stepIn : List ℕ → List Factor → ℕ → ℕ → Reached
 stepIn t [] e x = refusedReach 14 1
 stepIn t (h ∷ hs) e x =

@@ -24,7 +24,7 @@ shortTable t n count =
     (thenLeft (inversesRight (fillInverses count t n 0) n count) (fillInverses count t n 0)
     (left (identityRow (fillInverses count t n 0) n) (fillInverses count t n 0))))
 
--- 12, on a table that has passed the others.
+-- The check of 12, on a table that has passed the others.
 abbrev pub shortRest : Lefts → List ℕ → ℕ → ℕ → Verdict
 shortRest (left Fine t) w n count = leftVerdict (lefts n t n count w 0)
 shortRest (left (Refused r) t) w n count = Refused r
