@@ -52,7 +52,7 @@ extern "C" {
 
 /* libcapi_builder.a */
 
-/* Begins a build in the stretch of table that starts at start. Refuses in this order: 1 for more than 8 generators, 4 for a room or a table that does not do. */
+/* Begins a build in the stretch of table that starts at start. Refuses in this order: 1 for more than 8 generators, 4 for a room out of range or a short table. */
 void hg_begin(uint32_t *table, size_t table_len, size_t start, uint32_t room, uint8_t n,
     uint32_t *out, size_t out_len);
 
@@ -96,11 +96,11 @@ void hg_check(const uint32_t *table, size_t table_len, size_t start, uint32_t ro
 
 /* libcapi_factor_build.a */
 
-/* Builds a factor from composed rows, n numbers for each element. Refuses in this order: 1 for more than 8 generators, 4 for a room or a buffer that does not do, 7, 5 or 6 while it reads, then 8 to 12. */
+/* Builds a factor from composed rows, n numbers for each element. Refuses in this order: 1 for more than 8 generators, 4 for a room out of range or a short buffer, 7, 5 or 6 while it reads, then 8 to 12. */
 void hg_composed(uint32_t *table, size_t table_len, size_t start, uint32_t *work, size_t work_len,
     const uint32_t *rows, size_t rows_len, uint8_t n, uint32_t room, uint32_t *out, size_t out_len);
 
-/* Builds the group that the pair orders present; they come in the order (0,1),(0,2),(1,2),(0,3).. Refuses in this order: 1 for more than 8 generators, 2 for a list of the wrong length, 3 for the first order out of range, 4 for a room or a buffer that does not do, 5 or 6 while it runs, then 9 to 13. */
+/* Builds the group that the pair orders present; they come in the order (0,1),(0,2),(1,2),(0,3).. Refuses in this order: 1 for more than 8 generators, 2 for a list of the wrong length, 3 for the first order out of range, 4 for a room out of range or a short buffer, 5 or 6 while it runs, then 9 to 13. */
 void hg_enumerate(uint32_t *table, size_t table_len, size_t start, uint32_t *work, size_t work_len,
     const uint32_t *orders, size_t orders_len, uint8_t n, uint32_t room, uint32_t *out,
     size_t out_len);
@@ -127,7 +127,7 @@ uint64_t hg_part(const uint32_t *table, size_t table_len, size_t start, uint32_t
 
 /* libcapi_group.a */
 
-/* Answers how many elements the product has. Refuses in this order: 17 for a handle that does not fit, 15 for a product too large. */
+/* Answers how many elements the product has. Refuses in this order: 17 for a handle that does not fit, 15 for a product too large (more than 8 factors or 4,294,967,295 elements). */
 uint64_t hg_product_count(const uint32_t *table, size_t table_len, const uint32_t *handles,
     size_t handles_len, uint8_t count);
 
@@ -193,7 +193,7 @@ uint64_t hg_product_join(const uint32_t *table, size_t table_len, const uint32_t
 uint64_t hg_product_word(const uint32_t *table, size_t table_len, const uint32_t *handles,
     size_t handles_len, uint8_t count, uint32_t e, uint8_t *out, size_t out_len);
 
-/* Builds one factor that is the product, with its numbers. Refuses in this order: 17 for a handle that does not fit, 15 for a product too large, 1 for more than 8 generators, 4 for a room or a buffer that does not do; then as hg_composed does, and with 17 a number read that is out of range. */
+/* Builds one factor that is the product, with its numbers. Refuses in this order: 17 for a handle that does not fit, 15 for a product too large, 1 for more than 8 generators, 4 for a room out of range or a short buffer; then as hg_composed does, and with 17 a number read that is out of range. */
 void hg_product_flatten(const uint32_t *from, size_t from_len, const uint32_t *handles,
     size_t handles_len, uint8_t count, uint32_t *table, size_t table_len, size_t start,
     uint32_t *work, size_t work_len, uint32_t room, uint32_t *out, size_t out_len);
@@ -219,13 +219,13 @@ void hg_image_read(const uint8_t *bytes, size_t bytes_len, uint32_t *table, size
 
 /* libcapi_subgroup.a */
 
-/* Builds the subgroup that the elements gens of a product generate; inn maps the overgroup to it, outw back. Refuses in this order: 17 for a handle that does not fit, 14 for the first entry that is no element, 15 for an overgroup too large to number, 1 for more than 8 generators, 4 for a room or a buffer that does not do, 17, 5 or 6 while it numbers, then 8 to 12. */
+/* Builds the subgroup that the elements gens of a product generate; inn maps the overgroup to it, outw back. Refuses in this order: 17 for a handle that does not fit, 14 for the first entry that is no element, 15 for an overgroup too large to number, 1 for more than 8 generators, 4 for a room out of range or a short buffer, 17, 5 or 6 while it numbers, then 8 to 12. */
 void hg_subgroup(const uint32_t *from, size_t from_len, const uint32_t *handles, size_t handles_len,
     uint8_t count, const uint32_t *gens, size_t gens_len, uint32_t *table, size_t table_len,
     size_t start, uint32_t *work, size_t work_len, uint32_t *inn, size_t inn_len, uint32_t *outw,
     size_t outw_len, uint32_t room, uint32_t *out, size_t out_len);
 
-/* Builds the subgroup of a byte for each element of the product, not 0 for a member; table and work are lent as for eight generators. Refuses in this order: 17 for a handle that does not fit, 15 for an overgroup too large to number, 4 for a room or a buffer that does not do; then the first refusal of a build, or 15 for a ninth generator. */
+/* Builds the subgroup of a byte for each element of the product, not 0 for a member; table and work are lent as for eight generators. Refuses in this order: 17 for a handle that does not fit, 15 for an overgroup too large to number, 4 for a room out of range or a short buffer; then the first refusal of a build, or 15 for a ninth generator. */
 void hg_subgroup_predicate(const uint32_t *from, size_t from_len, const uint32_t *handles,
     size_t handles_len, uint8_t count, const uint8_t *members, size_t members_len, uint32_t *table,
     size_t table_len, size_t start, uint32_t *work, size_t work_len, uint32_t *inn, size_t inn_len,

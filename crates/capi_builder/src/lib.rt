@@ -15,8 +15,8 @@ fn builder_of(start: usize, room: u32, n: u8, count: u32) -> Builder
     Builder(f)
 }
 
-// Begins a build in the stretch of table that starts at start. Refuses in this order: 1 for more than 8 generators, 4 for a room or a table that does
-// not do.
+// Begins a build in the stretch of table that starts at start. Refuses in this order: 1 for more than 8 generators, 4 for a room out of range or a
+// short table.
 #[no_mangle]
 pub extern "C" fn hg_begin(table: &mut [u32], start: usize, room: u32, n: u8, out: &mut [u32])
     ensures { λ x. ⌜ Answered.holds (now (table .exit)) (now (out .exit)) ≡ begunWith (begins (now (table .entry)) start room n) (now (out .entry)) ⌝ }

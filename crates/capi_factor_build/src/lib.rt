@@ -5,8 +5,8 @@ ghost use Rattle.enumeration.specs.Calls.{enumerates};
 ghost use Rattle.capi_values.specs.Bridge.{Bridged, bridged};
 use capi_values::inner;
 
-// Builds a factor from composed rows, n numbers for each element. Refuses in this order: 1 for more than 8 generators, 4 for a room or a buffer that
-// does not do, 7, 5 or 6 while it reads, then 8 to 12.
+// Builds a factor from composed rows, n numbers for each element. Refuses in this order: 1 for more than 8 generators, 4 for a room out of range or a
+// short buffer, 7, 5 or 6 while it reads, then 8 to 12.
 #[no_mangle]
 pub extern "C" fn hg_composed(
     table: &mut [u32],
@@ -24,8 +24,8 @@ pub extern "C" fn hg_composed(
 }
 
 // Builds the group that the pair orders present; they come in the order (0,1),(0,2),(1,2),(0,3).. Refuses in this order: 1 for more than 8
-// generators, 2 for a list of the wrong length, 3 for the first order out of range, 4 for a room or a buffer that does not do, 5 or 6 while it runs,
-// then 9 to 13.
+// generators, 2 for a list of the wrong length, 3 for the first order out of range, 4 for a room out of range or a short buffer, 5 or 6 while it
+// runs, then 9 to 13.
 #[no_mangle]
 pub extern "C" fn hg_enumerate(
     table: &mut [u32],

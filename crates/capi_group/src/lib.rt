@@ -9,7 +9,8 @@ use capi_handles_compose::inner::conjugate;
 use egg::GeneratorId;
 use egg::GroupElementId;
 
-// Answers how many elements the product has. Refuses in this order: 17 for a handle that does not fit, 15 for a product too large.
+// Answers how many elements the product has. Refuses in this order: 17 for a handle that does not fit, 15 for a product too large (more than 8
+// factors or 4,294,967,295 elements).
 #[no_mangle]
 pub extern "C" fn hg_product_count(table: &[u32], handles: &[u32], count: u8) -> u64
     ensures { λ r. ⌜ r ≡ countedCode (countAnswer (now (table .entry)) (productOf (now (handles .entry)) count)) ⌝ }

@@ -93,7 +93,7 @@ pub extern "C" fn hg_product_word(
 }
 
 // Builds one factor that is the product, with its numbers. Refuses in this order: 17 for a handle that does not fit, 15 for a product too large, 1
-// for more than 8 generators, 4 for a room or a buffer that does not do; then as hg_composed does, and with 17 a number read that is out of range.
+// for more than 8 generators, 4 for a room out of range or a short buffer; then as hg_composed does, and with 17 a number read that is out of range.
 #[no_mangle]
 pub extern "C" fn hg_product_flatten(
     from: &[u32],

@@ -84,7 +84,7 @@ fn write_subgrouped(out: &mut [u32], m: Subgrouped)
 
 // Builds the subgroup that the elements gens of a product generate; inn maps the overgroup to it, outw back. Refuses in this order: 17 for a handle
 // that does not fit, 14 for the first entry that is no element, 15 for an overgroup too large to number, 1 for more than 8 generators, 4 for a room
-// or a buffer that does not do, 17, 5 or 6 while it numbers, then 8 to 12.
+// out of range or a short buffer, 17, 5 or 6 while it numbers, then 8 to 12.
 #[no_mangle]
 pub extern "C" fn hg_subgroup(
     from: &[u32],
@@ -107,7 +107,7 @@ pub extern "C" fn hg_subgroup(
 }
 
 // Builds the subgroup of a byte for each element of the product, not 0 for a member; table and work are lent as for eight generators. Refuses in this
-// order: 17 for a handle that does not fit, 15 for an overgroup too large to number, 4 for a room or a buffer that does not do; then the first
+// order: 17 for a handle that does not fit, 15 for an overgroup too large to number, 4 for a room out of range or a short buffer; then the first
 // refusal of a build, or 15 for a ninth generator.
 #[no_mangle]
 pub extern "C" fn hg_subgroup_predicate(

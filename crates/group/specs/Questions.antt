@@ -88,7 +88,7 @@ unfoldable pub powiAnswer : List ℕ → Group → GroupElementId → ℤ → Re
 powiAnswer t g a i =
     ifReach (admits (length t) g (a .0) (elementsOf (handles g)) 0 1) (powers 1073741824 (composes t (handles g)) (inverts t (handles g)) (a .0) i)
 
--- The period of a: the least number of times, from 1 on, that a is multiplied with itself to give the identity.
+-- The period of a: the number of the first of its powers, from the 1st on, that is the identity.
 unfoldable pub periodAnswer : List ℕ → Group → GroupElementId → Counted
 periodAnswer t g a = ifCount (admits (length t) g (a .0) (elementsOf (handles g)) 0 1) (periods t (handles g) (a .0))
 

@@ -1,7 +1,8 @@
 // The calls on direct products of factors, from group.rs. A product is a value: up to eight handles of factors that stand in one table buffer. An
 // element of it is numbered by its digits, one element of each factor, of which the first factor's is the fastest. Every call checks, in this order:
-// 17 for each handle, 14 for its arguments, 15, 1 to 4, and then 17 in what it reads. Where a product has one factor alone, that factor is asked
-// itself, since there is nothing to split.
+// 17 for each handle, 14 for its arguments, 15 for a product too large (more than 8 factors or 4,294,967,295 elements), 1 and 4 for what a build is
+// given and lent, and then 17 for each number that it reads. Where a product has one factor alone, that factor is asked itself, since there is
+// nothing to split.
 ghost use mathlib.Core.Path.{_≡_};
 ghost use lib.ListN.{length};
 ghost use Rattle.build_lending.specs.Lending.{Making};
@@ -239,8 +240,8 @@ pub fn word_length(table: &[u32], g: Group, e: GroupElementId) -> Counted
     }
 }
 
-// Writes the word of e to the start of a lent byte buffer and answers its length. Refuses as `word_length` does, and then with 4 a buffer that is
-// short, with 17 a letter that cannot be read.
+// Writes the word of e to the start of a lent byte buffer and answers its length. Refuses as `word_length` does, then with 4 a buffer that is short,
+// then with 17 a letter that cannot be read.
 pub fn write_word(table: &[u32], g: Group, e: GroupElementId, out: &mut [u8]) -> Counted
     ensures { λ r. ⌜ (r ≡ writeAnswer (now (table .entry)) g e (length (now (out .entry)))) × (now (out .exit) ≡ written (now (table .entry)) g e (now (out .entry))) ⌝ }
 {
@@ -266,8 +267,8 @@ pub fn word<'a>(table: &[u32], g: Group, e: GroupElementId, out: &'a mut [u8]) -
 }
 
 // Builds one factor that is the product, with its numbers, into the stretch of `table` that starts at `start`. Refuses in this order: 17 for a handle
-// that does not fit, 15 for a product too large, 1 for more than 8 generators, 4 for a room or a buffer that does not do; then as any build does, and
-// with 17 a number read that is out of range.
+// that does not fit, 15 for a product too large, 1 for more than 8 generators, 4 for a room out of range or a short buffer; then as any build does,
+// and with 17 a number read that is out of range.
 pub fn flatten(
     from: &[u32],
     g: Group,

@@ -44,7 +44,8 @@ abbrev pub ifMaking : Verdict → List ℕ → List ℕ → Making → Making
 ifMaking verdict.Fine table work m = m
 ifMaking (verdict.Refused r) table work m = making (record { answer = verdict.Refused r; factor = noFactor }) table work
 
--- Refuses, with every buffer as it was, in this order: 1 for more than 8 generators together, 4 for a room or a buffer that does not do. Else builds.
+-- Refuses, with every buffer as it was, in this order: 1 for more than 8 generators together, 4 for a room out of range or a short buffer. Else
+-- builds.
 unfoldable pub flatInto : (from : List ℕ) (hs : List Factor) (table : List ℕ) (start : ℕ) (work : List ℕ) (room : ℕ) → Making
 flatInto from hs table start work room =
     pick (ltb 8 (generatorsOf hs)) (making (refusedMade 1 (generatorsOf hs)) table work)
@@ -53,7 +54,7 @@ flatInto from hs table start work room =
     (flatIn (tableNeed (generatorsOf hs) room) (take (workNeed (generatorsOf hs) room) work) from hs (generatorsOf hs) room))
     (making (refusedMade 4 0) table work))
 
--- The call. Before the rest it refuses 17 for a handle that does not fit and 15 for a product too large.
+-- The whole call: before the rest it refuses with 17 a handle that does not fit, then with 15 a product too large.
 unfoldable pub flat : (from : List ℕ) (g : Group) (table : List ℕ) (start : ℕ) (work : List ℕ) (room : ℕ) → Making
 flat from g table start work room =
     ifMaking (admits (length from) g 0 1 0 1) table work (flatInto from (handles g) table start work room)

@@ -80,7 +80,7 @@ fn flat_in(t: &mut [u32], w: &mut [u32], from: &[u32], g: Group, n: u8, room: u3
     build_lending::inner::finish(t, w, n, read)
 }
 
-// Refuses with 1 more than 8 generators, then with 4 a room or a buffer that does not do; else builds.
+// Refuses with 1 more than 8 generators, then with 4 a room out of range or a short buffer; else builds.
 pub fn flat_into(
     from: &[u32],
     g: Group,

@@ -67,8 +67,8 @@ limitSeen s (Number k) = k
 unfoldable pub limited : Group → Bool
 limited g = leb (g .count) 8 && leb (elementsOf (handles g)) 4294967295
 
--- "Calls on handles check 17 in the handle, then 14, then 15". The four are whether the handles fit, whether the first and the second argument are
--- too large, and whether the product is within its limits.
+-- "Calls on handles check 17 in the handle, then 14, then 15". The four tests are whether the handles fit, whether the first and the second argument
+-- are too large, and whether the product is within its limits.
 abbrev pub inOrder : Bool → Bool → Bool → Bool → Verdict
 inOrder fit first second within =
     pick fit

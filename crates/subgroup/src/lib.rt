@@ -1,6 +1,7 @@
 // The calls on subgroups of a product, from subgroup_action.rs without its actions. A subgroup is numbered in order of first appearance, with two
 // lent maps: `inn` from the overgroup's elements to the subgroup's, or to 4,294,967,295 for "not in the subgroup", and `outw` from the subgroup's to
-// the overgroup's. Every call checks, in this order: 17 for each handle, 14 for its arguments, 15, 1, 4, and then 17 in what it reads.
+// the overgroup's. Every call checks, in this order: 17 for each handle, 14 for its arguments, 15 for a product too large, 1 and 4 for what a build
+// is given and lent, and then 17 for each number that it reads.
 ghost use mathlib.Core.Path.{_≡_};
 ghost use Rattle.subgroup_build.specs.Lent.{Subgrouping};
 ghost use Rattle.subgroup_build.specs.Generated.{fromGenerators};
@@ -27,7 +28,7 @@ pub enum Within {
 
 // Builds the subgroup that the elements `gens` of a product in `from` generate, into the stretch of `table` that starts at `start`, and fills its two
 // maps. Refuses in this order: 17 for a handle that does not fit, 14 for the first entry that is no element, 15 for an overgroup too large to number,
-// 1 for more than 8 generators, 4 for a room or a buffer that does not do; then as any build does, and with 17 a number read that is out of range.
+// 1 for more than 8 generators, 4 for a room out of range or a short buffer; then as any build does, and with 17 a number read that is out of range.
 pub fn from_generators(
     from: &[u32],
     over: Group,

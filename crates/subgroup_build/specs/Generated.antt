@@ -35,8 +35,8 @@ admitsGenerators len over gens =
     (andThen (entriesRight (elementsOf (handles over)) gens) (pick (smallEnough over) verdict.Fine (refusedOf 15 0 0 0)))
     (refusedOf 17 0 0 0)
 
--- Refuses, with every buffer as it was, in this order: 1 for more than 8 generators, with their count, and 4 for a room or a buffer that does not do.
--- Else builds: "Numbering in order of first appearance; two maps".
+-- Refuses, with every buffer as it was, in this order: 1 for more than 8 generators, with their count, and 4 for a room out of range or a short
+-- buffer. Else builds: "Numbering in order of first appearance; two maps".
 unfoldable pub generatedInto : (from : List ℕ) (over : Group) (gens table : List ℕ) (start : ℕ) (work inn outw : List ℕ) (room : ℕ) → Subgrouping
 generatedInto from over gens table start work inn outw room =
     pick (ltb 8 (length gens)) (subgrouping (subgroupOf over (refusedMade 1 (shown (length gens)))) table work inn outw)

@@ -172,7 +172,7 @@ fn generated_at(
     subgroup_of(over, build_lending::inner::made(start, room, n, count))
 }
 
-// Refuses with 1 more than 8 generators, then with 4 a room or a buffer that does not do; else builds.
+// Refuses with 1 more than 8 generators, then with 4 a room out of range or a short buffer; else builds.
 pub fn generated_into(
     from: &[u32],
     over: Group,

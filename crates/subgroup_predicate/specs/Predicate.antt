@@ -32,7 +32,7 @@ admitsOver len over = pick (allFit len (handles over)) (pick (smallEnough over) 
 abbrev pub toldBack : Group → List ℕ → ℕ → List ℕ → List ℕ → List ℕ → ℕ → ℕ → Picked → Subgrouping
 toldBack over table start work inn outw M room (picked gens r) = mapsBack over table start work inn outw M 8 (length gens) room r
 
--- Refuses with 4, with every buffer as it was, a room or a buffer that does not do, and a predicate of fewer bytes than the overgroup has elements.
+-- Refuses with 4, with every buffer as it was, a room out of range or a short buffer, and a predicate of fewer bytes than the overgroup has elements.
 -- Else builds.
 unfoldable pub toldInto : (from : List ℕ) (over : Group) (members table : List ℕ) (start : ℕ) (work inn outw : List ℕ) (room : ℕ) → Subgrouping
 toldInto from over members table start work inn outw room =

@@ -117,7 +117,7 @@ fn told_at(
     )
 }
 
-// Refuses with 4 a room or a buffer that does not do, or a predicate of too few bytes; else builds.
+// Refuses with 4 a room out of range or a short buffer, or a predicate of too few bytes; else builds.
 pub fn told_into(
     from: &[u32],
     over: Group,

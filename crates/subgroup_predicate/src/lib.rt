@@ -9,8 +9,8 @@ pub use subgroup_build::Subgrouped;
 pub mod inner;
 
 // Builds the subgroup that the elements generate whose byte in `members` is not 0, and fills its two maps; table and work are lent as for eight
-// generators. Refuses in this order: 17 for a handle that does not fit, 15 for an overgroup too large to number, 4 for a room or a buffer that does
-// not do or too few bytes; then the first refusal of a build, or 15 where a ninth generator is needed.
+// generators. Refuses in this order: 17 for a handle that does not fit, 15 for an overgroup too large to number, 4 for a room out of range or a short
+// buffer, or too few bytes; then the first refusal of a build, or 15 where a ninth generator is needed.
 pub fn from_predicate(
     from: &[u32],
     over: Group,
