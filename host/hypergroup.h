@@ -225,7 +225,7 @@ void hg_subgroup(const uint32_t *from, size_t from_len, const uint32_t *handles,
     size_t start, uint32_t *work, size_t work_len, uint32_t *inn, size_t inn_len, uint32_t *outw,
     size_t outw_len, uint32_t room, uint32_t *out, size_t out_len);
 
-/* Builds the subgroup of a byte for each element of the product, not 0 for a member; table and work are lent as for eight generators. Refuses in this order: 17 for a handle that does not fit, 15 for an overgroup too large to number, 4 for a room out of range or a short buffer; then the first refusal of a build, or 15 for a ninth generator. */
+/* Builds the subgroup of a byte for each element of the product, not 0 for a member; table and work are lent as for eight generators. Refuses in this order: 17 for a handle that does not fit, 15 for an overgroup too large to number, 4 for a room out of range, a short buffer or too few bytes; then the first refusal of a build, or 15 for a ninth generator. */
 void hg_subgroup_predicate(const uint32_t *from, size_t from_len, const uint32_t *handles,
     size_t handles_len, uint8_t count, const uint8_t *members, size_t members_len, uint32_t *table,
     size_t table_len, size_t start, uint32_t *work, size_t work_len, uint32_t *inn, size_t inn_len,

@@ -107,8 +107,8 @@ pub extern "C" fn hg_subgroup(
 }
 
 // Builds the subgroup of a byte for each element of the product, not 0 for a member; table and work are lent as for eight generators. Refuses in this
-// order: 17 for a handle that does not fit, 15 for an overgroup too large to number, 4 for a room out of range or a short buffer; then the first
-// refusal of a build, or 15 for a ninth generator.
+// order: 17 for a handle that does not fit, 15 for an overgroup too large to number, 4 for a room out of range, a short buffer or too few bytes; then
+// the first refusal of a build, or 15 for a ninth generator.
 #[no_mangle]
 pub extern "C" fn hg_subgroup_predicate(
     from: &[u32],

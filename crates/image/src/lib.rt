@@ -1,5 +1,5 @@
-// The calls on stored images: their head; an image written from a factor, read back, checked in lent bytes, and walked. It has no file in the Rust:
-// document 01 orders it under "The image".
+// The calls on stored images: their head; an image written from a factor, read back, checked in lent bytes, and walked. The Rust has no such file:
+// document 01 asks for it under "The image".
 ghost use mathlib.Core.Path.{_≡_};
 ghost use Prim.Native.Nat.{_*_, _≤_};
 ghost use lib.ListN.{length};
