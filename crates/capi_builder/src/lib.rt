@@ -1,4 +1,4 @@
-// The builder's calls as C functions. Its handle is the four numbers of a factor's.
+// The builder's calls as C functions. A builder's handle is four numbers, as a factor's is: start, room, generators, and how many elements it knows.
 ghost use mathlib.Core.Path.{_≡_};
 ghost use Rattle.builder.specs.Calls.{Leaving, begins, grows, stores, builds};
 ghost use Rattle.capi_values.specs.Bridge.{handle, Bridged, bridged, Answered, begunWith, grownWith, storedWith};
@@ -7,6 +7,7 @@ use capi_values::inner;
 use egg::GeneratorId;
 use egg::GroupElementId;
 
+// The builder with this handle.
 fn builder_of(start: usize, room: u32, n: u8, count: u32) -> Builder
     ensures { λ r. ⌜ r ≡ record { 0 = handle start room n count } ⌝ }
 {
@@ -14,6 +15,8 @@ fn builder_of(start: usize, room: u32, n: u8, count: u32) -> Builder
     Builder(f)
 }
 
+// Begins a build in the stretch of table that starts at start. Refuses in this order: 1 for more than 8 generators, 4 for a room out of range or a
+// short table.
 #[no_mangle]
 pub extern "C" fn hg_begin(table: &mut [u32], start: usize, room: u32, n: u8, out: &mut [u32])
     ensures { λ x. ⌜ Answered.holds (now (table .exit)) (now (out .exit)) ≡ begunWith (begins (now (table .entry)) start room n) (now (out .entry)) ⌝ }
@@ -22,6 +25,8 @@ pub extern "C" fn hg_begin(table: &mut [u32], start: usize, room: u32, n: u8, ou
     inner::write_begun(out, b);
 }
 
+// Adds a new element, reached from e by g. Refuses in this order: 17 for a handle that does not fit, 14 for an element or a generator out of range,
+// which touch nothing; then 5 beyond the room, 17 for a length read that is over 4,096, 6 for a word that would pass 4,096, which end the build.
 #[no_mangle]
 pub extern "C" fn hg_add(
     table: &mut [u32],
@@ -40,6 +45,8 @@ pub extern "C" fn hg_add(
     inner::write_grown(out, r);
 }
 
+// Sets the step from e by g to x, both ways, and says whether the place was new. Refuses in this order: 17 for a handle that does not fit, 14 for an
+// element or a generator out of range.
 #[no_mangle]
 pub extern "C" fn hg_set(
     table: &mut [u32],
@@ -60,6 +67,8 @@ pub extern "C" fn hg_set(
     inner::stored_code(s)
 }
 
+// Reads the builder's steps, checks them and makes them a factor. Refuses in this order: 17 for a handle that does not fit, 4 for short work, 17, 7
+// or 6 while it reads, then 8 to 12.
 #[no_mangle]
 pub extern "C" fn hg_build(
     table: &mut [u32],

@@ -1,10 +1,12 @@
-// The calls that make a whole factor at once, as C functions: from composed rows, and from pair orders.
+// The calls that make a whole factor at once, from composed rows or from pair orders, as C functions.
 ghost use mathlib.Core.Path.{_≡_};
 ghost use Rattle.factor.specs.Composed.{composed};
 ghost use Rattle.enumeration.specs.Calls.{enumerates};
 ghost use Rattle.capi_values.specs.Bridge.{Bridged, bridged};
 use capi_values::inner;
 
+// Builds a factor from composed rows, n numbers for each element. Refuses in this order: 1 for more than 8 generators, 4 for a room out of range or a
+// short buffer, 7, 5 or 6 while it reads, then 8 to 12.
 #[no_mangle]
 pub extern "C" fn hg_composed(
     table: &mut [u32],
@@ -21,6 +23,9 @@ pub extern "C" fn hg_composed(
     inner::write_made(out, m);
 }
 
+// Builds the group that the pair orders present; they come in the order (0,1),(0,2),(1,2),(0,3).. Refuses in this order: 1 for more than 8
+// generators, 2 for a list of the wrong length, 3 for the first order out of range, 4 for a room out of range or a short buffer, 5 or 6 while it
+// runs, then 9 to 13.
 #[no_mangle]
 pub extern "C" fn hg_enumerate(
     table: &mut [u32],

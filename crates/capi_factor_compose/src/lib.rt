@@ -1,5 +1,5 @@
-// A product of two elements of a factor, as a C function: the call that a delayed viewer's catch-up is made of. It stands by itself,
-// since in a module where nobody else composes the compiler puts the whole walk in line.
+// The product of two elements of a factor as a C function: the call that a delayed viewer's catch-up is made of. It stands by itself, since in a
+// module where nobody else composes the compiler puts the whole walk in line.
 ghost use mathlib.Core.Path.{_≡_};
 ghost use Rattle.factor.specs.Questions.{composeAnswer};
 ghost use Rattle.capi_values.specs.Bridge.{handle, reachedCode};
@@ -7,6 +7,7 @@ use capi_values::inner::factor_of;
 use capi_values::inner::reached_code;
 use egg::GroupElementId;
 
+// Answers a * b. Refuses in this order: 17 for a handle that does not fit, 14 for an element out of range, 17 for a number read that is out of range.
 #[no_mangle]
 pub extern "C" fn hg_compose(
     table: &[u32],

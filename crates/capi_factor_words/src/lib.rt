@@ -1,4 +1,4 @@
-// Recorded words of a factor, as C functions on slices and numbers; handles and answers are those of `capi_factor`.
+// The questions about recorded words of a factor as C functions on slices and numbers; handles and answers are those of `capi_factor`.
 ghost use mathlib.Core.Path.{_≡_};
 ghost use lib.ListN.{length, replicate};
 ghost use Rattle.factor.specs.Questions.{lengthAnswer, writeAnswer, written, wordPart};
@@ -7,6 +7,8 @@ use capi_values::inner::counted_code;
 use capi_values::inner::factor_of;
 use egg::GroupElementId;
 
+// Answers how long the word of e is. Refuses in this order: 17 for a handle that does not fit, 14 for an element out of range, 17 for a recorded
+// length over 4,096.
 #[no_mangle]
 pub extern "C" fn hg_length(
     table: &[u32],
@@ -21,6 +23,8 @@ pub extern "C" fn hg_length(
     counted_code(factor::word_length(table, factor_of(start, room, n, count), GroupElementId(e)))
 }
 
+// Writes the word of e to the start of out and answers its length. Refuses as hg_length does, then with 4 a short out, then with 17 a letter that
+// cannot be read.
 #[no_mangle]
 pub extern "C" fn hg_word(
     table: &[u32],
@@ -37,7 +41,7 @@ pub extern "C" fn hg_word(
     counted_code(factor::write_word(table, f, GroupElementId(e), out))
 }
 
-// A letter of the part that `word` hands back, or 256 and how long that is.
+// A letter of the part that `word` hands back, or 256 and the length of the part from its end on.
 fn letter_of(part: &[u8], k: usize) -> u64
     ensures { λ r. ⌜ r ≡ letterOf (now (part .entry)) k ⌝ }
 {
@@ -48,7 +52,7 @@ fn letter_of(part: &[u8], k: usize) -> u64
     }
 }
 
-// The word by the call that hands back the filled part of a buffer: its k-th letter, or, from its end on, 256 and its length.
+// Answers the k-th letter of the word of e or, from its end on, 256 and its length. A word that hg_word refuses is empty here: the answer is 256.
 #[no_mangle]
 pub extern "C" fn hg_part(
     table: &[u32],

@@ -1,10 +1,10 @@
--- How the verdict on a product is written into a lent list.
+-- This file defines how the answer of `product` is written into a lent list, for a C caller.
 use Prim.Native.Nat.{ℕ}
 use mathlib.Core.List.{List}
 use Rattle.egg.specs.Table.{putAt}
 use Rattle.capi_values.specs.Bridge.{paperInto}
 use Rattle.group_handles.specs.declared.Grouped.{Grouped}
 
--- The verdict of `product`, and after it how many factors the product has.
+-- The verdict's number and places, and after them how many factors the product has.
 unfoldable pub groupedInto : Grouped → List ℕ → List ℕ
 groupedInto g out = putAt (paperInto (g .answer) out) 4 (g .group .count)

@@ -1,4 +1,5 @@
-// A product made, and flattened; its elements as digits and as words: C functions. A product is a list of handles and a count, and answers are numbers, as in `capi_group`.
+// C functions that make a product, flatten it, and give its elements as digits and as words. A product is a list of handles and a count, and answers
+// are numbers, as in `capi_group`.
 ghost use mathlib.Core.Path.{_≡_};
 ghost use lib.ListN.{length};
 ghost use Rattle.capi_values.specs.Bridge.{reachedCode, countedCode, Bridged, bridged};
@@ -10,6 +11,7 @@ ghost use Rattle.capi_group_build.specs.Product.{groupedInto};
 use egg::GroupElementId;
 use group_handles::Grouped;
 
+// Writes the verdict, and after it how many factors the product has.
 fn write_grouped(out: &mut [u32], g: Grouped)
     ensures { λ x. ⌜ now (out .exit) ≡ groupedInto g (now (out .entry)) ⌝ }
 {
@@ -19,7 +21,8 @@ fn write_grouped(out: &mut [u32], g: Grouped)
     egg::inner::put(out, 4, p.count as usize);
 }
 
-// The product of two: its verdict and how many factors it has; they are those of the first and then those of the second.
+// Writes the verdict on the product of two into out, and how many factors it has: those of the first and then those of the second. Refuses in this
+// order: 17 for a handle that does not fit, 15 for more than 8 factors or more than 4,294,967,295 elements.
 #[no_mangle]
 pub extern "C" fn hg_product(
     table: &[u32],
@@ -37,6 +40,8 @@ pub extern "C" fn hg_product(
     write_grouped(out, p);
 }
 
+// Answers how long the word of e is. Refuses in this order: 17 for a handle that does not fit, 14 for an element out of range, 15 for a product too
+// large, 17 for a recorded length over 4,096.
 #[no_mangle]
 pub extern "C" fn hg_product_length(table: &[u32], handles: &[u32], count: u8, e: u32) -> u64
     ensures { λ r. ⌜ r ≡ countedCode (lengthAnswer (now (table .entry)) (productOf (now (handles .entry)) count) (record { 0 = e })) ⌝ }
@@ -45,7 +50,8 @@ pub extern "C" fn hg_product_length(table: &[u32], handles: &[u32], count: u8, e
     capi_values::inner::counted_code(group::word_length(table, g, GroupElementId(e)))
 }
 
-// The digits of e, at the start of a lent list; the answer is how many they are.
+// Writes the digits of e, its elements in each factor, to the start of out and answers how many they are. Refuses in this order: 17 for a handle that
+// does not fit, 14 for an element out of range, 15 for a product too large, 4 for a short out.
 #[no_mangle]
 pub extern "C" fn hg_product_split(
     table: &[u32],
@@ -60,6 +66,8 @@ pub extern "C" fn hg_product_split(
     capi_values::inner::counted_code(group::split(table, g, GroupElementId(e), out))
 }
 
+// Answers the element whose digits the list starts with. Refuses in this order: 17 for a handle that does not fit, 14 for the first digit out of
+// range, 15 for a product too large, 4 for a list with fewer digits than there are factors.
 #[no_mangle]
 pub extern "C" fn hg_product_join(table: &[u32], handles: &[u32], count: u8, digits: &[u32]) -> u64
     ensures { λ r. ⌜ r ≡ reachedCode (joinAnswer (now (table .entry)) (productOf (now (handles .entry)) count) (now (digits .entry))) ⌝ }
@@ -68,6 +76,8 @@ pub extern "C" fn hg_product_join(table: &[u32], handles: &[u32], count: u8, dig
     capi_values::inner::reached_code(group::join(table, g, digits))
 }
 
+// Writes the word of e to the start of out and answers its length. Refuses as hg_product_length does, then with 4 a short out, then with 17 a letter
+// that cannot be read.
 #[no_mangle]
 pub extern "C" fn hg_product_word(
     table: &[u32],
@@ -82,6 +92,8 @@ pub extern "C" fn hg_product_word(
     capi_values::inner::counted_code(group::write_word(table, g, GroupElementId(e), out))
 }
 
+// Builds one factor that is the product, with its numbers. Refuses in this order: 17 for a handle that does not fit, 15 for a product too large, 1
+// for more than 8 generators, 4 for a room out of range or a short buffer; then as hg_composed does, and with 17 a number read that is out of range.
 #[no_mangle]
 pub extern "C" fn hg_product_flatten(
     from: &[u32],

@@ -1,4 +1,4 @@
-// Products from lists of numbers.
+// Reads products from lists of numbers.
 ghost use mathlib.Core.Path.{_≡_};
 ghost use mathlib.Core.List.{List};
 ghost use Prim.Native.Nat.{ℕ, _+_, _*_, _≤_};
@@ -11,19 +11,21 @@ use group_handles::inner::Seen;
 use group_handles::inner::both;
 use group_handles::inner::times;
 
-// A number as far as a byte can tell.
+// A number as far as a byte can tell: 255 stands for all that is above.
 pub fn byte_of(x: u32) -> u8
     ensures { λ r. ⌜ r ≡ byteOf x ⌝ }
 {
     if 255 < x { 255 } else { x as u8 }
 }
 
+// A start by its two halves.
 fn start_of(low: u32, high: u32) -> usize
     ensures { λ r. ⌜ r ≡ low + high * 4294967296 ⌝ }
 {
     (low as usize) + (high as usize) * 4294967296
 }
 
+// Reads the handle from place `at` on.
 pub fn handle_at(l: &[u32], at: u32) -> Factor
     ensures { λ r. ⌜ r ≡ handleAt (now (l .entry)) at ⌝ }
 {
@@ -38,6 +40,7 @@ pub fn handle_at(l: &[u32], at: u32) -> Factor
     capi_values::inner::factor_of(start, room, n, count)
 }
 
+// Reads the product whose handles stand from place `at` on.
 pub fn product_at(l: &[u32], at: u32, count: u8) -> Group
     requires { ⌜ at ≤ 1000 ⌝ }
     ensures { λ r. ⌜ r ≡ productAt (now (l .entry)) at count ⌝ }
@@ -55,20 +58,21 @@ pub fn product_at(l: &[u32], at: u32, count: u8) -> Group
     Group { factors, count }
 }
 
+// Reads the product whose handles the list starts with.
 pub fn product_of(l: &[u32], count: u8) -> Group
     ensures { λ r. ⌜ r ≡ productOf (now (l .entry)) count ⌝ }
 {
     product_at(l, 0, count)
 }
 
-// How many handles a product lists.
+// How many handles a product with this count lists: eight at most.
 pub fn listed(count: u8) -> u32
     ensures { λ r. ⌜ ((l : List ℕ) → (at : ℕ) → r ≡ length (handles (productAt l at count))) × (r ≤ 8) ⌝ }
 {
     if 8 < count { 8 } else { count as u32 }
 }
 
-// What one pass over the handles from place `at` on shows, as `group_handles::inner::look` of their product, which is not made for it.
+// Passes over the handles from place `at` on, as `group_handles::inner::look` does over a product's, without making the product.
 pub fn look_at(from: &[u32], l: &[u32], at: u32, count: u8) -> Seen
     requires { ⌜ at ≤ 1000 ⌝ }
     ensures { λ r. ⌜ r ≡ seen (length (now (from .entry))) (handles (productAt (now (l .entry)) at count)) ⌝ }

@@ -1,3 +1,3 @@
-// Products that stand in a lent list, five numbers a handle, read from it: what the crates of C functions on products and
-// subgroups share.
+// Reads products that stand in a lent list, five numbers a handle: what the crates of C functions on products and subgroups share. This crate has no
+// public calls.
 pub mod inner;

@@ -1,5 +1,4 @@
-// Two elements of a product composed and conjugated digit by digit. The handles are read from the list as they are wanted: no
-// product is made for it.
+// Composes and conjugates two elements of a product digit by digit. The handles are read from the list as they are wanted: no product is made for it.
 ghost use mathlib.Core.Path.{_≡_};
 ghost use mathlib.Core.Bool.{true};
 ghost use Prim.Native.Nat.{_≤_};
@@ -18,7 +17,7 @@ use egg::Verdict;
 use group_handles::inner::Limit;
 use group_handles::inner::admit_seen;
 
-// As `group_handles::inner::admit` of the product for two elements.
+// Refuses as `group_handles::inner::admit` does for two elements of the product.
 fn admit(table: &[u32], l: &[u32], count: u8, a: u32, b: u32) -> Verdict
     ensures { λ r. ⌜ r ≡ twoElements (length (now (table .entry))) (productOf (now (l .entry)) count) a b ⌝ }
 {
@@ -26,7 +25,7 @@ fn admit(table: &[u32], l: &[u32], count: u8, a: u32, b: u32) -> Verdict
     admit_seen(s, count, a, Limit::Elements, b, Limit::Elements)
 }
 
-// As `group_digits::inner::compose_digits` of the product.
+// Does what `group_digits::inner::compose_digits` does for the product.
 fn compose_listed(
     table: &[u32],
     l: &[u32],
@@ -66,6 +65,7 @@ fn compose_listed(
     Reached::Element(GroupElementId(sum))
 }
 
+// Answers a·b: as `group::compose` of the product.
 pub fn compose(table: &[u32], l: &[u32], count: u8, a: GroupElementId, b: GroupElementId) -> Reached
     ensures { λ r. ⌜ r ≡ composeAnswer (now (table .entry)) (productOf (now (l .entry)) count) a b ⌝ }
 {
@@ -78,7 +78,7 @@ pub fn compose(table: &[u32], l: &[u32], count: u8, a: GroupElementId, b: GroupE
     }
 }
 
-// As `group_digits::inner::conjugate_digits` of the product.
+// Does what `group_digits::inner::conjugate_digits` does for the product.
 fn conjugate_listed(
     table: &[u32],
     l: &[u32],
@@ -118,7 +118,7 @@ fn conjugate_listed(
     Reached::Element(GroupElementId(sum))
 }
 
-// a·b·a⁻¹.
+// Answers a·b·a⁻¹: as `group::conjugate` of the product.
 pub fn conjugate(
     table: &[u32],
     l: &[u32],

@@ -1,5 +1,5 @@
-// An inverse in a product by one pass over its handles, which are read from the list as they are wanted; a handle that does
-// not fit ends the pass. No product is made for it.
+// Finds an inverse in a product by one pass over its handles, which are read from the list as they are wanted; a handle that does not fit ends the
+// pass. No product is made for it.
 ghost use mathlib.Core.Path.{_≡_};
 ghost use Rattle.group.specs.Questions.{inverseAnswer};
 ghost use Rattle.capi_handles.specs.Product.{productOf};
@@ -16,14 +16,15 @@ use group_handles::inner::admit_seen;
 use group_handles::inner::both;
 use group_handles::inner::times;
 
-// What the pass shows for an inverse: of the handles together all but their generators, whether each digit's inverse is in
-// range, and their sum, each times its stride. Where a handle does not fit, only that.
+// What the pass shows for an inverse: all that the handles have together but their generators, whether each digit's inverse is in range, and the sum
+// of these, each times its stride. Where a handle does not fit, only that is shown.
 pub struct DigitInverses {
     pub seen: Seen,
     pub right: bool,
     pub sum: u64,
 }
 
+// Makes the pass.
 fn invert_digits(table: &[u32], l: &[u32], count: u8, a: u32) -> DigitInverses
     ensures { λ r. ⌜ Inverted (now (table .entry)) (now (l .entry)) count a r ⌝ }
 {
@@ -63,6 +64,7 @@ fn invert_digits(table: &[u32], l: &[u32], count: u8, a: u32) -> DigitInverses
     DigitInverses { seen, right, sum }
 }
 
+// Answers the inverse of a: as `group::inverse` of the product.
 pub fn inverse(table: &[u32], l: &[u32], count: u8, a: GroupElementId) -> Reached
     ensures { λ r. ⌜ r ≡ inverseAnswer (now (table .entry)) (productOf (now (l .entry)) count) a ⌝ }
 {

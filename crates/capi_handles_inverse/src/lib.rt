@@ -1,2 +1,2 @@
-// The inverse of an element in a product that stands in a lent list.
+// Finds the inverse of an element in a product that stands in a lent list. This crate has no public calls: `capi_group` has them.
 pub mod inner;

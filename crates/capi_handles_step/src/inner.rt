@@ -1,5 +1,5 @@
-// A step and a generator in a product by one pass over its handles, which are read from the list as they are wanted; a handle
-// that does not fit ends the pass. No product is made for it, and a step divides once and not from factor to factor.
+// Takes a step, or finds a generator, in a product by one pass over its handles, which are read from the list as they are wanted; a handle that does
+// not fit ends the pass. No product is made for it, and a step divides once and not from factor to factor.
 ghost use mathlib.Core.Path.{_≡_};
 ghost use Prim.Native.Nat.{_+_, _*_, _-_, _/_, _%_, _<_, _≤_};
 ghost use Rattle.egg.specs.Table.{pick};
@@ -18,15 +18,15 @@ use group_handles::inner::Seen;
 use group_handles::inner::admit_seen;
 use group_handles::inner::times;
 
-// As `chosen` of egg, for 64 bits.
+// The one or the other without a branch, as `chosen` of egg, for 64 bits.
 fn chosen_long(first: bool, x: u64, y: u64) -> u64
     ensures { λ r. ⌜ r ≡ pick first x y ⌝ }
 {
     if first { x } else { y }
 }
 
-// What the pass shows for a generator: of the handles together, and of the factor that has it the place, the stride and
-// how many generators come before. Where a handle does not fit, only that.
+// What the pass shows for a generator: what the handles have together, and for the factor that has the generator its place, its stride and how many
+// generators come before. Where a handle does not fit, only that is shown.
 pub struct Spot {
     pub seen: Seen,
     pub at: u32,
@@ -34,7 +34,7 @@ pub struct Spot {
     pub before: u32,
 }
 
-// The last factor that no more than x generators come before: that has x, also where factors have no generators.
+// Makes the pass, to the last factor that no more than x generators come before: that one has x, even where factors have no generators.
 fn find(table: &[u32], l: &[u32], count: u8, x: u32) -> Spot
     ensures { λ r. ⌜ Spotted (now (table .entry)) (now (l .entry)) count x r ⌝ }
 {
@@ -82,7 +82,7 @@ fn find(table: &[u32], l: &[u32], count: u8, x: u32) -> Spot
     }
 }
 
-// The digit with the stride s, of n.
+// The digit of e that has the stride s, in a factor of n elements.
 fn digit(e: u32, s: u32, n: u32) -> u32
     requires { ⌜ (0 < s) × (0 < n) ⌝ }
     ensures { λ r. ⌜ r ≡ e / s % n ⌝ }
@@ -98,6 +98,7 @@ fn replaced(e: u32, d: u32, y: u32, s: u32) -> u32
     e - d * s + y * s
 }
 
+// Answers the step from e by x: as `group::step` of the product.
 pub fn step(table: &[u32], l: &[u32], count: u8, e: GroupElementId, x: GeneratorId) -> Reached
     ensures { λ r. ⌜ r ≡ stepAnswer (now (table .entry)) (productOf (now (l .entry)) count) e x ⌝ }
 {
@@ -134,7 +135,7 @@ pub fn step(table: &[u32], l: &[u32], count: u8, e: GroupElementId, x: Generator
     Reached::Element(GroupElementId(replaced(whole, d, y.0, s)))
 }
 
-// The step from the identity, where the generator is the only argument.
+// Answers the step from the identity, with the refusals of a call whose only argument is the generator.
 pub fn generator(table: &[u32], l: &[u32], count: u8, x: GeneratorId) -> Reached
     ensures { λ r. ⌜ r ≡ generatorAnswer (now (table .entry)) (productOf (now (l .entry)) count) x ⌝ }
 {

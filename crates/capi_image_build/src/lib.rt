@@ -6,6 +6,8 @@ ghost use Rattle.image.specs.Read.{readImage};
 ghost use Rattle.capi_values.specs.Bridge.{handle, countedCode, Bridged, bridged};
 use capi_values::inner;
 
+// Writes the image of a factor to the start of out and answers its length. Refuses in this order: 17 for a handle that does not fit, 4 for a short
+// out, 17 for a step that is missing or out of range.
 #[no_mangle]
 pub extern "C" fn hg_image_write(
     table: &[u32],
@@ -21,6 +23,7 @@ pub extern "C" fn hg_image_write(
     inner::counted_code(image::write(table, f, out))
 }
 
+// Builds the factor that an image stores. Refuses as hg_image_check does, with the places; 4 is for a short table or work.
 #[no_mangle]
 pub extern "C" fn hg_image_read(
     bytes: &[u8],

@@ -1,4 +1,4 @@
--- How a subgroup crosses the bridge to Rust: 128 numbers in a lent list.
+-- This file defines how a C caller passes a subgroup, as 128 numbers in a lent list, and how it gets answers about one.
 use Prim.Native.Nat.{ℕ}
 use mathlib.Core.List.{List}
 use lib.ListN.{getD}
@@ -11,8 +11,8 @@ use Rattle.subgroup.specs.declared.Within.{Within}
 use Rattle.subgroup.specs.declared.Within.the-variants as within
 use Rattle.subgroup_build.specs.Lent.{Subgrouping, subgrouping}
 
--- The handle of its factor in the first five; the counts of the three products, which are below, over and above, in the next three; and the handles of each,
--- 40 numbers a product.
+-- The subgroup that the list holds: the handle of its factor in the first five numbers; the counts of the three products below, over and above in the
+-- next three; and the handles of each, 40 numbers a product.
 unfoldable pub subgroupFrom : List ℕ → Subgroup
 subgroupFrom l = record {
   below = productAt l 8 (byteOf (getD l 5 0));
@@ -21,19 +21,20 @@ subgroupFrom l = record {
   above = productAt l 88 (byteOf (getD l 7 0));
 }
 
--- One number for an element of the subgroup: "`Not in the subgroup` is 4,294,967,295 .., which is no element number."
+-- One number for an answer about an element of the subgroup: ""Not in the subgroup" is 4,294,967,295 in the map, which is no element number".
 abbrev pub withinCode : Within → ℕ
 withinCode (within.Element e) = e .0
 withinCode within.Outside = 4294967295
 withinCode (within.Refused r) = refusalCode r
 
--- The verdict and the element count of a subgroup that was made, and how many generators it has.
+-- The verdict on a subgroup that was made and its element count, and after them how many generators it has.
 unfoldable pub subgroupedInto : Subgrouped → List ℕ → List ℕ
 subgroupedInto m out = putAt (madeInto (record { answer = m .answer; factor = m .subgroup .factor }) out) 5 (m .subgroup .factor .generators)
 
--- What the five lent lists hold: table, work, both maps, and the answer's.
+-- What the five lent lists hold after a call: table, work, both maps, and the answer's.
 pub data Bridged : Type 0 where
   holds : List ℕ → List ℕ → List ℕ → List ℕ → List ℕ → Bridged
 
+-- The same for what was made, with its answer written into the list `out`.
 abbrev pub bridged : Subgrouping → List ℕ → Bridged
 bridged (subgrouping m t w i o) out = holds t w i o (subgroupedInto m out)

@@ -1,5 +1,6 @@
-// The calls on subgroups as C functions. The overgroup is a product, as in `capi_group`; a subgroup is 128 numbers in a lent list: the handle of its factor,
-// how many factors are below, over and above, and their handles. A handle that is not wholly in the list is none, which fits no buffer (17); a count that is missing is 0.
+// The calls on subgroups as C functions. The overgroup is a product, as in `capi_group`; a subgroup is 128 numbers in a lent list: the handle of its
+// factor, how many factors are below, over and above, and their handles. A handle that is not wholly in the list is no factor, which fits no buffer
+// (17); a count that is missing is 0.
 ghost use mathlib.Core.Path.{_≡_};
 ghost use lib.ListN.{length, getD};
 ghost use Rattle.capi_values.specs.Bridge.{reachedCode, paperInto};
@@ -20,12 +21,14 @@ use subgroup::inner::Outline;
 use subgroup_build::Subgroup;
 use subgroup_build::Subgrouped;
 
+// Reads a count of factors.
 fn count_at(l: &[u32], at: u32) -> u8
     ensures { λ r. ⌜ r ≡ byteOf (getD (now (l .entry)) at 0) ⌝ }
 {
     capi_handles::inner::byte_of(egg::inner::get(l, at as usize))
 }
 
+// Reads the subgroup that the list holds.
 fn subgroup_from(l: &[u32]) -> Subgroup
     ensures { λ r. ⌜ r ≡ subgroupFrom (now (l .entry)) ⌝ }
 {
@@ -41,7 +44,7 @@ fn subgroup_from(l: &[u32]) -> Subgroup
     }
 }
 
-// The outline of `subgroup_from(l)`: the questions need no more of it.
+// Reads the outline of `subgroup_from(l)`: the questions need no more of it.
 fn outline_from(from: &[u32], table: &[u32], l: &[u32]) -> Outline
     ensures { λ r. ⌜ (r ≡ outlineOf (length (now (from .entry))) (length (now (table .entry))) (subgroupFrom (now (l .entry)))) × Measured r ⌝ }
 {
@@ -57,6 +60,7 @@ fn outline_from(from: &[u32], table: &[u32], l: &[u32]) -> Outline
     subgroup::inner::outline_by(fits, few, factor.elements, below, over, above)
 }
 
+// One number for an answer about an element of the subgroup.
 fn within_code(r: Within) -> u64
     ensures { λ x. ⌜ x ≡ withinCode r ⌝ }
 {
@@ -67,6 +71,7 @@ fn within_code(r: Within) -> u64
     }
 }
 
+// Writes the verdict, the element count and how many generators the subgroup has.
 fn write_subgrouped(out: &mut [u32], m: Subgrouped)
     ensures { λ x. ⌜ now (out .exit) ≡ subgroupedInto m (now (out .entry)) ⌝ }
 {
@@ -77,7 +82,9 @@ fn write_subgrouped(out: &mut [u32], m: Subgrouped)
     egg::inner::put(out, 5, factor.generators as usize);
 }
 
-// The subgroup that elements of a product generate; `inn` maps the overgroup to it, `outw` back.
+// Builds the subgroup that the elements gens of a product generate; inn maps the overgroup to it, outw back. Refuses in this order: 17 for a handle
+// that does not fit, 14 for the first entry that is no element, 15 for an overgroup too large to number, 1 for more than 8 generators, 4 for a room
+// out of range or a short buffer, 17, 5 or 6 while it numbers, then 8 to 12.
 #[no_mangle]
 pub extern "C" fn hg_subgroup(
     from: &[u32],
@@ -99,7 +106,9 @@ pub extern "C" fn hg_subgroup(
     write_subgrouped(out, m);
 }
 
-// The same from a byte for each element of the product, not 0 for a member; table and work are lent as for eight generators.
+// Builds the subgroup of a byte for each element of the product, not 0 for a member; table and work are lent as for eight generators. Refuses in this
+// order: 17 for a handle that does not fit, 15 for an overgroup too large to number, 4 for a room out of range, a short buffer or too few bytes; then
+// the first refusal of a build, or 15 for a ninth generator.
 #[no_mangle]
 pub extern "C" fn hg_subgroup_predicate(
     from: &[u32],
@@ -131,7 +140,8 @@ pub extern "C" fn hg_subgroup_predicate(
     write_subgrouped(out, m);
 }
 
-// From an element of the subgroup to the overgroup's.
+// Answers the element of the overgroup that the subgroup's e is. Refuses in this order: 17 for a handle that does not fit or a short map, 14 for an
+// element out of range, 15 for a side too large, 17 for a number in the map that is no element.
 #[no_mangle]
 pub extern "C" fn hg_subgroup_over(
     from: &[u32],
@@ -146,7 +156,7 @@ pub extern "C" fn hg_subgroup_over(
     capi_values::inner::reached_code(subgroup::inner::over_by(o, outw, GroupElementId(e)))
 }
 
-// From an element of the overgroup to the subgroup's: 4,294,967,295 where it is not in it.
+// Answers the element of the subgroup that the overgroup's x is, or 4,294,967,295 where it is not in it. Refuses as hg_subgroup_over does.
 #[no_mangle]
 pub extern "C" fn hg_subgroup_back(
     from: &[u32],
@@ -161,7 +171,8 @@ pub extern "C" fn hg_subgroup_back(
     within_code(subgroup::inner::back_by(o, inn, GroupElementId(x)))
 }
 
-// A generator as an element of the overgroup.
+// Answers the subgroup's generator g as an element of the overgroup. Refuses in this order: 17 for a handle that does not fit or a short map, 14 for
+// a generator out of range, 15 for a side too large, 17 for a number read that is out of range.
 #[no_mangle]
 pub extern "C" fn hg_subgroup_generator(
     from: &[u32],
@@ -176,7 +187,8 @@ pub extern "C" fn hg_subgroup_generator(
     capi_values::inner::reached_code(subgroup::generator(from, table, s, outw, GeneratorId(g)))
 }
 
-// Whether a subgroup can have a product's factors below it: then these go in front of those that it has below.
+// Writes into out whether a subgroup can have a product's factors below it: then these go in front of those that it has below. Refuses in this order:
+// 17 for a handle that does not fit, 15 for more than 8 factors or too many elements on a side.
 #[no_mangle]
 pub extern "C" fn hg_subgroup_left(
     from: &[u32],
@@ -195,7 +207,8 @@ pub extern "C" fn hg_subgroup_left(
     capi_values::inner::write_verdict(out, v);
 }
 
-// Whether it can have them above: then these go behind those that it has above.
+// Writes into out whether a subgroup can have a product's factors above it: then these go behind those that it has above. Refuses as hg_subgroup_left
+// does.
 #[no_mangle]
 pub extern "C" fn hg_subgroup_right(
     from: &[u32],

@@ -1,4 +1,4 @@
-// Handles and answers as numbers, for the crates that export the calls as C functions.
+// Turns handles and answers into numbers, for the crates that export the calls as C functions.
 ghost use mathlib.Core.Path.{_≡_};
 ghost use Prim.Native.Nat.{_+_, _*_};
 ghost use Rattle.capi_values.specs.Bridge.{handle, reachedCode, countedCode, storedCode, paperInto, reachedInto, madeInto, begunInto, grownInto};
@@ -12,12 +12,14 @@ use egg::Reached;
 use egg::Refusal;
 use egg::Verdict;
 
+// A refusal's number times 2^32, and its first place.
 pub fn refusal_code(r: Refusal) -> u64
     ensures { λ x. ⌜ x ≡ r .number * 4294967296 + r .a ⌝ }
 {
     (r.number as u64) * 4294967296 + (r.a as u64)
 }
 
+// The element's number, or the refusal's.
 pub fn reached_code(r: Reached) -> u64
     ensures { λ x. ⌜ x ≡ reachedCode r ⌝ }
 {
@@ -27,6 +29,7 @@ pub fn reached_code(r: Reached) -> u64
     }
 }
 
+// The count, or the refusal's number.
 pub fn counted_code(r: Counted) -> u64
     ensures { λ x. ⌜ x ≡ countedCode r ⌝ }
 {
@@ -36,6 +39,7 @@ pub fn counted_code(r: Counted) -> u64
     }
 }
 
+// The factor with this handle.
 pub fn factor_of(start: usize, room: u32, n: u8, count: u32) -> Factor
     ensures { λ r. ⌜ r ≡ handle start room n count ⌝ }
 {
@@ -47,6 +51,7 @@ pub fn factor_of(start: usize, room: u32, n: u8, count: u32) -> Factor
     }
 }
 
+// Writes a refusal's number and places.
 fn write_refusal(out: &mut [u32], r: Refusal)
     ensures { λ x. ⌜ now (out .exit) ≡ paperInto (Verdict.Refused r) (now (out .entry)) ⌝ }
 {
@@ -56,7 +61,7 @@ fn write_refusal(out: &mut [u32], r: Refusal)
     egg::inner::put(out, 3, r.c as usize);
 }
 
-// The number and the three places of a verdict, to the list's first four numbers; 0 where it is fine.
+// Writes the number and the three places of a verdict to the list's first four numbers, which are 0 where it is fine.
 pub fn write_verdict(out: &mut [u32], v: Verdict)
     ensures { λ x. ⌜ now (out .exit) ≡ paperInto v (now (out .entry)) ⌝ }
 {
@@ -71,7 +76,7 @@ pub fn write_verdict(out: &mut [u32], v: Verdict)
     }
 }
 
-// The verdict, and the element count after it.
+// Writes the verdict, and the element count after it.
 pub fn write_made(out: &mut [u32], m: Made)
     ensures { λ x. ⌜ now (out .exit) ≡ madeInto m (now (out .entry)) ⌝ }
 {
@@ -81,7 +86,7 @@ pub fn write_made(out: &mut [u32], m: Made)
     egg::inner::put(out, 4, f.elements as usize);
 }
 
-// Whether a stored step was new, 1 or 0.
+// Says whether a stored step was new, 1 or 0, or gives the refusal's number.
 pub fn stored_code(s: Stored) -> u64
     ensures { λ x. ⌜ x ≡ storedCode s ⌝ }
 {
@@ -92,7 +97,7 @@ pub fn stored_code(s: Stored) -> u64
     }
 }
 
-// The refusal of an element that was asked for, or 0 and the element.
+// Writes 0 and the element that was asked for, or the refusal.
 fn write_reached(out: &mut [u32], r: Reached)
     ensures { λ x. ⌜ now (out .exit) ≡ reachedInto r (now (out .entry)) ⌝ }
 {
@@ -107,7 +112,7 @@ fn write_reached(out: &mut [u32], r: Reached)
     }
 }
 
-// The verdict, and after it how many elements the builder knows: 0 where there is none.
+// Writes the verdict, and after it how many elements the builder knows: 0 where there is none.
 pub fn write_begun(out: &mut [u32], b: Begun)
     ensures { λ x. ⌜ now (out .exit) ≡ begunInto b (now (out .entry)) ⌝ }
 {
@@ -117,6 +122,7 @@ pub fn write_begun(out: &mut [u32], b: Begun)
     write_made(out, Made { answer, factor });
 }
 
+// Writes the new element or the refusal, and after it how many elements the builder knows.
 pub fn write_grown(out: &mut [u32], g: Grown)
     ensures { λ x. ⌜ now (out .exit) ≡ grownInto g (now (out .entry)) ⌝ }
 {

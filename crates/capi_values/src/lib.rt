@@ -1,2 +1,2 @@
-// Handles and answers as numbers: what the crates of C functions share.
+// Turns handles and answers into numbers: what the crates of C functions share. This crate has no public calls.
 pub mod inner;

@@ -1,6 +1,5 @@
-// The calls on products as a puzzle author makes them, and their answers as text: of a product of two factors, of one
-// factor alone, of none, and of a product with more factors than there are; and the two maps of a subgroup. What is past a
-// range is asked too.
+// A program that makes the calls on products as a puzzle author does, and prints their answers: of a product of two factors, of one factor alone, of
+// none, and of a product with more factors than there may be; and those of the two maps of a subgroup. What is past a range is asked too.
 use egg::Counted;
 use egg::Factor;
 use egg::GeneratorId;
@@ -9,6 +8,7 @@ use egg::Reached;
 use group_handles::Group;
 use subgroup::Within;
 
+// What is asked. `Letter` asks for one letter of a word; `Over` and `Back` ask the two maps of a subgroup.
 enum Question {
     Elements,
     Generators,
@@ -25,7 +25,7 @@ enum Question {
     Back,
 }
 
-// Around 0, and where a 32-bit number cannot be negated or made larger.
+// Exponents around 0, and those at which a 32-bit number cannot be negated or made larger.
 fn exponent(i: u8) -> i32 {
     match i {
         0 => 0,
@@ -37,7 +37,7 @@ fn exponent(i: u8) -> i32 {
     }
 }
 
-// A count as an element of that number, so that one function writes every answer.
+// Gives a count as an element of that number, so that one function writes every answer.
 fn counted(c: Counted) -> Reached {
     match c {
         Counted::Count(x) => Reached::Element(GroupElementId(x)),
@@ -45,8 +45,8 @@ fn counted(c: Counted) -> Reached {
     }
 }
 
-// The letter at b of a word, by the call that hands back the filled part of a buffer; from the word's end on 256 and its
-// length, which is below 64 here.
+// Answers the letter at b of a word, by the call that hands back the filled part of a buffer; from the word's end on 256 and its length, which is
+// below 64 here.
 fn letter(table: &[u32], g: Group, e: GroupElementId, b: u8) -> Reached {
     let mut buffer = [0u8; 64];
     let part = group::word(table, g, e, &mut buffer);
@@ -57,8 +57,8 @@ fn letter(table: &[u32], g: Group, e: GroupElementId, b: u8) -> Reached {
     Reached::Element(GroupElementId(256 + ((part.len() % 256) as u32)))
 }
 
-// One place of a map of the subgroup that element 1 generates, which is made anew for each question; outside of it is
-// 4,294,967,295, as on paper.
+// Answers one place of a map of the subgroup that element 1 generates, which is made anew for each question; outside of it is 4,294,967,295, as
+// document 01 has it.
 fn carried(from: &[u32], g: Group, over: bool, b: u8) -> Reached {
     let mut table = [0u32; 12];
     let mut work = [0u32; 20];
@@ -87,7 +87,7 @@ fn carried(from: &[u32], g: Group, over: bool, b: u8) -> Reached {
     }
 }
 
-// A question with one argument or none does not look at a.
+// Asks one question. One with a single argument or none does not look at a.
 fn ask(table: &[u32], g: Group, what: Question, a: u8, b: u8) -> Reached {
     let e = GroupElementId(a as u32);
     let f = GroupElementId(b as u32);
@@ -108,7 +108,7 @@ fn ask(table: &[u32], g: Group, what: Question, a: u8, b: u8) -> Reached {
     }
 }
 
-// A space and a number.
+// Prints a space and a number.
 fn number(x: u32) {
     io::write_all(1, b" ");
     io::print_decimal(1, x as u64);
@@ -124,7 +124,7 @@ fn write_answer(answer: Reached) {
     }
 }
 
-// The answers for each b below `count`, and the line's end.
+// Prints the answers for each b below `count`, and ends the line.
 fn write_answers(table: &[u32], g: Group, what: Question, a: u8, count: u8) {
     io::write_all(1, b":");
     let mut b: u8 = 0;
@@ -140,7 +140,7 @@ fn write_line(name: &[u8], table: &[u32], g: Group, what: Question, count: u8) {
     write_answers(table, g, what, 0, count);
 }
 
-// A line for each a below `lines`.
+// Prints a line for each a below `lines`.
 fn write_lines(name: &[u8], table: &[u32], g: Group, what: Question, lines: u8, count: u8) {
     let mut a: u8 = 0;
     while a < lines {
@@ -151,7 +151,7 @@ fn write_lines(name: &[u8], table: &[u32], g: Group, what: Question, lines: u8, 
     }
 }
 
-// Elements are asked below `e`, generators below `n`.
+// Asks a product everything: elements below `e`, generators below `n`.
 fn write_group(name: &[u8], table: &[u32], g: Group, e: u8, n: u8) {
     io::write_all(1, name);
     write_line(b"elements", table, g, Question::Elements, 1);
@@ -167,13 +167,13 @@ fn write_group(name: &[u8], table: &[u32], g: Group, e: u8, n: u8) {
     write_lines(b"word", table, g, Question::Letter, e, 5);
 }
 
-// More factors than a product may have, which only a forged value says.
+// A product that says it has more factors than a product may have, which only a forged value does.
 fn forged(f: Factor) -> Group {
     let factors = [f, f, f, f, f, f, f, f];
     Group { factors, count: 9 }
 }
 
-// Each range is asked up to the first number past it.
+// Asks the four products and the subgroup, each range up to the first number past it.
 fn write_groups(table: &[u32], s3: Group, z2: Factor) {
     let pair = group::product(table, s3, group::of(z2));
     write_group(b"product\n", table, pair.group, 13, 4);
@@ -184,7 +184,7 @@ fn write_groups(table: &[u32], s3: Group, z2: Factor) {
     write_line(b"back", table, s3, Question::Back, 7);
 }
 
-// S3 and the group of two elements, in one table.
+// Enumerates S3 and the group of two elements into one table, and asks.
 fn main() {
     let mut table = [0u32; 60];
     let mut work = [0u32; 192];

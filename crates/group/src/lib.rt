@@ -1,6 +1,8 @@
-// group.rs: direct products of factors. A product is a value: up to eight handles of factors that stand in one table buffer, the fastest digit first.
-// What a factor can be asked is asked of the factor itself where there is one alone, since there is nothing to split.
-// Every call checks, in this order: 17 for each handle, 14 for its arguments, 15, 1 to 4, and then 17 in what it reads.
+// The calls on direct products of factors, from group.rs. A product is a value: up to eight handles of factors that stand in one table buffer. An
+// element of it is numbered by its digits, one element of each factor, of which the first factor's is the fastest. Every call checks, in this order:
+// 17 for each handle, 14 for its arguments, 15 for a product too large (more than 8 factors or 4,294,967,295 elements), 1 and 4 for what a build is
+// given and lent, and then 17 for each number that it reads. Where a product has one factor alone, that factor is asked itself, since there is
+// nothing to split.
 ghost use mathlib.Core.Path.{_≡_};
 ghost use lib.ListN.{length};
 ghost use Rattle.build_lending.specs.Lending.{Making};
@@ -19,6 +21,7 @@ pub use group_handles::of;
 pub use group_handles::product;
 pub use group_handles::trivial;
 
+// Answers how many elements the product has. Refuses in this order: 17 for a handle that does not fit, 15 for a product too large.
 pub fn element_count(table: &[u32], g: Group) -> Counted
     ensures { λ r. ⌜ r ≡ countAnswer (now (table .entry)) g ⌝ }
 {
@@ -31,6 +34,7 @@ pub fn element_count(table: &[u32], g: Group) -> Counted
     }
 }
 
+// Answers how many generators the factors have together. Refuses in this order: 17 for a handle that does not fit, 15 for a product too large.
 pub fn generator_count(table: &[u32], g: Group) -> Counted
     ensures { λ r. ⌜ r ≡ generatorsAnswer (now (table .entry)) g ⌝ }
 {
@@ -43,7 +47,8 @@ pub fn generator_count(table: &[u32], g: Group) -> Counted
     }
 }
 
-// The element of a generator.
+// Answers the element that the generator x is. Refuses in this order: 17 for a handle that does not fit, 14 for a generator out of range, 15 for a
+// product too large, 17 for a number read that is out of range.
 pub fn generator(table: &[u32], g: Group, x: GeneratorId) -> Reached
     ensures { λ r. ⌜ r ≡ generatorAnswer (now (table .entry)) g x ⌝ }
 {
@@ -64,6 +69,8 @@ pub fn generator(table: &[u32], g: Group, x: GeneratorId) -> Reached
     }
 }
 
+// Answers the step from e by the generator x. Refuses in this order: 17 for a handle that does not fit, 14 for an element or a generator out of
+// range, 15 for a product too large, 17 for a number read that is out of range.
 pub fn step(table: &[u32], g: Group, e: GroupElementId, x: GeneratorId) -> Reached
     ensures { λ r. ⌜ r ≡ stepAnswer (now (table .entry)) g e x ⌝ }
 {
@@ -84,7 +91,8 @@ pub fn step(table: &[u32], g: Group, e: GroupElementId, x: GeneratorId) -> Reach
     }
 }
 
-// The element of the factor f that e has there.
+// Answers the element that e has in the factor f. Refuses in this order: 17 for a handle that does not fit, 14 for a factor or an element out of
+// range, 15 for a product too large.
 pub fn project(table: &[u32], g: Group, f: u8, e: GroupElementId) -> Reached
     ensures { λ r. ⌜ r ≡ projectAnswer (now (table .entry)) g f e ⌝ }
 {
@@ -102,7 +110,8 @@ pub fn project(table: &[u32], g: Group, f: u8, e: GroupElementId) -> Reached
     }
 }
 
-// The element that is x in the factor f, and the identity in the others.
+// Answers the element that is x in the factor f, and the identity in the others. Refuses in this order: 17 for a handle that does not fit, 14 for a
+// factor that is not there or an x that is no element of it, 15 for a product too large.
 pub fn inject(table: &[u32], g: Group, f: u8, x: GroupElementId) -> Reached
     ensures { λ r. ⌜ r ≡ injectAnswer (now (table .entry)) g f x ⌝ }
 {
@@ -121,7 +130,8 @@ pub fn inject(table: &[u32], g: Group, f: u8, x: GroupElementId) -> Reached
     }
 }
 
-// The digits of e, at the start of a lent list; the answer is how many they are.
+// Writes the digits of e, its elements in each factor, to the start of a lent list, and answers how many they are. Refuses in this order: 17 for a
+// handle that does not fit, 14 for an element out of range, 15 for a product too large, 4 for a short list.
 pub fn split(table: &[u32], g: Group, e: GroupElementId, out: &mut [u32]) -> Counted
     ensures { λ r. ⌜ (r ≡ splitAnswer (now (table .entry)) g e (length (now (out .entry)))) × (now (out .exit) ≡ splitLeaves (now (table .entry)) g e (now (out .entry))) ⌝ }
 {
@@ -131,7 +141,8 @@ pub fn split(table: &[u32], g: Group, e: GroupElementId, out: &mut [u32]) -> Cou
     }
 }
 
-// The element with the digits that the list starts with.
+// Answers the element whose digits the list starts with. Refuses in this order: 17 for a handle that does not fit, 14 for the first digit out of
+// range, 15 for a product too large, 4 for a list with fewer digits than there are factors.
 pub fn join(table: &[u32], g: Group, digits: &[u32]) -> Reached
     ensures { λ r. ⌜ r ≡ joinAnswer (now (table .entry)) g (now (digits .entry)) ⌝ }
 {
@@ -145,6 +156,8 @@ pub fn join(table: &[u32], g: Group, digits: &[u32]) -> Reached
     }
 }
 
+// Answers a·b. Refuses in this order: 17 for a handle that does not fit, 14 for an element out of range, 15 for a product too large, 17 for a number
+// read that is out of range.
 pub fn compose(table: &[u32], g: Group, a: GroupElementId, b: GroupElementId) -> Reached
     ensures { λ r. ⌜ r ≡ composeAnswer (now (table .entry)) g a b ⌝ }
 {
@@ -158,6 +171,8 @@ pub fn compose(table: &[u32], g: Group, a: GroupElementId, b: GroupElementId) ->
     }
 }
 
+// Answers the inverse of a. Refuses in this order: 17 for a handle that does not fit, 14 for an element out of range, 15 for a product too large, 17
+// for a number read that is out of range.
 pub fn inverse(table: &[u32], g: Group, a: GroupElementId) -> Reached
     ensures { λ r. ⌜ r ≡ inverseAnswer (now (table .entry)) g a ⌝ }
 {
@@ -171,7 +186,7 @@ pub fn inverse(table: &[u32], g: Group, a: GroupElementId) -> Reached
     }
 }
 
-// a·b·a⁻¹.
+// Answers a·b·a⁻¹. Refuses as `compose` does.
 pub fn conjugate(table: &[u32], g: Group, a: GroupElementId, b: GroupElementId) -> Reached
     ensures { λ r. ⌜ r ≡ conjugateAnswer (now (table .entry)) g a b ⌝ }
 {
@@ -185,6 +200,7 @@ pub fn conjugate(table: &[u32], g: Group, a: GroupElementId, b: GroupElementId) 
     }
 }
 
+// Answers the i-th power of a, the inverse's power where i is negative. Refuses as `inverse` does.
 pub fn powi(table: &[u32], g: Group, a: GroupElementId, i: i32) -> Reached
     ensures { λ r. ⌜ r ≡ powiAnswer (now (table .entry)) g a i ⌝ }
 {
@@ -198,6 +214,8 @@ pub fn powi(table: &[u32], g: Group, a: GroupElementId, i: i32) -> Reached
     }
 }
 
+// Answers the period of a, which is 1 for the identity. Refuses as `inverse` does, and with 17 where, in a factor of N elements, none of the first N
+// powers of a's digit is the identity.
 pub fn period(table: &[u32], g: Group, a: GroupElementId) -> Counted
     ensures { λ r. ⌜ r ≡ periodAnswer (now (table .entry)) g a ⌝ }
 {
@@ -207,7 +225,8 @@ pub fn period(table: &[u32], g: Group, a: GroupElementId) -> Counted
     }
 }
 
-// How long the word of e is.
+// Answers how long the word of e is. Refuses in this order: 17 for a handle that does not fit, 14 for an element out of range, 15 for a product too
+// large, 17 for a recorded length over 4,096.
 pub fn word_length(table: &[u32], g: Group, e: GroupElementId) -> Counted
     ensures { λ r. ⌜ r ≡ lengthAnswer (now (table .entry)) g e ⌝ }
 {
@@ -221,7 +240,8 @@ pub fn word_length(table: &[u32], g: Group, e: GroupElementId) -> Counted
     }
 }
 
-// Writes the word of e into the start of a lent byte buffer and answers its length.
+// Writes the word of e to the start of a lent byte buffer and answers its length. Refuses as `word_length` does, then with 4 a buffer that is short,
+// then with 17 a letter that cannot be read.
 pub fn write_word(table: &[u32], g: Group, e: GroupElementId, out: &mut [u8]) -> Counted
     ensures { λ r. ⌜ (r ≡ writeAnswer (now (table .entry)) g e (length (now (out .entry)))) × (now (out .exit) ≡ written (now (table .entry)) g e (now (out .entry))) ⌝ }
 {
@@ -235,7 +255,8 @@ pub fn write_word(table: &[u32], g: Group, e: GroupElementId, out: &mut [u8]) ->
     }
 }
 
-// The same, with the filled part handed back; refused: the empty start, and `write_word` tells the number.
+// The same as `write_word`, but hands back the filled part of the buffer. Where it refuses this is the empty start, and `write_word` tells the
+// number.
 pub fn word<'a>(table: &[u32], g: Group, e: GroupElementId, out: &'a mut [u8]) -> &'a mut [u8]
     ensures { λ r. ⌜ now r ≡ wordPart (now (table .entry)) g e (now (out .entry)) ⌝ }
 {
@@ -245,7 +266,9 @@ pub fn word<'a>(table: &[u32], g: Group, e: GroupElementId, out: &'a mut [u8]) -
     }
 }
 
-// One factor that is the product, with its numbers, built into the stretch of `table` that starts at `start`.
+// Builds one factor that is the product, with its numbers, into the stretch of `table` that starts at `start`. Refuses in this order: 17 for a handle
+// that does not fit, 15 for a product too large, 1 for more than 8 generators, 4 for a room out of range or a short buffer; then as any build does,
+// and with 17 a number read that is out of range.
 pub fn flatten(
     from: &[u32],
     g: Group,

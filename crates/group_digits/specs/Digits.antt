@@ -1,5 +1,5 @@
--- Questions that are answered factor by factor. Document 01: "First factor is the fastest digit: strides 1, N0, N0·N1.." So an element is x + N·y, where x is an element of the first factor, which has
--- N, and y one of the product of the others.
+-- This file defines the questions that a product answers factor by factor. Document 01: "First factor is the fastest digit: strides 1, N0, N0·N1.."
+-- So an element is x + N·y, where x is an element of the first factor, which has N, and y is one of the product of the others.
 use Prim.Native.Nat.{ℕ, _+_, _*_, _-_, _/_, _%_}
 use mathlib.Core.List.{List, [], _∷_}
 use lib.Dec.{ltb}
@@ -12,30 +12,32 @@ use Rattle.factor_questions.specs.Walks.{onReached, composeIn, inverseIn, conju
 use Rattle.group_digits.specs.declared.inner.Asked.{Asked}
 use Rattle.group_digits.specs.declared.inner.Asked.the-variants.{Compose, Inverse, Conjugate}
 
--- x + N·y, where y was reached; a refusal stands.
+-- x + N·y, where the other factors answered y; where they refused, their refusal.
 abbrev pub above : ℕ → ℕ → Reached → Reached
 above x N r = onReached r (λ y. Element (record { 0 = x + N * y }))
 
--- What is asked of one factor and its digits. (For an inverse the second counts for nothing.)
+-- What one factor h answers about its digits a and b. (An inverse has one argument: b counts for nothing.)
 abbrev pub digitOf : (asked : Asked) (t : List ℕ) (h : Factor) (a b : ℕ) → Reached
 digitOf Compose t h a b = composeIn (stretch t h) (h .generators) (h .elements) a b
 digitOf Inverse t h a b = inverseIn (stretch t h) (h .generators) (h .elements) a
 digitOf Conjugate t h a b = conjugateIn (stretch t h) (h .generators) (h .elements) a b
 
--- Of each factor in turn; the first refusal stands.
+-- Asks each factor in turn, by F, about its own digits of a and b, and puts the answers together. The first refusal stands.
 unfoldable pub digitwise : (Factor → ℕ → ℕ → Reached) → List Factor → ℕ → ℕ → Reached
 digitwise F [] a b = Element (record { 0 = 0 })
 digitwise F (h ∷ hs) a b =
     onReached (F h (a % h .elements) (b % h .elements)) (λ x. above x (h .elements) (digitwise F hs (a / h .elements) (b / h .elements)))
 
--- What the product composes and inverts.
+-- The product's a·b.
 abbrev pub composes : List ℕ → List Factor → ℕ → ℕ → Reached
 composes t hs a b = digitwise (digitOf Compose t) hs a b
 
+-- The product's inverse of a.
 abbrev pub inverts : List ℕ → List Factor → ℕ → Reached
 inverts t hs a = digitwise (digitOf Inverse t) hs a 0
 
--- The step from e by the generator x: the first factor's generators come first, then those of the others.
+-- The step from e by the generator x: the first factor's generators come first, then those of the others. Refuses with 14 a generator that no factor
+-- has.
 unfoldable pub stepIn : List ℕ → List Factor → ℕ → ℕ → Reached
 stepIn t [] e x = refusedReach 14 1
 stepIn t (h ∷ hs) e x =

@@ -1,5 +1,5 @@
--- The digits of an element in a lent list, and the element of digits in one. Document 01: "First factor is the fastest digit", and "Calls on handles check 17 in
--- the handle, then 14, then 15, then 1 to 4".
+-- This file defines how the digits of an element are written to a lent list, and how an element is put together from them. Document 01: "First factor
+-- is the fastest digit", and "Calls on handles check 17 in the handle, then 14, then 15, then 1 to 4".
 use Prim.Native.Nat.{ℕ}
 use mathlib.Core.List.{List, _++_}
 use lib.ListN.{length, getD, drop}
@@ -18,25 +18,29 @@ use Rattle.theory_radix.specs.Radix.{split, join}
 use Rattle.group_handles.specs.declared.Group.{Group}
 use Rattle.group_handles.specs.Handles.{handles, sizes, limited}
 
--- The digits go to the start of the lent list; 4 where it is short. The answer is how many they are.
+-- How many digits are written into a lent list of `size` numbers: one for each factor. Refuses with 4 a list that is short.
 unfoldable pub splitTail : List Factor → ℕ → Counted
 splitTail hs size = pick (ltb size (length hs)) (counted.Refused (record { number = 4; a = 0; b = 0; c = 0 })) (counted.Count (length hs))
 
+-- What the list holds afterwards: the digits of e at its start; after a refusal, what it held.
 abbrev pub digitsLeft : Counted → List ℕ → ℕ → List ℕ → List ℕ
 digitsLeft (counted.Count k) Ns e out = split Ns e ++ drop k out
 digitsLeft (counted.Refused r) Ns e out = out
 
--- 14 for the first digit that is out of range, of those that are there.
+-- Refuses with 14 the digit at f where it is no element of its factor; the place is f.
 abbrev pub digitRight : List ℕ → List ℕ → ℕ → Verdict
 digitRight Ns ds f = pick (ltb (getD ds f 0) (getD Ns f 1)) verdict.Fine (refusedOf 14 f 0 0)
 
+-- The smaller of two numbers.
 abbrev pub fewer : ℕ → ℕ → ℕ
 fewer a b = pick (leb a b) a b
 
+-- The first refusal among the digits that are there: a shorter list is refused later, with 4.
 unfoldable pub digitsRight : List ℕ → List ℕ → Verdict
 digitsRight Ns ds = scan (fewer (length Ns) (length ds)) (digitRight Ns ds) 0
 
--- The element with the digits that the lent list starts with: 15, then 4.
+-- The element whose digits the lent list starts with, when they are in range. Refuses in this order: 15 for a product too large, 4 for a list with
+-- fewer digits than there are factors.
 unfoldable pub joinTail : Group → List ℕ → Reached
 joinTail g ds =
     pick (limited g)

@@ -1,4 +1,4 @@
-// The work of the calls, on products whose handles fit and whose elements have numbers of 32 bits.
+// The work of the calls, done once the handles are known to fit and the product's elements to have numbers of 32 bits.
 ghost use mathlib.Core.Path.{_≡_};
 ghost use mathlib.Core.Bool.{true};
 ghost use Prim.Native.Nat.{_<_, _≤_};
@@ -14,15 +14,15 @@ use egg::Reached;
 use egg::Verdict;
 use group_handles::Group;
 
-// The questions that are answered factor by factor; the definitions name them.
+// The questions that are answered factor by factor. Only the definitions use these names.
 pub enum Asked {
     Compose,
     Inverse,
     Conjugate,
 }
 
-// Factor by factor: the elements are split as they go, and `sum` holds the digits that were answered, each times its
-// stride. (A loop for each question: one loop for all, with the question as an argument, took half as long again.)
+// Goes factor by factor: the elements are split on the way, and `sum` holds the digits answered so far, each times its stride. Each question has a
+// loop of its own, because one loop for all, with the question as an argument, took half as long again.
 pub fn compose_digits(table: &[u32], g: Group, a: GroupElementId, b: GroupElementId) -> Reached
     requires { ⌜ (allFit (length (now table)) (handles g) ≡ true) × (elementsOf (handles g) ≤ 4294967295) ⌝ }
     ensures { λ r. ⌜ r ≡ digitwise (digitOf Asked.Compose (now (table .entry))) (handles g) (a .0) (b .0) ⌝ }
@@ -114,7 +114,7 @@ pub fn conjugate_digits(table: &[u32], g: Group, a: GroupElementId, b: GroupElem
     Reached::Element(GroupElementId(sum))
 }
 
-// The step of the factor that has the generator; the other digits stay.
+// Takes the step in the factor that has the generator; the other digits stay.
 pub fn step_in(table: &[u32], g: Group, e: GroupElementId, x: GeneratorId) -> Reached
     requires { ⌜ (allFit (length (now table)) (handles g) ≡ true) × ((elementsOf (handles g) ≤ 4294967295) × (e .0 < elementsOf (handles g))) ⌝ }
     ensures { λ r. ⌜ r ≡ stepIn (now (table .entry)) (handles g) (e .0) (x .0) ⌝ }
@@ -150,7 +150,7 @@ pub fn step_in(table: &[u32], g: Group, e: GroupElementId, x: GeneratorId) -> Re
     egg::inner::refuse(14, 1)
 }
 
-// What one step in the factor f is in the product.
+// By how much the product's number grows when the digit of the factor f grows by one.
 fn stride_of(table: &[u32], g: Group, f: usize) -> u32
     requires { ⌜ (allFit (length (now table)) (handles g) ≡ true) × ((elementsOf (handles g) ≤ 4294967295) × (f < length (handles g))) ⌝ }
     ensures { λ r. ⌜ r ≡ stride (sizes (handles g)) f ⌝ }
@@ -165,6 +165,7 @@ fn stride_of(table: &[u32], g: Group, f: usize) -> u32
     s
 }
 
+// Answers the digit of e in the factor f.
 pub fn project_in(table: &[u32], g: Group, f: usize, e: GroupElementId) -> Reached
     requires { ⌜ (allFit (length (now table)) (handles g) ≡ true) × ((elementsOf (handles g) ≤ 4294967295) × (f < length (handles g))) ⌝ }
     ensures { λ r. ⌜ r ≡ Reached.Element (record { 0 = project (sizes (handles g)) f (e .0) }) ⌝ }
@@ -175,6 +176,7 @@ pub fn project_in(table: &[u32], g: Group, f: usize, e: GroupElementId) -> Reach
     Reached::Element(GroupElementId(x / s % n))
 }
 
+// Answers the element whose digit in the factor f is x, and 0 in the others.
 pub fn inject_in(table: &[u32], g: Group, f: usize, x: GroupElementId) -> Reached
     requires { ⌜ (allFit (length (now table)) (handles g) ≡ true) × ((elementsOf (handles g) ≤ 4294967295) × ((f < length (handles g)) × (x .0 < getD (sizes (handles g)) f 1))) ⌝ }
     ensures { λ r. ⌜ r ≡ Reached.Element (record { 0 = inject (sizes (handles g)) f (x .0) }) ⌝ }
@@ -184,7 +186,7 @@ pub fn inject_in(table: &[u32], g: Group, f: usize, x: GroupElementId) -> Reache
     Reached::Element(GroupElementId(s * d))
 }
 
-// The digits of e to the places from 0 on; 4 where the list is short.
+// Writes the digits of e from place 0 on. Refuses with 4 a list that is short.
 pub fn split_in(table: &[u32], g: Group, e: GroupElementId, out: &mut [u32]) -> Counted
     requires { ⌜ allFit (length (now table)) (handles g) ≡ true ⌝ }
     ensures { λ r. ⌜ (r ≡ splitTail (handles g) (length (now (out .entry)))) × (now (out .exit) ≡ digitsLeft (splitTail (handles g) (length (now (out .entry)))) (sizes (handles g)) (e .0) (now (out .entry))) ⌝ }
@@ -211,7 +213,7 @@ fn fewer(a: usize, b: usize) -> usize
     if a <= b { a } else { b }
 }
 
-// 14 for the first digit that is out of range, of those that are there.
+// Refuses with 14 the first digit that is out of range, of those that are there.
 pub fn digits_right(g: Group, digits: &[u32]) -> Verdict
     ensures { λ r. ⌜ r ≡ digitsRight (sizes (handles g)) (now (digits .entry)) ⌝ }
 {
@@ -226,7 +228,7 @@ pub fn digits_right(g: Group, digits: &[u32]) -> Verdict
     Verdict::Fine
 }
 
-// 15, then 4; then each digit times its stride.
+// Refuses with 15 a product too large, then with 4 a list that is short; else adds up each digit times its stride.
 pub fn join_in(table: &[u32], g: Group, digits: &[u32]) -> Reached
     requires { ⌜ (allFit (length (now table)) (handles g) ≡ true) × (digitsRight (sizes (handles g)) (now digits) ≡ Verdict.Fine) ⌝ }
     ensures { λ r. ⌜ r ≡ joinTail g (now (digits .entry)) ⌝ }

@@ -1,2 +1,2 @@
-// group.rs: the questions that a product answers factor by factor, and its elements as digits in a lent list.
+// Answers the questions that a product answers factor by factor, and turns its elements into digits in a lent list and back. From group.rs.
 pub mod inner;

@@ -1,4 +1,4 @@
-// The work of `flatten`, on products whose handles fit and whose elements have numbers of 32 bits.
+// The work of `flatten`, done once the handles are known to fit and the product's elements to have numbers of 32 bits.
 ghost use mathlib.Core.Path.{_≡_};
 ghost use mathlib.Core.Bool.{true};
 ghost use Prim.Native.Nat.{_<_, _≤_};
@@ -16,7 +16,7 @@ use egg::Made;
 use egg::Reached;
 use group_handles::Group;
 
-// A row of the product's own steps.
+// Reads one row: the product's own steps from e.
 fn flat_row(
     t: &mut [u32],
     from: &[u32],
@@ -49,7 +49,7 @@ fn flat_row(
     Counted::Count(count)
 }
 
-// Rows in the order of their elements, as long as there is a next element.
+// Reads the rows in the order of their elements, as long as there is a next element.
 fn flat_rows(t: &mut [u32], from: &[u32], g: Group, n: u8, room: u32) -> Counted
     requires { ⌜ (allFit (length (now from)) (handles g) ≡ true) × (elementsOf (handles g) ≤ 4294967295) ⌝ }
     ensures { λ r. ⌜ Placed.placed r (now (t .exit)) ≡ rowsBy room (stepIn (now (from .entry)) (handles g)) n room 0 1 (now (t .entry)) ⌝ }
@@ -70,7 +70,7 @@ fn flat_rows(t: &mut [u32], from: &[u32], g: Group, n: u8, room: u32) -> Counted
     Counted::Count(count)
 }
 
-// The whole build, in its stretches.
+// Does the whole build, in its stretches.
 fn flat_in(t: &mut [u32], w: &mut [u32], from: &[u32], g: Group, n: u8, room: u32) -> Counted
     requires { ⌜ (allFit (length (now from)) (handles g) ≡ true) × (elementsOf (handles g) ≤ 4294967295) ⌝ }
     ensures { λ r. ⌜ Built.built r (now (t .exit)) (now (w .exit)) ≡ flatIn (length (now (t .entry))) (now (w .entry)) (now (from .entry)) (handles g) n room ⌝ }
@@ -80,7 +80,7 @@ fn flat_in(t: &mut [u32], w: &mut [u32], from: &[u32], g: Group, n: u8, room: u3
     build_lending::inner::finish(t, w, n, read)
 }
 
-// 1, then 4; then the build.
+// Refuses with 1 more than 8 generators, then with 4 a room out of range or a short buffer; else builds.
 pub fn flat_into(
     from: &[u32],
     g: Group,

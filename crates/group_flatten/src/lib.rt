@@ -1,2 +1,2 @@
-// group.rs: `flatten`, the product read into one factor by its own steps.
+// Builds one factor that is a product, reading it by its own steps: `flatten` of group.rs.
 pub mod inner;

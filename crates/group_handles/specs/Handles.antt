@@ -1,4 +1,5 @@
--- The handles of a product, what they have together, and the refusals that come before any reading.
+-- This file defines which handles a product lists, what they have together, and the refusals that come before anything is read in a table: 17 in a
+-- handle, 14 for an argument, 15 for a product too large. Document 01: "factors per product 0 to 8; product elements at most 4,294,967,295".
 use Prim.Native.Nat.{ℕ, _+_, _-_}
 use mathlib.Core.Path.{_≡_}
 use mathlib.Core.List.{List, [], _∷_, _++_}
@@ -23,20 +24,21 @@ use Rattle.group_handles.specs.declared.inner.Limit.the-variants.{Elemen
 abbrev pub handles : Group → List Factor
 handles g = take (g .count) (g .factors)
 
--- The ranges of the digits.
+-- How many elements each factor has: a digit is below its size.
 abbrev pub sizes : List Factor → List ℕ
 sizes [] = []
 sizes (h ∷ hs) = h .elements ∷ sizes hs
 
--- How many elements and generators the product has: natural numbers, whatever a call can answer.
+-- How many elements the product has: a natural number, even where it is too large for a call to answer.
 abbrev pub elementsOf : List Factor → ℕ
 elementsOf hs = count (sizes hs)
 
+-- How many generators the factors have together.
 abbrev pub generatorsOf : List Factor → ℕ
 generatorsOf [] = 0
 generatorsOf (h ∷ hs) = h .generators + generatorsOf hs
 
--- 17, "the handle doesn't fit its buffer", is for any of them.
+-- Whether every handle fits the buffer, which has `len` numbers: 17, "the handle doesn't fit its buffer", is for any of them.
 abbrev pub allFit : ℕ → List Factor → Bool
 allFit len [] = true
 allFit len (h ∷ hs) = fitsIn len h && allFit len hs
@@ -49,23 +51,24 @@ capped n = pick (leb n 4294967295) n 4294967296
 abbrev pub seen : ℕ → List Factor → Seen
 seen len hs = record { fit = allFit len hs; elements = capped (elementsOf hs); generators = generatorsOf hs }
 
--- What an argument has to be below, in the product and by what was seen of it.
+-- What an argument of this kind has to be below.
 abbrev pub limitOf : List Factor → Limit → ℕ
 limitOf hs Elements = elementsOf hs
 limitOf hs Generators = generatorsOf hs
 limitOf hs (Number k) = k
 
+-- The same, by what one pass over the handles has shown.
 abbrev pub limitSeen : Seen → Limit → ℕ
 limitSeen s Elements = s .elements
 limitSeen s Generators = s .generators
 limitSeen s (Number k) = k
 
--- 15: "more than 8 factors, product too large".
+-- True where refusal 15, "more than 8 factors, product too large", is not due.
 unfoldable pub limited : Group → Bool
 limited g = leb (g .count) 8 && leb (elementsOf (handles g)) 4294967295
 
--- "Calls on handles check 17 in the handle, then 14, then 15": whether the handles fit, whether the first and the second argument are too large, and whether
--- the product is within its limits.
+-- "Calls on handles check 17 in the handle, then 14, then 15". The four tests are whether the handles fit, whether the first and the second argument
+-- are too large, and whether the product is within its limits.
 abbrev pub inOrder : Bool → Bool → Bool → Bool → Verdict
 inOrder fit first second within =
     pick fit
@@ -74,15 +77,16 @@ inOrder fit first second within =
     (pick within verdict.Fine (refusedOf 15 0 0 0))))
     (refusedOf 17 0 0 0)
 
--- Two arguments a and b, which have to be below la and lb, in their order. A call with fewer takes 0, below 1.
+-- The refusals of a call with two arguments, a that has to be below la, and b below lb. A call with fewer arguments gives 0 below 1.
 unfoldable pub admits : (len : ℕ) (g : Group) (a la b lb : ℕ) → Verdict
 admits len g a la b lb = inOrder (allFit len (handles g)) (leb la a) (leb lb b) (limited g)
 
--- The same by what was seen of the handles, and how many are told.
+-- The same by what was seen of the handles; `told` is the count of factors that the product claims.
 unfoldable pub admitsSeen : (s : Seen) (told a : ℕ) (la : Limit) (b : ℕ) (lb : Limit) → Verdict
 admitsSeen s told a la b lb = inOrder (s .fit) (leb (limitSeen s la) a) (leb (limitSeen s lb) b) (leb told 8 && leb (s .elements) 4294967295)
 
--- What a pass has to show of the handles for these tests: "17 in the handle" is the first, so that a pass may end at one that does not fit.
+-- What a pass over the handles has to show for these tests. Since "17 in the handle" is the first of them, a pass may end at a handle that does not
+-- fit.
 pub record Looked (len : ℕ) (hs : List Factor) (s : Seen) : Type 0 where
   pub fits : s .fit ≡ allFit len hs
   pub whole : s .fit ≡ true → s .elements ≡ capped (elementsOf hs)
@@ -91,11 +95,12 @@ pub record Looked (len : ℕ) (hs : List Factor) (s : Seen) : Type 0 where
 abbrev pub groupOf : List Factor → Group
 groupOf hs = record { factors = hs ++ replicate (8 - length hs) noFactor; count = length hs }
 
--- No product: one factor that fits no buffer.
+-- The value beside a refusal, which is no product: its one handle fits no buffer.
 abbrev pub noGroup : Group
 noGroup = groupOf (noFactor ∷ [])
 
--- `product`: 17 in a handle of either, then 15, for each of them and for both together.
+-- What `product` answers. Refuses in this order: 17 for a handle of either that does not fit, 15 for more than 8 factors or a product too large, of
+-- either and of both together.
 unfoldable pub joins : ℕ → Group → Group → Grouped
 joins len a b =
     pick (allFit len (handles a ++ handles b))

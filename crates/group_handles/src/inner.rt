@@ -1,4 +1,4 @@
-// What the handles of a product have together, and the refusals that come before any reading.
+// What the handles of a product have together, and the refusals that come before anything is read in a table.
 ghost use mathlib.Core.Path.{_≡_};
 ghost use mathlib.Core.Bool.{true, _&&_};
 ghost use mathlib.Core.List.{_++_};
@@ -55,7 +55,7 @@ pub fn size_of(g: Group, f: usize) -> u32
     h.elements
 }
 
-// A product as far as 32 bits can tell.
+// Multiplies as far as 32 bits can tell: 4,294,967,296 stands for everything above them.
 pub fn times(p: u64, n: u32) -> u64
     requires { ⌜ p ≤ 4294967296 ⌝ }
     ensures { λ r. ⌜ r ≡ capped (p * n) ⌝ }
@@ -78,6 +78,7 @@ pub fn both(a: bool, b: bool) -> bool
     if a { b } else { false }
 }
 
+// Passes over the handles once, for all that the refusals need.
 pub fn look(table: &[u32], g: Group) -> Seen
     ensures { λ r. ⌜ (r ≡ seen (length (now (table .entry))) (handles g)) × (r .generators ≤ 2040) ⌝ }
 {
@@ -123,7 +124,7 @@ pub fn elements_of(g: Group) -> u64
     p
 }
 
-// How many generators the product has, of eight handles at most.
+// How many generators the product has; it lists eight handles at most, so the sum is small.
 pub fn generators_of(g: Group) -> u32
     ensures { λ r. ⌜ (r ≡ generatorsOf (handles g)) × (r ≤ 2040) ⌝ }
 {
@@ -155,6 +156,7 @@ pub enum Limit {
     Number(u32),
 }
 
+// The number that the limit stands for, by what was seen of the handles.
 fn limit_of(s: Seen, l: Limit) -> u64
     ensures { λ r. ⌜ r ≡ limitSeen s l ⌝ }
 {
@@ -165,7 +167,8 @@ fn limit_of(s: Seen, l: Limit) -> u64
     }
 }
 
-// 17 by what was seen of the handles, 14 for two arguments and their limits, 15.
+// Refuses in this order: 17 where a handle was seen not to fit, 14 for the first or the second argument where it is not below its limit, 15 for more
+// than 8 factors or a product too large.
 pub fn admit_seen(s: Seen, count: u8, a: u32, la: Limit, b: u32, lb: Limit) -> Verdict
     ensures { λ r. ⌜ r ≡ admitsSeen s count a la b lb ⌝ }
 {
@@ -187,6 +190,7 @@ pub fn admit_seen(s: Seen, count: u8, a: u32, la: Limit, b: u32, lb: Limit) -> V
     Verdict::Fine
 }
 
+// Looks at the handles, and refuses as `admit_seen` does.
 pub fn admit(table: &[u32], g: Group, a: u32, la: Limit, b: u32, lb: Limit) -> Verdict
     ensures { λ r. ⌜ r ≡ admits (length (now (table .entry))) g a (limitOf (handles g) la) b (limitOf (handles g) lb) ⌝ }
 {
@@ -194,6 +198,7 @@ pub fn admit(table: &[u32], g: Group, a: u32, la: Limit, b: u32, lb: Limit) -> V
     admit_seen(s, g.count, a, la, b, lb)
 }
 
+// A refusal, with the value that is no product beside it.
 pub fn refused_grouped(number: u32) -> Grouped
     ensures { λ r. ⌜ r ≡ record { answer = refusedOf number 0 0 0; group = noGroup } ⌝ }
 {
@@ -204,7 +209,7 @@ pub fn refused_grouped(number: u32) -> Grouped
     Grouped { answer, group }
 }
 
-// The handle at i of the handles of both, one after the other.
+// The handle at i in the list of both: the handles of a, then those of b.
 fn either(a: Group, b: Group, i: usize) -> Factor
     ensures { λ r. ⌜ r ≡ getD (handles a ++ handles b) i noFactor ⌝ }
 {
@@ -215,6 +220,7 @@ fn either(a: Group, b: Group, i: usize) -> Factor
     handle(b, i - k)
 }
 
+// The product that lists the handles of a and then those of b.
 pub fn joined(a: Group, b: Group) -> Group
     requires { ⌜ length (handles a) + length (handles b) ≤ 8 ⌝ }
     ensures { λ r. ⌜ r ≡ groupOf (handles a ++ handles b) ⌝ }
@@ -235,6 +241,7 @@ pub fn joined(a: Group, b: Group) -> Group
     }
 }
 
+// A refusal, with the handle that fits no buffer beside it.
 pub fn no_factor_made(why: Refusal) -> Made
     ensures { λ r. ⌜ r ≡ record { answer = Verdict.Refused why; factor = noFactor } ⌝ }
 {

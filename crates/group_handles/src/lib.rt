@@ -1,4 +1,5 @@
-// group.rs: direct products as values, and how they are made. A product is up to eight handles of factors that stand in one table buffer, the fastest digit first.
+// Direct products as values, and how they are made, from group.rs. A product is up to eight handles of factors that stand in one table buffer, the
+// fastest digit first.
 ghost use mathlib.Core.Path.{_≡_};
 ghost use mathlib.Core.List.{[], _∷_};
 ghost use lib.ListN.{length};
@@ -8,7 +9,7 @@ use egg::Verdict;
 
 pub mod inner;
 
-// The factors; only the first `count` are looked at.
+// A product: its factors, of which only the first `count` are looked at.
 pub struct Group {
     pub factors: [Factor; 8],
     pub count: u8,
@@ -38,7 +39,8 @@ pub fn of(f: Factor) -> Group
     Group { factors, count: 1 }
 }
 
-// The product of two: the factors of the first, then those of the second.
+// Answers the product of two: the factors of the first, then those of the second. Refuses in this order: 17 for a handle that does not fit, 15 for
+// more than 8 factors or more than 4,294,967,295 elements.
 pub fn product(table: &[u32], a: Group, b: Group) -> Grouped
     ensures { λ r. ⌜ r ≡ joins (length (now (table .entry))) a b ⌝ }
 {

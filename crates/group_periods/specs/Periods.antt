@@ -1,4 +1,4 @@
--- Periods: in a factor by walking the powers, in a product by least common multiples.
+-- This file defines periods: in a factor by walking the powers, in a product by least common multiples. Document 01: "`period` of the identity is 1".
 use Prim.Native.Nat.{ℕ, zero, suc, _+_, _/_, _%_}
 use mathlib.Core.List.{List, [], _∷_}
 use lib.Dec.{eqb}
@@ -12,12 +12,13 @@ use Rattle.factor_questions.specs.Walks.{composeIn}
 use Rattle.theory_radix.specs.Divisors.{lcm}
 use Rattle.group_handles.specs.Counts.{onCounted, onElement}
 
--- The powers of a from x, which is the k-th, on: the number of the first that is the identity, among `left` of them. "17 .. none of the first N powers in a
--- period walk is the identity".
+-- Walks the powers of a from x on, which is the k-th, and answers the number of the first that is the identity, among `left` of them. Else it is 17:
+-- "none of the first N powers in a period walk is the identity".
 unfoldable pub periodFrom : (left : ℕ) (op : ℕ → ℕ → Reached) (a x k : ℕ) → Counted
 periodFrom zero op a x k = counted.Refused (record { number = 17; a = 0; b = 0; c = 0 })
 periodFrom (suc left) op a x k = pick (eqb x 0) (counted.Count k) (onElement (op x a) (λ y. periodFrom left op a y (k + 1)))
 
+-- The period of a in the factor h, by its own compose.
 abbrev pub periodOf : List ℕ → Factor → ℕ → Counted
 periodOf t h a = periodFrom (h .elements) (composeIn (stretch t h) (h .generators) (h .elements)) a a 1
 

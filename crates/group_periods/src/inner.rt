@@ -1,4 +1,4 @@
-// The work of the call, on products whose handles fit and whose elements have numbers of 32 bits.
+// The work of `period`, done once the handles are known to fit and the product's elements to have numbers of 32 bits.
 ghost use mathlib.Core.Path.{_≡_};
 ghost use mathlib.Core.Bool.{true};
 ghost use Prim.Native.Nat.{_≤_};
@@ -12,6 +12,7 @@ use egg::GroupElementId;
 use egg::Reached;
 use group_handles::Group;
 
+// Euclid's greatest common divisor, for the least common multiple.
 fn gcd(a: u32, b: u32) -> u32
     ensures { λ r. ⌜ r ≡ gcd a b ⌝ }
 {
@@ -25,7 +26,7 @@ fn gcd(a: u32, b: u32) -> u32
     x
 }
 
-// The powers of a, up to the `count`-th.
+// Walks the powers of a in one factor, up to the `count`-th, to the first that is the identity; refuses with 17 where there is none.
 fn period_in(s: &[u32], n: u8, count: u32, a: GroupElementId) -> Counted
     requires { ⌜ count ≤ 65535 ⌝ }
     ensures { λ r. ⌜ r ≡ periodFrom count (composeIn (now (s .entry)) n count) (a .0) (a .0) 1 ⌝ }
@@ -51,7 +52,7 @@ fn period_in(s: &[u32], n: u8, count: u32, a: GroupElementId) -> Counted
     factor_words::inner::refused_count(17)
 }
 
-// The least common multiple of the periods of the digits.
+// Answers the least common multiple of the periods of the digits.
 pub fn periods(table: &[u32], g: Group, a: GroupElementId) -> Counted
     requires { ⌜ (allFit (length (now table)) (handles g) ≡ true) × (elementsOf (handles g) ≤ 4294967295) ⌝ }
     ensures { λ r. ⌜ r ≡ periods (now (table .entry)) (handles g) (a .0) ⌝ }

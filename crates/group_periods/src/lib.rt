@@ -1,2 +1,2 @@
-// group.rs: periods.
+// Answers the period of a product's element: `period` of group.rs.
 pub mod inner;

@@ -1,4 +1,5 @@
--- Powers by halving the exponent.
+-- This file defines powers, by halving the exponent. Document 01: "Recursive power whose positive exponent halves at each call; negative exponents
+-- hand on to the inverse's power, i32::MIN through 2^30."
 use Prim.Native.Nat.{ℕ, zero, suc, _+_, _/_, _%_}
 use mathlib.Core.List.{List}
 use mathlib.Core.Bool.{Bool, true, false}
@@ -13,28 +14,30 @@ use Rattle.egg.specs.Factor.{stretch}
 use Rattle.factor.specs.Questions.{admits, ifReach}
 use Rattle.factor_questions.specs.Walks.{onReached, composeIn, inverseIn}
 
--- x is what the even part of the exponent gives; r is the rest.
+-- x, and once more a where the last argument, the exponent's remainder by 2, is not 0.
 abbrev pub oddToo : (ℕ → ℕ → Reached) → ℕ → ℕ → ℕ → Reached
 oddToo op a x zero = Element (record { 0 = x })
 oddToo op a x (suc r) = op x a
 
--- The k-th power: the square of the power by k / 2, and once more a if k is odd. It goes on at most `fuel` times, and k are enough.
+-- The k-th power: the square of the power by k / 2, and once more a if k is odd. `fuel` bounds how often it halves; k times is enough.
 unfoldable pub halves : ℕ → (ℕ → ℕ → Reached) → ℕ → ℕ → Reached
 halves zero op a k = Element (record { 0 = 0 })
 halves (suc fuel) op a zero = Element (record { 0 = 0 })
 halves (suc fuel) op a (suc k) =
     onReached (halves fuel op a (suc k / 2)) (λ x. onReached (op x x) (λ y. oddToo op a y (suc k % 2)))
 
--- "`powi` as the source, i32::MIN included: it squares the 2^30 power of the inverse." i is the inverse, and -k the exponent; `half` is 2^30.
+-- A power by the negative exponent -k, where i is the inverse. "`powi` as the source, i32::MIN included: it squares the 2^30 power of the inverse."
+-- `half` is 2^30, and the test says that k is twice that.
 abbrev pub negated : Bool → ℕ → (ℕ → ℕ → Reached) → ℕ → ℕ → Reached
 negated true half op i k = onReached (halves half op i half) (λ x. op x x)
 negated false half op i k = halves k op i k
 
+-- The power by any exponent; `op` composes and `inv` inverts.
 unfoldable pub powers : ℕ → (ℕ → ℕ → Reached) → (ℕ → Reached) → ℕ → ℤ → Reached
 powers half op inv a (pos k) = halves k op a k
 powers half op inv a (negsuc k) = onReached (inv a) (λ i. negated (eqb (suc k) (half + half)) half op i (suc k))
 
--- `powi` in one factor, which has no such call of its own.
+-- `powi` in one factor: the crate `factor` has no such call.
 unfoldable pub powiAlone : List ℕ → Factor → GroupElementId → ℤ → Reached
 powiAlone t f a i =
     ifReach (admits (length t) f (a .0) 0)

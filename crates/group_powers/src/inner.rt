@@ -1,4 +1,4 @@
-// The work of the calls, on products whose handles fit and whose elements have numbers of 32 bits.
+// The work of `powi`, done once the handles are known to fit and the product's elements to have numbers of 32 bits.
 ghost use mathlib.Core.Path.{_≡_};
 ghost use mathlib.Core.Bool.{true};
 ghost use Prim.Native.Nat.{_≤_};

@@ -1,2 +1,2 @@
-// group.rs: powers.
+// Answers powers of a product's element: `powi` of group.rs.
 pub mod inner;

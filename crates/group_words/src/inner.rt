@@ -1,4 +1,4 @@
-// The work of the calls, on products whose handles fit.
+// The work of the calls on words, done once the handles are known to fit.
 ghost use mathlib.Core.Path.{_≡_};
 ghost use mathlib.Core.Bool.{true};
 ghost use lib.ListN.{length};
@@ -58,6 +58,7 @@ fn readables(table: &[u32], g: Group, e: GroupElementId) -> bool
     true
 }
 
+// Writes each digit's word after that of the digit before.
 fn spells(table: &[u32], g: Group, e: GroupElementId, out: &mut [u8])
     requires { ⌜ allFit (length (now table)) (handles g) ≡ true ⌝ }
     ensures { λ r. ⌜ now (out .exit) ≡ spells (now (table .entry)) (handles g) (e .0) 0 0 (now (out .entry)) ⌝ }
@@ -89,6 +90,7 @@ fn spells(table: &[u32], g: Group, e: GroupElementId, out: &mut [u8])
     }
 }
 
+// Refuses in this order: 17 for a recorded length over 4,096, 4 for a short buffer, 17 for a letter that cannot be read; else writes the word.
 pub fn write_in(table: &[u32], g: Group, e: GroupElementId, out: &mut [u8]) -> Counted
     requires { ⌜ allFit (length (now table)) (handles g) ≡ true ⌝ }
     ensures { λ r. ⌜ (r ≡ writes (now (table .entry)) (handles g) (e .0) (length (now (out .entry)))) × (now (out .exit) ≡ leaves (writes (now (table .entry)) (handles g) (e .0) (length (now (out .entry)))) (now (table .entry)) (handles g) (e .0) (now (out .entry))) ⌝ }

@@ -1,2 +1,2 @@
-// group.rs: the words of a product's elements, their lengths and letters.
+// Answers the words of a product's elements, their lengths and their letters. From group.rs.
 pub mod inner;

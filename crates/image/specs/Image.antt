@@ -1,5 +1,5 @@
--- A stored image and its check. Document 01: "Four bytes, big-endian, the length of what follows; version byte 1; n in one byte; element count N in two;
--- then the successors, two bytes each, by element and then generator. Length is 4 + 2nN."
+-- This file defines a stored image and the answer of its check. Document 01: "Four bytes, big-endian, the length of what follows; version byte 1; n
+-- in one byte; element count N in two; then the successors, two bytes each, by element and then generator. Length is 4 + 2nN."
 use Prim.Native.Nat.{ℕ, _+_, _*_, _<_}
 use mathlib.Core.Path.{_≡_}
 use mathlib.Core.List.{List, _++_}
@@ -10,17 +10,20 @@ use Rattle.build_lending.specs.Lending.{tableNeed, workNeed}
 use Rattle.image_cells.specs.Cells.{spell2, spell4, halves}
 use Rattle.image_check.specs.Short.{built}
 
--- What the head says: the length of what follows it, the generators, the elements.
+-- The length of what follows, as the head says it in its first four bytes.
 abbrev pub lengthOf : List ℕ → ℕ
 lengthOf l = spell4 (getD l 3 0) (getD l 2 0) (getD l 1 0) (getD l 0 0)
 
+-- How many generators the head says: n.
 abbrev pub generatorsOf : List ℕ → ℕ
 generatorsOf l = getD l 5 0
 
+-- How many elements the head says: N.
 abbrev pub elementsOf : List ℕ → ℕ
 elementsOf l = spell2 (getD l 6 0) (getD l 7 0)
 
--- "Checks: total size at least 8, length, version (16), n (1), N not 0 and length formula (16)"; 0 where none fails.
+-- The number of the first refusal that the head gives, and 0 where it gives none. "Checks: total size at least 8, length, version (16), n (1), N not
+-- 0 and length formula (16)".
 unfoldable pub headNumber : List ℕ → ℕ
 headNumber l =
     pick (ltb (length l) 8) 16
@@ -31,12 +34,13 @@ headNumber l =
     16)
     16)
 
--- "Lent byte work of N(32n²+100) bytes".
+-- How many bytes of work the check needs: "lent byte work of N(32n²+100) bytes".
 abbrev pub bytesNeed : ℕ → ℕ → ℕ
 bytesNeed n count = count * (32 * n * n + 100)
 
--- The number: of the head, then 4, then what reading into buffers with room N gives: fewer than N reached is 16, then 8 to 12; 0 where it is accepted.
--- (The work of the 32-bit build is zeros here; its number is the same for any other.)
+-- The number that the check answers, where `size` bytes of work are lent. The head's refusal comes first, then 4, then what reading into buffers with
+-- room N gives: its own refusal, 16 where fewer than N elements are reached, then 8 to 12; 0 where the image is accepted. (The work of the 32-bit
+-- build is zeros here; the number is the same whatever it holds.)
 unfoldable pub imageNumber : List ℕ → ℕ → ℕ
 imageNumber l size =
     pick (eqb (headNumber l) 0)
@@ -45,7 +49,7 @@ imageNumber l size =
     (elementsOf l)))
     (headNumber l)
 
--- "Untouched after a bad head or 4, else that many bytes are zero afterwards."
+-- What the work holds afterwards: "untouched after a bad head or 4, else that many bytes are zero afterwards".
 unfoldable pub imageWork : List ℕ → List ℕ → List ℕ
 imageWork l w =
     pick (eqb (headNumber l) 0)
@@ -53,7 +57,7 @@ imageWork l w =
     (replicate (bytesNeed (generatorsOf l) (elementsOf l)) 0 ++ drop (bytesNeed (generatorsOf l) (elementsOf l)) w))
     w
 
--- What was read of the head, and a limit.
+-- r is the number that the head says, and it is below a limit that its bytes set.
 pub record Said (r is limit : ℕ) : Type 0 where
   pub at : r ≡ is
   pub small : r < limit

@@ -1,5 +1,5 @@
--- A factor read back from an image. Document 01: "Checks: total size at least 8, length, version (16), n (1), N not 0 and length formula (16), buffers (4),
--- then reading with room N; fewer than N reached is 16, before 8."
+-- This file defines how a factor is read back from an image. Document 01: "Checks: total size at least 8, length, version (16), n (1), N not 0 and
+-- length formula (16), buffers (4), then reading with room N; fewer than N reached is 16, before 8."
 use Prim.Native.Nat.{ℕ}
 use mathlib.Core.List.{List}
 use lib.ListN.{length, drop, take}
@@ -10,10 +10,11 @@ use Rattle.image_cells.specs.Cells.{halves}
 use Rattle.image.specs.Image.{generatorsOf, elementsOf, headNumber}
 use Rattle.image_reading.specs.Read.{imageIn}
 
--- The place of a bad head: of 1, "more than 8 generators", it is "the count"; 16 has none.
+-- The place of a bad head's refusal: for 1, "more than 8 generators", it is "the count"; for 16 there is none.
 abbrev pub headPlace : List ℕ → ℕ
 headPlace l = pick (eqb (headNumber l) 1) (generatorsOf l) 0
 
+-- What `read` answers and leaves in its buffers. Refuses, with these as they were, the head's 16 or 1, then 4; else builds with room N.
 unfoldable pub readImage : List ℕ → List ℕ → ℕ → List ℕ → Making
 readImage l table start work =
     pick (eqb (headNumber l) 0)

@@ -1,4 +1,5 @@
-// A stored image: its head; written from a factor, read back, checked in lent bytes, and walked.
+// The calls on stored images: their head; an image written from a factor, read back, checked in lent bytes, and walked. The Rust has no such file:
+// document 01 asks for it under "The image".
 ghost use mathlib.Core.Path.{_≡_};
 ghost use Prim.Native.Nat.{_*_, _≤_};
 ghost use lib.ListN.{length};
@@ -26,14 +27,14 @@ fn said_length(image: &[u8]) -> u32
     )
 }
 
-// How many generators the head says.
+// Answers how many generators the head says, and 0 where the image is too short to say it.
 pub fn generators(image: &[u8]) -> u8
     ensures { λ r. ⌜ r ≡ generatorsOf (now (image .entry)) ⌝ }
 {
     egg::inner::byte(image, 5)
 }
 
-// How many elements the head says.
+// Answers how many elements the head says, a byte that is missing being 0.
 pub fn elements(image: &[u8]) -> u32
     ensures { λ r. ⌜ Said r (elementsOf (now (image .entry))) 65536 ⌝ }
 {
@@ -42,7 +43,8 @@ pub fn elements(image: &[u8]) -> u32
     image_cells::inner::spell_half(a, b)
 }
 
-// 16 and 1 in the head, or 0.
+// Answers the number of the first refusal that the head gives, or 0: 16 for a wrong size, length or version, 1 for more than 8 generators, 16 for no
+// elements or a length other than 4 + 2nN.
 pub fn head(image: &[u8]) -> u32
     ensures { λ r. ⌜ r ≡ headNumber (now (image .entry)) ⌝ }
 {
@@ -70,7 +72,7 @@ pub fn head(image: &[u8]) -> u32
     0
 }
 
-// The front of the lent bytes: the table of the build, four bytes a number.
+// How many of the lent bytes, from the front on, are the table of the build: four for each number.
 fn table_bytes(n: u8, count: u32) -> usize
     ensures { λ r. ⌜ r ≡ 4 * tableNeed n count ⌝ }
 {
@@ -85,7 +87,8 @@ pub fn bytes_need(n: u8, count: u32) -> usize
     (count as usize) * (32 * m * m + 100)
 }
 
-// Checks an image in lent bytes: the refusal's number, or 0.
+// Checks an image in lent bytes and answers the refusal's number, or 0 where a group has its table. Refuses in this order: 16 or 1 for the head, 4
+// for short work, 7, 5 or 6 while it reads, 16 for fewer elements than the head says, then 8 to 12.
 pub fn check(image: &[u8], work: &mut [u8]) -> u32
     ensures { λ r. ⌜ (r ≡ imageNumber (now (image .entry)) (length (now (work .entry)))) × (now (work .exit) ≡ imageWork (now (image .entry)) (now (work .entry))) ⌝ }
 {
@@ -118,7 +121,8 @@ fn size(n: u8, count: u32) -> u32
     8 + 2 * (n as u32) * count
 }
 
-// Writes the image of a factor to the start of a lent byte buffer and answers its length.
+// Writes the image of a factor to the start of a lent byte buffer and answers its length. Refuses in this order: 17 for a handle that does not fit, 4
+// for a short buffer, 17 for a step that is missing or out of range.
 pub fn write(table: &[u32], f: Factor, out: &mut [u8]) -> Counted
     ensures { λ r. ⌜ (r ≡ writeCount (now (table .entry)) f (length (now (out .entry)))) × (now (out .exit) ≡ writtenImage (now (table .entry)) f (now (out .entry))) ⌝ }
 {
@@ -154,7 +158,8 @@ fn head_place(image: &[u8], found: u32) -> u32
     }
 }
 
-// Builds the factor that an image stores into the stretch of `table` that starts at `start`.
+// Builds the factor that an image stores into the stretch of `table` that starts at `start`. Refuses as `check` does, with the places; 4 is for a
+// short table or work.
 pub fn read(image: &[u8], table: &mut [u32], start: usize, work: &mut [u32]) -> Made
     ensures { λ r. ⌜ Making.making r (now (table .exit)) (now (work .exit)) ≡ readImage (now (image .entry)) (now (table .entry)) start (now (work .entry)) ⌝ }
 {
@@ -179,7 +184,8 @@ pub fn read(image: &[u8], table: &mut [u32], start: usize, work: &mut [u32]) -> 
     build_lending::inner::made(start, count, n, made)
 }
 
-// Walks a word of generators from an element: the element reached, or 65,536 + the refusal's number.
+// Walks a word of generators from an element and answers the element reached, or 65,536 + the refusal's number. Refuses in this order: 16 or 1 for
+// the head, 14 for the start or a generator out of range, 17 for a number read that is no element.
 pub fn walk(image: &[u8], start: GroupElementId, word: &[u8]) -> u32
     ensures { λ r. ⌜ r ≡ walkNumber (now (image .entry)) (start .0) (now (word .entry)) ⌝ }
 {

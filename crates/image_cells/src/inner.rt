@@ -1,4 +1,4 @@
-// 32-bit cells in a lent stretch of bytes, total as those of `egg`: a read past the end is 0, a write there does nothing.
+// Reads and writes numbers in a lent stretch of bytes. They are total as those of `egg`: a read past the end is 0, a write there does nothing.
 ghost use mathlib.Core.Path.{_≡_};
 ghost use Prim.Native.Nat.{_+_, _≤_};
 ghost use lib.ListN.{length, getD, replicate};
@@ -31,7 +31,7 @@ pub fn spell_half(a: u8, b: u8) -> u32
     256 * (a as u32) + (b as u32)
 }
 
-// The i-th number of two bytes, and 0 past the end.
+// The i-th number of two bytes, the highest first, and 0 past the end.
 pub fn half(s: &[u8], i: usize) -> u32
     ensures { λ r. ⌜ r ≡ getD (halves (now (s .entry))) i 0 ⌝ }
 {
@@ -43,7 +43,7 @@ pub fn half(s: &[u8], i: usize) -> u32
     }
 }
 
-// Four bytes from `at` on.
+// Stores four bytes from place `at` on.
 fn store(s: &mut [u8], at: usize, a: u8, b: u8, c: u8, d: u8)
     requires { ⌜ at + 4 ≤ length (now s) ⌝ }
     ensures { λ r. ⌜ now (s .exit) ≡ stored4 (now (s .entry)) at a b c d ⌝ }
@@ -74,7 +74,7 @@ pub fn put(s: &mut [u8], i: usize, v: usize)
     }
 }
 
-// Zero bytes, which spell zero cells.
+// Writes zero bytes, which spell zero cells.
 pub fn clear(s: &mut [u8])
     ensures { λ r. ⌜ now (s .exit) ≡ replicate (length (now (s .entry))) 0 ⌝ }
 {

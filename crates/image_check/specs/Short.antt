@@ -1,5 +1,6 @@
--- What is left of the checks 8 to 12 after a reading that ended: the successors are there and in range, the words spell their elements and the arrivals
--- are n each where no predecessor is missing, so these are not tested again.
+-- This file defines the checks that are made over lent bytes after a reading that ended: those of 8 to 12 that such a reading has not settled. The
+-- successors are there and in range by then, the words spell their elements, and each element has n arrivals where no predecessor is missing, so
+-- these are not tested again.
 use Prim.Native.Nat.{ℕ}
 use mathlib.Core.Path.{_≡_}
 use mathlib.Core.List.{List}
@@ -15,7 +16,7 @@ use Rattle.build_checks_inverses.specs.Inverses.{fillInverses, inversesRight}
 use Rattle.build_checks_group.specs.Lefts.{identityRow, Lefts, left, leftVerdict, thenLeft, lefts}
 use Rattle.build_reading.specs.Reading.{Placed, placed, readAll, composedAt}
 
--- 8 for predecessors, 9 at each place, 10 and 11, on the table alone; and the table then.
+-- The checks on the table alone, and the table with its inverses written. Refuses in this order: 8 for a missing predecessor, 9 at a place, 10, 11.
 unfoldable pub shortTable : List ℕ → ℕ → ℕ → Lefts
 shortTable t n count =
     thenLeft (missing t n count n) t
@@ -23,16 +24,17 @@ shortTable t n count =
     (thenLeft (inversesRight (fillInverses count t n 0) n count) (fillInverses count t n 0)
     (left (identityRow (fillInverses count t n 0) n) (fillInverses count t n 0))))
 
--- 12 on a table that has passed the others.
+-- The check of 12, on a table that has passed the others.
 abbrev pub shortRest : Lefts → List ℕ → ℕ → ℕ → Verdict
 shortRest (left Fine t) w n count = leftVerdict (lefts n t n count w 0)
 shortRest (left (Refused r) t) w n count = Refused r
 
+-- All of these checks, with the work w.
 unfoldable pub short : List ℕ → List ℕ → ℕ → ℕ → Verdict
 short t w n count = shortRest (shortTable t n count) w n count
 
--- P of some work of so many cells. It holds hints of inverses when 12 is tested; on a table that a reading left 12 does not depend on what it holds, so the
--- contracts leave that open.
+-- There is some work of so many cells for which P holds. When 12 is tested the work holds hints of inverses; on a table that a reading left 12 does
+-- not depend on what it holds, so the contracts leave that open.
 pub record SomeWork (long : ℕ) (P : List ℕ → Type 0) : Type 0 where
   pub work : List ℕ
   pub as-long : length work ≡ long
@@ -42,12 +44,12 @@ pub record SomeWork (long : ℕ) (P : List ℕ → Type 0) : Type 0 where
 abbrev pub verdictNumber : Verdict → ℕ
 verdictNumber v = verdictPaper v .number
 
--- What a reading gave, with room for N elements: its refusal, or 16 for fewer than N, or what the checks give then.
+-- The number of what a reading with this room gave: its own refusal, or 16 for fewer elements than the room, or what the checks give then.
 abbrev pub numberBy : (List ℕ → Verdict) → Placed → ℕ → ℕ
 numberBy check (placed (counted.Refused r) t) room = r .number
 numberBy check (placed (counted.Count c) t) room = pick (ltb c room) 16 (verdictNumber (check t))
 
--- With the short checks, in a table of so many cells.
+-- The number by the short checks, after a reading of the rows into a table of `size` cells.
 unfoldable pub judged : (size : ℕ) (w rows : List ℕ) (n room : ℕ) → ℕ
 judged size w rows n room = numberBy (λ t. short t w n room) (readAll (composedAt rows n) n room (replicate size 0)) room
 

@@ -1,4 +1,5 @@
-// The checks after a reading that ended, in one lent stretch of bytes: the table before `at`, the work from there on.
+// The checks after a reading that ended, in one lent stretch of bytes: the table before `at`, the work from there on. A function whose name ends in
+// `_at` is one of the module `checking` on these two parts.
 ghost use mathlib.Core.Path.{_≡_};
 ghost use Prim.Native.Nat.{_≤_, _/_};
 ghost use lib.ListN.{length, getD, take, drop};
@@ -30,7 +31,7 @@ fn left_at(b: &[u8], at: usize, n: u8, s: GeneratorId, x: GroupElementId) -> Gro
     checking::left_of(&b[..at], &b[at..], n, s, x)
 }
 
-// Multiplication on the left by generator s, into the start of the work.
+// Writes multiplication on the left by generator s to the start of the work.
 fn fill_left(b: &mut [u8], at: usize, n: u8, count: u32, s: GeneratorId)
     requires { ⌜ at ≤ length (now b) ⌝ }
     ensures { λ r. ⌜ (take at (now (b .exit)) ≡ take at (now (b .entry))) × (cells (drop at (now (b .exit))) ≡ fillLeft count (cells (take at (now (b .entry)))) n (s .0) (cells (drop at (now (b .entry)))) 0) ⌝ }
@@ -50,7 +51,7 @@ fn goes_at(b: &[u8], at: usize, n: u8, count: u32) -> Verdict
     checking::all_go(&b[..at], &b[at..], n, count)
 }
 
-// 12: each generator on the left commutes with every step.
+// Refuses with 12 where a generator on the left does not commute with every step.
 fn check12(b: &mut [u8], at: usize, n: u8, count: u32) -> Verdict
     requires { ⌜ at ≤ length (now b) ⌝ }
     ensures { λ r. ⌜ Lefts.left r (cells (drop at (now (b .exit)))) ≡ lefts n (cells (take at (now (b .entry)))) n count (cells (drop at (now (b .entry)))) 0 ⌝ }
@@ -82,7 +83,7 @@ fn hint_at(b: &[u8], at: usize, n: u8, e: GroupElementId) -> u32
     checking::hint_of(&b[..at], &b[at..], n, e)
 }
 
-// The hints of all elements, into the start of the work.
+// Writes the hints of all elements to the start of the work.
 fn fill_hints(b: &mut [u8], at: usize, n: u8, count: u32)
     requires { ⌜ at ≤ length (now b) ⌝ }
     ensures { λ r. ⌜ (take at (now (b .exit)) ≡ take at (now (b .entry))) × Hints (cells (take at (now (b .entry)))) (cells (drop at (now (b .exit)))) n count ⌝ }
@@ -102,6 +103,7 @@ fn inverted_at(b: &[u8], at: usize, n: u8, e: GroupElementId) -> GroupElementId
     checking::inverse_by(&b[..at], &b[at..], n, e)
 }
 
+// Writes the inverses of all elements, by the hints in the work.
 fn fill_inverses(b: &mut [u8], at: usize, n: u8, count: u32)
     requires { ⌜ (at ≤ length (now b)) × Hints (cells (take at (now b))) (cells (drop at (now b))) n count ⌝ }
     ensures { λ r. ⌜ cells (take at (now (b .exit))) ≡ fillInverses count (cells (take at (now (b .entry)))) n 0 ⌝ }
@@ -119,7 +121,7 @@ fn fill_inverses(b: &mut [u8], at: usize, n: u8, count: u32)
     }
 }
 
-// The inverses, by hints that are left in the work: 12 does not depend on what it holds.
+// Writes the inverses by hints, which are left in the work: 12 does not depend on what it holds.
 fn write_inverses(b: &mut [u8], at: usize, n: u8, count: u32)
     requires { ⌜ at ≤ length (now b) ⌝ }
     ensures { λ r. ⌜ cells (take at (now (b .exit))) ≡ fillInverses count (cells (take at (now (b .entry)))) n 0 ⌝ }
@@ -128,7 +130,7 @@ fn write_inverses(b: &mut [u8], at: usize, n: u8, count: u32)
     fill_inverses(b, at, n, count);
 }
 
-// 8 to 11 on the table, with the inverses written.
+// Checks 8 to 11 on the table, and writes its inverses.
 fn check_table(b: &mut [u8], at: usize, n: u8, count: u32) -> Verdict
     requires { ⌜ at ≤ length (now b) ⌝ }
     ensures { λ r. ⌜ Lefts.left r (cells (take at (now (b .exit)))) ≡ shortTable (cells (take at (now (b .entry)))) n count ⌝ }
@@ -149,6 +151,7 @@ fn check_table(b: &mut [u8], at: usize, n: u8, count: u32) -> Verdict
     checking::identity_row(&b[..at], n)
 }
 
+// Checks 8 to 12.
 fn check_all(b: &mut [u8], at: usize, n: u8, count: u32) -> Verdict
     requires { ⌜ at ≤ length (now b) ⌝ }
     ensures { λ r. ⌜ SomeWork (length (cells (drop at (now (b .entry))))) (λ w. r ≡ short (cells (take at (now (b .entry)))) w n count) ⌝ }
@@ -160,6 +163,7 @@ fn check_all(b: &mut [u8], at: usize, n: u8, count: u32) -> Verdict
     check12(b, at, n, count)
 }
 
+// The number of a verdict's refusal, or 0.
 fn number(v: Verdict) -> u32
     ensures { λ r. ⌜ r ≡ verdictNumber v ⌝ }
 {

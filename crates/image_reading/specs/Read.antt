@@ -1,4 +1,4 @@
--- The build from an image's rows. Document 01: "then reading with room N; fewer than N reached is 16, before 8."
+-- This file defines the build from an image's rows. Document 01: "then reading with room N; fewer than N reached is 16, before 8."
 use Prim.Native.Nat.{ℕ}
 use mathlib.Core.List.{List}
 use lib.ListN.{replicate}
@@ -10,14 +10,15 @@ use Rattle.build_reading.specs.Build.{numbered}
 use Rattle.build_lending.specs.Finish.{Built, finishedPlaced}
 use Rattle.build_reading.specs.Reading.{Placed, placed, readAll, composedAt}
 
--- A count below the room is 16.
+-- Refuses with 16 a reading that reached fewer elements than the room.
 abbrev pub reachedAll : ℕ → Counted → Counted
 reachedAll room (Count c) = pick (ltb c room) (Refused (numbered 16 0 0 0)) (Count c)
 reachedAll room (Refused r) = Refused r
 
+-- The same for a reading with the table that it left.
 abbrev pub allPlaced : ℕ → Placed → Placed
 allPlaced room (placed c t) = placed (reachedAll room c) t
 
--- The build in its stretches: the table's is zeroed first, and read into; then 16, then the checks.
+-- The whole build in its own stretches: the table's starts as zeros and is read into; then comes 16, then the checks 8 to 12.
 unfoldable pub imageIn : (size : ℕ) (w rows : List ℕ) (n room : ℕ) → Built
 imageIn size w rows n room = finishedPlaced (allPlaced room (readAll (composedAt rows n) n room (replicate size 0))) n w

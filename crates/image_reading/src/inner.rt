@@ -1,4 +1,4 @@
-// A build from an image's successors, two bytes each.
+// Builds from an image's successors, two bytes each.
 ghost use mathlib.Core.Path.{_≡_};
 ghost use lib.ListN.{length};
 ghost use Rattle.build_lending.specs.Finish.{Built};
@@ -28,7 +28,7 @@ fn read_row(t: &mut [u32], rows: &[u8], n: u8, room: u32, e: GroupElementId, fir
     Counted::Count(count)
 }
 
-// Rows in the order of their elements, as long as there is a next element.
+// Reads the rows in the order of their elements, as long as there is a next element.
 fn read_rows(t: &mut [u32], rows: &[u8], n: u8, room: u32) -> Counted
     ensures { λ r. ⌜ Placed.placed r (now (t .exit)) ≡ readAll (composedAt (halves (now (rows .entry))) n) n room (now (t .entry)) ⌝ }
 {
@@ -48,7 +48,7 @@ fn read_rows(t: &mut [u32], rows: &[u8], n: u8, room: u32) -> Counted
     Counted::Count(count)
 }
 
-// 16 where fewer elements were reached than there is room for.
+// Refuses with 16 where fewer elements were reached than there is room for.
 fn reached_all(room: u32, read: Counted) -> Counted
     ensures { λ r. ⌜ r ≡ reachedAll room read ⌝ }
 {
@@ -69,7 +69,7 @@ fn reached_all(room: u32, read: Counted) -> Counted
     }
 }
 
-// The whole build from an image's rows, in its stretches.
+// Does the whole build from an image's rows, in its stretches.
 pub fn read_in(t: &mut [u32], w: &mut [u32], rows: &[u8], n: u8, room: u32) -> Counted
     ensures { λ r. ⌜ Built.built r (now (t .exit)) (now (w .exit)) ≡ imageIn (length (now (t .entry))) (now (w .entry)) (halves (now (rows .entry))) n room ⌝ }
 {

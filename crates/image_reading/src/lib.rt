@@ -1,2 +1,2 @@
-// The rows of a stored image, two bytes a successor, read into a build. There are no calls of its own: `image` has them.
+// Reads the rows of a stored image, two bytes a successor, into a build. This crate has no public calls: `image` has them.
 pub mod inner;

@@ -1,4 +1,5 @@
--- A word walked on an image's rows. Document 01: "The walk checks the image head, then the start and each generator (14), then each number read (17)."
+-- This file defines how a word is walked on an image's rows. Document 01: "The walk checks the image head, then the start and each generator (14),
+-- then each number read (17)."
 use Prim.Native.Nat.{ℕ}
 use mathlib.Core.List.{List, [], _∷_}
 use mathlib.Core.Bool.{Bool, true, _&&_}
@@ -6,12 +7,13 @@ use lib.Dec.{ltb, leb}
 use Rattle.egg.specs.Table.{pick}
 use Rattle.build_reading.specs.Reading.{composedAt}
 
--- Each letter is a generator.
+-- True where each letter is a generator.
 unfoldable pub lettersBelow : ℕ → List ℕ → Bool
 lettersBelow n [] = true
 lettersBelow n (g ∷ w) = ltb g n && lettersBelow n w
 
--- From e along the word, in a list of rows of n numbers; 17 where a number read is no element.
+-- Walks from e along the word, in a list of rows of n numbers. Answers the element reached, or 65,553, which is 65,536 + 17, where a number read is
+-- no element.
 unfoldable pub follow : List ℕ → ℕ → ℕ → ℕ → List ℕ → ℕ
 follow rows n count e [] = e
 follow rows n count e (g ∷ w) = pick (leb count (composedAt rows n e g)) 65553 (follow rows n count (composedAt rows n e g) w)

@@ -1,4 +1,4 @@
-// A word walked on an image's successors.
+// Walks a word on an image's successors.
 ghost use mathlib.Core.Path.{_≡_};
 ghost use Rattle.build_reading.specs.Reading.{composedAt};
 ghost use Rattle.image_cells.specs.Cells.{halves};
@@ -6,6 +6,7 @@ ghost use Rattle.image_walk.specs.Walked.{lettersBelow, follow};
 use egg::GeneratorId;
 use egg::GroupElementId;
 
+// Whether each letter is a generator.
 pub fn letters_below(n: u8, word: &[u8]) -> bool
     ensures { λ r. ⌜ r ≡ lettersBelow n (now (word .entry)) ⌝ }
 {
@@ -19,7 +20,7 @@ pub fn letters_below(n: u8, word: &[u8]) -> bool
     true
 }
 
-// The number stored for e and g, which may be beyond the elements.
+// Answers the number stored for e and g, which may be beyond the elements.
 fn stored(rows: &[u8], n: u8, e: GroupElementId, g: GeneratorId) -> u32
     ensures { λ r. ⌜ r ≡ composedAt (halves (now (rows .entry))) n (e .0) (g .0) ⌝ }
 {
@@ -28,7 +29,7 @@ fn stored(rows: &[u8], n: u8, e: GroupElementId, g: GeneratorId) -> u32
     image_cells::inner::half(rows, (row as usize) * (n as usize) + (k as usize))
 }
 
-// The element reached, or 65,536 + 17.
+// Answers the element reached, or 65,536 + 17 where a number read is no element.
 pub fn follow(rows: &[u8], n: u8, count: u32, start: GroupElementId, word: &[u8]) -> u32
     ensures { λ r. ⌜ r ≡ follow (halves (now (rows .entry))) n count (start .0) (now (word .entry)) ⌝ }
 {

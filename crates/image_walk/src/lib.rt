@@ -1,2 +1,2 @@
-// A word walked on the rows of a stored image, two bytes a successor. There are no calls of its own: `image` has them.
+// Walks a word on the rows of a stored image, two bytes a successor. This crate has no public calls: `image` has them.
 pub mod inner;

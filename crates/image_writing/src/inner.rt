@@ -1,4 +1,4 @@
-// An image's bytes, stored from a factor's stretch.
+// Stores an image's bytes, from a factor's stretch.
 ghost use mathlib.Core.Path.{_≡_};
 ghost use Prim.Native.Nat.{_+_, _≤_};
 ghost use Rattle.egg.specs.Table.{stepOf};
@@ -9,7 +9,7 @@ use egg::GroupElementId;
 use egg::Reached;
 use egg::Verdict;
 
-// 17 where the stored step is missing or leads beyond the elements.
+// Refuses with 17 a stored step that is missing or leads beyond the elements.
 fn known(s: &[u32], n: u8, count: u32, e: GroupElementId, g: GeneratorId) -> Verdict
     ensures { λ r. ⌜ r ≡ stepRead (readStep (now (s .entry)) n count (e .0) (g .0)) ⌝ }
 {
@@ -19,6 +19,7 @@ fn known(s: &[u32], n: u8, count: u32, e: GroupElementId, g: GeneratorId) -> Ver
     }
 }
 
+// Refuses with 17 the first such step of one row.
 fn known_row(s: &[u32], n: u8, count: u32, e: GroupElementId) -> Verdict
     ensures { λ r. ⌜ r ≡ knownRow (now (s .entry)) n count (e .0) ⌝ }
 {
@@ -33,6 +34,7 @@ fn known_row(s: &[u32], n: u8, count: u32, e: GroupElementId) -> Verdict
     Verdict::Fine
 }
 
+// Refuses with 17 the first such step of the table, so that nothing is written where there is one.
 pub fn all_known(s: &[u32], n: u8, count: u32) -> Verdict
     ensures { λ r. ⌜ r ≡ allKnown (now (s .entry)) n count ⌝ }
 {
@@ -47,7 +49,7 @@ pub fn all_known(s: &[u32], n: u8, count: u32) -> Verdict
     Verdict::Fine
 }
 
-// A number in two bytes from `at` on, the highest first.
+// Stores a number in two bytes from place `at` on, the highest first.
 fn put_half(out: &mut [u8], at: usize, v: u32)
     requires { ⌜ at + 1 ≤ 1099511627776 ⌝ }
     ensures { λ r. ⌜ now (out .exit) ≡ putHalf (now (out .entry)) at v ⌝ }
@@ -84,7 +86,7 @@ pub fn put_rows(out: &mut [u8], s: &[u32], n: u8, count: u32)
     }
 }
 
-// The length of what follows, version 1, the generators and the elements.
+// Stores the head: the length of what follows, version 1, the generators and the elements.
 pub fn put_head(out: &mut [u8], len: u32, n: u8, count: u32)
     ensures { λ r. ⌜ now (out .exit) ≡ putHead len n count (now (out .entry)) ⌝ }
 {

@@ -1,2 +1,2 @@
-// A stored image's bytes, two a successor, written from a factor's stretch. There are no calls of its own: `image` has them.
+// Writes a stored image's bytes, two a successor, from a factor's stretch. This crate has no public calls: `image` has them.
 pub mod inner;

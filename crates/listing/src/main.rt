@@ -1,4 +1,4 @@
-// The listing program: a group's pair orders on standard input, its listing on standard output.
+// The listing program: it reads a group's pair orders from standard input and prints its listing to standard output.
 
 // No right input is longer than 57 bytes, so 64 show every extra byte. No listing is longer than 9,268 bytes (proofs/Fits.antt), so all of it is written.
 fn main() {

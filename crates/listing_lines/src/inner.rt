@@ -19,7 +19,7 @@ ghost use Rattle.listing_lines.specs.Text.{
 use egg::GeneratorId;
 use egg::GroupElementId;
 
-// The byte at `at`, where the buffer has that place.
+// Stores the byte at `at`, where the buffer has that place.
 fn put_byte(out: &mut [u8], at: usize, b: u8) -> usize
     requires { ⌜ Ends at (b ∷ []) ⌝ }
     ensures { λ r. ⌜ Writes (now (out .entry)) at (b ∷ []) (now (out .exit)) r ⌝ }
@@ -30,6 +30,7 @@ fn put_byte(out: &mut [u8], at: usize, b: u8) -> usize
     at + 1
 }
 
+// Stores the bytes of a word.
 fn write_word(out: &mut [u8], at: usize, word: &[u8]) -> usize
     requires { ⌜ Ends at (now word) ⌝ }
     ensures { λ r. ⌜ Writes (now (out .entry)) at (now (word .entry)) (now (out .exit)) r ⌝ }
@@ -51,7 +52,7 @@ fn digit(x: u32) -> u8
     48 + (x as u8)
 }
 
-// The last k digits of x; no zero leads where k are enough.
+// Stores the last k digits of x; no zero leads where k are enough.
 fn write_digits(out: &mut [u8], at: usize, k: u8, x: u32) -> usize
     requires { ⌜ Ends at (digits k x) ⌝ }
     ensures { λ r. ⌜ Writes (now (out .entry)) at (digits k x) (now (out .exit)) r ⌝ }
@@ -66,7 +67,7 @@ fn write_digits(out: &mut [u8], at: usize, k: u8, x: u32) -> usize
     put_byte(out, next, digit(x % 10))
 }
 
-// Ten digits are enough for 32 bits.
+// Stores a number in decimal: ten digits are enough for 32 bits.
 fn write_decimal(out: &mut [u8], at: usize, x: u32) -> usize
     requires { ⌜ Ends at (decimal x) ⌝ }
     ensures { λ r. ⌜ Writes (now (out .entry)) at (decimal x) (now (out .exit)) r ⌝ }
@@ -74,6 +75,7 @@ fn write_decimal(out: &mut [u8], at: usize, x: u32) -> usize
     write_digits(out, at, 10, x)
 }
 
+// Stores a space and a number.
 fn write_spaced(out: &mut [u8], at: usize, x: u32) -> usize
     requires { ⌜ Ends at (spaced x) ⌝ }
     ensures { λ r. ⌜ Writes (now (out .entry)) at (spaced x) (now (out .exit)) r ⌝ }
@@ -82,7 +84,7 @@ fn write_spaced(out: &mut [u8], at: usize, x: u32) -> usize
     write_decimal(out, next, x)
 }
 
-// The successors of e.
+// Stores the successors of e.
 fn write_steps(out: &mut [u8], at: usize, t: &[u32], n: u8, e: GroupElementId) -> usize
     requires { ⌜ Ends at (stepsText n (now t) n (e .0) 0) ⌝ }
     ensures { λ r. ⌜ Writes (now (out .entry)) at (stepsText n (now (t .entry)) n (e .0) 0) (now (out .exit)) r ⌝ }
@@ -96,20 +98,21 @@ fn write_steps(out: &mut [u8], at: usize, t: &[u32], n: u8, e: GroupElementId) -
     next
 }
 
-// The two numbers of a line that the table holds as they are.
+// Reads the inverse of e, which the table holds as it is.
 fn inverse(t: &[u32], n: u8, e: GroupElementId) -> u32
     ensures { λ r. ⌜ r ≡ inverseOf (now (t .entry)) n (e .0) ⌝ }
 {
     egg::inner::get(t, egg::inner::inverse_at(n, e))
 }
 
+// Reads the word length of e, which the table holds as it is.
 fn word_length(t: &[u32], n: u8, e: GroupElementId) -> u32
     ensures { λ r. ⌜ r ≡ lengthOf (now (t .entry)) n (e .0) ⌝ }
 {
     egg::inner::word_length(t, n, e)
 }
 
-// "element, inverse, word length, successors"
+// Stores one line: "element, inverse, word length, successors".
 fn write_line(out: &mut [u8], at: usize, t: &[u32], n: u8, e: GroupElementId) -> usize
     requires { ⌜ Ends at (lineText (now t) n (e .0)) ⌝ }
     ensures { λ r. ⌜ Writes (now (out .entry)) at (lineText (now (t .entry)) n (e .0)) (now (out .exit)) r ⌝ }
@@ -121,7 +124,7 @@ fn write_line(out: &mut [u8], at: usize, t: &[u32], n: u8, e: GroupElementId) ->
     put_byte(out, d, b'\n')
 }
 
-// The lines of all elements.
+// Stores the lines of all elements.
 fn write_lines(out: &mut [u8], at: usize, t: &[u32], n: u8, count: u32) -> usize
     requires { ⌜ Ends at (linesText count (now t) n 0) ⌝ }
     ensures { λ r. ⌜ Writes (now (out .entry)) at (linesText count (now (t .entry)) n 0) (now (out .exit)) r ⌝ }
@@ -135,7 +138,7 @@ fn write_lines(out: &mut [u8], at: usize, t: &[u32], n: u8, count: u32) -> usize
     next
 }
 
-// The head, "generators, elements", and the lines.
+// Stores the head, "generators, elements", and the lines.
 pub fn write_group(out: &mut [u8], at: usize, t: &[u32], n: u8, count: u32) -> usize
     requires { ⌜ Ends at (groupText (now t) n count) ⌝ }
     ensures { λ r. ⌜ Writes (now (out .entry)) at (groupText (now (t .entry)) n count) (now (out .exit)) r ⌝ }
@@ -147,7 +150,7 @@ pub fn write_group(out: &mut [u8], at: usize, t: &[u32], n: u8, count: u32) -> u
     write_lines(out, d, t, n, count)
 }
 
-// "`refused` and its number"
+// Stores "`refused` and its number".
 pub fn write_refused(out: &mut [u8], at: usize, number: u32) -> usize
     requires { ⌜ Ends at (refusedText number) ⌝ }
     ensures { λ r. ⌜ Writes (now (out .entry)) at (refusedText number) (now (out .exit)) r ⌝ }

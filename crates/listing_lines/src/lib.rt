@@ -1,2 +1,3 @@
-// The listing's text: decimals, the lines of a table with their head, and refusals. There are no calls of its own: `listing_page` has the call.
+// Writes the listing's text: decimals, the lines of a table with their head, and refusals. This crate has no public calls: `listing_page` has the
+// call.
 pub mod inner;

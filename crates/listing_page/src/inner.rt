@@ -1,4 +1,4 @@
-// The page of an input: its orders are read, and what they say is written by `listing_lines`.
+// Makes the page of an input: reads its orders, and has what they give written by `listing_lines`.
 ghost use mathlib.Core.Path.{_≡_};
 ghost use Prim.Native.Nat.{_<_, _≤_};
 ghost use lib.ListN.{length, take, replicate};
@@ -7,7 +7,7 @@ ghost use Rattle.listing_lines.specs.Text.{Writes};
 ghost use Rattle.listing_page.specs.Listing.{orderIn, ordersIn, pageBy, rightPage, listingOf};
 use egg::Verdict;
 
-// "then two bytes an order", the higher first.
+// Reads the i-th order: "then two bytes an order", the higher first.
 pub fn order_at(input: &[u8], i: usize) -> u32
     requires { ⌜ i < 28 ⌝ }
     ensures { λ r. ⌜ r ≡ orderIn (now (input .entry)) i ⌝ }
@@ -15,7 +15,7 @@ pub fn order_at(input: &[u8], i: usize) -> u32
     (egg::inner::byte(input, 2 * i + 1) as u32) * 256 + (egg::inner::byte(input, 2 * i + 2) as u32)
 }
 
-// The k orders of the input, stored from the front on.
+// Stores the first k orders of the input, from the front on.
 pub fn read_orders(input: &[u8], orders: &mut [u32], k: usize)
     requires { ⌜ (k ≤ 28) × (length (now orders) ≡ 28) ⌝ }
     ensures { λ r. ⌜ take k (now (orders .exit)) ≡ ordersIn k (now (input .entry)) 0 ⌝ }
@@ -27,7 +27,7 @@ pub fn read_orders(input: &[u8], orders: &mut [u32], k: usize)
     }
 }
 
-// What an enumeration answered: its lines, or its refusal.
+// Writes what an enumeration answered: its lines, or its refusal.
 pub fn write_answer(out: &mut [u8], answer: Verdict, table: &[u32], n: u8, count: u32) -> usize
     ensures { λ r. ⌜ Writes (now (out .entry)) 0 (pageBy answer (now (table .entry)) n count) (now (out .exit)) r ⌝ }
 {
@@ -37,7 +37,8 @@ pub fn write_answer(out: &mut [u8], answer: Verdict, table: &[u32], n: u8, count
     }
 }
 
-// 3, then 4 for more than four generators, then the enumeration with room 120.
+// Writes the page of a list of orders. Refuses in this order: 2 for its length, 3 for the first wrong order, 4 for more than four generators; then as
+// the enumeration with room 120 does.
 pub fn write_page(
     out: &mut [u8],
     table: &mut [u32],
@@ -61,7 +62,8 @@ pub fn write_page(
     write_answer(out, answer, table, f.generators, f.elements)
 }
 
-// 1, then 2 for missing or extra bytes, then what the orders say.
+// Writes the page of an input. Refuses in this order: 2 for no byte at all, 1 for more than 8 generators, 2 for missing or extra bytes; then as
+// `write_page` does.
 pub fn write_listing(
     input: &[u8],
     out: &mut [u8],

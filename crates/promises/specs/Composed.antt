@@ -1,4 +1,4 @@
--- Demand 2 for composed rows: what is accepted, what an accepted call gives, and what is refused by 12.
+-- This file states demand 2 for composed rows: when a call's build starts, what an accepted call gives, and what 12 refuses.
 use Prim.Native.Nat.{ℕ, _+_, _*_, _≤_, _<_}
 use mathlib.Core.Path.{_≡_}
 use mathlib.Core.Bool.{true}
@@ -22,16 +22,16 @@ pub record RowsRight (table : List ℕ) (start : ℕ) (work rows : List ℕ) (n 
   pub lent : lentRight (length table) start (length work) room n ≡ true
   pub listed : room * n ≤ length rows
 
--- The same by what a host would see: the numbers are read, 8 to 11 pass, and there are an element and some turns after which a live viewer, and one who composes
--- once with the product of the turns along its recorded word, would stand on different elements.
+-- When 12 refuses, by what a host would see: the numbers are read, 8 to 11 pass, and there are an element and some turns after which a live viewer,
+-- and one who composes once with the product of the turns along its recorded word, would stand on different elements.
 pub record Parted (src : ℕ → ℕ → ℕ) (n room N : ℕ) : Type 0 where
   pub readable : Readable src n room N
   pub back : ℕ → ℕ → ℕ
   pub until-12 : Until12 n N src back (recorded n src)
   pub parting : Parting n N src (recorded n src)
 
--- What an accepted call gives: the handle of the given stretch with so many elements as were taken; a factor that is accepted, whose steps are the rows';
--- zeros in its rows beyond the last element and in the needed work; and everything else in both buffers as it was.
+-- What an accepted call gives: the handle of the given stretch with as many elements as were taken; a factor that is accepted, whose steps are the
+-- rows'; zeros in its rows beyond the last element and in the needed work; and everything else in both buffers as it was.
 pub record Given (table : List ℕ) (start : ℕ) (work rows : List ℕ) (n room : ℕ) (f : Factor) (t w : List ℕ) : Type 1 where
   pub handle : f ≡ record { start = start; room = room; generators = n; elements = f .elements }
   pub taken : Taken (composedAt rows n) n room (f .elements)

@@ -1,4 +1,4 @@
--- Demand 3, and what an accepted enumeration gives.
+-- This file states demand 3, and what an accepted enumeration gives.
 use Prim.Native.Nat.{ℕ, _+_, _*_, _≤_}
 use mathlib.Core.Path.{_≡_}
 use mathlib.Core.Logic.{_↔_}
@@ -27,16 +27,17 @@ pub record OrdersRight (table : List ℕ) (start : ℕ) (work orders : List ℕ)
 abbrev pub reaches : List ℕ → Factor → List ℕ → ℕ
 reaches t f u = walk (factorStep t f) 0 u
 
--- "Two generator words lead from the identity to the same element number exactly when one can be turned into the other by inserting or striking out a
--- doubled generator or a full pair relation. Composing the numbers that two words reach gives the number that the joined word reaches."
+-- Demand 3: "Two generator words lead from the identity to the same element number exactly when one can be turned into the other by inserting or
+-- striking out a doubled generator or a full pair relation. Composing the numbers that two words reach gives the number that the joined word
+-- reaches."
 pub record Demand3 (orders : List ℕ) (f : Factor) (t : List ℕ) : Type 0 where
   pub presented : {u v : List ℕ} → Word (f .generators) u → Word (f .generators) v
       → reaches t f u ≡ reaches t f v ↔ Equiv (f .generators) (order-of orders) u v
   pub joined : {u v : List ℕ} → Word (f .generators) u → Word (f .generators) v
       → composeAnswer t f (record { 0 = reaches t f u }) (record { 0 = reaches t f v }) ≡ reach (reaches t f (u ++ v))
 
--- An accepted enumeration: the handle of the given stretch; an accepted factor, so that all that is promised of one holds of it; demand 3; its relations
--- hold at every element; zeros in its rows beyond the last element and in the needed work; everything else in both buffers as it was.
+-- What an accepted enumeration gives: the handle of the given stretch; an accepted factor, so that all that is promised of one holds of it; demand 3;
+-- its relations hold at every element; zeros in its rows beyond the last element and in the needed work; everything else in both buffers as it was.
 pub record Enumerated (table : List ℕ) (start : ℕ) (work orders : List ℕ) (n room : ℕ) (f : Factor) (t w : List ℕ) : Type 0 where
   pub handle : f ≡ record { start = start; room = room; generators = n; elements = f .elements }
   pub accepted : Accepted t f

@@ -1,5 +1,6 @@
--- What a refused call leaves, one statement for every call that makes a factor. Document 01: "1 to 4, 14, and 15 to 17 given before a build starts (a bad image
--- head too) change nothing. Once it has started, any refusal (the ninth generator too) leaves the needed stretch of table and work, and subgroup maps, zero."
+-- This file states what a refused call leaves, once for every call that makes a factor. Document 01: "1 to 4, 14, and 15 to 17 given before a build
+-- starts (a bad image head too) change nothing. Once it has started, any refusal (the ninth generator too) leaves the needed stretch of table and
+-- work, and subgroup maps, zero."
 use Prim.Native.Nat.{ℕ, _+_, _≤_, _<_}
 use mathlib.Core.Path.{_≡_}
 use mathlib.Core.List.{List, [], _∷_}
@@ -32,6 +33,7 @@ pub record Cells (b : Lent) : Type 0 where
   pub before : (i : ℕ) → i < b .start → getD (b .exit) i 0 ≡ getD (b .entry) i 0
   pub after : (i : ℕ) → b .start + b .need ≤ i → getD (b .exit) i 0 ≡ getD (b .entry) i 0
 
+-- Each buffer is cleared so.
 abbrev pub AllCleared : List Lent → Type 0
 AllCleared [] = Unit {0}
 AllCleared (b ∷ l) = Cleared b × AllCleared l
@@ -42,16 +44,18 @@ pub data Leaves (right : Type 0) (before after : List ℕ) (buffers : List Lent)
   untouched : ¬ right → In before r → AsBefore buffers → Leaves right before after buffers r
   zeros : right → In after r → AllCleared buffers → Leaves right before after buffers r
 
--- The buffers of a build: its stretch of the table, and the front of the work.
+-- The table's buffer for a build that is lent the stretch from `start` on.
 abbrev pub tableFor : (table : List ℕ) (start n room : ℕ) (t : List ℕ) → Lent
 tableFor table start n room t = record { entry = table; start = start; need = tableNeed n room; exit = t }
 
+-- Both buffers of a build: its stretch of the table, and the front of the work.
 abbrev pub lentFor : (table : List ℕ) (start : ℕ) (work : List ℕ) (n room : ℕ) (t w : List ℕ) → List Lent
 lentFor table start work n room t w = tableFor table start n room t ∷ record { entry = work; start = 0; need = workNeed n room; exit = w } ∷ []
 
--- By which numbers a build from composed rows may be refused, and one from pair orders, once they have started.
+-- The numbers by which a build from composed rows may be refused, once it has started.
 abbrev pub composedNumbers : List ℕ
 composedNumbers = 5 ∷ 6 ∷ 7 ∷ 8 ∷ lateNumbers
 
+-- The numbers by which a build from pair orders may be refused, once it has started.
 abbrev pub enumerationNumbers : List ℕ
 enumerationNumbers = 5 ∷ 6 ∷ 13 ∷ lateNumbers

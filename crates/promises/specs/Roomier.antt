@@ -1,4 +1,4 @@
--- "More room never changes an accepted table": what a call gives in other buffers and at least the same room.
+-- This file states what "More room never changes an accepted table" says: what a call gives in other buffers with at least the same room.
 use Prim.Native.Nat.{ℕ, _+_, _≤_, _<_}
 use mathlib.Core.Path.{_≡_}
 use mathlib.Core.List.{List}

@@ -1,5 +1,5 @@
--- What a call writes to a lent buffer, and where a factor stands that it leaves alone. Document 01: "A factor may be built into any stretch of a longer table
--- buffer."
+-- This file defines what a call writes to a lent buffer, and which factors it leaves alone. Document 01: "A factor may be built into any stretch of a
+-- longer table buffer."
 use Prim.Native.Nat.{ℕ, _+_, _≤_}
 use mathlib.Core.Path.{_≡_}
 use mathlib.Core.Logic.{_⊎_}
@@ -9,7 +9,7 @@ use Rattle.egg.specs.declared.Factor.{Factor}
 use Rattle.build_lending.specs.Lending.{tableNeed, within}
 use Rattle.promises.specs.Leaves.{Lent}
 
--- Nothing was written, or the needed stretch, which is in the buffer.
+-- The call wrote nothing, or it wrote the needed stretch, which is in the buffer.
 pub data Wrote (b : Lent) : Type 0 where
   nothing : b .exit ≡ b .entry → Wrote b
   part : (s : List ℕ) → b .start + b .need ≤ length (b .entry) → length s ≡ b .need → b .exit ≡ within (b .entry) (b .start) (b .start + b .need) s → Wrote b

@@ -1,5 +1,5 @@
--- The sentence for which all of this is made: a live viewer gets each turn as a generator number, a viewer who is behind gets one element, the product of the
--- turns missed, and both land on one state.
+-- This file states the sentence for which all of this is made: a live viewer gets each turn as a generator number, a viewer who is behind gets one
+-- element, the product of the turns missed, and both land on one state.
 use Prim.Native.Nat.{ℕ}
 use mathlib.Core.Path.{_≡_}
 use mathlib.Core.List.{List, [], _∷_, _++_}
@@ -29,8 +29,8 @@ gathered t f e (g ∷ u) = onElement (generatorAnswer t f (record { 0 = g })) (�
 abbrev pub identity : GroupElementId
 identity = record { 0 = 0 }
 
--- From the element e on, after the turns u: the product of the turns, which is where they lead from the identity, and what they gather to; and one state, to
--- which the turns lead the live viewer one by one, and one `compose` with the product leads the delayed viewer.
+-- After the turns u, from the element e on, both viewers land on one state. The product of the turns is where they lead from the identity, and what
+-- they gather to; to the state the turns lead the live viewer one by one, and one `compose` with the product leads the delayed viewer.
 pub record OneState (t : List ℕ) (f : Factor) (e : GroupElementId) (u : List ℕ) : Type 0 where
   pub product : GroupElementId
   pub turned : live t f identity u ≡ Element product

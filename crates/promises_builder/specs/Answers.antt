@@ -1,4 +1,5 @@
--- Every answer of `build`, by document 01's number and places, with the case in which it comes. "The first that applies .. is given, and each is given only then."
+-- This file states every answer of `build`, by document 01's number and places, with the case in which it comes. "The first that applies .. is given,
+-- and each is given only then."
 use Prim.Native.Nat.{ℕ, _<_}
 use mathlib.Core.Path.{_≡_}
 use mathlib.Core.Bool.{true, false}
@@ -20,18 +21,19 @@ use Rattle.promises_builder.specs.Own.{ownAt, ownNumber, ownRefusal, own
 use Rattle.promises_builder.specs.Refusals.{Lacks}
 use Rattle.promises_builder.specs.Builds.{Right}
 
+-- What `build` answers to the builder b in the table t, with the work w.
 pub data BuildPaper (t : List ℕ) (b : Builder) (w : List ℕ) : Paper → Type 1 where
-  -- 17, "the handle doesn't fit its buffer"; 4, "a lent buffer short".
+  -- Before it starts it gives 17, "the handle doesn't fit its buffer", then 4, "a lent buffer short".
   no-handle : fitsIn (length t) (b .0) ≡ false → BuildPaper t b w (refusalPaper (numbered 17 0 0 0))
   short : fitsIn (length t) (b .0) ≡ true → length w < workNeed (b .0 .generators) (b .0 .room) → BuildPaper t b w (refusalPaper (numbered 4 0 0 0))
-  -- 17, 7 and 6, where the reading of the builder's rows stops first.
+  -- It gives 17, 7 or 6 where the reading of the builder's rows stops first.
   stops : {r : Refusal} → Right t b w → Refuses (ownNumber (b .0 .elements) (ownAt t (b .0))) (b .0 .generators) (b .0 .room) r
       → BuildPaper t b w (refusalPaper (ownRefusal (b .0 .elements) r))
   nowhere : Right t b w → b .0 .generators ≡ 0 → 1 < b .0 .elements → BuildPaper t b w (refusalPaper (numbered 17 0 0 0))
-  -- 8, at the first place that is lacking where c elements are reached.
+  -- It gives 8 at the first place that is lacking, where c elements are reached.
   lacks : {r : Refusal} (c : ℕ) → Right t b w → Readable (ownNumber (b .0 .elements) (ownAt t (b .0))) (b .0 .generators) (b .0 .room) c
       → Lacks (ownAt t (b .0)) (b .0 .generators) (b .0 .elements) c r → BuildPaper t b w (refusalPaper r)
-  -- All is there and all is reached: 9 to 12 by the fault of the rows, or 0, where some group has them.
+  -- Where all is there and all is reached, it gives 9 to 12 by the fault of the rows, or 0, where some group has them.
   late : {r : Refusal} → Right t b w → Filled t (b .0) → Numbered (b .0 .generators) (b .0 .elements) (composedAt (ownRows t (b .0)) (b .0 .generators))
       → Fault (composedAt (ownRows t (b .0)) (b .0 .generators)) (b .0 .generators) (b .0 .room) r → In lateNumbers r → BuildPaper t b w (refusalPaper r)
   taken : Right t b w → Filled t (b .0) → Taken (composedAt (ownRows t (b .0)) (b .0 .generators)) (b .0 .generators) (b .0 .room) (b .0 .elements)

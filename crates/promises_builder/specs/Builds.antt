@@ -1,4 +1,4 @@
--- When `build` starts, and what it is for it to refuse by a number with its places.
+-- This file defines when `build` starts, and what it is for it to refuse by a number with its places.
 use Prim.Native.Nat.{ℕ, _≤_}
 use mathlib.Core.Path.{_≡_}
 use mathlib.Core.Bool.{true}
@@ -17,6 +17,6 @@ pub record Right (t : List ℕ) (b : Builder) (w : List ℕ) : Type 0 where
   pub fits : fitsIn (length t) (b .0) ≡ true
   pub enough : workNeed (b .0 .generators) (b .0 .room) ≤ length w
 
--- The builder is refused by r.
+-- `build` refuses the builder b by r, whatever it leaves.
 abbrev pub RefusedBy : List ℕ → Builder → List ℕ → Refusal → Type 0
 RefusedBy t b w r = (f : Factor) × (t′ : List ℕ) × (w′ : List ℕ) × (builds t b w ≡ making (record { answer = verdict.Refused r; factor = f }) t′ w′)

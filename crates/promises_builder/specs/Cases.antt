@@ -1,4 +1,4 @@
--- Builders whose steps were overwritten or altered, by the calls that make them.
+-- This file states what `build` answers for some builders whose steps were overwritten or altered; each is made by the calls that make a builder.
 use Prim.Native.Nat.{ℕ, _+_}
 use mathlib.Core.Path.{_≡_}
 use mathlib.Core.List.{List, [], _∷_}
@@ -11,26 +11,29 @@ use Rattle.builder.specs.declared.Builder.{Builder}
 use Rattle.build_lending.specs.Lending.{tableNeed, workNeed, Making, making}
 use Rattle.builder.specs.Calls.{leaving, builderOf, begins, grows, stores, builds}
 
--- A builder in a table that holds nothing else, and with so many elements.
+-- A builder, and the table that holds it and nothing else.
 pub record Building : Type 0 where
   pub table : List ℕ
   pub builder : Builder
 
--- Its calls one after the other. (Each case below begins in a table of sevens.)
+-- A build begun, in a table of sevens.
 abbrev pub begunWith : ℕ → ℕ → Building
 begunWith n room = elim (begins (replicate (tableNeed n room) 7) 0 room n) [ leaving x t ↦ record { table = t; builder = x .builder } ]
 
+-- The builder after an element was added, reached from e by g.
 abbrev pub adding : ℕ → ℕ → Building → Building
 adding e g b =
     elim (grows (b .table) (b .builder) (record { 0 = e }) (record { 0 = g })) [ leaving x t ↦ record { table = t; builder = x .builder } ]
 
+-- The builder after the step from e by g was set to r.
 abbrev pub setting : ℕ → ℕ → ℕ → Building → Building
 setting e g r b = elim (stores (b .table) (b .builder) (record { 0 = e }) (record { 0 = g }) (record { 0 = r })) [ leaving x t ↦ record { table = t; builder = b .builder } ]
 
--- A cell of the table altered by its owner.
+-- The same builder, but a cell of its table was altered by the table's owner.
 abbrev pub altering : ℕ → ℕ → Building → Building
 altering i x b = record { table = set (b .table) i x; builder = b .builder }
 
+-- The verdict of a build.
 abbrev pub answered : Making → Verdict
 answered (making m t w) = m .answer
 
@@ -38,12 +41,13 @@ answered (making m t w) = m .answer
 abbrev pub built : Building → Verdict
 built b = answered (builds (b .table) (b .builder) (replicate (workNeed (b .builder .0 .generators) (b .builder .0 .room)) 7))
 
--- All steps of two generators, row by row.
+-- The builder after all steps of two generators were set, row by row.
 abbrev pub settingRows : List ℕ → ℕ → Building → Building
 settingRows (x ∷ y ∷ rows) e b = settingRows rows (e + 1) (setting e 1 y (setting e 0 x b))
 settingRows (x ∷ []) e b = b
 settingRows [] e b = b
 
+-- The cases, each with its answer.
 pub record Cases : Type 0 where
   -- Z3 with its elements added in another order than they stand in the rows: it is taken, with the numbers as they stand.
   pub z3 : built (settingRows (1 ∷ 2 ∷ 2 ∷ 0 ∷ 0 ∷ 1 ∷ []) 0 (adding 0 0 (adding 0 1 (begunWith 2 3)))) ≡ Fine

@@ -1,4 +1,4 @@
--- What a builder's rows say, in the words of a reading of composed numbers.
+-- This file defines what a builder's rows say, in the words of a reading of composed numbers.
 use Prim.Native.Nat.{ℕ, suc, _*_, _-_, _≤_, _<_}
 use mathlib.Core.List.{List, map}
 use lib.Dec.{ltb}
@@ -27,7 +27,7 @@ ownRefusal N r = pick (ltb N (r .c)) (numbered 17 0 0 0) r
 unfoldable pub ownRows : List ℕ → Factor → List ℕ
 ownRows t f = map (λ x. x - 1) (copied (f .elements) (stretch t f) (f .generators) 0 (replicate (f .room * f .generators) 0))
 
--- Every step of the builder is there, and leads to one of its elements.
+-- Every step of the builder is there and leads to one of its elements.
 pub record Filled (t : List ℕ) (f : Factor) : Type 0 where
   pub there : {e g : ℕ} → e < f .elements → g < f .generators → 0 < ownAt t f e g
   pub inside : {e g : ℕ} → e < f .elements → g < f .generators → ownAt t f e g ≤ f .elements

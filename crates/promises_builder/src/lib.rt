@@ -1,2 +1,2 @@
-// What the builder's calls promise: statements in specs/, theorems in proofs/. There is no code, and a crate needs a function.
+// Theorems only: what the builder's calls promise, stated in specs/ and proved in proofs/. A crate needs a function, so there is one.
 pub fn nothing() {}

@@ -1,2 +1,2 @@
-// That the C functions and the listing have one answer each: proofs in proofs/, and no code.
+// Theorems only, in proofs/: the C functions and the listing have one answer each. A crate needs a function, so there is one.
 pub fn nothing() {}

@@ -1,4 +1,5 @@
--- Document 01's cases marked P: "The cases marked P are one statement over the definitions". Answers are on paper, by document 01's numbers and places.
+-- This file states document 01's cases marked P: "The cases marked P are one statement over the definitions". Answers are on paper, by document 01's
+-- numbers and places.
 use mathlib.Core.Path.{_≡_}
 use mathlib.Core.List.{[], _∷_}
 use lib.ListN.{replicate}
@@ -18,6 +19,7 @@ use Rattle.image.specs.Written.{writtenImage}
 use Rattle.image.specs.Read.{readImage}
 use Rattle.promises_cases.specs.Tables.{square, s3, z2, z3, twisted, repeated, crossed, z2-image, none-image, rows, orders, madeBy, tableBy, element, factorOf, acceptedAs, answer, inversesOf, both, S3, S3-Z2}
 
+-- Each case stands under document 01's own line.
 pub record KnownCases : Type 0 where
   -- "orders [2]: rows 1 2 / 0 3 / 3 0 / 2 1."
   pub square-made : madeBy (orders 2 4 (2 ∷ [])) ≡ acceptedAs 2 4 4

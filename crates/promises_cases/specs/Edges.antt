@@ -1,9 +1,10 @@
--- Both sides of edges, from pair orders: 1 to 5.
+-- This file states both sides of some edges, for calls on pair orders: refusals 1 to 5.
 use mathlib.Core.Path.{_≡_}
 use mathlib.Core.List.{[], _∷_}
 use Rattle.promises_refusals.specs.Papers.{paperOf, paper}
 use Rattle.promises_cases.specs.Tables.{orders}
 
+-- What each call answers, by its number and places.
 pub record KnownEdges : Type 0 where
   pub nine-generators : paperOf (orders 9 1 []) ≡ paper 1 9 0 0
   pub eight-generators : paperOf (orders 8 1 []) ≡ paper 2 0 0 0

@@ -1,4 +1,5 @@
--- Images beyond the cases marked P: one for each refusal of the check, what writing and reading leave, and walks. Buffers are lent full of other numbers.
+-- This file states cases of images beyond those marked P: one for each refusal of the check, what writing and reading leave, and walks. Buffers are
+-- lent full of other numbers.
 use Prim.Native.Nat.{ℕ}
 use mathlib.Core.Path.{_≡_}
 use mathlib.Core.List.{List, [], _∷_, _++_}
@@ -17,7 +18,7 @@ use Rattle.image.specs.Read.{readImage}
 use Rattle.image.specs.Walked.{walkNumber}
 use Rattle.promises_cases.specs.Tables.{twisted, repeated, crossed, z2-image, none-image, tableBy, answer}
 
--- The image of rows of n numbers.
+-- The image of N rows of n numbers.
 abbrev pub imaged : List ℕ → ℕ → ℕ → List ℕ
 imaged rows n N = imageOf (composedAt rows n) n N
 
@@ -29,18 +30,22 @@ factorAt1 room count = record { start = 1; room = room; generators = 1; elements
 abbrev pub z2-table : List ℕ
 z2-table = tableBy (composed (replicate 19 7) 1 (replicate 30 9) (1 ∷ 0 ∷ 0 ∷ []) 1 3)
 
--- The head says nine generators; another version; three elements, of which two are reached.
+-- An image whose head says nine generators.
 abbrev pub nine : List ℕ
 nine = 0 ∷ 0 ∷ 0 ∷ 4 ∷ 1 ∷ 9 ∷ 0 ∷ 1 ∷ []
 
+-- An image of another version.
 abbrev pub version-2 : List ℕ
 version-2 = 0 ∷ 0 ∷ 0 ∷ 4 ∷ 2 ∷ 0 ∷ 0 ∷ 1 ∷ []
 
+-- An image of three elements, of which two are reached.
 abbrev pub two-of-three : List ℕ
 two-of-three = imaged (1 ∷ 0 ∷ 0 ∷ []) 1 3
 
+-- The cases, each with its answer.
 pub record KnownImages : Type 0 where
-  -- The check: a byte of work less is 4; the refused tables, by their numbers; fewer elements than the head says; a skip; an element too many.
+  -- The check gives 4 for a byte of work less, and the number of each refused table; then come fewer elements than the head says, a number that skips
+  -- ahead, and an element too many.
   pub work-short : imageNumber none-image 99 ≡ 4
   pub eight : imageNumber (imaged (1 ∷ 1 ∷ []) 1 2) 264 ≡ 8
   pub nine-is : imageNumber (imaged (0 ∷ []) 1 1) 132 ≡ 9
@@ -52,23 +57,23 @@ pub record KnownImages : Type 0 where
   pub beyond : imageNumber (imaged (1 ∷ []) 1 1) 132 ≡ 5
   pub version : imageNumber version-2 100 ≡ 16
   pub many : imageNumber nine 100 ≡ 1
-  -- Writing: the excess of the buffer is as it was; a short buffer is 4 and is not written to.
+  -- Writing leaves the excess of the buffer as it was; a short buffer is 4 and is not written to.
   pub z2-count : countedPaper (writeCount z2-table (factorAt1 3 2) 14) ≡ answer 12
   pub z2-written : writtenImage z2-table (factorAt1 3 2) (replicate 14 5) ≡ z2-image ++ 5 ∷ 5 ∷ []
   pub z2-short : countedPaper (writeCount z2-table (factorAt1 3 2) 11) ≡ paper 4 0 0 0
   pub z2-unwritten : writtenImage z2-table (factorAt1 3 2) (replicate 11 5) ≡ replicate 11 5
-  -- A handle that fits no buffer, and one whose step leads beyond its elements.
+  -- A handle that fits no buffer is 17, and so is one whose step leads beyond its elements.
   pub no-handle : countedPaper (writeCount z2-table (factorAt1 4 2) 14) ≡ paper 17 0 0 0
   pub step-beyond : countedPaper (writeCount z2-table (factorAt1 3 1) 14) ≡ paper 17 0 0 0
-  -- Reading: successors, predecessors, parent, last generator, length and inverse, each row; everything else as it was.
+  -- Reading fills each row with successors, predecessors, parent, last generator, length and inverse, and leaves everything else as it was.
   pub z2-read : readImage z2-image (replicate 14 7) 1 (replicate 21 9)
       ≡ making (record { answer = verdict.Fine; factor = factorAt1 2 2 }) (7 ∷ 2 ∷ 2 ∷ 0 ∷ 0 ∷ 0 ∷ 0 ∷ 1 ∷ 1 ∷ 0 ∷ 0 ∷ 1 ∷ 1 ∷ 7 ∷ []) (replicate 20 0 ++ 9 ∷ [])
-  -- Refused before the build, and in it.
+  -- The first three are refused before the build starts, the last in it.
   pub short-read : readImage z2-image (replicate 12 7) 1 (replicate 20 9) ≡ making (refusedMade 4 0) (replicate 12 7) (replicate 20 9)
   pub many-read : readImage nine [] 0 [] ≡ making (refusedMade 1 9) [] []
   pub version-read : readImage version-2 [] 0 [] ≡ making (refusedMade 16 0) [] []
   pub fewer-read : readImage two-of-three (replicate 19 7) 0 (replicate 31 9) ≡ making (refusedMade 16 0) (replicate 18 0 ++ 7 ∷ []) (replicate 30 0 ++ 9 ∷ [])
-  -- Walks: to an element; 16, 1, 14 and 17, each above 65,536.
+  -- Walks lead to an element, or are refused by 16, 1, 14 and 17, each added to 65,536.
   pub walks : walkNumber z2-image 0 (0 ∷ 0 ∷ 0 ∷ []) ≡ 1
   pub waits : walkNumber z2-image 1 [] ≡ 1
   pub walks-16 : walkNumber (0 ∷ 0 ∷ 0 ∷ 8 ∷ []) 0 [] ≡ 65552

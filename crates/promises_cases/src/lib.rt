@@ -1,2 +1,2 @@
-// The cases of document 01 that are marked P: one statement over the definitions, and no code.
+// Theorems only: the cases of document 01 that are marked P, one statement over the definitions. A crate needs a function, so there is one.
 pub fn nothing() {}

@@ -1,4 +1,4 @@
--- When `flatten` starts, when it is accepted, and what it leaves then.
+-- This file defines when `flatten` starts, when it is accepted, and what it leaves then.
 use Prim.Native.Nat.{ℕ, _+_, _*_, _≤_, _<_}
 use mathlib.Core.Path.{_≡_}
 use mathlib.Core.Bool.{true}
@@ -16,20 +16,23 @@ use Rattle.theory_products.specs.Product.{Part}
 use Rattle.group_handles.specs.declared.Group.{Group}
 use Rattle.group_handles.specs.Handles.{handles, generatorsOf, admits}
 
--- The arguments are right: the handles fit (17) and the product is within the limits (15), it has at most 8 generators (1), and room and lent buffers do (4).
+-- The arguments are right, so that its build starts: the handles fit (17) and the product is within the limits (15), it has at most 8 generators (1),
+-- and room and lent buffers do (4).
 pub record FlatRight (from : List ℕ) (g : Group) (table : List ℕ) (start : ℕ) (work : List ℕ) (room : ℕ) : Type 0 where
   pub admitted : admits (length from) g 0 1 0 1 ≡ verdict.Fine
   pub generators : generatorsOf (handles g) ≤ 8
   pub lent : lentRight (length table) start (length work) room (generatorsOf (handles g)) ≡ true
 
--- By which numbers it may be refused before it starts, and afterwards: as a build from composed rows, and by 17 for a number of a factor that is out of range.
+-- The numbers by which it may be refused before it starts.
 abbrev pub flatBefore : List ℕ
 flatBefore = 17 ∷ 15 ∷ 1 ∷ 4 ∷ []
 
+-- The numbers by which it may be refused afterwards: those of a build from composed rows, and 17 for a number of a factor that is out of range.
 abbrev pub flatAfter : List ℕ
 flatAfter = 17 ∷ composedNumbers
 
--- "`flatten` keeps product numbers": these follow the numbering rule, they are within the room, and no recorded word passes 4,096.
+-- When it is accepted: "`flatten` keeps product numbers", so these have to follow the numbering rule and to be within the room, and no recorded word
+-- may pass 4,096.
 pub record Flattens (P : Part) (room : ℕ) : Type 0 where
   pub rule : NumberingRule (P .generators) (P .elements) (P .step)
   pub within : P .elements ≤ room

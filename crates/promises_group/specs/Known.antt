@@ -1,5 +1,5 @@
--- Document 01's S3 by Z2, and S3 by itself, in one table buffer of exactly the length that is needed; both are built from composed rows. What document 01 marks P
--- of them is in `KnownCases` (crate promises_cases); here is the rest.
+-- This file states cases of document 01's S3 by Z2, and of S3 by itself, in one table buffer of exactly the length that is needed; both are built
+-- from composed rows. What document 01 marks P of them is in `KnownCases` (crate promises_cases); here is the rest.
 use Prim.Native.Nat.{ℕ, _/_, _%_}
 use mathlib.Core.Path.{_≡_}
 use mathlib.Core.List.{List, [], _∷_, _++_}
@@ -23,47 +23,57 @@ use Rattle.group_flatten.specs.Flat.{flat}
 use Rattle.group.specs.Questions.{countAnswer, generatorsAnswer, generatorAnswer, stepAnswer, projectAnswer, injectAnswer, splitAnswer, splitLeaves, joinAnswer}
 use Rattle.group.specs.Questions.{composeAnswer, conjugateAnswer, periodAnswer, lengthAnswer, writeAnswer, written}
 
+-- What a call answers.
 abbrev pub madeBy : Making → Made
 madeBy (making m t w) = m
 
+-- What a call leaves in the table.
 abbrev pub tableBy : Making → List ℕ
 tableBy (making m t w) = t
 
+-- The element with this number.
 abbrev pub element : ℕ → GroupElementId
 element e = record { 0 = e }
 
+-- The generator with this number.
 abbrev pub letter : ℕ → GeneratorId
 letter x = record { 0 = x }
 
--- S3 in the first 48 numbers, Z2 in the 12 after them.
+-- The table buffer: S3 in the first 48 numbers, Z2 in the 12 after them.
 abbrev pub table : List ℕ
 table =
     tableBy (composed (tableBy (composed (replicate 60 7) 0 (replicate 192 9) (1 ∷ 2 ∷ 0 ∷ 3 ∷ 4 ∷ 0 ∷ 5 ∷ 1 ∷ 2 ∷ 5 ∷ 3 ∷ 4 ∷ []) 2 6)) 48
     (replicate 20 9) (1 ∷ 0 ∷ []) 1 2)
 
+-- The handle of S3.
 abbrev pub s3 : Factor
 s3 = record { start = 0; room = 6; generators = 2; elements = 6 }
 
+-- The handle of Z2.
 abbrev pub z2 : Factor
 z2 = record { start = 48; room = 2; generators = 1; elements = 2 }
 
+-- S3 as a product of one factor.
 abbrev pub S3 : Group
 S3 = groupOf (s3 ∷ [])
 
+-- The product S3 by Z2.
 abbrev pub S3-Z2 : Group
 S3-Z2 = groupOf (s3 ∷ z2 ∷ [])
 
--- One factor may be taken twice.
+-- The product Z2 by Z2: one factor may be taken twice.
 abbrev pub Z2-Z2 : Group
 Z2-Z2 = groupOf (z2 ∷ z2 ∷ [])
 
--- More factors than 8.
+-- A value that says it has more than 8 factors.
 abbrev pub nine : Group
 nine = record { factors = replicate 8 z2; count = 9 }
 
+-- A lent list of three numbers.
 abbrev pub short : List ℕ
 short = replicate 3 8
 
+-- The cases, each with its answer.
 pub record KnownProducts : Type 0 where
   pub joined : joins 60 S3 (groupOf (z2 ∷ [])) ≡ record { answer = Fine; group = S3-Z2 }
   pub counted : countAnswer table S3-Z2 ≡ Count 12
@@ -95,9 +105,9 @@ pub record KnownProducts : Type 0 where
       ≡ making (record { answer = refusedOf 17 0 0 0; factor = noFactor }) (replicate 48 0 ++ 7 ∷ []) (replicate 192 0 ++ 7 ∷ [])
   -- In Z2 with a step from 1 to 1 no power of 1 is the identity.
   pub never-home : periodAnswer (set table 54 2) (groupOf (z2 ∷ [])) (element 1) ≡ Refused (record { number = 17; a = 0; b = 0; c = 0 })
-  -- Nine generators, by their count; before any buffer is looked at.
+  -- Nine generators are refused, with their count, before any buffer is looked at.
   pub nine-generators : madeBy (flat table (groupOf (s3 ∷ s3 ∷ s3 ∷ s3 ∷ z2 ∷ [])) [] 0 [] 0) .answer ≡ refusedOf 1 9 0 0
-  -- Refusals in their order.
+  -- Refusals come in their order.
   pub first-beyond : composeAnswer table S3-Z2 (element 12) (element 12) ≡ refusedReach 14 0
   pub second-beyond : composeAnswer table S3-Z2 (element 11) (element 12) ≡ refusedReach 14 1
   pub generator-beyond : stepAnswer table S3-Z2 (element 11) (letter 3) ≡ refusedReach 14 1

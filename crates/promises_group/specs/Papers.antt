@@ -1,5 +1,6 @@
--- The answers about a product of accepted factors as document 01 sets them out: "a definition sets out this paper's number and values for each of its cases.
--- The promises use that definition." It is `verdictPaper`, `reachedPaper` and `countedPaper` of egg; a product and its verdict have theirs here.
+-- This file states the answers about a product of accepted factors as document 01 sets them out: "a definition sets out this paper's number and
+-- values for each of its cases. The promises use that definition." It is `verdictPaper`, `reachedPaper` and `countedPaper` of egg; a product and its
+-- verdict have theirs here.
 use Prim.Native.Nat.{ℕ, _≤_, _<_}
 use mathlib.Core.Path.{_≡_}
 use mathlib.Core.Logic.{_↔_}
@@ -23,7 +24,7 @@ use Rattle.group.specs.Questions.{composeAnswer, inverseAnswer, conjugateAnswer
 abbrev pub groupedPaper : Grouped → Paper
 groupedPaper r = verdictPaper (r .answer)
 
--- A refusal with no places.
+-- A refusal with no places, on paper.
 abbrev pub refusedPaper : ℕ → Paper
 refusedPaper k = record { number = k; a = 0; b = 0; c = 0 }
 

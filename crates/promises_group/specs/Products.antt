@@ -1,4 +1,4 @@
--- What a product of accepted factors is, and what the answers about it say.
+-- This file defines what a product of accepted factors is, and states what the answers about it say.
 use Prim.Native.Nat.{ℕ, zero, suc, _*_, _/_, _%_, _≤_, _<_}
 use mathlib.Core.Path.{_≡_}
 use mathlib.Core.Bool.{true}
@@ -19,10 +19,11 @@ use Rattle.group_handles.specs.Handles.{handles, sizes, limited}
 use Rattle.group.specs.Questions.{countAnswer, generatorsAnswer, generatorAnswer, stepAnswer, projectAnswer, injectAnswer, splitAnswer, splitLeaves, joinAnswer}
 use Rattle.group.specs.Questions.{composeAnswer, inverseAnswer, conjugateAnswer, powiAnswer, periodAnswer, lengthAnswer, writeAnswer, written, wordPart}
 
--- A factor as a part of a product: what its stretch holds.
+-- A factor as a part of a direct product: what its stretch holds.
 abbrev pub part : List ℕ → Factor → Part
 part t h = table-part (h .generators) (h .elements) (factorStep t h) (factorBack t h) (factorWord t h)
 
+-- The factors of a list as parts.
 abbrev pub parts : List ℕ → List Factor → List Part
 parts t [] = []
 parts t (h ∷ hs) = part t h ∷ parts t hs
@@ -37,15 +38,16 @@ pub record AcceptedProduct (t : List ℕ) (g : Group) : Type 0 where
   pub factors : AllAccepted t (handles g)
   pub within : limited g ≡ true
 
--- The direct product of the factors.
+-- The direct product of the factors, in theory's words.
 abbrev pub direct : List ℕ → Group → Part
 direct t g = product (parts t (handles g))
 
--- f 0, f 1, .. , m of them; and the steps by n generators from each of `room` elements, as a list of composed numbers has them.
+-- The list f 0, f 1, .. , of m numbers.
 abbrev pub listed : ℕ → (ℕ → ℕ) → List ℕ
 listed zero f = []
 listed (suc m) f = f 0 ∷ listed m (λ i. f (suc i))
 
+-- The steps by n generators from each of `room` elements, as a list of composed numbers has them.
 abbrev pub stepRows : (ℕ → ℕ → ℕ) → ℕ → ℕ → List ℕ
 stepRows step n room = listed (room * n) (λ i. step (i / n) (i % n))
 

@@ -1,5 +1,6 @@
--- By which numbers the questions about a product are refused, on every input: whatever the handles, the count, the buffer and the arguments are. Document 01:
--- "Calls on handles check 17 in the handle, then 14, then 15, then 1 to 4, then 17 in what they read". And "a refused question writes nothing".
+-- This file states by which numbers the questions about a product are refused, on every input: whatever the handles, the count, the buffer and the
+-- arguments are. Document 01: "Calls on handles check 17 in the handle, then 14, then 15, then 1 to 4, then 17 in what they read". And "a refused
+-- question writes nothing".
 use Prim.Native.Nat.{ℕ}
 use mathlib.Core.Path.{_≡_}
 use mathlib.Core.List.{List, [], _∷_}
@@ -15,6 +16,7 @@ use Rattle.group_handles.specs.Handles.{joins}
 use Rattle.group.specs.Questions.{countAnswer, generatorsAnswer, generatorAnswer, stepAnswer, projectAnswer, injectAnswer, splitAnswer, splitLeaves, joinAnswer}
 use Rattle.group.specs.Questions.{composeAnswer, inverseAnswer, conjugateAnswer, powiAnswer, periodAnswer, lengthAnswer, writeAnswer, written}
 
+-- Each call of the product g, with the only numbers by which it is ever refused.
 pub record ProductRefuses (t : List ℕ) (g : Group) : Type 0 where
   pub makes : (b : Group) → VerdictIn (15 ∷ 17 ∷ []) (joins (length t) g b .answer)
   -- These have no argument that 14 could be given for.

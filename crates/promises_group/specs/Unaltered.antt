@@ -1,5 +1,5 @@
--- A product whose factors' stretches were left alone. Document 01: "its handle and its needed stretch of table come unaltered from the call that accepted it,
--- in a product for each factor".
+-- This file defines what it is for a product that its factors' stretches were left alone. Document 01: "its handle and its needed stretch of table
+-- come unaltered from the call that accepted it, in a product for each factor".
 use Prim.Native.Nat.{ℕ}
 use mathlib.Core.Path.{_≡_}
 use mathlib.Core.List.{List, [], _∷_}
@@ -18,6 +18,7 @@ use Rattle.group.specs.Questions.{countAnswer, generatorsAnswer, generatorAnswe
 use Rattle.group.specs.Questions.{composeAnswer, inverseAnswer, conjugateAnswer, powiAnswer, periodAnswer, lengthAnswer, writeAnswer, written, wordPart}
 use Rattle.promises_group.specs.Products.{AcceptedProduct}
 
+-- Each factor of a list is unaltered between the buffers t and t′.
 pub data AllUnaltered (t t′ : List ℕ) : List Factor → Type 0 where
   none : AllUnaltered t t′ []
   more : {h : Factor} {hs : List Factor} → Unaltered t t′ h → AllUnaltered t t′ hs → AllUnaltered t t′ (h ∷ hs)

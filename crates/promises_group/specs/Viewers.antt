@@ -1,5 +1,5 @@
--- The viewers of a puzzle that is a product: a live viewer gets each turn as a generator number, a viewer who is behind gets one element, the product of the
--- turns missed, and both land on one state.
+-- This file states the same sentence of a puzzle that is a product: a live viewer gets each turn as a generator number, a viewer who is behind gets
+-- one element, the product of the turns missed, and both land on one state.
 use Prim.Native.Nat.{ℕ}
 use mathlib.Core.Path.{_≡_}
 use mathlib.Core.List.{List, [], _∷_}
@@ -20,8 +20,8 @@ abbrev pub gathered : List ℕ → Group → GroupElementId → List ℕ → Rea
 gathered t g e [] = Element e
 gathered t g e (x ∷ u) = onElement (generatorAnswer t g (record { 0 = x })) (λ s. onElement (composeAnswer t g e s) (λ y. gathered t g y u))
 
--- From the element e on, after the turns u: the product of the turns, which is where they lead from the identity, and what they gather to; and one state, to
--- which the turns lead the live viewer one by one, and one `compose` with the product leads the delayed viewer.
+-- After the turns u, from the element e on, both viewers land on one state. The product of the turns is where they lead from the identity, and what
+-- they gather to; to the state the turns lead the live viewer one by one, and one `compose` with the product leads the delayed viewer.
 pub record OneState (t : List ℕ) (g : Group) (e : GroupElementId) (u : List ℕ) : Type 0 where
   pub product : GroupElementId
   pub turned : live t g identity u ≡ Element product

@@ -1,4 +1,4 @@
--- What an image is, and what it is for one to hold a factor.
+-- This file defines what an image is, what it is for one to hold a factor, and when the two calls on factors and images undo each other.
 use Prim.Native.Nat.{ℕ, _+_, _*_, _≤_, _<_}
 use mathlib.Core.Path.{_≡_}
 use mathlib.Core.List.{List, _∷_, _++_}
@@ -18,7 +18,7 @@ use Rattle.factor_laws.specs.Papers.{valuePaper}
 use Rattle.build_laws.specs.Taken.{Taken}
 use Rattle.promises.specs.Leaves.{composedNumbers}
 
--- Numbers below 256, as every slice of bytes holds.
+-- Every number is below 256, as in every slice of bytes.
 pub record Bytes (l : List ℕ) : Type 0 where
   pub byte : (i : ℕ) → getD l i 0 < 256
 
@@ -35,7 +35,8 @@ pub record WellFormed (l : List ℕ) : Type 0 where
   pub few : generatorsOf l ≤ 8
   pub some : 1 ≤ elementsOf l
 
--- What is accepted: a right head, and successors that are the right steps of some group with N elements under the numbering rule, no recorded word over 4,096.
+-- What is accepted: a right head, and successors that are the right steps of some group with N elements under the numbering rule, with no recorded
+-- word over 4,096.
 pub record GroupImage (l : List ℕ) : Type 1 where
   pub formed : WellFormed l
   pub taken : Taken (imageStep l) (generatorsOf l) (elementsOf l) (elementsOf l)
@@ -75,11 +76,11 @@ pub record SameBytes (l t : List ℕ) (f : Factor) (out : List ℕ) : Type 0 whe
   pub counted : countedPaper (writeCount t f (length out)) ≡ valuePaper (length l)
   pub written : writtenImage t f out ≡ l ++ drop (length l) out
 
--- The arguments of a reading are right, so that its build starts: the head is, and the buffers are not short.
+-- The arguments of a reading are right, so that its build starts: the head is right, and the buffers are not short.
 pub record ImageRight (l table : List ℕ) (start : ℕ) (work : List ℕ) : Type 0 where
   pub formed : WellFormed l
   pub lent : lentRight (length table) start (length work) (elementsOf l) (generatorsOf l) ≡ true
 
--- By which numbers it may be refused then: "fewer than N reached is 16", or as composed rows.
+-- The numbers by which a reading may be refused then: 16, for "fewer than N reached is 16", and those of composed rows.
 abbrev pub imageNumbers : List ℕ
 imageNumbers = 16 ∷ composedNumbers

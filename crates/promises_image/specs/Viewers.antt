@@ -1,5 +1,5 @@
--- The sentence for which all of this is made, from the bytes of an image to the answer: a live viewer gets each turn as a generator number, a viewer who is
--- behind gets one element, the product of the turns missed, and both land on one state.
+-- This file states the sentence for which all of this is made, from the bytes of an image to the answer: a live viewer gets each turn as a generator
+-- number, a viewer who is behind gets one element, the product of the turns missed, and both land on one state.
 use Prim.Native.Nat.{ℕ, _<_}
 use mathlib.Core.Path.{_≡_}
 use mathlib.Core.List.{List, [], _∷_}
@@ -15,9 +15,9 @@ unfoldable pub live : List ℕ → ℕ → List ℕ → ℕ
 live l e [] = e
 live l e (g ∷ u) = live l (walkNumber l e (g ∷ [])) u
 
--- From the element e on, after the turns u, with the image l and the factor f that was read from it: the product of the turns is the element to which they
--- lead from the identity, and there is one state, to which the turns lead one by one, to which they lead in one walk, and to which one `compose` with the
--- product leads. Both are elements, so none of these calls refuses.
+-- After the turns u, from the element e on, both viewers land on one state, with the image l and the factor f that was read from it. The product of
+-- the turns is the element to which they lead from the identity; to the state the turns lead one by one, and in one walk, and one `compose` with the
+-- product leads there too. Both are elements, so none of these calls refuses.
 pub record OneState (l t : List ℕ) (f : Factor) (e : ℕ) (u : List ℕ) : Type 0 where
   pub product : ℕ
   pub an-element : product < elementsOf l

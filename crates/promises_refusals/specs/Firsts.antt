@@ -1,4 +1,4 @@
--- First places. Document 01: "Places are the first in element order, then generator order".
+-- This file defines first places. Document 01: "Places are the first in element order, then generator order".
 use Prim.Native.Nat.{ℕ, _<_}
 use Rattle.theory.specs.Appearance.{Ahead}
 

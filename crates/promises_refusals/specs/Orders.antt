@@ -1,4 +1,4 @@
--- What the check of an accepted factor against pair orders answers: 2, 3 and 13 in the words of the theory, with their places.
+-- This file states what the check of an accepted factor against pair orders answers: 2, 3 and 13 in the words of the theory, with their places.
 use Prim.Native.Nat.{ℕ, _≤_, _<_}
 use mathlib.Core.Path.{_≡_}
 use mathlib.Core.List.{List}
@@ -11,16 +11,16 @@ use Rattle.theory.specs.Presentation.{pairs-below, pair-place, order-of, altern
 use Rattle.promises_refusals.specs.Firsts.{FirstOf}
 use Rattle.promises_refusals.specs.Papers.{paper}
 
--- Pair orders are between 2 and 32,767.
+-- The k-th order is within "pair orders 2 to 32,767".
 abbrev pub OrderRight : List ℕ → ℕ → Type 0
 OrderRight o k = (2 ≤ getD o k 0) × (getD o k 0 ≤ 32767)
 
--- There is an order for each pair, and each is so.
+-- There is an order for each pair, and each is within these limits.
 pub record OrdersRight (o : List ℕ) (n : ℕ) : Type 0 where
   pub long : length o ≡ pairs-below n
   pub within : {k : ℕ} → k < length o → OrderRight o k
 
--- 2, "order list not n(n-1)/2 long"; else 3, "an order outside 2..32,767", with the index of the first.
+-- The list is refused: by 2, "order list not n(n-1)/2 long"; else by 3, "an order outside 2..32,767", with the index of the first.
 pub data OrdersFault (o : List ℕ) (n : ℕ) : Refusal → Type 0 where
   wrong-length : ¬ (length o ≡ pairs-below n) → OrdersFault o n (numbered 2 0 0 0)
   wrong-order : {k : ℕ} → length o ≡ pairs-below n → FirstOf (length o) (λ i. ¬ (OrderRight o i)) k → OrdersFault o n (numbered 3 k 0 0)
@@ -32,13 +32,14 @@ pub record FirstPair (n : ℕ) (step : ℕ → ℕ → ℕ) (o : List ℕ) (i j 
   pub broken : ¬ (walk step 0 (alternate i j (order-of o i j)) ≡ 0)
   pub before : {a b : ℕ} → a < b → b < n → pair-place a b < pair-place i j → walk step 0 (alternate a b (order-of o a b)) ≡ 0
 
--- 13, "a relation fails": "For each element it tests each generator doubled, then each pair's 2m steps in list order." On an accepted factor what fails
--- anywhere fails at the identity, so the element is 0: the first generator that, doubled, does not lead back; or, where all do, the first such pair.
+-- A relation is refused by 13, "a relation fails": "For each element it tests each generator doubled, then each pair's 2m steps in list order." On an
+-- accepted factor what fails anywhere fails at the identity, so the element is 0: the first generator that, doubled, does not lead back; or, where
+-- all do, the first such pair.
 pub data RelationFault (n : ℕ) (step : ℕ → ℕ → ℕ) (o : List ℕ) : Refusal → Type 0 where
   doubled : {g : ℕ} → FirstOf n (λ x. ¬ (step (step 0 x) x ≡ 0)) g → RelationFault n step o (numbered 13 0 g g)
   paired : {i j : ℕ} → ((g : ℕ) → g < n → step (step 0 g) g ≡ 0) → FirstPair n step o i j → RelationFault n step o (numbered 13 0 i j)
 
--- The answers on a factor of n generators and N elements with these steps.
+-- What the check answers on a factor of n generators and N elements with these steps.
 pub data CheckPaper (n N : ℕ) (step : ℕ → ℕ → ℕ) (o : List ℕ) : Paper → Type 0 where
   wrong-orders : {r : Refusal} → OrdersFault o n r → CheckPaper n N step o (refusalPaper r)
   fails : {r : Refusal} → OrdersRight o n → RelationFault n step o r → CheckPaper n N step o (refusalPaper r)

@@ -1,5 +1,5 @@
--- What a factor from composed rows is answered with, by document 01's numbers: "When an answer is an enum, a definition sets out this paper's number and
--- values for each of its cases. The promises use that definition."
+-- This file states what a call on composed rows answers, by document 01's numbers: "When an answer is an enum, a definition sets out this paper's
+-- number and values for each of its cases. The promises use that definition."
 use Prim.Native.Nat.{ℕ, _+_, _*_, _≤_, _<_}
 use mathlib.Core.Path.{_≡_}
 use mathlib.Core.Logic.{_⊎_}
@@ -14,18 +14,20 @@ use Rattle.build_reading.specs.Reading.{composedAt}
 use Rattle.build_laws.specs.Taken.{Taken}
 use Rattle.promises_refusals.specs.Faults.{Fault}
 
--- What a call that makes a factor answers, on paper.
+-- The verdict of a call that makes a factor.
 abbrev pub answerOf : Making → Verdict
 answerOf (making m t w) = m .answer
 
+-- That verdict on paper: its number and places.
 abbrev pub paperOf : Making → Paper
 paperOf m = verdictPaper (answerOf m)
 
+-- The number k with its three places.
 abbrev pub paper : ℕ → ℕ → ℕ → ℕ → Paper
 paper k a b c = record { number = k; a = a; b = b; c = c }
 
--- What is lent is enough: where it is not it is 4, "room 0 or above 65,535, or a lent buffer short". "A build with n generators and room R needs exactly
--- R(2n+4) entries of table and R(6n²+4n) of work. A composed list needs Rn entries."
+-- What is lent is enough; where it is not, 4 is given, "room 0 or above 65,535, or a lent buffer short". "A build with n generators and room R needs
+-- exactly R(2n+4) entries of table and R(6n²+4n) of work. A composed list needs Rn entries."
 pub record Enough (table : List ℕ) (start : ℕ) (work rows : List ℕ) (n room : ℕ) : Type 0 where
   pub some-room : 1 ≤ room
   pub most-room : room ≤ 65535
@@ -33,8 +35,8 @@ pub record Enough (table : List ℕ) (start : ℕ) (work rows : List ℕ) (n roo
   pub work-long : workNeed n room ≤ length work
   pub rows-long : room * n ≤ length rows
 
--- The answers on composed rows: 1, "more than 8 generators", with the count; 4; 0 for acceptance, where some group has the rows by the numbering rule; or
--- the fault's number and places. No other number is there.
+-- The answers on composed rows: 1, "more than 8 generators", with the count; 4; 0 for acceptance, where some group has the rows by the numbering
+-- rule; or the fault's number and places. There is no other.
 pub data ComposedPaper (table : List ℕ) (start : ℕ) (work rows : List ℕ) (n room : ℕ) : Paper → Type 1 where
   many : 8 < n → ComposedPaper table start work rows n room (paper 1 n 0 0)
   short : n ≤ 8 → ¬ (Enough table start work rows n room) → ComposedPaper table start work rows n room (paper 4 0 0 0)
@@ -43,8 +45,7 @@ pub data ComposedPaper (table : List ℕ) (start : ℕ) (work rows : List ℕ) (
   fault : {r : Refusal} → n ≤ 8 → Enough table start work rows n room → Fault (composedAt rows n) n room r
       → ComposedPaper table start work rows n room (refusalPaper r)
 
--- All of it at once: the call has this answer; it is one of the cases above, and the only one of them that is so of these arguments. 2, 3 and 13 to 17 never
--- come.
+-- The call has this answer; it is one of the cases above, and the only one of them that applies to these arguments. 2, 3 and 13 to 17 never come.
 pub record OneAnswer (table : List ℕ) (start : ℕ) (work rows : List ℕ) (n room : ℕ) : Type 1 where
   pub answer : Paper
   pub given : paperOf (composed table start work rows n room) ≡ answer

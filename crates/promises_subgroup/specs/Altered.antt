@@ -1,5 +1,5 @@
--- What `from_generators` and `from_predicate` answer whatever the overgroup's buffer holds: its stretches may have been altered since they were accepted.
--- Document 01: "then 17 in what they read (13 or 17 as met)", and "Demand 1 and 17 need no premise".
+-- This file states what `from_generators` and `from_predicate` answer whatever the overgroup's buffer holds: its stretches may have been altered
+-- since they were accepted. Document 01: "then 17 in what they read (13 or 17 as met)", and "Demand 1 and 17 need no premise".
 use Prim.Native.Nat.{ℕ, _+_, _*_, _≤_, _<_}
 use mathlib.Core.Path.{_≡_}
 use mathlib.Core.Bool.{true}
@@ -33,13 +33,14 @@ use Rattle.promises_subgroup.specs.Leaves.{mapsFor, AllWrote}
 abbrev pub stepsRead : List ℕ → Group → List ℕ → ℕ → ℕ → ℕ
 stepsRead from over gens = outOf 0 (productOf from (handles over) gens)
 
--- What the two maps hold after a build, where `count` elements appeared, of which e is elt e in the overgroup. Accepted: the one has for each element of the
--- overgroup its number, or 4,294,967,295 where it did not appear, the other has elt e at e, and zero beyond (`Filled`). Refused: zero.
+-- What the two maps hold after a build in which `count` elements appeared, the e-th of them being elt e of the overgroup. After acceptance the one
+-- has for each element of the overgroup its number, or 4,294,967,295 where it did not appear, the other has elt e at e, and zero beyond (`Filled`).
+-- After a refusal both are zero.
 pub data MapsAfter (M room count : ℕ) (elt : ℕ → ℕ) (inn outw : List ℕ) : Built → Type 0 where
   filled : {t w : List ℕ} → Filled M room room elt count inn outw → MapsAfter M room count elt inn outw (built (counted.Count count) t w)
   zeros : {r : Refusal} {t w : List ℕ} → inn ≡ replicate M 0 → outw ≡ replicate room 0 → MapsAfter M room count elt inn outw (built (counted.Refused r) t w)
 
--- The build is that of composed rows: of these steps, numbered in order of first appearance.
+-- The call comes to the build from composed rows of the steps that are read, numbered in order of first appearance.
 pub record BySteps (from : List ℕ) (over : Group) (gens table : List ℕ) (start : ℕ) (work inn outw : List ℕ) (room : ℕ) (m : Subgrouping) : Type 0 where
   pub count : ℕ
   pub elt : ℕ → ℕ
@@ -65,9 +66,9 @@ pub record Stopped (from : List ℕ) (over : Group) (gens table : List ℕ) (sta
       (within work 0 (workNeed (length gens) room) (replicate (workNeed (length gens) room) 0))
       (within inn 0 (elementsOf (handles over)) (replicate (elementsOf (handles over)) 0)) (within outw 0 room (replicate room 0))
 
--- What is accepted all the same, by these elements, with stretches as k generators need them: an accepted factor, so a group, whose steps are those that were
--- read, in their numbering; maps that hold this numbering and undo each other; zeros beyond the last element and in the work; and the excess of all four
--- buffers as it was.
+-- What is accepted all the same, by these elements, with stretches as k generators need them: an accepted factor, so a group, whose steps are those
+-- that were read, in their numbering; maps that hold this numbering and undo each other; zeros beyond the last element and in the work; and the
+-- excess of all four buffers as it was.
 pub record Regardless (from : List ℕ) (over : Group) (gens : List ℕ) (k : ℕ) (table : List ℕ) (start : ℕ) (work inn outw : List ℕ) (room : ℕ) (s : Subgroup)
     (t w i o : List ℕ) : Type 1 where
   pub fits : allFit (length from) (handles over) ≡ true
@@ -88,8 +89,8 @@ pub record Regardless (from : List ℕ) (over : Group) (gens : List ℕ) (k : �
   pub work-zero : w ≡ within work 0 (workNeed k room) (replicate (workNeed k room) 0)
   pub wrote : AllWrote (mapsFor table start work inn outw k (elementsOf (handles over)) room t w i o)
 
--- By what a call of `from_predicate` is refused that has started: by 15 for a ninth generator; or a build by at most eight elements is, by 17 as a product is
--- refused, or as that of composed rows is, of the steps that are read.
+-- By what a call of `from_predicate` is refused that has started: by 15 for a ninth generator; or because a build by at most eight elements is
+-- refused, by 17 as a product is, or as the build from composed rows is, of the steps that are read.
 pub data ToldStops (from : List ℕ) (over : Group) (room : ℕ) (r : Refusal) : Type 0 where
   ninth : r ≡ numbered 15 0 0 0 → ToldStops from over room r
   stopped : (gens : List ℕ) (x g : ℕ) → length gens ≤ 8 → In (17 ∷ []) r → productOf from (handles over) gens x g ≡ reached.Refused r → ToldStops from over room r

@@ -1,5 +1,5 @@
--- Every answer of `from_generators` over factors that are not altered, by document 01's number and places, with the case in which it comes. "The first that
--- applies .. is given, and each is given only then."
+-- This file states every answer of `from_generators` over factors that are not altered, by document 01's number and places, with the case in which it
+-- comes. "The first that applies .. is given, and each is given only then."
 use Prim.Native.Nat.{ℕ, _+_, _≤_, _<_}
 use mathlib.Core.Path.{_≡_}
 use mathlib.Core.Bool.{true, false}
@@ -24,17 +24,17 @@ use Rattle.promises_subgroup.specs.Generates.{Acceptable}
 abbrev pub subgroupPaper : Subgrouping → Paper
 subgroupPaper (subgrouping m t w i o) = verdictPaper (m .answer)
 
--- No 17 and no 14: the handles fit, and every entry is an element of the overgroup.
+-- Refusals 17 and 14 are not due: the handles fit, and every entry is an element of the overgroup.
 pub record Elements (from : List ℕ) (over : Group) (gens : List ℕ) : Type 0 where
   pub fits : allFit (length from) (handles over) ≡ true
   pub below : {g : ℕ} → g < length gens → getD gens g 0 < elementsOf (handles over)
 
--- No 15: "more than 8 factors, product too large, an overgroup above 65,535 elements".
+-- Refusal 15 is not due: "more than 8 factors, product too large, an overgroup above 65,535 elements".
 pub record Small (over : Group) : Type 0 where
   pub few : over .count ≤ 8
   pub most : elementsOf (handles over) ≤ 65535
 
--- No 4: "room 0 or above 65,535, or a lent buffer short".
+-- Refusal 4 is not due: "room 0 or above 65,535, or a lent buffer short".
 pub record Enough (over : Group) (n : ℕ) (table : List ℕ) (start : ℕ) (work inn outw : List ℕ) (room : ℕ) : Type 0 where
   pub some-room : 1 ≤ room
   pub most-room : room ≤ 65535
@@ -51,8 +51,10 @@ pub record Generating (from : List ℕ) (over : Group) (gens table : List ℕ) (
   pub enough : Enough over (length gens) table start work inn outw room
   pub appearing : Appearing (length gens) (elementsOf (handles over)) (rightBy (direct from over .op) (λ g. getD gens g 0)) 0 N elt
 
+-- What the call answers on these arguments.
 pub data GeneratorsPaper (from : List ℕ) (over : Group) (gens table : List ℕ) (start : ℕ) (work inn outw : List ℕ) (room : ℕ) : Paper → Type 0 where
-  -- 17, "the handle doesn't fit its buffer"; 14, for the first entry that is no element, with its position; 15; 1, with the count; 4.
+  -- Before it starts it gives 17, "the handle doesn't fit its buffer"; 14, for the first entry that is no element, with its position; 15; 1, with the
+  -- count; 4.
   no-handle : allFit (length from) (handles over) ≡ false → GeneratorsPaper from over gens table start work inn outw room (refusalPaper (numbered 17 0 0 0))
   no-element : {k : ℕ} → allFit (length from) (handles over) ≡ true → FirstOf (length gens) (λ g. elementsOf (handles over) ≤ getD gens g 0) k
       → GeneratorsPaper from over gens table start work inn outw room (refusalPaper (numbered 14 (shown k) 0 0))
@@ -61,11 +63,12 @@ pub data GeneratorsPaper (from : List ℕ) (over : Group) (gens table : List ℕ
       → GeneratorsPaper from over gens table start work inn outw room (refusalPaper (numbered 1 (shown (length gens)) 0 0))
   short : Elements from over gens → Small over → length gens ≤ 8 → ¬ (Enough over (length gens) table start work inn outw room)
       → GeneratorsPaper from over gens table start work inn outw room (refusalPaper (numbered 4 0 0 0))
-  -- 5 and 6, where the numbering stops first, at that element and generator.
+  -- It gives 5 or 6 where the numbering stops first, at that element and generator.
   stops : {N : ℕ} {elt : ℕ → ℕ} {r : Refusal} → Generating from over gens table start work inn outw room N elt
       → Refuses (numberedStep N elt (rightBy (direct from over .op) (λ g. getD gens g 0))) (length gens) room r
       → GeneratorsPaper from over gens table start work inn outw room (refusalPaper r)
-  -- All are numbered: 9, for the first generator that is the identity; 11, where none is, for the first that is as an earlier one; else 0.
+  -- Where all are numbered it gives 9 for the first generator that is the identity; where none is, 11 for the first that is as an earlier one; else
+  -- 0.
   identity : {N g : ℕ} {elt : ℕ → ℕ} → Generating from over gens table start work inn outw room N elt
       → Readable (numberedStep N elt (rightBy (direct from over .op) (λ g. getD gens g 0))) (length gens) room N → FirstIdentity (length gens) (λ g. getD gens g 0) g
       → GeneratorsPaper from over gens table start work inn outw room (refusalPaper (numbered 9 0 g 0))

@@ -1,4 +1,5 @@
--- What the questions to a subgroup and its maps answer. Document 01: "the same goes for a subgroup's maps": they come unaltered from the call that accepted it.
+-- This file states what the questions to a subgroup and its maps answer. Document 01: "the same goes for a subgroup's maps": they come unaltered from
+-- the call that accepted it.
 use Prim.Native.Nat.{ℕ, _≤_, _<_}
 use mathlib.Core.Path.{_≡_}
 use mathlib.Core.Bool.{true}
@@ -20,7 +21,7 @@ pub record Known (from table : ℕ) (s : Subgroup) (inn outw : List ℕ) : Type 
   pub outw-long : s .factor .elements ≤ length outw
   pub carried : Carried (overCount s) (s .factor .elements) (λ e. getD outw e 0) (λ x. getD inn x 0)
 
--- Then every answer is that of the index formulas, on paper; and the maps that they make undo each other.
+-- Then every answer is that of the index formulas, and the maps that these make undo each other.
 pub record MapAnswers (from table : ℕ) (s : Subgroup) (inn outw : List ℕ) : Type 0 where
   pub outward : {e : ℕ} → e < elementsOf (subSide s)
       → toOverAnswer from table s outw (record { 0 = e }) ≡ reach (overOf (strideOf s) (overCount s) (s .factor .elements) (λ i. getD outw i 0) e)

@@ -1,4 +1,4 @@
--- What two maps between a subgroup and its overgroup have to be.
+-- This file defines what two maps between a subgroup and its overgroup have to be.
 use Prim.Native.Nat.{ℕ, _<_, _≤_}
 use mathlib.Core.Path.{_≡_}
 use Rattle.build_numbering.specs.Renumber as appear
@@ -11,7 +11,7 @@ pub record Carried (M N : ℕ) (toOver toSub : ℕ → ℕ) : Type 0 where
   pub sub-below : {x : ℕ} → x < M → ¬ (toSub x ≡ appear.none) → toSub x < N
   pub back-and-there : {x : ℕ} → x < M → ¬ (toSub x ≡ appear.none) → toOver (toSub x) ≡ x
 
--- They carry the operation, the inverse and the identity.
+-- The map to the overgroup carries the operation, the inverse and the identity.
 pub record Homomorphic (N : ℕ) (opₛ : ℕ → ℕ → ℕ) (invₛ : ℕ → ℕ) (op : ℕ → ℕ → ℕ) (inv : ℕ → ℕ) (toOver : ℕ → ℕ) : Type 0 where
   pub identity : toOver 0 ≡ 0
   pub composes : {a b : ℕ} → a < N → b < N → toOver (opₛ a b) ≡ op (toOver a) (toOver b)

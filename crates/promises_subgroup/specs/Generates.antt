@@ -1,4 +1,4 @@
--- What `from_generators` gives where it is accepted, and when it is.
+-- This file states what `from_generators` gives where it is accepted, and when it is.
 use Prim.Native.Nat.{ℕ, _+_, _*_, _≤_, _<_}
 use mathlib.Core.Path.{_≡_}
 use mathlib.Core.Bool.{true}
@@ -23,7 +23,7 @@ use Rattle.subgroup_build.specs.Lent.{Subgrouping, subgrouping, mapsRight}
 use Rattle.subgroup_build.specs.Generated.{entriesRight, smallEnough}
 use Rattle.promises_subgroup.specs.Carried.{Carried, Homomorphic}
 
--- The arguments are right, and the buffers long enough: 17 in the handles, 14, 15, 1 and 4 have passed.
+-- The arguments are right, and the buffers long enough, so that the build starts: 17 in the handles, 14, 15, 1 and 4 have passed.
 pub record Started (from : List ℕ) (over : Group) (gens table : List ℕ) (start : ℕ) (work inn outw : List ℕ) (room : ℕ) : Type 0 where
   pub fits : allFit (length from) (handles over) ≡ true
   pub entries : entriesRight (elementsOf (handles over)) gens ≡ Fine
@@ -61,8 +61,8 @@ pub record Generates (from : List ℕ) (over : Group) (gens table : List ℕ) (s
   pub inn-kept : i ≡ within inn 0 (elementsOf (handles over)) (take (elementsOf (handles over)) i)
   pub outw-kept : o ≡ within outw 0 room (take room o)
 
--- When it is accepted, of the N elements that the generators reach, numbered in order of first appearance as `elt`: they are within the room, no recorded
--- word passes 4,096, and the generators are different and none is the identity.
+-- When it is accepted. The generators reach N elements, numbered in order of first appearance as `elt`: these are within the room, no recorded word
+-- passes 4,096, and the generators are different and none is the identity.
 pub record Acceptable (op : ℕ → ℕ → ℕ) (n room N : ℕ) (gen elt : ℕ → ℕ) : Type 0 where
   pub within-room : N ≤ room
   pub short : (e : ℕ) → e < N → length (recorded n (numberedStep N elt (rightBy op gen)) e) ≤ 4096

@@ -1,5 +1,5 @@
--- What a refused `from_generators` or `from_predicate` leaves, in the words of every call that makes a factor (`Leaves` of promises): its four lent buffers with
--- their needed stretches, and the numbers that may be given before the build starts and afterwards.
+-- This file states what a refused `from_generators` or `from_predicate` leaves, in the words of every call that makes a factor (`Leaves` of
+-- promises): its four lent buffers with their needed stretches, and the numbers that may be given before the build starts and afterwards.
 use Prim.Native.Nat.{ℕ}
 use mathlib.Core.List.{List, [], _∷_}
 use Rattle.build_lending.specs.Lending.{workNeed}
@@ -7,7 +7,8 @@ use Rattle.build_checks_laws.specs.Numbers.{lateNumbers}
 use Rattle.promises.specs.Leaves.{Lent, tableFor}
 use Rattle.promises.specs.Unaltered.{Wrote}
 
--- "A subgroup's maps need the overgroup's count and R": M and the room; table and work are needed as by any build with n generators.
+-- The four buffers: "a subgroup's maps need the overgroup's count and R", here M and the room; table and work are needed as by any build with n
+-- generators.
 abbrev pub mapsFor : (table : List ℕ) (start : ℕ) (work inn outw : List ℕ) (n M room : ℕ) (t w i o : List ℕ) → List Lent
 mapsFor table start work inn outw n M room t w i o =
     tableFor table start n room t
@@ -16,19 +17,20 @@ mapsFor table start work inn outw n M room t w i o =
     ∷ record { entry = outw; start = 0; need = room; exit = o }
     ∷ []
 
--- "Calls on handles check 17 in the handle, then 14, then 15, then 1 to 4": before `from_generators` starts.
+-- The numbers before `from_generators` starts: "Calls on handles check 17 in the handle, then 14, then 15, then 1 to 4".
 abbrev pub generatorsBefore : List ℕ
 generatorsBefore = 17 ∷ 14 ∷ 15 ∷ 1 ∷ 4 ∷ []
 
--- "Then 17 in what they read": afterwards, whatever the overgroup's buffer holds, 17, and what a build from composed rows may give but for 7: a number in order
--- of first appearance never skips ahead.
+-- The numbers afterwards, whatever the overgroup's buffer holds: 17, for "then 17 in what they read", and what a build from composed rows may give
+-- but for 7: a number in order of first appearance never skips ahead.
 abbrev pub generatorsAfter : List ℕ
 generatorsAfter = 17 ∷ 5 ∷ 6 ∷ 8 ∷ lateNumbers
 
--- The same of `from_predicate`, which has no arguments for 14 and 1, and gives 15 for "a predicate that needs a ninth generator".
+-- The numbers before `from_predicate` starts, which has no arguments for 14 and 1.
 abbrev pub predicateBefore : List ℕ
 predicateBefore = 17 ∷ 15 ∷ 4 ∷ []
 
+-- The numbers afterwards: the same, and 15 for "a predicate that needs a ninth generator".
 abbrev pub predicateAfter : List ℕ
 predicateAfter = 15 ∷ generatorsAfter
 

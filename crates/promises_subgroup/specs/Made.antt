@@ -1,4 +1,4 @@
--- What an accepted build of a subgroup by a list of elements gives, over any group on 0 .. M-1.
+-- This file states what an accepted build of a subgroup by a list of elements gives, over any group on 0 .. M-1.
 use Prim.Native.Nat.{ℕ, _+_, _*_, _≤_, _<_}
 use mathlib.Core.Path.{_≡_}
 use mathlib.Core.List.{List}
@@ -13,6 +13,8 @@ use Rattle.build_numbering_laws.specs.Maps.{Held}
 use Rattle.build_numbering_laws.specs.Subgroup.{rightBy, Generated, Proper}
 use Rattle.promises_subgroup.specs.Carried.{Carried, Homomorphic}
 
+-- A table of c elements that passes the checks and follows the numbering rule; two maps that hold its numbering, undo each other and carry the
+-- group's operation; the elements in the map are the subgroup that `gen` generates; and zeros beyond the last element and in the work.
 pub record SubgroupMade (op : ℕ → ℕ → ℕ) (inv : ℕ → ℕ) (n M room K size L : ℕ) (gen : ℕ → ℕ) (c : ℕ) (t w inn outw : List ℕ) : Type 1 where
   pub sound : Sound t n c
   pub ruled : Ruled t n c

@@ -1,6 +1,6 @@
--- By which numbers the questions about a subgroup and the products with it are refused, on every input: whatever the handles, the counts, the buffers, the
--- maps and the arguments are. Document 01: "Calls on handles check 17 in the handle, then 14, then 15, then 1 to 4, then 17 in what they read". "A refused
--- question writes nothing": none of these calls is lent a buffer that it may write to.
+-- This file states by which numbers the questions about a subgroup and the products with it are refused, on every input: whatever the handles, the
+-- counts, the buffers, the maps and the arguments are. Document 01: "Calls on handles check 17 in the handle, then 14, then 15, then 1 to 4, then 17
+-- in what they read". "A refused question writes nothing": none of these calls is lent a buffer that it may write to.
 use Prim.Native.Nat.{ℕ}
 use mathlib.Core.Path.{_≡_}
 use mathlib.Core.List.{List, [], _∷_}
@@ -17,10 +17,11 @@ use Rattle.subgroup.specs.declared.Within.the-variants as within
 use Rattle.subgroup_sides.specs.Sides.{leftProduct, rightProduct}
 use Rattle.subgroup.specs.Questions.{toOverAnswer, toSubAnswer, generatorAnswer}
 
--- If it is refused, then by one of these numbers. "Not in the subgroup" is an answer.
+-- If the question is refused, then by one of these numbers. "Not in the subgroup" is an answer, and no refusal.
 pub record WithinIn (l : List ℕ) (x : Within) : Type 0 where
   pub of : (r : Refusal) → x ≡ within.Refused r → In l r
 
+-- Each call on the subgroup s, with the only numbers by which it is ever refused.
 pub record SubgroupRefuses (from table : List ℕ) (s : Subgroup) : Type 0 where
   pub lefts : (g : Group) → VerdictIn (15 ∷ 17 ∷ []) (leftProduct (length from) (length table) g s .answer)
   pub rights : (g : Group) → VerdictIn (15 ∷ 17 ∷ []) (rightProduct (length from) (length table) s g .answer)

@@ -1,5 +1,5 @@
--- Which predicates `from_predicate` accepts. Document 01: "`from_subgroup_predicate` over a lent byte per element, nonzero for a member (rebuilt as 005 does, the
--- first refusal standing ..)".
+-- This file defines which predicates `from_predicate` accepts. Document 01: "`from_subgroup_predicate` over a lent byte per element, nonzero for a
+-- member (rebuilt as 005 does, the first refusal standing ..)".
 use Prim.Native.Nat.{ℕ, _≤_, _<_}
 use mathlib.Core.List.{List}
 use lib.ListN.{length, getD, take}

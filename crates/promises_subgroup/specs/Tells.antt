@@ -1,4 +1,4 @@
--- What `from_predicate` gives where it is accepted.
+-- This file states what `from_predicate` gives where it is accepted.
 use Prim.Native.Nat.{ℕ, _+_, _≤_, _<_}
 use mathlib.Core.Path.{_≡_}
 use mathlib.Core.Logic.{_↔_}
@@ -17,7 +17,8 @@ use Rattle.subgroup_build.specs.Generated.{smallEnough}
 use Rattle.promises_subgroup.specs.Generates.{Holds}
 use Rattle.promises_subgroup.specs.Told.{Told}
 
--- 17 in the handles, 15 and 4 have passed: table and work are lent as for 8 generators, and there is a byte for each element of the overgroup.
+-- The arguments are right, so that the builds start: 17 in the handles, 15 and 4 have passed. Table and work are lent as for 8 generators, and there
+-- is a byte for each element of the overgroup.
 pub record Predicated (from : List ℕ) (over : Group) (members table : List ℕ) (start : ℕ) (work inn outw : List ℕ) (room : ℕ) : Type 0 where
   pub fits : allFit (length from) (handles over) ≡ true
   pub small : smallEnough over ≡ true

@@ -1,4 +1,4 @@
--- What an accepted predicate form gives, over any group on 0 .. M-1.
+-- This file states what an accepted predicate form gives, over any group on 0 .. M-1.
 use Prim.Native.Nat.{ℕ, _+_, _*_, _≤_, _<_}
 use mathlib.Core.Path.{_≡_}
 use mathlib.Core.Logic.{_↔_}
@@ -14,6 +14,8 @@ use Rattle.build_numbering_laws.specs.Subgroup.{rightBy, Generated, Proper}
 use Rattle.promises_subgroup.specs.Carried.{Carried, Homomorphic}
 use Rattle.promises_subgroup.specs.Predicate.{Reach, Chosen}
 
+-- The generators `gens` were chosen as the bytes tell; a table of c elements passes the checks; two maps hold its numbering, undo each other and
+-- carry the group's operation; the elements in the map are those that `gens` generate; and there are zeros beyond the last element and in the work.
 pub record Told (op : ℕ → ℕ → ℕ) (inv byte : ℕ → ℕ) (M room K size L : ℕ) (gens : List ℕ) (c : ℕ) (t w inn outw : List ℕ) : Type 1 where
   pub chosen : Chosen op byte M gens
   pub proper : Proper (length gens) (λ g. getD gens g 0)

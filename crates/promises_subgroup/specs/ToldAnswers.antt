@@ -1,5 +1,5 @@
--- Every answer of `from_predicate` over factors that are not altered, by document 01's number and places, with the case in which it comes. "Rebuilt as 005 does,
--- the first refusal standing".
+-- This file states every answer of `from_predicate` over factors that are not altered, by document 01's number and places, with the case in which it
+-- comes. "Rebuilt as 005 does, the first refusal standing".
 use Prim.Native.Nat.{ℕ, _≤_, _<_}
 use mathlib.Core.Path.{_≡_}
 use mathlib.Core.Bool.{true, false}
@@ -22,7 +22,8 @@ use Rattle.promises_subgroup.specs.Predicate.{Reach, Chosen}
 use Rattle.promises_subgroup.specs.Tellable.{Buildable, Tellable}
 use Rattle.promises_subgroup.specs.Answers.{Small, Enough}
 
--- What these elements generate, numbered in order of first appearance, cannot be built: 5 or 6, where the numbering stops first, at that element and generator.
+-- What these elements generate, numbered in order of first appearance, cannot be built: it is refused by 5 or 6, where the numbering stops first, at
+-- that element and generator.
 pub record Stopping (op : ℕ → ℕ → ℕ) (M room : ℕ) (gens : List ℕ) (r : Refusal) : Type 0 where
   pub count : ℕ
   pub elt : ℕ → ℕ
@@ -30,8 +31,8 @@ pub record Stopping (op : ℕ → ℕ → ℕ) (M room : ℕ) (gens : List ℕ) 
   pub refuses : Refuses (numberedStep count elt (rightBy op (λ g. getD gens g 0))) (length gens) room r
   pub number : In (5 ∷ 6 ∷ []) r
 
--- How the choosing ends. All are seen, and every build on the way was made; or one could not be, by the elements chosen below x, and those before it were; or
--- eight are chosen below x, all builds were made, and x needs a ninth.
+-- How the choosing ends: all elements are seen, and every build on the way was made; or one build could not be made, by the elements chosen below x,
+-- and those before it were; or eight are chosen below x, all builds were made, and x needs a ninth.
 pub data Way (op : ℕ → ℕ → ℕ) (byte : ℕ → ℕ) (M room : ℕ) : Verdict → Type 0 where
   told : Tellable op byte M room → Way op byte M room Fine
   stops : {r : Refusal} (x : ℕ) (gens : List ℕ) → x ≤ M → Chosen op byte x gens → ((k : ℕ) → k < length gens → Buildable op M room (take k gens))
@@ -39,19 +40,20 @@ pub data Way (op : ℕ → ℕ → ℕ) (byte : ℕ → ℕ) (M room : ℕ) : Ve
   ninth : (x : ℕ) (gens : List ℕ) → x < M → Chosen op byte x gens → ((k : ℕ) → k ≤ length gens → Buildable op M room (take k gens))
       → length gens ≡ 8 → ¬ (byte x ≡ 0) → ¬ Reach op gens 8 x → Way op byte M room (refusedOf 15 0 0 0)
 
--- No 4: room and buffers as for eight generators, and a byte for each element of the overgroup.
+-- Refusal 4 is not due: room and buffers are as for eight generators, and there is a byte for each element of the overgroup.
 pub record Bytes (over : Group) (members table : List ℕ) (start : ℕ) (work inn outw : List ℕ) (room : ℕ) : Type 0 where
   pub enough : Enough over 8 table start work inn outw room
   pub bytes : elementsOf (handles over) ≤ length members
 
+-- What the call answers on these arguments.
 pub data PredicatePaper (from : List ℕ) (over : Group) (members table : List ℕ) (start : ℕ) (work inn outw : List ℕ) (room : ℕ) : Paper → Type 0 where
-  -- 17, "the handle doesn't fit its buffer"; 15; 4.
+  -- Before it starts it gives 17, "the handle doesn't fit its buffer"; then 15; then 4.
   no-handle : allFit (length from) (handles over) ≡ false → PredicatePaper from over members table start work inn outw room (refusalPaper (numbered 17 0 0 0))
   too-large : allFit (length from) (handles over) ≡ true → ¬ (Small over)
       → PredicatePaper from over members table start work inn outw room (refusalPaper (numbered 15 0 0 0))
   short : allFit (length from) (handles over) ≡ true → Small over → ¬ (Bytes over members table start work inn outw room)
       → PredicatePaper from over members table start work inn outw room (refusalPaper (numbered 4 0 0 0))
-  -- Then as the choosing ends: 0, 5 or 6, or 15.
+  -- Then it answers as the choosing ends: 0, or 5 or 6, or 15.
   chosen : {v : Verdict} → allFit (length from) (handles over) ≡ true → Small over → Bytes over members table start work inn outw room
       → Way (direct from over .op) (λ x. getD members x 0) (elementsOf (handles over)) room v
       → PredicatePaper from over members table start work inn outw room (verdictPaper v)

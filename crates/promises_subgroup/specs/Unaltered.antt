@@ -1,5 +1,5 @@
--- A subgroup whose maps and stretches were left alone. Document 01: "its handle and its needed stretch of table come unaltered from the call that accepted it, in
--- a product for each factor; the same goes for a subgroup's maps".
+-- This file defines what it is for a subgroup that its maps and stretches were left alone. Document 01: "its handle and its needed stretch of table
+-- come unaltered from the call that accepted it, in a product for each factor; the same goes for a subgroup's maps".
 use Prim.Native.Nat.{ℕ, _≤_, _<_}
 use mathlib.Core.Path.{_≡_}
 use mathlib.Core.Bool.{true}

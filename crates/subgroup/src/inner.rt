@@ -1,4 +1,4 @@
-// The work of the calls, on subgroups whose handles fit.
+// The work of the calls, done once the subgroup's handles are known to fit.
 ghost use mathlib.Core.Path.{_≡_};
 ghost use mathlib.Core.Bool.{true};
 ghost use Prim.Native.Nat.{_*_, _<_, _≤_};
@@ -18,9 +18,9 @@ use egg::Verdict;
 use group_handles::inner::Seen;
 use subgroup_build::Subgroup;
 
-// What one look at a subgroup's handles shows: whether each fits its buffer, whether either side has at most 8 factors, and how many elements the factors below
-// have, the subgroup's own, those that it stands for and those above, as far as 32 bits can tell. The questions need no more than these numbers; a `Subgroup` is
-// 620 bytes, which every function that is not put in line copies.
+// What one look at a subgroup's handles shows: whether each fits its buffer, whether either side has at most 8 factors, and how many elements there
+// are in the factors below, in the subgroup's own, in those that it stands for and in those above, as far as 32 bits can tell. The questions need no
+// more than these numbers; a `Subgroup` is 620 bytes, which every function that is not put in line copies.
 pub struct Outline {
     pub fit: bool,
     pub few: bool,
@@ -30,7 +30,7 @@ pub struct Outline {
     pub above: u64,
 }
 
-// Of what was seen of the factors below, over and above.
+// Puts an outline together from what was seen of the factors below, over and above.
 pub fn outline_by(
     fits: bool,
     few: bool,
@@ -53,6 +53,7 @@ pub fn outline_by(
     }
 }
 
+// Looks at all handles of a subgroup.
 pub fn outlined(from: &[u32], table: &[u32], s: Subgroup) -> Outline
     ensures { λ r. ⌜ r ≡ outlineOf (length (now (from .entry))) (length (now (table .entry))) s ⌝ }
 {
@@ -68,6 +69,7 @@ pub fn outlined(from: &[u32], table: &[u32], s: Subgroup) -> Outline
     outline_by(fits, few, factor.elements, low, middle, high)
 }
 
+// Whether both sides have at most 8 factors and 4,294,967,295 elements.
 fn limited(o: Outline) -> bool
     requires { ⌜ Measured o ⌝ }
     ensures { λ r. ⌜ r ≡ outlineLimited o ⌝ }
@@ -81,7 +83,8 @@ fn limited(o: Outline) -> bool
     subgroup_sides::inner::measure(o.below, o.within, o.above) <= 4294967295
 }
 
-// 17 in the handles and for a short map, 14 for an argument and its limit, 15.
+// Refuses in this order: 17 for a handle that does not fit or a map of fewer than `need` places, 14 for an argument a that is not below la, 15 for a
+// side too large.
 pub fn admit(o: Outline, map: usize, need: u64, a: u32, la: u64) -> Verdict
     requires { ⌜ Measured o ⌝ }
     ensures { λ r. ⌜ r ≡ admitsOutline o map need a la ⌝ }
@@ -101,7 +104,7 @@ pub fn admit(o: Outline, map: usize, need: u64, a: u32, la: u64) -> Verdict
     Verdict::Fine
 }
 
-// x with w for its part within, where the factors there have n elements and are to have m.
+// The element x with w for its part within. The factors there have n elements, and those that take their place have m.
 fn replaced(x: GroupElementId, stride: u64, n: u64, w: GroupElementId, m: u64) -> GroupElementId
     requires { ⌜ (1 ≤ stride) × ((1 ≤ n) × (unfactorIndices (withWithin (factorIndices (x .0) stride n) (w .0)) stride m < 4294967296)) ⌝ }
     ensures { λ r. ⌜ r .0 ≡ unfactorIndices (withWithin (factorIndices (x .0) stride n) (w .0)) stride m ⌝ }
@@ -112,7 +115,7 @@ fn replaced(x: GroupElementId, stride: u64, n: u64, w: GroupElementId, m: u64) -
     GroupElementId((((y / stride / n) * m + (part as u64)) * stride + y % stride) as u32)
 }
 
-// The subgroup's e in the overgroup.
+// Answers what the subgroup's e is in the overgroup.
 pub fn carry_over(outw: &[u32], o: Outline, e: GroupElementId) -> Reached
     requires { ⌜ (e .0 < o .below * (o .within * o .above)) × ((o .below * (o .within * o .above) ≤ 4294967295) × (o .below * (o .over * o .above) ≤ 4294967295)) ⌝ }
     ensures { λ r. ⌜ r ≡ carriedBy (o .below) (o .over) (o .within) (now (outw .entry)) (e .0) ⌝ }
@@ -128,7 +131,7 @@ pub fn carry_over(outw: &[u32], o: Outline, e: GroupElementId) -> Reached
     Reached::Element(replaced(e, stride, n, GroupElementId(w), m))
 }
 
-// The overgroup's x in the subgroup.
+// Answers what the overgroup's x is in the subgroup.
 pub fn carry_back(inn: &[u32], o: Outline, x: GroupElementId) -> Within
     requires { ⌜ (x .0 < o .below * (o .over * o .above)) × ((o .below * (o .within * o .above) ≤ 4294967295) × (o .below * (o .over * o .above) ≤ 4294967295)) ⌝ }
     ensures { λ r. ⌜ r ≡ carriedBackBy (o .below) (o .over) (o .within) (now (inn .entry)) (x .0) ⌝ }
@@ -152,7 +155,7 @@ pub fn carry_back(inn: &[u32], o: Outline, x: GroupElementId) -> Within
     Within::Element(replaced(x, stride, m, GroupElementId(w), n))
 }
 
-// `to_overgroup` and `to_subgroup` by the outline.
+// Does `to_overgroup` by the outline.
 pub fn over_by(o: Outline, outw: &[u32], e: GroupElementId) -> Reached
     requires { ⌜ Measured o ⌝ }
     ensures { λ r. ⌜ r ≡ overByOutline o (now (outw .entry)) (e .0) ⌝ }
@@ -164,6 +167,7 @@ pub fn over_by(o: Outline, outw: &[u32], e: GroupElementId) -> Reached
     }
 }
 
+// Does `to_subgroup` by the outline.
 pub fn back_by(o: Outline, inn: &[u32], x: GroupElementId) -> Within
     requires { ⌜ Measured o ⌝ }
     ensures { λ r. ⌜ r ≡ backByOutline o (now (inn .entry)) (x .0) ⌝ }
@@ -175,7 +179,7 @@ pub fn back_by(o: Outline, inn: &[u32], x: GroupElementId) -> Within
     }
 }
 
-// The generator g of the subgroup, as an element of the overgroup.
+// Answers the generator g of the subgroup as an element of the overgroup.
 pub fn generator_over(
     from: &[u32],
     table: &[u32],

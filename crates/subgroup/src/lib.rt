@@ -1,5 +1,7 @@
-// subgroup_action.rs without its actions: subgroups of a product, numbered in order of first appearance, with two lent maps between them and the overgroup.
-// Every call checks, in this order: 17 for each handle, 14 for its arguments, 15, 1, 4, and then 17 in what it reads.
+// The calls on subgroups of a product, from subgroup_action.rs without its actions. A subgroup is numbered in order of first appearance, with two
+// lent maps: `inn` from the overgroup's elements to the subgroup's, or to 4,294,967,295 for "not in the subgroup", and `outw` from the subgroup's to
+// the overgroup's. Every call checks, in this order: 17 for each handle, 14 for its arguments, 15 for a product too large, 1 and 4 for what a build
+// is given and lent, and then 17 for each number that it reads.
 ghost use mathlib.Core.Path.{_≡_};
 ghost use Rattle.subgroup_build.specs.Lent.{Subgrouping};
 ghost use Rattle.subgroup_build.specs.Generated.{fromGenerators};
@@ -17,15 +19,16 @@ pub use subgroup_build::Subgrouped;
 
 pub mod inner;
 
-// What an element of the overgroup is in the subgroup.
+// What an element of the overgroup is in the subgroup: an element, or outside of it.
 pub enum Within {
     Element(GroupElementId),
     Outside,
     Refused(Refusal),
 }
 
-// The subgroup that the elements `gens` of a product in `from` generate, built into the stretch of `table` that starts at `start`; `inn` maps the overgroup's
-// elements to the subgroup's, or to 4,294,967,295, and `outw` the subgroup's to the overgroup's.
+// Builds the subgroup that the elements `gens` of a product in `from` generate, into the stretch of `table` that starts at `start`, and fills its two
+// maps. Refuses in this order: 17 for a handle that does not fit, 14 for the first entry that is no element, 15 for an overgroup too large to number,
+// 1 for more than 8 generators, 4 for a room out of range or a short buffer; then as any build does, and with 17 a number read that is out of range.
 pub fn from_generators(
     from: &[u32],
     over: Group,
@@ -55,7 +58,8 @@ pub fn from_generators(
     }
 }
 
-// The subgroup of g · overgroup that is g · subgroup.
+// Answers the subgroup of g · overgroup that is g · subgroup. Refuses in this order: 17 for a handle that does not fit, 15 for more than 8 factors or
+// too many elements on a side.
 pub fn product_left(from: &[u32], table: &[u32], g: Group, s: Subgroup) -> Subgrouped
     ensures { λ r. ⌜ r ≡ leftProduct (length (now (from .entry))) (length (now (table .entry))) g s ⌝ }
 {
@@ -68,7 +72,7 @@ pub fn product_left(from: &[u32], table: &[u32], g: Group, s: Subgroup) -> Subgr
     subgroup_sides::inner::left_of(g, s)
 }
 
-// The subgroup of overgroup · g that is subgroup · g.
+// Answers the subgroup of overgroup · g that is subgroup · g. Refuses as `product_left` does.
 pub fn product_right(from: &[u32], table: &[u32], s: Subgroup, g: Group) -> Subgrouped
     ensures { λ r. ⌜ r ≡ rightProduct (length (now (from .entry))) (length (now (table .entry))) s g ⌝ }
 {
@@ -81,7 +85,8 @@ pub fn product_right(from: &[u32], table: &[u32], s: Subgroup, g: Group) -> Subg
     subgroup_sides::inner::right_of(s, g)
 }
 
-// The element of the overgroup that the subgroup's e is.
+// Answers the element of the overgroup that the subgroup's e is. Refuses in this order: 17 for a handle that does not fit or a short map, 14 for an
+// element out of range, 15 for a side too large, 17 for a number in the map that is no element.
 pub fn to_overgroup(
     from: &[u32],
     table: &[u32],
@@ -94,7 +99,7 @@ pub fn to_overgroup(
     inner::over_by(inner::outlined(from, table, s), outw, e)
 }
 
-// The element of the subgroup that the overgroup's x is.
+// Answers the element of the subgroup that the overgroup's x is, or that it is outside. Refuses as `to_overgroup` does.
 pub fn to_subgroup(
     from: &[u32],
     table: &[u32],
@@ -107,7 +112,8 @@ pub fn to_subgroup(
     inner::back_by(inner::outlined(from, table, s), inn, x)
 }
 
-// The generator g of the subgroup, as an element of the overgroup.
+// Answers the generator g of the subgroup as an element of the overgroup. Refuses in this order: 17 for a handle that does not fit or a short map, 14
+// for a generator out of range, 15 for a side too large, 17 for a number read that is out of range.
 pub fn generator(from: &[u32], table: &[u32], s: Subgroup, outw: &[u32], g: GeneratorId) -> Reached
     ensures { λ r. ⌜ r ≡ generatorAnswer (now (from .entry)) (now (table .entry)) s (now (outw .entry)) g ⌝ }
 {

@@ -1,4 +1,4 @@
-// The work of a build by generators, on overgroups whose handles fit and whose elements are at most 65,535.
+// The work of a build by generators, done once the overgroup's handles are known to fit and its elements to be at most 65,535.
 ghost use mathlib.Core.Path.{_≡_};
 ghost use mathlib.Core.Bool.{true};
 ghost use Prim.Native.Nat.{_≤_};
@@ -20,14 +20,14 @@ use egg::Refusal;
 use egg::Verdict;
 use group_handles::Group;
 
-// A length or a position as far as 32 bits can tell.
+// A length or a position as far as 32 bits can tell: 4,294,967,295 stands for all that is above.
 pub fn shown(i: usize) -> u32
     ensures { λ r. ⌜ r ≡ shown i ⌝ }
 {
     if i < 4294967295 { i as u32 } else { 4294967295 }
 }
 
-// 14 for the first entry that is no element.
+// Refuses with 14 the first entry that is no element.
 fn entries_right(over: Group, gens: &[u32]) -> Verdict
     ensures { λ r. ⌜ r ≡ entriesRight (elementsOf (handles over)) (now (gens .entry)) ⌝ }
 {
@@ -43,7 +43,7 @@ fn entries_right(over: Group, gens: &[u32]) -> Verdict
     Verdict::Fine
 }
 
-// Whether the overgroup is a product, and small enough to number.
+// Whether the overgroup is within the limits of a product, and small enough to number.
 pub fn small_enough(over: Group) -> bool
     ensures { λ r. ⌜ r ≡ smallEnough over ⌝ }
 {
@@ -53,7 +53,7 @@ pub fn small_enough(over: Group) -> bool
     group_handles::inner::elements_of(over) <= 65535
 }
 
-// 17, 14, 15.
+// Refuses in this order: 17 for a handle that does not fit, 14 for the first entry that is no element, 15 for an overgroup too large to number.
 pub fn admit_generators(from: &[u32], over: Group, gens: &[u32]) -> Verdict
     ensures { λ r. ⌜ r ≡ admitsGenerators (length (now (from .entry))) over (now (gens .entry)) ⌝ }
 {
@@ -70,7 +70,7 @@ pub fn admit_generators(from: &[u32], over: Group, gens: &[u32]) -> Verdict
     Verdict::Fine
 }
 
-// The whole build, in its stretches.
+// Does the whole build, in its stretches.
 pub fn generated_in(
     t: &mut [u32],
     w: &mut [u32],
@@ -92,7 +92,7 @@ pub fn generated_in(
     build_numbering::inner::settle(inn, outw, made)
 }
 
-// The value that goes with what was made, or refused.
+// The subgroup's value for a factor that was made, or refused.
 pub fn subgroup_of(over: Group, made: Made) -> Subgrouped
     ensures { λ r. ⌜ r ≡ subgroupOf over made ⌝ }
 {
@@ -109,13 +109,14 @@ pub fn subgroup_of(over: Group, made: Made) -> Subgrouped
     Subgrouped { answer, subgroup }
 }
 
+// A refusal, with a subgroup beside it whose factor fits no buffer.
 pub fn refused_subgroup(over: Group, why: Refusal) -> Subgrouped
     ensures { λ r. ⌜ r ≡ subgroupOf over (record { answer = verdict.Refused why; factor = noFactor }) ⌝ }
 {
     subgroup_of(over, group_handles::inner::no_factor_made(why))
 }
 
-// No 4: the room is within its limits, and neither table, work nor a map is short.
+// True where refusal 4 is not due: the room is within its limits, and neither table, work nor a map is short.
 pub fn maps_right(
     table: usize,
     start: usize,
@@ -137,7 +138,7 @@ pub fn maps_right(
     (room as usize) <= outw
 }
 
-// The build in the parts of the four buffers that it needs, which are long enough.
+// Builds in the parts of the four buffers that the build needs, which are long enough.
 fn generated_at(
     from: &[u32],
     over: Group,
@@ -171,7 +172,7 @@ fn generated_at(
     subgroup_of(over, build_lending::inner::made(start, room, n, count))
 }
 
-// 1, then 4; then the build.
+// Refuses with 1 more than 8 generators, then with 4 a room out of range or a short buffer; else builds.
 pub fn generated_into(
     from: &[u32],
     over: Group,

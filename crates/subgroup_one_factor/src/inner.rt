@@ -1,4 +1,4 @@
-// Products in an overgroup of one factor whose handle fits, and the letters by which some of them are steps.
+// Products in an overgroup of one factor, whose handle is known to fit, and the letters by which some of them are steps.
 ghost use mathlib.Core.Path.{_≡_};
 ghost use mathlib.Core.Bool.{true};
 ghost use mathlib.Core.List.{[], _∷_};
@@ -12,7 +12,7 @@ use egg::GeneratorId;
 use egg::GroupElementId;
 use egg::Reached;
 
-// The product of two elements where the overgroup is one factor.
+// Answers the product of two elements of the one factor.
 fn factor_product(from: &[u32], f: Factor, a: GroupElementId, b: GroupElementId) -> Reached
     requires { ⌜ fitsIn (length (now from)) f ≡ true ⌝ }
     ensures { λ r. ⌜ r ≡ composes (now (from .entry)) (f ∷ []) (a .0) (b .0) ⌝ }
@@ -29,7 +29,7 @@ fn factor_product(from: &[u32], f: Factor, a: GroupElementId, b: GroupElementId)
     )
 }
 
-// One more than the letter by which a product with b is a step, where the word of b has one letter; else 0.
+// Answers one more than the letter by which a product with b is a step, where the word of b has one letter; else 0.
 fn step_letter(s: &[u32], n: u8, b: GroupElementId) -> u32
     ensures { λ r. ⌜ OneLetter (now (s .entry)) n (b .0) r ⌝ }
 {
@@ -43,7 +43,7 @@ fn step_letter(s: &[u32], n: u8, b: GroupElementId) -> u32
     letter + 1
 }
 
-// The same for each of the generators' elements that the list has room for.
+// Writes the same for each element of `gens` that the list has room for.
 pub fn find_letters(s: &[u32], n: u8, count: u32, gens: &[u32], letters: &mut [u32])
     requires { ⌜ 0 < count ⌝ }
     ensures { λ r. ⌜ Letters (now (s .entry)) n count (now (gens .entry)) (now (letters .exit)) ⌝ }
@@ -56,7 +56,7 @@ pub fn find_letters(s: &[u32], n: u8, count: u32, gens: &[u32], letters: &mut [u
     }
 }
 
-// The product with an element of which a letter is known, or none is.
+// Answers the product with b, by a step where its letter is known (`letter` is not 0), else by its word.
 pub fn letter_product(
     from: &[u32],
     f: Factor,

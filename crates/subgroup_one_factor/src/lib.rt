@@ -1,3 +1,3 @@
-// Products of an overgroup that is one factor: with an element of one letter a product is a step, and the letters of the generators are found once. There are no
-// calls of its own.
+// Multiplies in an overgroup that is one factor, for the build of a subgroup. A product with an element of one letter is a step, so the letters of
+// the generators are found once. This crate has no public calls: `subgroup` has them.
 pub mod inner;

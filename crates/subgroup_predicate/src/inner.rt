@@ -1,4 +1,4 @@
-// The work of the call, on overgroups whose handles fit and whose elements are at most 65,535.
+// The work of the call, done once the overgroup's handles are known to fit and its elements to be at most 65,535.
 ghost use mathlib.Core.Path.{_≡_};
 ghost use mathlib.Core.Bool.{true};
 ghost use Prim.Native.Nat.{_≤_};
@@ -13,7 +13,7 @@ use group_handles::Group;
 use subgroup_build::Subgrouped;
 use subgroup_predicate_choices::inner::Picks;
 
-// 17, 15.
+// Refuses in this order: 17 for a handle that does not fit, 15 for an overgroup too large to number.
 pub fn admit_over(from: &[u32], over: Group) -> Verdict
     ensures { λ r. ⌜ r ≡ admitsOver (length (now (from .entry))) over ⌝ }
 {
@@ -26,7 +26,7 @@ pub fn admit_over(from: &[u32], over: Group) -> Verdict
     Verdict::Fine
 }
 
-// From the subgroup of one element on.
+// Starts from the subgroup of one element and chooses generators as the bytes tell.
 fn told_in(
     t: &mut [u32],
     w: &mut [u32],
@@ -61,7 +61,7 @@ fn told_in(
     subgroup_predicate_choices::inner::choose_all(t, w, inn, outw, from, over, members, room, p)
 }
 
-// The same with all builds in the front of the work, since each clears what it is lent; the whole is cleared once, at the end.
+// Does the same with all builds in the front of the work, because each build clears what it is lent: the whole work is cleared once, at the end.
 fn told_in_front(
     t: &mut [u32],
     w: &mut [u32],
@@ -81,7 +81,7 @@ fn told_in_front(
     p
 }
 
-// The builds in the parts of the four buffers that they need, which are long enough.
+// Builds in the parts of the four buffers that the builds need, which are long enough.
 fn told_at(
     from: &[u32],
     over: Group,
@@ -117,7 +117,7 @@ fn told_at(
     )
 }
 
-// 4; then the builds.
+// Refuses with 4 a room out of range or a short buffer, or a predicate of too few bytes; else builds.
 pub fn told_into(
     from: &[u32],
     over: Group,

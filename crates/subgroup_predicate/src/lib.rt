@@ -1,4 +1,4 @@
-// subgroup_action.rs, `from_subgroup_predicate`: the subgroup that a predicate tells, a lent byte for each element of the overgroup.
+// Builds the subgroup that a predicate tells, a lent byte for each element of the overgroup: `from_subgroup_predicate` of subgroup_action.rs.
 ghost use mathlib.Core.Path.{_≡_};
 ghost use Rattle.subgroup_build.specs.Lent.{Subgrouping};
 ghost use Rattle.subgroup_predicate.specs.Predicate.{fromPredicate};
@@ -8,7 +8,9 @@ pub use subgroup_build::Subgrouped;
 
 pub mod inner;
 
-// The subgroup that the elements generate whose byte is not 0, a byte for each element of the product; table and work are lent as for eight generators.
+// Builds the subgroup that the elements generate whose byte in `members` is not 0, and fills its two maps; table and work are lent as for eight
+// generators. Refuses in this order: 17 for a handle that does not fit, 15 for an overgroup too large to number, 4 for a room out of range or a short
+// buffer, or too few bytes; then the first refusal of a build, or 15 where a ninth generator is needed.
 pub fn from_predicate(
     from: &[u32],
     over: Group,

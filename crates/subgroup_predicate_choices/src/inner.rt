@@ -1,4 +1,5 @@
-// Element by element of the overgroup: which become generators, and the subgroup that they generate built anew for each.
+// Goes through the elements of the overgroup, one by one: it chooses which become generators, and builds the subgroup that they generate anew for
+// each.
 ghost use mathlib.Core.Path.{_≡_};
 ghost use mathlib.Core.Bool.{true};
 ghost use Prim.Native.Nat.{_≤_};
@@ -31,7 +32,7 @@ fn is_new(inn: &[u32], members: &[u8], x: GroupElementId) -> bool
     egg::inner::byte(members, i as usize) != 0
 }
 
-// There is no ninth generator: all that was built is zero again.
+// Refuses a ninth generator with 15; all that was built is zero again.
 fn ninth(t: &mut [u32], w: &mut [u32], inn: &mut [u32], outw: &mut [u32], p: Picks) -> Picks
     ensures { λ r. ⌜ (pickedOf r (now (t .exit)) (now (w .exit)) (now (inn .exit)) (now (outw .exit)) ≡ ninthOf p (now (t .entry)) (now (w .entry)) (now (inn .entry)) (now (outw .entry))) × ((r .generators ≡ p .generators) × (r .chosen ≡ p .chosen)) ⌝ }
 {
@@ -52,7 +53,7 @@ fn ninth(t: &mut [u32], w: &mut [u32], inn: &mut [u32], outw: &mut [u32], p: Pic
     }
 }
 
-// One element of the overgroup: where it is a new member, the subgroup is built again with one generator more.
+// Looks at one element of the overgroup: where it is a new member, the subgroup is built again with one generator more.
 fn choose(
     t: &mut [u32],
     w: &mut [u32],
@@ -101,7 +102,7 @@ fn choose(
     }
 }
 
-// All elements of the overgroup in order.
+// Looks at all elements of the overgroup in order.
 pub fn choose_all(
     t: &mut [u32],
     w: &mut [u32],

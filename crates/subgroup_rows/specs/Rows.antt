@@ -1,4 +1,4 @@
--- Where the rows of a subgroup's table lead: the overgroup's products.
+-- This file defines where the rows of a subgroup's table lead: to the overgroup's products.
 use Prim.Native.Nat.{ℕ}
 use mathlib.Core.List.{List}
 use lib.ListN.{getD}
@@ -6,6 +6,7 @@ use Rattle.egg.specs.declared.Factor.{Factor}
 use Rattle.egg.specs.declared.Reached.{Reached}
 use Rattle.group_digits.specs.Digits.{composes}
 
--- "Numbering in order of first appearance": what appears at x by the generator g is `compose`, in the overgroup, of x with the element of g.
+-- What appears at x by the generator g is the overgroup's `compose` of x with the element that `gens` lists for g. Document 01: "Numbering in order
+-- of first appearance".
 abbrev pub productOf : (from : List ℕ) (hs : List Factor) (gens : List ℕ) (x g : ℕ) → Reached
 productOf from hs gens x g = composes from hs x (getD gens g 0)

@@ -1,4 +1,5 @@
-// The rows of a build by generators, on overgroups whose handles fit: by products of any number of factors, or by one factor's own handle.
+// Fills the rows of a build by generators, once the overgroup's handles are known to fit: by products of any number of factors, or by one factor's
+// own handle.
 ghost use mathlib.Core.Path.{_≡_};
 ghost use mathlib.Core.Bool.{true};
 ghost use mathlib.Core.List.{[], _∷_};
@@ -17,7 +18,7 @@ use egg::GroupElementId;
 use egg::Reached;
 use group_handles::Group;
 
-// A row: from the element of e, by the elements of the generators, in the product.
+// Fills one row: the products of the element that stands at e with the elements of the generators.
 fn product_row(
     t: &mut [u32],
     inn: &mut [u32],
@@ -61,7 +62,7 @@ fn product_row(
     Counted::Count(count)
 }
 
-// Rows in the order of their elements, as long as there is a next element.
+// Fills the rows in the order of their elements, as long as there is a next element.
 fn product_rows(
     t: &mut [u32],
     inn: &mut [u32],
@@ -102,8 +103,8 @@ fn product_rows(
     Counted::Count(count)
 }
 
-// The same rows where the overgroup is one factor: its handle is 24 bytes, and a product of 200 would be copied at each place. What stands at e is read once: new
-// elements come behind it.
+// Fills the same row where the overgroup is one factor: its handle is 24 bytes, and the 200 bytes of a product would be copied at each place. What
+// stands at e is read once, since new elements come behind it.
 fn factor_row(
     t: &mut [u32],
     inn: &mut [u32],
@@ -150,6 +151,7 @@ fn factor_row(
     Counted::Count(count)
 }
 
+// Fills the rows in order, with the letters of the generators known.
 fn lettered_rows(
     t: &mut [u32],
     inn: &mut [u32],
@@ -192,7 +194,8 @@ fn lettered_rows(
     Counted::Count(count)
 }
 
-// A generator is often an element of one letter, and then a product with it is a step: for that the letters are found once.
+// Finds the letters and fills the rows. A generator is often an element of one letter, and then a product with it is a step: for that the letters are
+// found once.
 fn factor_rows(
     t: &mut [u32],
     inn: &mut [u32],
@@ -217,7 +220,7 @@ fn factor_rows(
     lettered_rows(t, inn, outw, from, f, gens, &letters[..], n, room)
 }
 
-// By how many factors the overgroup has.
+// Fills the rows, by the quicker way where the overgroup has one factor.
 pub fn rows_of(
     t: &mut [u32],
     inn: &mut [u32],

@@ -1,2 +1,3 @@
-// The rows of a subgroup's table: the overgroup's products with the generators' elements, each numbered as it appears. There are no calls of its own.
+// Fills the rows of a subgroup's table with the overgroup's products, each numbered as it appears, as subgroup_action.rs does. This crate has no
+// public calls: `subgroup` has them.
 pub mod inner;

@@ -1,4 +1,4 @@
--- The generators of the subgroup's side.
+-- This file defines the generators of the subgroup's side, below · factor · above, and which elements they are.
 use Prim.Native.Nat.{ℕ, _*_, _-_}
 use mathlib.Core.List.{List}
 use lib.Dec.{ltb}
@@ -12,11 +12,12 @@ use Rattle.group_digits.specs.Digits.{stepIn}
 use Rattle.subgroup_build.specs.declared.Subgroup.{Subgroup}
 use Rattle.subgroup_sides.specs.Sides.{strideOf}
 
--- An element of some factors, as one of the product in which k elements are below them.
+-- The number k·y for the element y that was reached: y's number in a product that has k elements below its factors.
 abbrev pub scaled : ℕ → Reached → Reached
 scaled k r = onReached r (λ y. reached.Element (record { 0 = k * y }))
 
--- The subgroup's generators in order: those below, the factor's own, those above; each as an element of the subgroup's product.
+-- The generator g as an element of the subgroup's product. The generators are numbered in order: those of the factors below, the factor's own, those
+-- above.
 unfoldable pub sideGenerator : List ℕ → List ℕ → Subgroup → ℕ → Reached
 sideGenerator from table s g =
     pick (ltb g (generatorsOf (handles (s .below)))) (stepIn from (handles (s .below)) 0 g)

@@ -1,4 +1,4 @@
-// The work on a subgroup's two sides.
+// The work on a subgroup's two sides: the overgroup below · over · above, the subgroup below · factor · above.
 ghost use mathlib.Core.Path.{_≡_};
 ghost use mathlib.Core.Bool.{true};
 ghost use Prim.Native.Nat.{_*_, _<_, _≤_};
@@ -15,7 +15,8 @@ use group_handles::Group;
 use subgroup_build::Subgroup;
 use subgroup_build::Subgrouped;
 
-// p·q as far as 32 bits can tell, of two numbers that are known so far: as handles', but that the second may be 2^32.
+// Multiplies as far as 32 bits can tell: 4,294,967,296 stands for everything above them. In `times` of group_handles the second number has 32 bits;
+// here it may be that 4,294,967,296.
 fn times(p: u64, q: u64) -> u64
     requires { ⌜ (p ≤ 4294967296) × (q ≤ 4294967296) ⌝ }
     ensures { λ r. ⌜ r ≡ capped (p * q) ⌝ }
@@ -26,7 +27,7 @@ fn times(p: u64, q: u64) -> u64
     if p == 0 { 0 } else { 4294967296 }
 }
 
-// How many elements there are with m between what is below and above.
+// How many elements a product has that has m elements between what is below and above.
 pub fn measure(below: u64, m: u64, above: u64) -> u64
     requires { ⌜ (below ≤ 4294967296) × ((m ≤ 4294967296) × (above ≤ 4294967296)) ⌝ }
     ensures { λ r. ⌜ r ≡ capped (below * capped (m * above)) ⌝ }
@@ -34,7 +35,7 @@ pub fn measure(below: u64, m: u64, above: u64) -> u64
     times(below, times(m, above))
 }
 
-// How many elements a side has that has m between what is below and above.
+// How many elements a side of s has, where m is the count of its middle part.
 fn around(s: Subgroup, m: u64) -> u64
     requires { ⌜ m ≤ 4294967296 ⌝ }
     ensures { λ r. ⌜ r ≡ capped (elementsOf (handles (s .below)) * (m * elementsOf (handles (s .above)))) ⌝ }
@@ -48,6 +49,7 @@ fn around(s: Subgroup, m: u64) -> u64
     )
 }
 
+// How many elements the overgroup has, as far as 32 bits can tell.
 fn over_elements(s: Subgroup) -> u64
     ensures { λ r. ⌜ r ≡ capped (elementsOf (overSide s)) ⌝ }
 {
@@ -55,6 +57,7 @@ fn over_elements(s: Subgroup) -> u64
     around(s, group_handles::inner::elements_of(over))
 }
 
+// How many elements the subgroup has, as far as 32 bits can tell.
 fn sub_elements(s: Subgroup) -> u64
     ensures { λ r. ⌜ r ≡ capped (elementsOf (subSide s)) ⌝ }
 {
@@ -112,7 +115,7 @@ pub fn few_factors(s: Subgroup) -> bool
     few_of(below.count, over.count, above.count)
 }
 
-// The same, and at most 4,294,967,295 elements.
+// Whether both sides have at most 8 factors and 4,294,967,295 elements.
 fn sides_limited(s: Subgroup) -> bool
     ensures { λ r. ⌜ r ≡ sidesLimited s ⌝ }
 {
@@ -125,7 +128,7 @@ fn sides_limited(s: Subgroup) -> bool
     sub_elements(s) <= 4294967295
 }
 
-// No subgroup.
+// A refusal, with the value that is no subgroup beside it.
 pub fn refused_sides(number: u32) -> Subgrouped
     ensures { λ r. ⌜ r ≡ refusedSubgroup number ⌝ }
 {
@@ -143,7 +146,7 @@ pub fn refused_sides(number: u32) -> Subgrouped
     Subgrouped { answer, subgroup }
 }
 
-// 15 unless both groups have at most 8 factors, and so have both together.
+// Whether both groups have at most 8 factors, and both together too; else 15 is due.
 fn joinable(g: Group, h: Group) -> bool
     ensures { λ r. ⌜ r ≡ joinable g h ⌝ }
 {
@@ -156,7 +159,7 @@ fn joinable(g: Group, h: Group) -> bool
     group_handles::inner::listed(g) + group_handles::inner::listed(h) <= 8
 }
 
-// The value where it is within its limits.
+// The subgroup where it is within its limits, else 15.
 fn if_limited(s: Subgroup) -> Subgrouped
     ensures { λ r. ⌜ r ≡ ifLimited s ⌝ }
 {
@@ -169,6 +172,7 @@ fn if_limited(s: Subgroup) -> Subgrouped
     }
 }
 
+// The subgroup with g multiplied on at the left, or 15.
 pub fn left_of(g: Group, s: Subgroup) -> Subgrouped
     ensures { λ r. ⌜ r ≡ multiplied g (s .below) (leftOf g s) ⌝ }
 {
@@ -188,6 +192,7 @@ pub fn left_of(g: Group, s: Subgroup) -> Subgrouped
     })
 }
 
+// The subgroup with g multiplied on at the right, or 15.
 pub fn right_of(s: Subgroup, g: Group) -> Subgrouped
     ensures { λ r. ⌜ r ≡ multiplied (s .above) g (rightOf s g) ⌝ }
 {
@@ -207,6 +212,7 @@ pub fn right_of(s: Subgroup, g: Group) -> Subgrouped
     })
 }
 
+// How many generators the subgroup has.
 pub fn sub_generators(s: Subgroup) -> u32
     ensures { λ r. ⌜ r ≡ generatorsOf (subSide s) ⌝ }
 {
@@ -218,7 +224,7 @@ pub fn sub_generators(s: Subgroup) -> u32
     low + ((factor.generators as u32) + high)
 }
 
-// An element of some factors, as one of the product in which k elements are below them.
+// The number k·y for an element y that was reached: y's number in a product that has k elements below its factors.
 fn scaled(r: Reached, k: u64) -> Reached
     requires { ⌜ ((y : GroupElementId) → r ≡ Reached.Element y → k * y .0 < 4294967296) ⌝ }
     ensures { λ x. ⌜ x ≡ scaled k r ⌝ }

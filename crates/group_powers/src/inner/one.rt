@@ -49,6 +49,7 @@ fn powi_in(s: &[u32], n: u8, count: u32, a: GroupElementId, i: i32) -> Reached
     power(&s[..], n, count, b, (-i) as u32)
 }
 
+// Refuses with 17 a handle that does not fit, then with 14 an element out of range, then with 17 a number read that is out of range.
 pub fn powi(table: &[u32], f: Factor, a: GroupElementId, i: i32) -> Reached
     ensures { λ r. ⌜ r ≡ powiAlone (now (table .entry)) f a i ⌝ }
 {

@@ -1,4 +1,5 @@
-// Those of 8 to 12 that a reading which ended leaves to be made, as `build_checks`, `build_checks_inverses` and `build_checks_group` make them, over lent bytes.
+// Makes those of the checks 8 to 12 that a reading which ended leaves to be made, as `build_checks`, `build_checks_inverses` and `build_checks_group`
+// make them, over lent bytes.
 ghost use mathlib.Core.Path.{_≡_};
 ghost use mathlib.Core.Bool.{true};
 ghost use lib.ListN.{getD};
@@ -12,7 +13,7 @@ use egg::GroupElementId;
 use egg::Verdict;
 use image_check_reading::inner::table;
 
-// 8 in one row: the first generator whose number, from `shift` on, is not known.
+// Refuses with 8 the first generator of one row whose number, from `shift` on, is not known.
 fn missing_row(t: &[u8], n: u8, shift: u8, e: GroupElementId) -> Verdict
     ensures { λ r. ⌜ r ≡ missingRow (cells (now (t .entry))) n shift (e .0) ⌝ }
 {
@@ -26,6 +27,7 @@ fn missing_row(t: &[u8], n: u8, shift: u8, e: GroupElementId) -> Verdict
     Verdict::Fine
 }
 
+// Refuses with 8 the first such place of the table.
 pub fn missing(t: &[u8], n: u8, count: u32, shift: u8) -> Verdict
     ensures { λ r. ⌜ r ≡ missing (cells (now (t .entry))) n count shift ⌝ }
 {
@@ -40,7 +42,7 @@ pub fn missing(t: &[u8], n: u8, count: u32, shift: u8) -> Verdict
     Verdict::Fine
 }
 
-// 9 at one place (003): a step that stays, or that only the identity may have.
+// Refuses with 9 a place (003) whose step stays where it is, or leads to the generator's element from elsewhere than the identity.
 fn wrong_at(t: &[u8], n: u8, e: GroupElementId, g: GeneratorId) -> Verdict
     ensures { λ r. ⌜ r ≡ wrongAt (cells (now (t .entry))) n (e .0) (g .0) ⌝ }
 {
@@ -57,6 +59,7 @@ fn wrong_at(t: &[u8], n: u8, e: GroupElementId, g: GeneratorId) -> Verdict
     Verdict::Fine
 }
 
+// Refuses with 9 the first such place of one row.
 fn wrong_row(t: &[u8], n: u8, e: GroupElementId) -> Verdict
     ensures { λ r. ⌜ r ≡ wrongRow (cells (now (t .entry))) n (e .0) ⌝ }
 {
@@ -71,6 +74,7 @@ fn wrong_row(t: &[u8], n: u8, e: GroupElementId) -> Verdict
     Verdict::Fine
 }
 
+// Refuses with 9 the first such place of the table.
 pub fn wrong(t: &[u8], n: u8, count: u32) -> Verdict
     ensures { λ r. ⌜ r ≡ wrong (cells (now (t .entry))) n count ⌝ }
 {
@@ -85,7 +89,7 @@ pub fn wrong(t: &[u8], n: u8, count: u32) -> Verdict
     Verdict::Fine
 }
 
-// The inverse of e: its reversed word through predecessors, from the identity (002).
+// Answers the inverse of e: its reversed word, walked through predecessors from the identity (002).
 fn invert(t: &[u8], n: u8, e: GroupElementId) -> GroupElementId
     ensures { λ r. ⌜ r .0 ≡ invertOf (cells (now (t .entry))) n (e .0) ⌝ }
 {
@@ -120,8 +124,8 @@ fn follows_on(t: &[u8], n: u8, from: GroupElementId, y: GroupElementId, e: Group
     (table::word_length(t, n, e) as usize) == long + 1
 }
 
-// The hint of e, where the work has those of the elements before it. The first letter of a word is that of its parent's
-// word, and what comes after it is one letter longer.
+// Answers the hint of e, by which its inverse comes from an earlier one (`build_checks_inverses`), where the work has the hints of the elements
+// before it. The first letter of a word is that of its parent's word, and what comes after it is one letter longer.
 pub fn hint_of(t: &[u8], w: &[u8], n: u8, e: GroupElementId) -> u32
     ensures { λ r. ⌜ (Hints (cells (now (t .entry))) (cells (now (w .entry))) n (e .0) → Hint (cells (now (t .entry))) n (e .0) r) ⌝ }
 {
@@ -151,8 +155,7 @@ pub fn hint_of(t: &[u8], w: &[u8], n: u8, e: GroupElementId) -> u32
     build_checks_inverses::inner::pack(y, (h - 1) % 256)
 }
 
-// The inverse of e by its hint in the work: one step back from an inverse that is written already, and not a walk of the
-// word.
+// Answers the inverse of e by its hint in the work: one step back from an inverse that is written already, and not a walk of the word.
 pub fn inverse_by(t: &[u8], w: &[u8], n: u8, e: GroupElementId) -> GroupElementId
     ensures { λ r. ⌜ r .0 ≡ inverseBy (cells (now (t .entry))) n (e .0) (getD (cells (now (w .entry))) (e .0) 0) ⌝ }
 {
@@ -165,7 +168,7 @@ pub fn inverse_by(t: &[u8], w: &[u8], n: u8, e: GroupElementId) -> GroupElementI
     egg::inner::element(table::cell(t, n, GroupElementId(x), n, (h - 1) % 256))
 }
 
-// 10: the inverse of the inverse.
+// Refuses with 10 the first element whose inverse's inverse differs from it.
 pub fn inverses_right(t: &[u8], n: u8, count: u32) -> Verdict
     ensures { λ r. ⌜ r ≡ inversesRight (cells (now (t .entry))) n count ⌝ }
 {
@@ -181,7 +184,7 @@ pub fn inverses_right(t: &[u8], n: u8, count: u32) -> Verdict
     Verdict::Fine
 }
 
-// 11: the identity row is 1..n.
+// Refuses with 11 the first generator at which the identity row is not 1..n.
 pub fn identity_row(t: &[u8], n: u8) -> Verdict
     ensures { λ r. ⌜ r ≡ identityRow (cells (now (t .entry))) n ⌝ }
 {
@@ -195,7 +198,7 @@ pub fn identity_row(t: &[u8], n: u8) -> Verdict
     Verdict::Fine
 }
 
-// What generator s on the left makes of x, where the work has it for the elements before x.
+// Answers what generator s on the left makes of x, where the work has it for the elements before x.
 pub fn left_of(t: &[u8], w: &[u8], n: u8, s: GeneratorId, x: GroupElementId) -> GroupElementId
     ensures { λ r. ⌜ r .0 ≡ leftOf (cells (now (t .entry))) n (s .0) (cells (now (w .entry))) (x .0) ⌝ }
 {
@@ -207,7 +210,7 @@ pub fn left_of(t: &[u8], w: &[u8], n: u8, s: GeneratorId, x: GroupElementId) -> 
     table::step(t, n, GroupElementId(0), s)
 }
 
-// 12, last part: multiplication on the left commutes with every step from x.
+// The last part of 12 in one row: multiplication on the left commutes with every step from x.
 fn goes_row(t: &[u8], w: &[u8], n: u8, x: GroupElementId) -> Verdict
     ensures { λ r. ⌜ r ≡ goesRow (cells (now (t .entry))) (cells (now (w .entry))) n (x .0) ⌝ }
 {
@@ -223,6 +226,7 @@ fn goes_row(t: &[u8], w: &[u8], n: u8, x: GroupElementId) -> Verdict
     Verdict::Fine
 }
 
+// The last part of 12 in every row.
 pub fn all_go(t: &[u8], w: &[u8], n: u8, count: u32) -> Verdict
     ensures { λ r. ⌜ r ≡ allGo (cells (now (t .entry))) (cells (now (w .entry))) n count ⌝ }
 {

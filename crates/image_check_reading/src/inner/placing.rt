@@ -1,4 +1,4 @@
-// The reading of `factor` over lent bytes; the composed numbers are two bytes each, as an image has them.
+// The reading of rows into a table over lent bytes, as `build_reading` does it; the composed numbers are two bytes each, as an image has them.
 ghost use mathlib.Core.Path.{_≡_};
 ghost use Rattle.build_reading.specs.Reading.{Placed, readPlace, readRow, readAll, composedAt};
 ghost use Rattle.image_cells.specs.Cells.{cells, halves};
@@ -9,7 +9,7 @@ use egg::GroupElementId;
 use egg::Reached;
 use egg::Refusal;
 
-// One place of a reading, whatever the numbers come from: 7, then 5, then 6.
+// Reads one place. Refuses in this order: 7 for a number that skips ahead, 5 for an element beyond the room, 6 for a word that would pass 4,096.
 fn place(
     t: &mut [u8],
     n: u8,
@@ -41,6 +41,7 @@ fn place(
     }
 }
 
+// Reads one row.
 fn read_row(t: &mut [u8], rows: &[u8], n: u8, room: u32, e: GroupElementId, first: u32) -> Counted
     ensures { λ r. ⌜ Placed.placed r (cells (now (t .exit))) ≡ readRow n (composedAt (halves (now (rows .entry))) n) n room (e .0) 0 first (cells (now (t .entry))) ⌝ }
 {
@@ -59,7 +60,7 @@ fn read_row(t: &mut [u8], rows: &[u8], n: u8, room: u32, e: GroupElementId, firs
     Counted::Count(count)
 }
 
-// Rows in the order of their elements, as long as there is a next element.
+// Reads the rows in the order of their elements, as long as there is a next element.
 pub fn read_rows(t: &mut [u8], rows: &[u8], n: u8, room: u32) -> Counted
     ensures { λ r. ⌜ Placed.placed r (cells (now (t .exit))) ≡ readAll (composedAt (halves (now (rows .entry))) n) n room (cells (now (t .entry))) ⌝ }
 {

@@ -1,4 +1,5 @@
-// The cells of `egg` and the stores of `build_reading` over lent bytes, four to a cell: the same definitions, of `cells` of the bytes.
+// The cells of `egg` and the stores of `build_reading` over lent bytes, four bytes to a cell. They have the same definitions, asked of the `cells`
+// that the bytes spell.
 ghost use mathlib.Core.Path.{_≡_};
 ghost use Prim.Native.Nat.{_+_, _*_};
 ghost use lib.ListN.{getD};
@@ -10,14 +11,14 @@ use egg::GroupElementId;
 use egg::Reached;
 use egg::Refusal;
 
-// A number of the row of e: the k-th from `shift` on.
+// Answers the k-th number, from `shift` on, of the row of e.
 pub fn cell(t: &[u8], n: u8, e: GroupElementId, shift: u8, k: u32) -> u32
     ensures { λ r. ⌜ r ≡ getD (cells (now (t .entry))) (startOf n (e .0) + shift + k) 0 ⌝ }
 {
     image_cells::inner::get(t, egg::inner::start(n, e) + (shift as usize) + (k as usize))
 }
 
-// The step of a table with nothing missing.
+// Answers the step in a table with nothing missing.
 pub fn step(t: &[u8], n: u8, e: GroupElementId, g: GeneratorId) -> GroupElementId
     ensures { λ r. ⌜ r .0 ≡ stepOf (cells (now (t .entry))) n (e .0) (g .0) ⌝ }
 {
@@ -37,7 +38,7 @@ pub fn last(t: &[u8], n: u8, e: GroupElementId) -> u32
     image_cells::inner::get(t, egg::inner::hop_at(n, e)) % 8
 }
 
-// The step from x by the last letter of the word of e, and the step back.
+// Answers the step from x by the last letter of the word of e.
 pub fn step_last(t: &[u8], n: u8, x: GroupElementId, e: GroupElementId) -> GroupElementId
     ensures { λ r. ⌜ r .0 ≡ stepOf (cells (now (t .entry))) n (x .0) (lastOf (cells (now (t .entry))) n (e .0)) ⌝ }
 {
@@ -47,6 +48,7 @@ pub fn step_last(t: &[u8], n: u8, x: GroupElementId, e: GroupElementId) -> Group
     ))
 }
 
+// Answers the step back from x by that letter.
 pub fn back_last(t: &[u8], n: u8, x: GroupElementId, e: GroupElementId) -> GroupElementId
     ensures { λ r. ⌜ r .0 ≡ backOf (cells (now (t .entry))) n (x .0) (lastOf (cells (now (t .entry))) n (e .0)) ⌝ }
 {
@@ -98,7 +100,7 @@ fn record_word(
     image_cells::inner::put(t, at + 2, len as usize);
 }
 
-// A new element, reached from e by g: 5 beyond the room, 6 where its word would pass 4,096.
+// Adds a new element, reached from e by g. Refuses in this order: 5 beyond the room, 6 where its word would pass 4,096.
 pub fn add_successor(
     t: &mut [u8],
     n: u8,
