@@ -52,19 +52,25 @@ extern "C" {
 
 /* libcapi_builder.a */
 
-/* Begins a build in the stretch of table that starts at start. Refuses in this order: 1 for more than 8 generators, 4 for a room out of range or a short table. */
+/* Begins a build in the stretch of table that starts at start. Refuses in this order: 1 for more
+ * than 8 generators, 4 for a room out of range or a short table. */
 void hg_begin(uint32_t *table, size_t table_len, size_t start, uint32_t room, uint8_t n,
     uint32_t *out, size_t out_len);
 
-/* Adds a new element, reached from e by g. Refuses in this order: 17 for a handle that does not fit, 14 for an element or a generator out of range, which touch nothing; then 5 beyond the room, 17 for a length read that is over 4,096, 6 for a word that would pass 4,096, which end the build. */
+/* Adds a new element, reached from e by g. Refuses in this order: 17 for a handle that does not
+ * fit, 14 for an element or a generator out of range, which touch nothing; then 5 beyond the
+ * room, 17 for a length read that is over 4,096, 6 for a word that would pass 4,096, which end
+ * the build. */
 void hg_add(uint32_t *table, size_t table_len, size_t start, uint32_t room, uint8_t n,
     uint32_t count, uint32_t e, uint8_t g, uint32_t *out, size_t out_len);
 
-/* Sets the step from e by g to x, both ways, and says whether the place was new. Refuses in this order: 17 for a handle that does not fit, 14 for an element or a generator out of range. */
+/* Sets the step from e by g to x, both ways, and says whether the place was new. Refuses in this
+ * order: 17 for a handle that does not fit, 14 for an element or a generator out of range. */
 uint64_t hg_set(uint32_t *table, size_t table_len, size_t start, uint32_t room, uint8_t n,
     uint32_t count, uint32_t e, uint8_t g, uint32_t x);
 
-/* Reads the builder's steps, checks them and makes them a factor. Refuses in this order: 17 for a handle that does not fit, 4 for short work, 17, 7 or 6 while it reads, then 8 to 12. */
+/* Reads the builder's steps, checks them and makes them a factor. Refuses in this order: 17 for
+ * a handle that does not fit, 4 for short work, 17, 7 or 6 while it reads, then 8 to 12. */
 void hg_build(uint32_t *table, size_t table_len, size_t start, uint32_t room, uint8_t n,
     uint32_t count, uint32_t *work, size_t work_len, uint32_t *out, size_t out_len);
 
@@ -74,7 +80,8 @@ void hg_build(uint32_t *table, size_t table_len, size_t start, uint32_t room, ui
 uint64_t hg_count(const uint32_t *table, size_t table_len, size_t start, uint32_t room, uint8_t n,
     uint32_t count);
 
-/* Answers the step from e by g. Refuses in this order: 17 for a handle that does not fit, 14 for an element or a generator out of range, 17 for a number read that is out of range. */
+/* Answers the step from e by g. Refuses in this order: 17 for a handle that does not fit, 14 for
+ * an element or a generator out of range, 17 for a number read that is out of range. */
 uint64_t hg_step(const uint32_t *table, size_t table_len, size_t start, uint32_t room, uint8_t n,
     uint32_t count, uint32_t e, uint8_t g);
 
@@ -82,7 +89,8 @@ uint64_t hg_step(const uint32_t *table, size_t table_len, size_t start, uint32_t
 uint64_t hg_generator(const uint32_t *table, size_t table_len, size_t start, uint32_t room,
     uint8_t n, uint32_t count, uint8_t g);
 
-/* Answers a * b * a^-1. Refuses in this order: 17 for a handle that does not fit, 14 for an element out of range, 17 for a number read that is out of range. */
+/* Answers a * b * a^-1. Refuses in this order: 17 for a handle that does not fit, 14 for an
+ * element out of range, 17 for a number read that is out of range. */
 uint64_t hg_conjugate(const uint32_t *table, size_t table_len, size_t start, uint32_t room,
     uint8_t n, uint32_t count, uint32_t a, uint32_t b);
 
@@ -90,44 +98,57 @@ uint64_t hg_conjugate(const uint32_t *table, size_t table_len, size_t start, uin
 uint64_t hg_inverse(const uint32_t *table, size_t table_len, size_t start, uint32_t room, uint8_t n,
     uint32_t count, uint32_t a);
 
-/* Checks the factor against pair orders and writes the verdict into out. Refuses in this order: 17 for a handle that does not fit, 2 for a list of the wrong length, 3 for the first order out of range, then 13 for a relation that fails or 17 for a number read that is out of range, as met. */
+/* Checks the factor against pair orders and writes the verdict into out. Refuses in this order:
+ * 17 for a handle that does not fit, 2 for a list of the wrong length, 3 for the first order out
+ * of range, then 13 for a relation that fails or 17 for a number read that is out of range, as
+ * met. */
 void hg_check(const uint32_t *table, size_t table_len, size_t start, uint32_t room, uint8_t n,
     uint32_t count, const uint32_t *orders, size_t orders_len, uint32_t *out, size_t out_len);
 
 /* libcapi_factor_build.a */
 
-/* Builds a factor from composed rows, n numbers for each element. Refuses in this order: 1 for more than 8 generators, 4 for a room out of range or a short buffer, 7, 5 or 6 while it reads, then 8 to 12. */
+/* Builds a factor from composed rows, n numbers for each element. Refuses in this order: 1 for
+ * more than 8 generators, 4 for a room out of range or a short buffer, 7, 5 or 6 while it reads,
+ * then 8 to 12. */
 void hg_composed(uint32_t *table, size_t table_len, size_t start, uint32_t *work, size_t work_len,
     const uint32_t *rows, size_t rows_len, uint8_t n, uint32_t room, uint32_t *out, size_t out_len);
 
-/* Builds the group that the pair orders present; they come in the order (0,1),(0,2),(1,2),(0,3).. Refuses in this order: 1 for more than 8 generators, 2 for a list of the wrong length, 3 for the first order out of range, 4 for a room out of range or a short buffer, 5 or 6 while it runs, then 9 to 13. */
+/* Builds the group that the pair orders present; they come in the order
+ * (0,1),(0,2),(1,2),(0,3).. Refuses in this order: 1 for more than 8 generators, 2 for a list of
+ * the wrong length, 3 for the first order out of range, 4 for a room out of range or a short
+ * buffer, 5 or 6 while it runs, then 9 to 13. */
 void hg_enumerate(uint32_t *table, size_t table_len, size_t start, uint32_t *work, size_t work_len,
     const uint32_t *orders, size_t orders_len, uint8_t n, uint32_t room, uint32_t *out,
     size_t out_len);
 
 /* libcapi_factor_compose.a */
 
-/* Answers a * b. Refuses in this order: 17 for a handle that does not fit, 14 for an element out of range, 17 for a number read that is out of range. */
+/* Answers a * b. Refuses in this order: 17 for a handle that does not fit, 14 for an element out
+ * of range, 17 for a number read that is out of range. */
 uint64_t hg_compose(const uint32_t *table, size_t table_len, size_t start, uint32_t room, uint8_t n,
     uint32_t count, uint32_t a, uint32_t b);
 
 /* libcapi_factor_words.a */
 
-/* Answers how long the word of e is. Refuses in this order: 17 for a handle that does not fit, 14 for an element out of range, 17 for a recorded length over 4,096. */
+/* Answers how long the word of e is. Refuses in this order: 17 for a handle that does not fit,
+ * 14 for an element out of range, 17 for a recorded length over 4,096. */
 uint64_t hg_length(const uint32_t *table, size_t table_len, size_t start, uint32_t room, uint8_t n,
     uint32_t count, uint32_t e);
 
-/* Writes the word of e to the start of out and answers its length. Refuses as hg_length does, then with 4 a short out, then with 17 a letter that cannot be read. */
+/* Writes the word of e to the start of out and answers its length. Refuses as hg_length does,
+ * then with 4 a short out, then with 17 a letter that cannot be read. */
 uint64_t hg_word(const uint32_t *table, size_t table_len, size_t start, uint32_t room, uint8_t n,
     uint32_t count, uint32_t e, uint8_t *out, size_t out_len);
 
-/* Answers the k-th letter of the word of e or, from its end on, 256 and its length. A word that hg_word refuses is empty here: the answer is 256. */
+/* Answers the k-th letter of the word of e or, from its end on, 256 and its length. A word that
+ * hg_word refuses is empty here: the answer is 256. */
 uint64_t hg_part(const uint32_t *table, size_t table_len, size_t start, uint32_t room, uint8_t n,
     uint32_t count, uint32_t e, size_t k);
 
 /* libcapi_group.a */
 
-/* Answers how many elements the product has. Refuses in this order: 17 for a handle that does not fit, 15 for a product too large (more than 8 factors or 4,294,967,295 elements). */
+/* Answers how many elements the product has. Refuses in this order: 17 for a handle that does
+ * not fit, 15 for a product too large (more than 8 factors or 4,294,967,295 elements). */
 uint64_t hg_product_count(const uint32_t *table, size_t table_len, const uint32_t *handles,
     size_t handles_len, uint8_t count);
 
@@ -135,23 +156,30 @@ uint64_t hg_product_count(const uint32_t *table, size_t table_len, const uint32_
 uint64_t hg_product_generators(const uint32_t *table, size_t table_len, const uint32_t *handles,
     size_t handles_len, uint8_t count);
 
-/* Answers the element that the generator x is. Refuses in this order: 17 for a handle that does not fit, 14 for a generator out of range, 15 for a product too large, 17 for a number read that is out of range. */
+/* Answers the element that the generator x is. Refuses in this order: 17 for a handle that does
+ * not fit, 14 for a generator out of range, 15 for a product too large, 17 for a number read
+ * that is out of range. */
 uint64_t hg_product_generator(const uint32_t *table, size_t table_len, const uint32_t *handles,
     size_t handles_len, uint8_t count, uint8_t x);
 
-/* Answers the step from e by the generator x. Refuses in this order: 17 for a handle that does not fit, 14 for an element or a generator out of range, 15 for a product too large, 17 for a number read that is out of range. */
+/* Answers the step from e by the generator x. Refuses in this order: 17 for a handle that does
+ * not fit, 14 for an element or a generator out of range, 15 for a product too large, 17 for a
+ * number read that is out of range. */
 uint64_t hg_product_step(const uint32_t *table, size_t table_len, const uint32_t *handles,
     size_t handles_len, uint8_t count, uint32_t e, uint8_t x);
 
-/* Answers the element that e has in the factor f. Refuses in this order: 17 for a handle that does not fit, 14 for a factor or an element out of range, 15 for a product too large. */
+/* Answers the element that e has in the factor f. Refuses in this order: 17 for a handle that
+ * does not fit, 14 for a factor or an element out of range, 15 for a product too large. */
 uint64_t hg_product_project(const uint32_t *table, size_t table_len, const uint32_t *handles,
     size_t handles_len, uint8_t count, uint8_t f, uint32_t e);
 
-/* Answers the element that is e in the factor f, and the identity in the others. Refuses as hg_product_project does. */
+/* Answers the element that is e in the factor f, and the identity in the others. Refuses as
+ * hg_product_project does. */
 uint64_t hg_product_inject(const uint32_t *table, size_t table_len, const uint32_t *handles,
     size_t handles_len, uint8_t count, uint8_t f, uint32_t e);
 
-/* Answers a * b. Refuses in this order: 17 for a handle that does not fit, 14 for an element out of range, 15 for a product too large, 17 for a number read that is out of range. */
+/* Answers a * b. Refuses in this order: 17 for a handle that does not fit, 14 for an element out
+ * of range, 15 for a product too large, 17 for a number read that is out of range. */
 uint64_t hg_product_compose(const uint32_t *table, size_t table_len, const uint32_t *handles,
     size_t handles_len, uint8_t count, uint32_t a, uint32_t b);
 
@@ -163,95 +191,131 @@ uint64_t hg_product_inverse(const uint32_t *table, size_t table_len, const uint3
 uint64_t hg_product_conjugate(const uint32_t *table, size_t table_len, const uint32_t *handles,
     size_t handles_len, uint8_t count, uint32_t a, uint32_t b);
 
-/* Answers the i-th power of a, the inverse's power where i is negative. Refuses as hg_product_compose does. */
+/* Answers the i-th power of a, the inverse's power where i is negative. Refuses as
+ * hg_product_compose does. */
 uint64_t hg_product_powi(const uint32_t *table, size_t table_len, const uint32_t *handles,
     size_t handles_len, uint8_t count, uint32_t a, int32_t i);
 
-/* Answers the period of a, which is 1 for the identity. Refuses as hg_product_compose does, and with 17 where a walk through the powers finds no identity. */
+/* Answers the period of a, which is 1 for the identity. Refuses as hg_product_compose does, and
+ * with 17 where a walk through the powers finds no identity. */
 uint64_t hg_product_period(const uint32_t *table, size_t table_len, const uint32_t *handles,
     size_t handles_len, uint8_t count, uint32_t a);
 
 /* libcapi_group_build.a */
 
-/* Writes the verdict on the product of two into out, and how many factors it has: those of the first and then those of the second. Refuses in this order: 17 for a handle that does not fit, 15 for more than 8 factors or more than 4,294,967,295 elements. */
+/* Writes the verdict on the product of two into out, and how many factors it has: those of the
+ * first and then those of the second. Refuses in this order: 17 for a handle that does not fit,
+ * 15 for more than 8 factors or more than 4,294,967,295 elements. */
 void hg_product(const uint32_t *table, size_t table_len, const uint32_t *first, size_t first_len,
     uint8_t k, const uint32_t *second, size_t second_len, uint8_t m, uint32_t *out, size_t out_len);
 
-/* Answers how long the word of e is. Refuses in this order: 17 for a handle that does not fit, 14 for an element out of range, 15 for a product too large, 17 for a recorded length over 4,096. */
+/* Answers how long the word of e is. Refuses in this order: 17 for a handle that does not fit,
+ * 14 for an element out of range, 15 for a product too large, 17 for a recorded length over
+ * 4,096. */
 uint64_t hg_product_length(const uint32_t *table, size_t table_len, const uint32_t *handles,
     size_t handles_len, uint8_t count, uint32_t e);
 
-/* Writes the digits of e, its elements in each factor, to the start of out and answers how many they are. Refuses in this order: 17 for a handle that does not fit, 14 for an element out of range, 15 for a product too large, 4 for a short out. */
+/* Writes the digits of e, its elements in each factor, to the start of out and answers how many
+ * they are. Refuses in this order: 17 for a handle that does not fit, 14 for an element out of
+ * range, 15 for a product too large, 4 for a short out. */
 uint64_t hg_product_split(const uint32_t *table, size_t table_len, const uint32_t *handles,
     size_t handles_len, uint8_t count, uint32_t e, uint32_t *out, size_t out_len);
 
-/* Answers the element whose digits the list starts with. Refuses in this order: 17 for a handle that does not fit, 14 for the first digit out of range, 15 for a product too large, 4 for a list with fewer digits than there are factors. */
+/* Answers the element whose digits the list starts with. Refuses in this order: 17 for a handle
+ * that does not fit, 14 for the first digit out of range, 15 for a product too large, 4 for a
+ * list with fewer digits than there are factors. */
 uint64_t hg_product_join(const uint32_t *table, size_t table_len, const uint32_t *handles,
     size_t handles_len, uint8_t count, const uint32_t *digits, size_t digits_len);
 
-/* Writes the word of e to the start of out and answers its length. Refuses as hg_product_length does, then with 4 a short out, then with 17 a letter that cannot be read. */
+/* Writes the word of e to the start of out and answers its length. Refuses as hg_product_length
+ * does, then with 4 a short out, then with 17 a letter that cannot be read. */
 uint64_t hg_product_word(const uint32_t *table, size_t table_len, const uint32_t *handles,
     size_t handles_len, uint8_t count, uint32_t e, uint8_t *out, size_t out_len);
 
-/* Builds one factor that is the product, with its numbers. Refuses in this order: 17 for a handle that does not fit, 15 for a product too large, 1 for more than 8 generators, 4 for a room out of range or a short buffer; then as hg_composed does, and with 17 a number read that is out of range. */
+/* Builds one factor that is the product, with its numbers. Refuses in this order: 17 for a
+ * handle that does not fit, 15 for a product too large, 1 for more than 8 generators, 4 for a
+ * room out of range or a short buffer; then as hg_composed does, and with 17 a number read that
+ * is out of range. */
 void hg_product_flatten(const uint32_t *from, size_t from_len, const uint32_t *handles,
     size_t handles_len, uint8_t count, uint32_t *table, size_t table_len, size_t start,
     uint32_t *work, size_t work_len, uint32_t room, uint32_t *out, size_t out_len);
 
 /* libcapi_image.a */
 
-/* Checks an image in lent bytes and answers the refusal's number, or 0. Refuses in this order: 16 or 1 for the head, 4 for short work, 7, 5 or 6 while it reads, 16 for fewer elements than the head says, then 8 to 12. */
+/* Checks an image in lent bytes and answers the refusal's number, or 0. Refuses in this order:
+ * 16 or 1 for the head, 4 for short work, 7, 5 or 6 while it reads, 16 for fewer elements than
+ * the head says, then 8 to 12. */
 uint32_t hg_image_check(const uint8_t *image, size_t image_len, uint8_t *work, size_t work_len);
 
-/* Walks a word of generators from an element and answers the element reached, or 65,536 + the refusal's number. Refuses in this order: 16 or 1 for the head, 14 for the start or a generator out of range, 17 for a number read that is no element. */
+/* Walks a word of generators from an element and answers the element reached, or 65,536 + the
+ * refusal's number. Refuses in this order: 16 or 1 for the head, 14 for the start or a generator
+ * out of range, 17 for a number read that is no element. */
 uint32_t hg_image_walk(const uint8_t *image, size_t image_len, uint32_t start, const uint8_t *word,
     size_t word_len);
 
 /* libcapi_image_build.a */
 
-/* Writes the image of a factor to the start of out and answers its length. Refuses in this order: 17 for a handle that does not fit, 4 for a short out, 17 for a step that is missing or out of range. */
+/* Writes the image of a factor to the start of out and answers its length. Refuses in this
+ * order: 17 for a handle that does not fit, 4 for a short out, 17 for a step that is missing or
+ * out of range. */
 uint64_t hg_image_write(const uint32_t *table, size_t table_len, size_t start, uint32_t room,
     uint8_t n, uint32_t count, uint8_t *out, size_t out_len);
 
-/* Builds the factor that an image stores. Refuses as hg_image_check does, with the places; 4 is for a short table or work. */
+/* Builds the factor that an image stores. Refuses as hg_image_check does, with the places; 4 is
+ * for a short table or work. */
 void hg_image_read(const uint8_t *bytes, size_t bytes_len, uint32_t *table, size_t table_len,
     size_t start, uint32_t *work, size_t work_len, uint32_t *out, size_t out_len);
 
 /* libcapi_subgroup.a */
 
-/* Builds the subgroup that the elements gens of a product generate; inn maps the overgroup to it, outw back. Refuses in this order: 17 for a handle that does not fit, 14 for the first entry that is no element, 15 for an overgroup too large to number, 1 for more than 8 generators, 4 for a room out of range or a short buffer, 17, 5 or 6 while it numbers, then 8 to 12. */
+/* Builds the subgroup that the elements gens of a product generate; inn maps the overgroup to
+ * it, outw back. Refuses in this order: 17 for a handle that does not fit, 14 for the first
+ * entry that is no element, 15 for an overgroup too large to number, 1 for more than 8
+ * generators, 4 for a room out of range or a short buffer, 17, 5 or 6 while it numbers, then 8
+ * to 12. */
 void hg_subgroup(const uint32_t *from, size_t from_len, const uint32_t *handles, size_t handles_len,
     uint8_t count, const uint32_t *gens, size_t gens_len, uint32_t *table, size_t table_len,
     size_t start, uint32_t *work, size_t work_len, uint32_t *inn, size_t inn_len, uint32_t *outw,
     size_t outw_len, uint32_t room, uint32_t *out, size_t out_len);
 
-/* Builds the subgroup of a byte for each element of the product, not 0 for a member; table and work are lent as for eight generators. Refuses in this order: 17 for a handle that does not fit, 15 for an overgroup too large to number, 4 for a room out of range, a short buffer or too few bytes; then the first refusal of a build, or 15 for a ninth generator. */
+/* Builds the subgroup of a byte for each element of the product, not 0 for a member; table and
+ * work are lent as for eight generators. Refuses in this order: 17 for a handle that does not
+ * fit, 15 for an overgroup too large to number, 4 for a room out of range, a short buffer or too
+ * few bytes; then the first refusal of a build, or 15 for a ninth generator. */
 void hg_subgroup_predicate(const uint32_t *from, size_t from_len, const uint32_t *handles,
     size_t handles_len, uint8_t count, const uint8_t *members, size_t members_len, uint32_t *table,
     size_t table_len, size_t start, uint32_t *work, size_t work_len, uint32_t *inn, size_t inn_len,
     uint32_t *outw, size_t outw_len, uint32_t room, uint32_t *out, size_t out_len);
 
-/* Answers the element of the overgroup that the subgroup's e is. Refuses in this order: 17 for a handle that does not fit or a short map, 14 for an element out of range, 15 for a side too large, 17 for a number in the map that is no element. */
+/* Answers the element of the overgroup that the subgroup's e is. Refuses in this order: 17 for a
+ * handle that does not fit or a short map, 14 for an element out of range, 15 for a side too
+ * large, 17 for a number in the map that is no element. */
 uint64_t hg_subgroup_over(const uint32_t *from, size_t from_len, const uint32_t *table,
     size_t table_len, const uint32_t *sub, size_t sub_len, const uint32_t *outw, size_t outw_len,
     uint32_t e);
 
-/* Answers the element of the subgroup that the overgroup's x is, or 4,294,967,295 where it is not in it. Refuses as hg_subgroup_over does. */
+/* Answers the element of the subgroup that the overgroup's x is, or 4,294,967,295 where it is
+ * not in it. Refuses as hg_subgroup_over does. */
 uint64_t hg_subgroup_back(const uint32_t *from, size_t from_len, const uint32_t *table,
     size_t table_len, const uint32_t *sub, size_t sub_len, const uint32_t *inn, size_t inn_len,
     uint32_t x);
 
-/* Answers the subgroup's generator g as an element of the overgroup. Refuses in this order: 17 for a handle that does not fit or a short map, 14 for a generator out of range, 15 for a side too large, 17 for a number read that is out of range. */
+/* Answers the subgroup's generator g as an element of the overgroup. Refuses in this order: 17
+ * for a handle that does not fit or a short map, 14 for a generator out of range, 15 for a side
+ * too large, 17 for a number read that is out of range. */
 uint64_t hg_subgroup_generator(const uint32_t *from, size_t from_len, const uint32_t *table,
     size_t table_len, const uint32_t *sub, size_t sub_len, const uint32_t *outw, size_t outw_len,
     uint8_t g);
 
-/* Writes into out whether a subgroup can have a product's factors below it: then these go in front of those that it has below. Refuses in this order: 17 for a handle that does not fit, 15 for more than 8 factors or too many elements on a side. */
+/* Writes into out whether a subgroup can have a product's factors below it: then these go in
+ * front of those that it has below. Refuses in this order: 17 for a handle that does not fit, 15
+ * for more than 8 factors or too many elements on a side. */
 void hg_subgroup_left(const uint32_t *from, size_t from_len, const uint32_t *table,
     size_t table_len, const uint32_t *handles, size_t handles_len, uint8_t count,
     const uint32_t *sub, size_t sub_len, uint32_t *out, size_t out_len);
 
-/* Writes into out whether a subgroup can have a product's factors above it: then these go behind those that it has above. Refuses as hg_subgroup_left does. */
+/* Writes into out whether a subgroup can have a product's factors above it: then these go behind
+ * those that it has above. Refuses as hg_subgroup_left does. */
 void hg_subgroup_right(const uint32_t *from, size_t from_len, const uint32_t *table,
     size_t table_len, const uint32_t *sub, size_t sub_len, const uint32_t *handles,
     size_t handles_len, uint8_t count, uint32_t *out, size_t out_len);

@@ -7,6 +7,7 @@ status is 1 where the header is not what the crates say."""
 import pathlib
 import re
 import sys
+import textwrap
 
 HEADER = pathlib.Path("host/hypergroup.h")
 FIRST, LAST = "/* The functions. tools/header.py writes them. */", "/* End of the functions. */"
@@ -35,7 +36,8 @@ def prototype(comment, name, parameters, answer):
             lines.append(line.rstrip())
             line = "    "
         line += p
-    return (f"\n/* {said} */\n" if said else "\n") + "\n".join(lines + [line]) + "\n"
+    told = "\n".join(textwrap.wrap(f"/* {said}", 97, subsequent_indent=" * ", break_on_hyphens=False)) + " */\n" if said else ""
+    return "\n" + told + "\n".join(lines + [line]) + "\n"
 
 
 def functions():
