@@ -52,7 +52,7 @@ use Rattle.promises.specs.Roomier.{Roomier}
 use Rattle.build_laws.proofs.SameRows.{SameRows, same-cells}
 use Rattle.build_laws.proofs.Lent.{handle, lentTable, by-build, stretch-cell}
 use Rattle.promises.proofs.Derived.{steps-enumerated, enumerated-steps, enumerated-related}
-use Rattle.promises.proofs.Enumerated.{enumerates-is-build}
+use Rattle.enumeration.proofs.Handle.{enumerates-is-build}
 use Rattle.enumeration.proofs.Calls.{limits}
 use Rattle.promises.proofs.Enumerated as enumeration
 use Rattle.promises.proofs.Composed as rows-call
