@@ -177,8 +177,6 @@ uint32_t hg_image_check(const uint8_t *image, size_t image_len, uint8_t *work, s
 uint32_t hg_image_walk(const uint8_t *image, size_t image_len, uint32_t start, const uint8_t *word,
     size_t word_len);
 
-/* libcapi_image_build.a */
-
 uint64_t hg_image_write(const uint32_t *table, size_t table_len, size_t start, uint32_t room,
     uint8_t n, uint32_t count, uint8_t *out, size_t out_len);
 

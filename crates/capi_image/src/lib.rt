@@ -1,8 +1,12 @@
-// The image's two calls as C functions on bytes and numbers, for a host: host/hypergroup.h has them for C.
+// The image's four calls as C functions on bytes and numbers, for a host: host/hypergroup.h has them for C. The check and the walk need no factor.
 ghost use mathlib.Core.Path.{_≡_};
 ghost use lib.ListN.{length};
 ghost use Rattle.image.specs.Image.{imageNumber, imageWork};
 ghost use Rattle.image.specs.Walked.{walkNumber};
+ghost use Rattle.image.specs.Written.{writeCount, writtenImage};
+ghost use Rattle.image.specs.Read.{readImage};
+ghost use Rattle.capi_values.specs.Bridge.{handle, countedCode, Bridged, bridged};
+use capi_values::inner;
 use egg::GroupElementId;
 
 // Checks an image in lent bytes: the refusal's number, or 0.
@@ -19,4 +23,33 @@ pub extern "C" fn hg_image_walk(image: &[u8], start: u32, word: &[u8]) -> u32
     ensures { λ r. ⌜ r ≡ walkNumber (now (image .entry)) start (now (word .entry)) ⌝ }
 {
     image::walk(image, GroupElementId(start), word)
+}
+
+#[no_mangle]
+pub extern "C" fn hg_image_write(
+    table: &[u32],
+    start: usize,
+    room: u32,
+    n: u8,
+    count: u32,
+    out: &mut [u8],
+) -> u64
+    ensures { λ r. ⌜ (r ≡ countedCode (writeCount (now (table .entry)) (handle start room n count) (length (now (out .entry))))) × (now (out .exit) ≡ writtenImage (now (table .entry)) (handle start room n count) (now (out .entry))) ⌝ }
+{
+    let f = inner::factor_of(start, room, n, count);
+    inner::counted_code(image::write(table, f, out))
+}
+
+#[no_mangle]
+pub extern "C" fn hg_image_read(
+    bytes: &[u8],
+    table: &mut [u32],
+    start: usize,
+    work: &mut [u32],
+    out: &mut [u32],
+)
+    ensures { λ x. ⌜ Bridged.holds (now (table .exit)) (now (work .exit)) (now (out .exit)) ≡ bridged (readImage (now (bytes .entry)) (now (table .entry)) start (now (work .entry))) (now (out .entry)) ⌝ }
+{
+    let m = image::read(bytes, table, start, work);
+    inner::write_made(out, m);
 }

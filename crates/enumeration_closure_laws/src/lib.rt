@@ -1,2 +1,3 @@
-// What the machine of the enumeration has closed when no fact is left: definitions in specs/, theorems in proofs/. There is no code, and a crate needs a function.
+// The waiting lists of the enumeration as lists of copies, and what its machine has closed when no fact is left: definitions in specs/, theorems in proofs/.
+// There is no code, and a crate needs a function.
 pub fn nothing() {}

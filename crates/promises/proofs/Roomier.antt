@@ -45,9 +45,9 @@ use Rattle.build_reading_laws.proofs.Readings.{accepted-read, readable-accepted
 use Rattle.enumeration_run.specs.Limits.{Limits}
 use Rattle.enumeration_run_laws.specs.Recorded as run
 use Rattle.enumeration_run_laws.proofs.Derivation.{work-long, done-sound}
-use Rattle.enumeration_room_laws.specs.Longer.{longer}
-use Rattle.enumeration_room_laws.proofs.Stores.{longer-get, longer-put, longer-length}
-use Rattle.enumeration_room_laws.proofs.Roomier.{more-room}
+use Rattle.enumeration_run_laws.specs.Longer.{longer}
+use Rattle.enumeration_run_laws.proofs.LongerStores.{longer-get, longer-put, longer-length}
+use Rattle.enumeration_run_laws.proofs.Roomier.{more-room}
 use Rattle.promises.specs.Roomier.{Roomier}
 use Rattle.build_laws.proofs.SameRows.{SameRows, same-cells}
 use Rattle.build_laws.proofs.Lent.{handle, lentTable, by-build, stretch-cell}

@@ -13,8 +13,8 @@ use Rattle.build_lending.specs.Finish.{Built, built, finishedPlaced}
 use Rattle.build_lending.specs.Lending.{tableNeed, workNeed, within}
 use Rattle.build_reading.specs.Reading.{readAll}
 use Rattle.theory.specs.Group.{GroupOn}
-use Rattle.enumeration_room_laws.specs.Longer.{longer}
-use Rattle.enumeration_room_laws.proofs.Stores.{longer-get}
+use Rattle.enumeration_run_laws.specs.Longer.{longer}
+use Rattle.enumeration_run_laws.proofs.LongerStores.{longer-get}
 use Rattle.promises.proofs.Roomier.{built-roomier}
 use Rattle.build_laws.proofs.Lent.{handle, stretch-cell}
 use Rattle.group_handles.specs.declared.Group.{Group}

@@ -10,8 +10,8 @@ use Rattle.egg.specs.declared.Verdict.the-variants.{Fine}
 use Rattle.egg.specs.declared.Counted.the-variants.{Count}
 use Rattle.build_lending.specs.Finish.{built}
 use Rattle.build_lending.specs.Lending.{tableNeed, workNeed, within}
-use Rattle.enumeration_room_laws.specs.Longer.{longer}
-use Rattle.enumeration_room_laws.proofs.Stores.{longer-get}
+use Rattle.enumeration_run_laws.specs.Longer.{longer}
+use Rattle.enumeration_run_laws.proofs.LongerStores.{longer-get}
 use Rattle.build_laws.proofs.Lent.{handle, stretch-cell}
 use Rattle.group_handles.specs.declared.Group.{Group}
 use Rattle.group_handles.specs.Handles.{handles, elementsOf, groupOf}

@@ -22,15 +22,15 @@ use Rattle.enumeration_run.specs.Run.{discovered, Visit, visit, onAdds, visits,
 use Rattle.enumeration_run.specs.declared.inner.Run.{Run}
 use Rattle.enumeration_run.specs.declared.inner.Ran.the-variants as ran
 use Rattle.enumeration_run.specs.Limits.{Limits}
 use Rattle.enumeration_run_laws.specs.Invariant.{Working, RunOk}
 use Rattle.enumeration_run_laws.proofs.Visiting.{IsDone, next}
 use Rattle.enumeration_run_laws.proofs.Growing.{work-more, written}
 use Rattle.enumeration_run_laws.proofs.Running.{work-room, Counts, new-state, visits-ok}
 use Rattle.enumeration_run_laws.proofs.Settled.{settle-more, discovered-empty}
-use Rattle.enumeration_room_laws.specs.Longer.{longer, Long, longerState, longerVisit, longerOutcome}
-use Rattle.enumeration_room_laws.proofs.Stores.{longer-get, longer-length, longer-zero, long-put}
-use Rattle.enumeration_room_laws.proofs.Adding.{added-rows-longer}
-use Rattle.enumeration_room_laws.proofs.Facts.{set-long, settle-longer}
+use Rattle.enumeration_run_laws.specs.Longer.{longer, Long, longerState, longerVisit, longerOutcome}
+use Rattle.enumeration_run_laws.proofs.LongerStores.{longer-get, longer-length, longer-zero, long-put}
+use Rattle.enumeration_run_laws.proofs.LongerAdding.{added-rows-longer}
+use Rattle.enumeration_run_laws.proofs.LongerFacts.{set-long, settle-longer}
 
 abbrev IsCount : Counted → Type 0
 IsCount (counted.Count c) = Unit {0}

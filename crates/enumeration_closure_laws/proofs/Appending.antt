@@ -13,13 +13,13 @@ use Rattle.enumeration_run_laws.specs.Invariant.{Spot, Copy}
 use Rattle.enumeration_run_laws.specs.Stack.{Absent, Six}
 use Rattle.enumeration_run_laws.proofs.Spots.{spot-once, row-spot, copy-once}
 use Rattle.enumeration_run_laws.proofs.Storing.{read-same}
-use Rattle.enumeration_waiting_laws.specs.Queues.{In, here, there, listOf, copyAt, lastLink, Chain, end, next, Waiter, Hand, Queue, Held, Queues, Sized, Beyond, Small, Appended}
-use Rattle.enumeration_waiting_laws.proofs.Lists.{in-left, in-right, in-append, in-one, absent, not-in, once-last, last-link, last-in, once-length}
-use Rattle.enumeration_waiting_laws.proofs.Places.{bit-below, list-spot, list-below, cell-once, list-once, copy-apart, copy-is, copy-below, work-small}
-use Rattle.enumeration_waiting_laws.proofs.Choosing.{choose, choose-yes, choose-no, same-list}
-use Rattle.enumeration_waiting_laws.proofs.Chains.{chain-last, waiter-same, hand-same}
-use Rattle.enumeration_waiting_laws.proofs.Joining.{Linked, first, after, linked, Apart, Within, Joined, waits-joined}
-use Rattle.enumeration_waiting_laws.proofs.Linking.{waiter-copy, waiter-below, waiter-list, last-waits, link-copy, link-list, link-six, link-below}
+use Rattle.enumeration_closure_laws.specs.Queues.{In, here, there, listOf, copyAt, lastLink, Chain, end, next, Waiter, Hand, Queue, Held, Queues, Sized, Beyond, Small, Appended}
+use Rattle.enumeration_closure_laws.proofs.Lists.{in-left, in-right, in-append, in-one, absent, not-in, once-last, last-link, last-in, once-length}
+use Rattle.enumeration_closure_laws.proofs.Places.{bit-below, list-spot, list-below, cell-once, list-once, copy-apart, copy-is, copy-below, work-small}
+use Rattle.enumeration_closure_laws.proofs.Choosing.{choose, choose-yes, choose-no, same-list}
+use Rattle.enumeration_closure_laws.proofs.Chains.{chain-last, waiter-same, hand-same}
+use Rattle.enumeration_closure_laws.proofs.Joining.{Linked, first, after, linked, Apart, Within, Joined, waits-joined}
+use Rattle.enumeration_closure_laws.proofs.Linking.{waiter-copy, waiter-below, waiter-list, last-waits, link-copy, link-list, link-six, link-below}
 
 -- The lists with one copy more.
 abbrev longer : Held → SideOfGap → ℕ → ℕ → ℕ → Held

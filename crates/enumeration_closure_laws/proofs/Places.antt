@@ -12,7 +12,7 @@ use Rattle.enumeration_run_laws.specs.Invariant.{Spot, in-place, Copy}
 use Rattle.egg.proofs.Cells.{inside, same-row, same-cell}
 use Rattle.enumeration_run_laws.proofs.Spots.{place-inside, copy-inside}
 use Rattle.enumeration_run_laws.proofs.Waiting.{copy-at}
-use Rattle.enumeration_waiting_laws.specs.Queues.{placeOf, listOf, copyAt, Sized}
+use Rattle.enumeration_closure_laws.specs.Queues.{placeOf, listOf, copyAt, Sized}
 
 -- The sides as numbers.
 abbrev pub bit : SideOfGap → ℕ

@@ -16,12 +16,12 @@ use Rattle.enumeration_run_laws.specs.Invariant.{RowOk}
 use Rattle.enumeration_run_laws.specs.Stack.{Six}
 use Rattle.egg.proofs.Cells.{same-row, same-cell}
 use Rattle.enumeration_run_laws.proofs.Rowing.{new-row-ok}
-use Rattle.enumeration_waiting_laws.specs.Queues.{In, listOf, copyAt, Queue, Held, Queues, Sized, Beyond, SameRows, Small, Begun}
-use Rattle.enumeration_waiting_laws.proofs.Lists.{in-none}
-use Rattle.enumeration_waiting_laws.proofs.Places.{bit, bit-below, bit-once, list-stands, copy-apart}
-use Rattle.enumeration_waiting_laws.proofs.Choosing.{choose, choose-yes}
-use Rattle.enumeration_waiting_laws.proofs.Chains.{queue-same, queue-none}
-use Rattle.enumeration_waiting_laws.proofs.Appending.{AppendedOnly, appends-only}
+use Rattle.enumeration_closure_laws.specs.Queues.{In, listOf, copyAt, Queue, Held, Queues, Sized, Beyond, SameRows, Small, Begun}
+use Rattle.enumeration_closure_laws.proofs.Lists.{in-none}
+use Rattle.enumeration_closure_laws.proofs.Places.{bit, bit-below, bit-once, list-stands, copy-apart}
+use Rattle.enumeration_closure_laws.proofs.Choosing.{choose, choose-yes}
+use Rattle.enumeration_closure_laws.proofs.Chains.{queue-same, queue-none}
+use Rattle.enumeration_closure_laws.proofs.Appending.{AppendedOnly, appends-only}
 
 -- The column for which a new row's copy on a side waits.
 abbrev column : SideOfGap → ℕ → ℕ

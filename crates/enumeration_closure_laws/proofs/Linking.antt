@@ -9,10 +9,10 @@ use Rattle.enumeration_rows.specs.declared.inner.SideOfGap.{SideOfGap}
 use Rattle.enumeration_rows.specs.Rows.{workWidth, readRow, listAt}
 use Rattle.enumeration_run_laws.specs.Invariant.{Spot, Copy}
 use Rattle.enumeration_run_laws.proofs.Spots.{spot-once, row-spot, copy-once}
-use Rattle.enumeration_waiting_laws.specs.Queues.{listOf, lastLink, Waiter, Queue, Sized}
-use Rattle.enumeration_waiting_laws.proofs.Lists.{last-in}
-use Rattle.enumeration_waiting_laws.proofs.Places.{bit, bit-below, list-spot, list-below, cell-once, copy-apart, copy-is, copy-below}
-use Rattle.enumeration_waiting_laws.proofs.Joining.{Linked, first, after}
+use Rattle.enumeration_closure_laws.specs.Queues.{listOf, lastLink, Waiter, Queue, Sized}
+use Rattle.enumeration_closure_laws.proofs.Lists.{last-in}
+use Rattle.enumeration_closure_laws.proofs.Places.{bit, bit-below, list-spot, list-below, cell-once, copy-apart, copy-is, copy-below}
+use Rattle.enumeration_closure_laws.proofs.Joining.{Linked, first, after}
 
 -- The copies of a list as derived's copies, and the side and the list of a copy.
 module _ {n count pairs : ℕ} {w : List ℕ} (S : Sized n count pairs w) where

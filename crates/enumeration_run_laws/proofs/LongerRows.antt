@@ -10,13 +10,13 @@ use Rattle.enumeration_rows.specs.declared.inner.SideOfGap.{SideOfGap}
 use Rattle.enumeration_rows.specs.declared.inner.SideOfGap.the-variants.{Left, Right}
 use Rattle.enumeration_rows.specs.Rows.{workWidth, placeAt, readRow, writeRow, linkAt, appended, listAt, waits}
 use Rattle.enumeration_fill.specs.Fill.{backFrom, forwardFrom, filled}
 use Rattle.enumeration_run_laws.specs.Invariant.{RowOk, Copy, Link, WorkOk}
 use Rattle.egg.proofs.Cells.{inside}
 use Rattle.enumeration_run_laws.proofs.Spots.{place-inside}
 use Rattle.enumeration_run_laws.proofs.Storing.{work-write}
 use Rattle.enumeration_run_laws.proofs.Waiting.{Threads, list-of}
-use Rattle.enumeration_room_laws.specs.Longer.{longer, Long}
-use Rattle.enumeration_room_laws.proofs.Stores.{longer-get, long-get, long-put, long-zero}
+use Rattle.enumeration_run_laws.specs.Longer.{longer, Long}
+use Rattle.enumeration_run_laws.proofs.LongerStores.{longer-get, long-get, long-put, long-zero}
 
 pub read-longer : (b : ℕ) (w : List ℕ) (at : ℕ) → readRow (longer b w) at ≡ readRow w at
 unfolding readRow

@@ -13,12 +13,12 @@ use Rattle.enumeration_rows.specs.Rows.{workWidth, addedRows}
 use Rattle.enumeration_run.specs.Run.{Outcome, outcome, runs, first, enumerated}
 use Rattle.enumeration_run.specs.declared.inner.Ran.the-variants as ran
 use Rattle.enumeration_run.specs.Limits.{Limits}
 use Rattle.enumeration_run_laws.proofs.Visiting.{IsDone}
 use Rattle.enumeration_run_laws.proofs.Running.{work-room, first-work, first-ok}
-use Rattle.enumeration_room_laws.specs.Longer.{longer, longerOutcome, SameRun}
-use Rattle.enumeration_room_laws.proofs.Stores.{longer-zeros}
-use Rattle.enumeration_room_laws.proofs.Adding.{added-rows-longer}
-use Rattle.enumeration_room_laws.proofs.Runs.{runs-longer}
+use Rattle.enumeration_run_laws.specs.Longer.{longer, longerOutcome, SameRun}
+use Rattle.enumeration_run_laws.proofs.LongerStores.{longer-zeros}
+use Rattle.enumeration_run_laws.proofs.LongerAdding.{added-rows-longer}
+use Rattle.enumeration_run_laws.proofs.LongerRuns.{runs-longer}
 
 module _ {n : ℕ} {o : List ℕ} {room lt lw : ℕ} (L : Limits n o room lt lw) where
   -- The rows of the identity.

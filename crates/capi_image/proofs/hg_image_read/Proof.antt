@@ -1,10 +1,10 @@
 -- The call's own buffers, and its answer written.
 use Rattle.capi_values.proofs.Laws.{bridge-holds}
 use borrow.Author.Needs.{needs}
-use Rattle.capi_image_build.proofs.hg_image_read.Statement.{statement}
-use Rattle.capi_image_build.proofs.hg_image_read.Tie as tie
-use Rattle.capi_image_build.proofs.hg_image_read.Reads as reads
-use Rattle.capi_image_build.proofs.hg_image_read.Lts as lts
+use Rattle.capi_image.proofs.hg_image_read.Statement.{statement}
+use Rattle.capi_image.proofs.hg_image_read.Tie as tie
+use Rattle.capi_image.proofs.hg_image_read.Reads as reads
+use Rattle.capi_image.proofs.hg_image_read.Lts as lts
 use Rattle.capi_values.proofs.inner.write_made.Reads as write-made-reads
 use Rattle.image.proofs.read.Reads as read-reads
 

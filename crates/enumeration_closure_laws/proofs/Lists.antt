@@ -8,7 +8,7 @@ use native.Mathlib.Omega.{arith}
 use lib.ListN.{getD, length}
 use Rattle.theory.proofs.Pigeonhole.{pigeonhole}
 use Rattle.enumeration_run_laws.specs.Stack.{Absent}
-use Rattle.enumeration_waiting_laws.specs.Queues.{In, here, there, Once, lastLink}
+use Rattle.enumeration_closure_laws.specs.Queues.{In, here, there, Once, lastLink}
 
 -- A member of two lists one after the other is one of the first or of the second.
 pub in-left : {p : ℕ} {ps : List ℕ} (qs : List ℕ) → In p ps → In p (ps ++ qs)

@@ -1,10 +1,10 @@
 -- The call's own answer, as one number, and its buffer.
 use mathlib.Core.Path.{_≡_, refl, sym, ap, _∙_}
 use borrow.Author.Needs.{needs}
-use Rattle.capi_image_build.proofs.hg_image_write.Statement.{statement}
-use Rattle.capi_image_build.proofs.hg_image_write.Tie as tie
-use Rattle.capi_image_build.proofs.hg_image_write.Reads as reads
-use Rattle.capi_image_build.proofs.hg_image_write.Lts as lts
+use Rattle.capi_image.proofs.hg_image_write.Statement.{statement}
+use Rattle.capi_image.proofs.hg_image_write.Tie as tie
+use Rattle.capi_image.proofs.hg_image_write.Reads as reads
+use Rattle.capi_image.proofs.hg_image_write.Lts as lts
 use Rattle.capi_values.proofs.inner.counted_code.Reads as counted-code-reads
 use Rattle.capi_values.proofs.inner.factor_of.Reads as factor-of-reads
 use Rattle.image.proofs.write.Reads as write-reads

@@ -11,8 +11,8 @@ use Rattle.enumeration_rows.specs.declared.inner.SideOfGap.{SideOfGap}
 use Rattle.enumeration_rows.specs.Rows.{readRow, writeRow, linkAt, appended, listAt, waits}
 use Rattle.egg.proofs.Cells.{put-same, put-other, put-length}
 use Rattle.enumeration_run_laws.proofs.Storing.{read-same, write-other, write-length, write-read}
-use Rattle.enumeration_waiting_laws.specs.Queues.{lastLink, Small}
-use Rattle.enumeration_waiting_laws.proofs.Lists.{last-some}
+use Rattle.enumeration_closure_laws.specs.Queues.{lastLink, Small}
+use Rattle.enumeration_closure_laws.proofs.Lists.{last-some}
 
 -- The link to a new last copy: the head of an empty list, or the link of the last copy.
 pub data Linked (list : ℕ) (ps : List ℕ) (link : ℕ) : Type 0 where

@@ -8,8 +8,8 @@ use lib.ListN.{getD}
 use Rattle.enumeration_rows.specs.declared.inner.SideOfGap.{SideOfGap}
 use Rattle.enumeration_rows.specs.Rows.{readRow}
 use Rattle.enumeration_run_laws.proofs.Storing.{read-same}
-use Rattle.enumeration_waiting_laws.specs.Queues.{In, here, there, Once, lastLink, copyAt, Chain, end, next, Waiter, Hand, Queue, SameRows}
-use Rattle.enumeration_waiting_laws.proofs.Lists.{in-none, not-in, last-in}
+use Rattle.enumeration_closure_laws.specs.Queues.{In, here, there, Once, lastLink, copyAt, Chain, end, next, Waiter, Hand, Queue, SameRows}
+use Rattle.enumeration_closure_laws.proofs.Lists.{in-none, not-in, last-in}
 
 chain-next : {w : List ℕ} {at p : ℕ} {ps : List ℕ} → Chain w at (p ∷ ps) → (at ≡ suc p) × Chain w (getD w (p + 5) 0) ps
 chain-next (next e c) = (e, c)

@@ -5,7 +5,7 @@ use native.Mathlib.Decide.{ℕ-discrete}
 use native.Mathlib.Omega.{arith}
 use Rattle.enumeration_rows.specs.declared.inner.SideOfGap.{SideOfGap}
 use Rattle.enumeration_rows.specs.declared.inner.SideOfGap.the-variants.{Left, Right}
-use Rattle.enumeration_waiting_laws.proofs.Places.{bit}
+use Rattle.enumeration_closure_laws.proofs.Places.{bit}
 
 abbrev pub choose : {A P : Type 0} → Dec P → A → A → A
 choose (yes _) a b = a

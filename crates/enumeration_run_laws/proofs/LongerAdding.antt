@@ -13,11 +13,11 @@ use Rattle.enumeration_rows.specs.declared.inner.SideOfGap.{SideOfGap}
 use Rattle.enumeration_rows.specs.declared.inner.SideOfGap.the-variants.{Left, Right}
 use Rattle.egg.specs.Pairs.{pairCode}
 use Rattle.enumeration_rows.specs.Rows.{workWidth, rowsAt, waits, newRow, addedRow, addRowsFrom}
 use Rattle.enumeration_run_laws.specs.Invariant.{RowOk, Copy, WorkOk, Working}
 use Rattle.enumeration_run_laws.proofs.Rowing.{new-row-ok}
 use Rattle.enumeration_run_laws.proofs.Waiting.{begins-ok, copy-at, waits-length, added-rows-ok, added-rows-length}
-use Rattle.enumeration_room_laws.specs.Longer.{longer}
-use Rattle.enumeration_room_laws.proofs.Rows.{waits-longer}
+use Rattle.enumeration_run_laws.specs.Longer.{longer}
+use Rattle.enumeration_run_laws.proofs.LongerRows.{waits-longer}
 
 -- A copy that begins.
 begins-longer : {n : ℕ} {m : ℕ → ℕ → ℕ} {word : ℕ → List ℕ} {count : ℕ} {S : ℕ → Type 0} {w : List ℕ} → WorkOk n m word count S w → count ≤ 65535 → {at : ℕ} → Copy n (length w) at

@@ -8,8 +8,8 @@ use lib.Seq.{set-append-left, set-getD}
 use lib.Dec.{ltb}
 use Rattle.egg.specs.Table.{pick, putAt}
 use Rattle.egg.proofs.Cells.{put-length}
 use Rattle.enumeration_run_laws.proofs.Running.{zeros}
-use Rattle.enumeration_room_laws.specs.Longer.{longer, Long}
+use Rattle.enumeration_run_laws.specs.Longer.{longer, Long}
 
 pub longer-get : (k : ℕ) (l : List ℕ) (i : ℕ) → getD (longer k l) i 0 ≡ getD l i 0
 unfolding longer

@@ -18,15 +18,15 @@ use Rattle.enumeration_rows.specs.Rows.{workWidth, placeAt, genOf, readRow, wai
 use Rattle.enumeration_fill.specs.Fill.{filled}
 use Rattle.enumeration_wake.specs.Waking.{State, state, link, belowAt, learns, gives, woken, wakes, wakesAll}
 use Rattle.enumeration_facts.specs.Facts.{emptied, updated, settleFrom}
 use Rattle.enumeration_run_laws.specs.Invariant.{RowOk, Link, FactLink, StateOk}
 use Rattle.egg.proofs.Cells.{inside}
 use Rattle.enumeration_run_laws.proofs.Spots.{row-spot}
 use Rattle.enumeration_run_laws.proofs.Rowing.{filled-ok, met}
 use Rattle.enumeration_run_laws.proofs.Stacking.{place-within}
 use Rattle.enumeration_run_laws.proofs.Settling.{learns-ok, wakes-ok, wakes-all-ok, taken-ok, left-head, right-head, updated-ok, popped-ok}
-use Rattle.enumeration_room_laws.specs.Longer.{longer, Long, longerState}
-use Rattle.enumeration_room_laws.proofs.Stores.{longer-get, longer-put, long-put, long-zero}
-use Rattle.enumeration_room_laws.proofs.Rows.{read-longer, filled-longer, waits-longer}
+use Rattle.enumeration_run_laws.specs.Longer.{longer, Long, longerState}
+use Rattle.enumeration_run_laws.proofs.LongerStores.{longer-get, longer-put, long-put, long-zero}
+use Rattle.enumeration_run_laws.proofs.LongerRows.{read-longer, filled-longer, waits-longer}
 
 -- A step is stored inside the table.
 pub set-long : {a n count len : ℕ} {t t′ : List ℕ} → Long a len t t′ → count * (2 * n + 4) ≤ len → (e : GroupElementId) (g : GeneratorId) (r : GroupElementId) → e .0 < count → g .0 < n → r .0 < count

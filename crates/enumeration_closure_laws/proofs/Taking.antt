@@ -16,10 +16,10 @@ use Rattle.enumeration_run_laws.specs.Invariant.{Spot}
 use Rattle.egg.proofs.Cells.{put-same, put-other, put-length, inside}
 use Rattle.enumeration_run_laws.proofs.Spots.{spot-once, row-spot, place-inside}
 use Rattle.enumeration_run_laws.proofs.Waiting.{place-spot}
-use Rattle.enumeration_waiting_laws.specs.Queues.{placeOf, listOf, copyAt, Held, Queue, Queues, Sized, Taken, Pushed}
-use Rattle.enumeration_waiting_laws.proofs.Places.{bit, bit-below, list-stands, place-cell, copy-is}
-use Rattle.enumeration_waiting_laws.proofs.Choosing.{choose, choose-yes, choose-no, same-place}
-use Rattle.enumeration_waiting_laws.proofs.Chains.{queue-none, SameCopies, copies-rows, copies-hand, copies-queue}
+use Rattle.enumeration_closure_laws.specs.Queues.{placeOf, listOf, copyAt, Held, Queue, Queues, Sized, Taken, Pushed}
+use Rattle.enumeration_closure_laws.proofs.Places.{bit, bit-below, list-stands, place-cell, copy-is}
+use Rattle.enumeration_closure_laws.proofs.Choosing.{choose, choose-yes, choose-no, same-place}
+use Rattle.enumeration_closure_laws.proofs.Chains.{queue-none, SameCopies, copies-rows, copies-hand, copies-queue}
 
 place-at : (n e g d : ℕ) → placeOf n e g + d ≡ e * workWidth n + (10 * g + d)
 unfolding placeAt

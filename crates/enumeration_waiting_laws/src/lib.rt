@@ -1,2 +1,0 @@
-// The waiting lists of the enumeration as lists of copies: definitions in specs/, theorems in proofs/. There is no code, and a crate needs a function.
-pub fn nothing() {}
