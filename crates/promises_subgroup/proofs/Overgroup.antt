@@ -26,7 +26,7 @@ use Rattle.build_numbering_laws.proofs.Order.{appearing}
 use Rattle.build_numbering_laws.proofs.Subgroups.{right-inside, orbit-generated, identity-row-proper}
 use Rattle.build_numbering_laws.proofs.Builds.{renumber-holds, renumber-work, renumber-maps}
 use Rattle.promises_subgroup.specs.Made.{SubgroupMade}
-use Rattle.promises_subgroup.proofs.Given.{held-carried, held-homomorphic}
+use Rattle.promises_subgroup.proofs.Held.{held-carried, held-homomorphic}
 
 module _ (t : List ℕ) {hs : List Factor} (As : AllAccepted t hs) where
   pub product-answers : (y x : ℕ) → y < elementsOf hs → x < elementsOf hs

@@ -47,7 +47,7 @@ use Rattle.subgroup_build.proofs.Admits.{small-elements, maps-lent, maps-inn, m
 use Rattle.promises_subgroup.specs.Altered.{stepsRead, Regardless}
 use Rattle.promises_subgroup.proofs.Narrow.{narrow}
 use Rattle.promises_subgroup.proofs.Stretches.{fewer-rows, fewer-work, first-part, handle-fits}
-use Rattle.promises_subgroup.proofs.Given.{held-carried}
+use Rattle.promises_subgroup.proofs.Held.{held-carried}
 use Rattle.promises_subgroup.proofs.Called.{front-cell, front-part, front-long, carried-as}
 
 -- A product in whatever buffer is an element of the overgroup, or is refused by 17.

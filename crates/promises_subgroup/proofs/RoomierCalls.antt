@@ -35,7 +35,7 @@ use Rattle.subgroup_rows.specs.Rows.{productOf}
 use Rattle.subgroup_build.specs.Generated.{fromGenerators}
 use Rattle.promises_subgroup.specs.Generates.{Started, RoomierGenerates}
 use Rattle.promises_subgroup.proofs.Called as called
-use Rattle.promises_subgroup.proofs.ToldLeaving.{accepted-lengths}
+use Rattle.promises_subgroup.proofs.Leaving.{accepted-lengths}
 
 -- The build in its stretches, over any group.
 module _ {M : ℕ} {op : ℕ → ℕ → ℕ} {inv : ℕ → ℕ} (G : GroupOn M op inv) (small : M ≤ 4294967295) {n : ℕ} {gen : ℕ → ℕ} (gens : (g : ℕ) → g < n → gen g < M)

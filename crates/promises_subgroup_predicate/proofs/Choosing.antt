@@ -20,7 +20,7 @@ use Rattle.build_numbering.specs.Build.{Renumbering, renumbering}
 use Rattle.build_numbering_laws.specs.Orbit.{Orbit, origin, onward}
 use Rattle.build_numbering_laws.specs.Subgroup.{rightBy}
 use Rattle.subgroup_predicate_choices.specs.Choices.{Picked, isNew, chooses}
-use Rattle.promises_subgroup.specs.Predicate.{Reach, Chosen, Knows, Faithful, Ends, accepted, refused, too-many}
+use Rattle.promises_subgroup_predicate.specs.Predicate.{Reach, Chosen, Knows, Faithful, Ends, accepted, refused, too-many}
 
 -- The same by generators that are the same.
 pub orbit-as : (op : ℕ → ℕ → ℕ) {n : ℕ} {f g : ℕ → ℕ} {y : ℕ} → ((i : ℕ) → i < n → f i ≡ g i) → Orbit n (rightBy op f) 0 y → Orbit n (rightBy op g) 0 y

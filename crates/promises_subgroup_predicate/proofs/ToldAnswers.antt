@@ -46,16 +46,16 @@ use Rattle.subgroup_build.specs.Lent.{mapsRight}
 use Rattle.subgroup_build.specs.Generated.{smallEnough}
 use Rattle.subgroup_predicate_choices.specs.Choices.{Picked, picked, againIn}
 use Rattle.subgroup_predicate.specs.Predicate.{predicateIn, admitsOver, toldBack, fromPredicate}
-use Rattle.promises_subgroup.specs.Predicate.{Reach, Chosen, Ends, accepted, refused, too-many}
-use Rattle.promises_subgroup.specs.Tellable.{Buildable, Tellable}
-use Rattle.promises_subgroup.specs.Tells.{Predicated}
+use Rattle.promises_subgroup_predicate.specs.Predicate.{Reach, Chosen, Ends, accepted, refused, too-many}
+use Rattle.promises_subgroup_predicate.specs.Tellable.{Buildable, Tellable}
+use Rattle.promises_subgroup_predicate.specs.Tells.{Predicated}
 use Rattle.promises_subgroup.specs.Answers.{subgroupPaper, Small}
-use Rattle.promises_subgroup.specs.ToldAnswers.{Stopping, Way, told, stops, ninth, Bytes, PredicatePaper, no-handle, too-large, short, chosen}
-use Rattle.promises_subgroup.proofs.Telling.{eight-rows, eight-work, answering, again-faithful, predicate-ends}
-use Rattle.promises_subgroup.proofs.Firsts.{first-chosen, each-of, each-before}
-use Rattle.promises_subgroup.proofs.ToldExactly.{asks, suffices}
-use Rattle.promises_subgroup.proofs.ToldCalls as told-calls
+use Rattle.promises_subgroup_predicate.specs.ToldAnswers.{Stopping, Way, told, stops, ninth, Bytes, PredicatePaper, no-handle, too-large, short, chosen}
+use Rattle.promises_subgroup_predicate.proofs.Telling.{eight-rows, eight-work, answering, again-faithful, predicate-ends}
+use Rattle.promises_subgroup_predicate.proofs.Firsts.{first-chosen, each-of, each-before}
+use Rattle.promises_subgroup_predicate.proofs.ToldExactly.{asks, suffices}
+use Rattle.promises_subgroup_predicate.proofs.ToldCalls as told-calls
 use Rattle.promises_subgroup.proofs.Answers.{small-true, true-small, not-small, enough-true, true-enough}
 
 -- The verdict of what was picked.
 abbrev countedVerdict : Counted → Verdict

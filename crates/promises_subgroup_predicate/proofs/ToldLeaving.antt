@@ -4,64 +4,35 @@ use mathlib.Core.Path.{_≡_, refl, sym, ap, _∙_}
 use mathlib.Core.Bool.{Bool, true, false}
 use mathlib.Core.List.{List, [], _∷_, _++_}
 use lib.Dec.{ltb}
-use lib.ListN.{length, getD, take, replicate, length-replicate}
+use lib.ListN.{length, getD, take, replicate}
 use Rattle.egg.specs.declared.Refusal.{Refusal}
 use Rattle.egg.specs.declared.Reached.{Reached}
 use Rattle.egg.specs.declared.Verdict.the-variants as verdict
-use Rattle.egg.specs.declared.Counted.{Counted}
 use Rattle.egg.specs.declared.Counted.the-variants.{Count, Refused}
-use Rattle.egg.specs.Table.{pick, putAt}
-use Rattle.build_reading.specs.Reading.{placed}
-use Rattle.build_lending.specs.Finish.{built, finished}
+use Rattle.egg.specs.Table.{pick}
+use Rattle.build_lending.specs.Finish.{built}
 use Rattle.build_lending.specs.Lending.{tableNeed, workNeed, within}
 use Rattle.promises.specs.Leaves.{AllCleared}
-use Rattle.build_laws.proofs.Settled.{settled-kept, settled-work}
-use Rattle.build_laws.proofs.Built.{passed}
 use Rattle.group_handles.specs.declared.Group.{Group}
 use Rattle.group_handles.specs.Handles.{handles, elementsOf}
 use Rattle.group_digits.specs.Digits.{composes}
-use Rattle.build_numbering.specs.Renumber.{none, Mapped, mapped, mapAll}
-use Rattle.build_numbering.specs.Build.{Renumbering, renumbering, finishedMapped, renumberIn}
-use Rattle.build_numbering_laws.proofs.Builds.{settled-count, refused-maps}
-use Rattle.build_numbering_laws.proofs.Sizes.{Long, all-long}
+use Rattle.build_numbering.specs.Build.{Renumbering, renumbering, renumberIn}
+use Rattle.build_numbering_laws.proofs.Builds.{refused-maps}
 use Rattle.subgroup_build.specs.declared.Subgroup.{Subgroup}
 use Rattle.subgroup_build.specs.Lent.{subgrouping}
 use Rattle.subgroup_predicate_choices.specs.Choices.{Picked, picked, isNew, ninth, chooses, againIn}
 use Rattle.subgroup_predicate.specs.Predicate.{predicateIn, toldBack, fromPredicate}
 use Rattle.promises_subgroup.specs.Leaves.{mapsFor}
-use Rattle.promises_subgroup.specs.Tells.{Predicated}
-use Rattle.promises_subgroup.proofs.Leaving.{tableIn, rows-long, refused-stretches, four-cleared}
+use Rattle.promises_subgroup_predicate.specs.Tells.{Predicated}
+use Rattle.promises_subgroup.proofs.Leaving.{refused-stretches, accepted-lengths, four-cleared}
 use Rattle.promises_subgroup.proofs.Called.{fine-refused}
-use Rattle.promises_subgroup.proofs.ToldCalls.{is-told, work-long}
+use Rattle.promises_subgroup_predicate.proofs.ToldCalls.{is-told, work-long}
 
 -- Lists of these lengths, or zeros.
 data Kept (size L M K : ℕ) : Renumbering → Type 0 where
   counted : {c : ℕ} {t w i o : List ℕ} → length t ≡ size → length w ≡ L → length i ≡ M → length o ≡ K → Kept size L M K (renumbering (built (Count c) t w) i o)
   cleared : {f : Refusal} {t w i o : List ℕ} → t ≡ replicate size 0 → w ≡ replicate L 0 → i ≡ replicate M 0 → o ≡ replicate K 0
       → Kept size L M K (renumbering (built (Refused f) t w) i o)
-
-finished-long : (k : Counted) (n : ℕ) (t₀ w₀ : List ℕ) {c : ℕ} {t w : List ℕ} → finished k n t₀ w₀ ≡ built (Count c) t w
-    → (length t ≡ length t₀) × (length w ≡ length w₀)
-finished-long k n t₀ w₀ q =
-    let p = passed (placed k t₀) n w₀ q in
-    let same : p .before ≡ t₀ = cc in
-    (settled-kept (p .before) w₀ (p .end) .size ∙ ap length same, ap length (settled-work (p .before) w₀ (p .end)) ∙ length-replicate {A = ℕ} (length w₀) 0)
-
-pub accepted-lengths : (size : ℕ) (w₀ : List ℕ) (source : ℕ → ℕ → Reached) (n room M K x₀ : ℕ) {c : ℕ} {t w i o : List ℕ}
-    → renumberIn size w₀ source n room M K x₀ ≡ renumbering (built (Count c) t w) i o
-    → (length t ≡ size) × ((length w ≡ length w₀) × ((length i ≡ M) × (length o ≡ K)))
-unfolding renumberIn
-accepted-lengths size w₀ source n room M K x₀ {c} {t} {w} {i} {o} q =
-    go (mapAll source n room M K x₀ (replicate size 0))
-    (rows-long room source n room 0 1 (replicate size 0) (putAt (replicate M none) x₀ 0) (putAt (replicate K 0) 0 x₀) ∙ length-replicate size 0)
-    (all-long source n room M K x₀ (replicate size 0)) q
-  where
-    go : (m : Mapped) → length (tableIn m) ≡ size → Long M K m → finishedMapped m n w₀ ≡ renumbering (built (Count c) t w) i o
-        → (length t ≡ size) × ((length w ≡ length w₀) × ((length i ≡ M) × (length o ≡ K)))
-    go (mapped (placed k t₀) i₀ o₀) h g z =
-        let S = settled-count (finished k n t₀ w₀) i₀ o₀ z in
-        let F = finished-long k n t₀ w₀ (S .0) in
-        (F .0 ∙ h, (F .1, (ap length (sym (S .1 .0)) ∙ g .0, ap length (sym (S .1 .1)) ∙ g .1)))
 
 build-kept : (size : ℕ) (w₀ : List ℕ) (source : ℕ → ℕ → Reached) (n room M K x₀ : ℕ) {L : ℕ} → length w₀ ≡ L → Kept size L M K (renumberIn size w₀ source n room M K x₀)
 build-kept size w₀ source n room M K x₀ {L} l = by (renumberIn size w₀ source n room M K x₀) refl where

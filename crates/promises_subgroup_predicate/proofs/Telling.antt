@@ -24,8 +24,8 @@ use Rattle.build_numbering_laws.proofs.Builds.{not-refused, renumber-work, renu
 use Rattle.build_numbering_laws.proofs.Chosen.{chosen-proper, chosen-all, orbit-more}
 use Rattle.subgroup_predicate_choices.specs.Choices.{Picked, picked, againIn}
 use Rattle.subgroup_predicate.specs.Predicate.{predicateIn}
-use Rattle.promises_subgroup.specs.Predicate.{Reach, Chosen, Knows, Faithful, Ends, accepted, refused, too-many}
-use Rattle.promises_subgroup.proofs.Choosing.{chooses-ends}
+use Rattle.promises_subgroup_predicate.specs.Predicate.{Reach, Chosen, Knows, Faithful, Ends, accepted, refused, too-many}
+use Rattle.promises_subgroup_predicate.proofs.Choosing.{chooses-ends}
 
 -- The stretches for 8 generators are enough for fewer.
 pub eight-rows : (n room size : ℕ) → n ≤ 8 → room * (2 * 8 + 4) ≤ size → room * (2 * n + 4) ≤ size

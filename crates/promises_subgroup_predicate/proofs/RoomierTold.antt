@@ -17,10 +17,10 @@ use Rattle.build_numbering_laws.proofs.Subgroups.{right-inside}
 use Rattle.build_numbering_laws.proofs.Builds.{renumber-holds, renumber-exactly}
 use Rattle.subgroup_predicate_choices.specs.Choices.{Picked, againIn}
 use Rattle.subgroup_predicate.specs.Predicate.{predicateIn}
-use Rattle.promises_subgroup.specs.Predicate.{Chosen}
-use Rattle.promises_subgroup.proofs.Choosing.{nothing-chosen}
-use Rattle.promises_subgroup.proofs.Telling.{eight-rows, eight-work, answering, again-faithful}
-use Rattle.promises_subgroup.proofs.Roomier.{Counts, Accepts, Grows, same-chosen}
+use Rattle.promises_subgroup_predicate.specs.Predicate.{Chosen}
+use Rattle.promises_subgroup_predicate.proofs.Choosing.{nothing-chosen}
+use Rattle.promises_subgroup_predicate.proofs.Telling.{eight-rows, eight-work, answering, again-faithful}
+use Rattle.promises_subgroup_predicate.proofs.Roomier.{Counts, Accepts, Grows, same-chosen}
 
 taken-roomier : {src : ℕ → ℕ → ℕ} {n room room′ N : ℕ} → room ≤ room′ → Taken src n room N → Taken src n room′ N
 taken-roomier h T = record {

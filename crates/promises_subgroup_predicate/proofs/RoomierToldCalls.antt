@@ -22,16 +22,16 @@ use Rattle.subgroup_build.specs.declared.Subgroup.{Subgroup}
 use Rattle.subgroup_build.specs.Lent.{subgrouping}
 use Rattle.subgroup_predicate_choices.specs.Choices.{Picked, picked, againIn}
 use Rattle.subgroup_predicate.specs.Predicate.{predicateIn, toldBack, fromPredicate}
-use Rattle.promises_subgroup.specs.Predicate.{Chosen}
-use Rattle.promises_subgroup.specs.Tells.{Predicated}
+use Rattle.promises_subgroup_predicate.specs.Predicate.{Chosen}
+use Rattle.promises_subgroup_predicate.specs.Tells.{Predicated}
 use Rattle.promises_subgroup.specs.Generates.{RoomierGenerates}
-use Rattle.promises_subgroup.proofs.Telling.{eight-rows, eight-work, answering, predicate-ends, ends-accepted}
-use Rattle.promises_subgroup.proofs.Roomier.{Accepts}
-use Rattle.promises_subgroup.proofs.RoomierTold.{predicate-roomier}
+use Rattle.promises_subgroup_predicate.proofs.Telling.{eight-rows, eight-work, answering, predicate-ends, ends-accepted}
+use Rattle.promises_subgroup_predicate.proofs.Roomier.{Accepts}
+use Rattle.promises_subgroup_predicate.proofs.RoomierTold.{predicate-roomier}
 use Rattle.promises_subgroup.proofs.RoomierCalls.{build-roomier}
 use Rattle.promises_subgroup.proofs.Called.{front-cell}
-use Rattle.promises_subgroup.proofs.ToldCalls as told
-use Rattle.promises_subgroup.proofs.ToldLeaving.{accepted-lengths}
+use Rattle.promises_subgroup_predicate.proofs.ToldCalls as told
+use Rattle.promises_subgroup.proofs.Leaving.{accepted-lengths}
 
 module _ (from : List ℕ) (over : Group) (members table : List ℕ) (start : ℕ) (work inn outw : List ℕ) (room : ℕ) (As : AllAccepted from (handles over))
     {s : Subgroup} {t w i o : List ℕ}

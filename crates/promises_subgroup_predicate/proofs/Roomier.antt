@@ -12,11 +12,11 @@ use Rattle.build_lending.specs.Finish.{built}
 use Rattle.build_numbering.specs.Renumber as appear
 use Rattle.build_numbering.specs.Build.{Renumbering, renumbering}
 use Rattle.subgroup_predicate_choices.specs.Choices.{Picked, picked, ninth, chooses}
-use Rattle.promises_subgroup.specs.Predicate.{Chosen, Knows, Faithful}
-use Rattle.promises_subgroup.proofs.Choosing.{chosen-same, chosen-more}
+use Rattle.promises_subgroup_predicate.specs.Predicate.{Chosen, Knows, Faithful}
+use Rattle.promises_subgroup_predicate.proofs.Choosing.{chosen-same, chosen-more}
 use Rattle.build_numbering_laws.proofs.Builds.{not-refused}
-use Rattle.promises_subgroup.proofs.Telling.{same-gens, same-build}
-use Rattle.promises_subgroup.proofs.Loop.{choose-end, choose-stop, choose-known, choose-no-member, choose-next, choose-ninth}
+use Rattle.promises_subgroup_predicate.proofs.Telling.{same-gens, same-build}
+use Rattle.promises_subgroup_predicate.proofs.Loop.{choose-end, choose-stop, choose-known, choose-no-member, choose-next, choose-ninth}
 
 pub record Counts (r : Renumbering) : Type 0 where
   pub count : ℕ

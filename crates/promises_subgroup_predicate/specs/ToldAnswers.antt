@@ -18,9 +18,9 @@ use Rattle.group_handles.specs.Handles.{handles, elementsOf, allFit}
 use Rattle.promises_group.specs.Products.{direct}
 use Rattle.build_numbering_laws.specs.Orbit.{numberedStep, Appearing}
 use Rattle.build_numbering_laws.specs.Subgroup.{rightBy}
-use Rattle.promises_subgroup.specs.Predicate.{Reach, Chosen}
-use Rattle.promises_subgroup.specs.Tellable.{Buildable, Tellable}
+use Rattle.promises_subgroup_predicate.specs.Predicate.{Reach, Chosen}
+use Rattle.promises_subgroup_predicate.specs.Tellable.{Buildable, Tellable}
 use Rattle.promises_subgroup.specs.Answers.{Small, Enough}
 
 -- What these elements generate, numbered in order of first appearance, cannot be built: 5 or 6, where the numbering stops first, at that element and generator.
 pub record Stopping (op : ℕ → ℕ → ℕ) (M room : ℕ) (gens : List ℕ) (r : Refusal) : Type 0 where

@@ -11,8 +11,8 @@ use Rattle.build_checks_laws.specs.Sound.{Sound}
 use Rattle.build_numbering.specs.Renumber as appear
 use Rattle.build_numbering_laws.specs.Maps.{Held}
 use Rattle.build_numbering_laws.specs.Subgroup.{rightBy, Generated, Proper}
 use Rattle.promises_subgroup.specs.Carried.{Carried, Homomorphic}
-use Rattle.promises_subgroup.specs.Predicate.{Reach, Chosen}
+use Rattle.promises_subgroup_predicate.specs.Predicate.{Reach, Chosen}
 
 pub record Told (op : ℕ → ℕ → ℕ) (inv byte : ℕ → ℕ) (M room K size L : ℕ) (gens : List ℕ) (c : ℕ) (t w inn outw : List ℕ) : Type 1 where
   pub chosen : Chosen op byte M gens

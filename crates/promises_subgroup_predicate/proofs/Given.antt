@@ -8,48 +8,24 @@ use lib.ListN.{length, getD, replicate, take}
 use Rattle.egg.specs.declared.Reached.{Reached}
 use Rattle.egg.specs.declared.Reached.the-variants as reached
 use Rattle.egg.specs.declared.Counted.the-variants.{Count}
-use Rattle.egg.specs.Table.{stepOf, backOf}
 use Rattle.build_word_cells.specs.Hops.{Hops}
 use Rattle.build_lending.specs.Finish.{built}
 use Rattle.build_lending.specs.Lending.{tableNeed}
 use Rattle.theory.specs.Group.{GroupOn}
-use Rattle.theory.specs.Regular.{compose, inverse}
-use Rattle.build_checks_laws.specs.Stored.{wordOf}
 use Rattle.build_checks_laws.specs.Sound.{Sound, Ruled}
 use Rattle.build_numbering.specs.Renumber as appear
 use Rattle.build_numbering.specs.Build.{renumbering}
 use Rattle.build_numbering_laws.specs.Orbit.{numberedStep}
-use Rattle.build_numbering_laws.specs.Maps.{Held}
 use Rattle.build_numbering_laws.specs.Subgroup.{rightBy, Subgroup}
 use Rattle.build_numbering_laws.proofs.Order.{appearing}
-use Rattle.build_numbering_laws.proofs.Subgroups.{right-inside, orbit-generated, outward-composes, outward-inverts}
+use Rattle.build_numbering_laws.proofs.Subgroups.{right-inside, orbit-generated}
 use Rattle.build_numbering_laws.proofs.Builds.{builtOf, renumber-built, renumber-holds}
-use Rattle.promises_subgroup.specs.Carried.{Carried, Homomorphic}
 use Rattle.subgroup_predicate_choices.specs.Choices.{picked}
 use Rattle.subgroup_predicate.specs.Predicate.{predicateIn}
-use Rattle.promises_subgroup.specs.Told.{Told}
+use Rattle.promises_subgroup_predicate.specs.Told.{Told}
 use Rattle.promises_subgroup.proofs.Narrow.{narrow}
-use Rattle.promises_subgroup.proofs.Telling.{eight-rows, eight-work, answering, again-held, again-work, predicate-ends, ends-accepted, predicate-proper, predicate-subgroup}
-
--- The two lists of an accepted build are a pair of maps, by which the index formulas go on.
-pub held-carried : {n M room K x₀ c : ℕ} {out step : ℕ → ℕ → ℕ} {inn outw : List ℕ} → Held n M room K out x₀ c step inn outw → room ≤ 65535
-    → Carried M c (λ e. getD outw e 0) (λ x. getD inn x 0)
-held-carried H hi = record {
-  small = omega (arith, H .within);
-  over-below = λ h. H .renumbered .outward-below h;
-  there-and-back = λ h. H .renumbered .there-and-back h;
-  sub-below = λ h k. H .renumbered .inward (H .reached h k);
-  back-and-there = λ h k. H .renumbered .back-and-there (H .reached h k);
-}
-
-module _ {M : ℕ} {op : ℕ → ℕ → ℕ} {inv : ℕ → ℕ} (G : GroupOn M op inv) {n : ℕ} {gen : ℕ → ℕ} (gens : (g : ℕ) → g < n → gen g < M) where
-  pub held-homomorphic : {room K c : ℕ} {t inn outw : List ℕ} → Held n M room K (rightBy op gen) 0 c (stepOf t n) inn outw → Sound t n c
-      → Homomorphic c (compose (stepOf t n) (wordOf t n)) (inverse (backOf t n) (wordOf t n)) op inv (λ e. getD outw e 0)
-  held-homomorphic H S = record {
-    identity = H .renumbered .origin;
-    composes = λ {a} {b} ha hb. outward-composes G gens (H .renumbered) (S .spelled) ha hb;
-    inverts = λ {a} ha. outward-inverts G gens (H .renumbered) (S .spelled) (S .columns) ha;
-  }
+use Rattle.promises_subgroup_predicate.proofs.Telling.{eight-rows, eight-work, answering, again-held, again-work, predicate-ends, ends-accepted, predicate-proper, predicate-subgroup}
+use Rattle.promises_subgroup.proofs.Held.{held-carried, held-homomorphic}
 
 module _ {M : ℕ} {op : ℕ → ℕ → ℕ} {inv : ℕ → ℕ} (G : GroupOn M op inv) (small : M ≤ 4294967295) (source : ℕ → ℕ → Reached)
     (answers : (y x : ℕ) → y < M → x < M → source y x ≡ reached.Element (record { 0 = op y x }))

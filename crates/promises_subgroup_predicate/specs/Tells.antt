@@ -14,8 +14,8 @@ use Rattle.build_numbering_laws.specs.Subgroup as sub
 use Rattle.subgroup_build.specs.declared.Subgroup.{Subgroup}
 use Rattle.subgroup_build.specs.Lent.{mapsRight}
 use Rattle.subgroup_build.specs.Generated.{smallEnough}
 use Rattle.promises_subgroup.specs.Generates.{Holds}
-use Rattle.promises_subgroup.specs.Told.{Told}
+use Rattle.promises_subgroup_predicate.specs.Told.{Told}
 
 -- 17 in the handles, 15 and 4 have passed: table and work are lent as for 8 generators, and there is a byte for each element of the overgroup.
 pub record Predicated (from : List ℕ) (over : Group) (members table : List ℕ) (start : ℕ) (work inn outw : List ℕ) (room : ℕ) : Type 0 where

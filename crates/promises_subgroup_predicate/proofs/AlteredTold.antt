@@ -23,21 +23,21 @@ use Rattle.group_digits.specs.Digits.{composes}
 use Rattle.build_numbering.specs.Build.{Renumbering, renumbering, renumberIn}
 use Rattle.build_numbering_laws.proofs.Order.{appearing}
 use Rattle.build_numbering_laws.proofs.Partial.{total, total-answering, partial-build}
-use Rattle.build_numbering_laws.proofs.Builds.{builtOf, renumber-built}
+use Rattle.build_numbering_laws.proofs.Builds.{builtOf, renumber-built, same-refusal, not-refused}
 use Rattle.subgroup_build.specs.declared.Subgroup.{Subgroup}
 use Rattle.subgroup_build.specs.Lent.{subgrouping}
 use Rattle.subgroup_rows.specs.Rows.{productOf}
 use Rattle.subgroup_predicate_choices.specs.Choices.{Picked, picked, isNew, chooses, againIn}
 use Rattle.subgroup_predicate.specs.Predicate.{predicateIn, fromPredicate}
 use Rattle.subgroup_predicate_choices.specs.Choices as choices
-use Rattle.promises_subgroup.specs.Tells.{Predicated}
-use Rattle.promises_subgroup.specs.Altered.{Regardless, ToldStops, ninth, stopped, by-steps}
-use Rattle.promises_subgroup.proofs.Choosing.{more-length, pick-ends}
-use Rattle.build_numbering_laws.proofs.Builds.{same-refusal, not-refused}
-use Rattle.promises_subgroup.proofs.Telling.{eight-rows, eight-work, same-gens, same-build}
-use Rattle.promises_subgroup.proofs.ToldLeaving.{accepted-lengths}
-use Rattle.promises_subgroup.proofs.ToldCalls as told
+use Rattle.promises_subgroup_predicate.specs.Tells.{Predicated}
+use Rattle.promises_subgroup.specs.Altered.{Regardless}
+use Rattle.promises_subgroup_predicate.specs.Altered.{ToldStops, ninth, stopped, by-steps}
+use Rattle.promises_subgroup_predicate.proofs.Choosing.{more-length, pick-ends}
+use Rattle.promises_subgroup_predicate.proofs.Telling.{eight-rows, eight-work, same-gens, same-build}
+use Rattle.promises_subgroup.proofs.Leaving.{accepted-lengths}
+use Rattle.promises_subgroup_predicate.proofs.ToldCalls as told
 use Rattle.promises_subgroup.proofs.Regardless.{composes-17, steps-inside, regardless, regardless-at}
 
 -- The last build, by at most eight elements; or a ninth was needed.
 data Last (L : ℕ) (again : List ℕ → List ℕ → Renumbering) : Picked → Type 0 where

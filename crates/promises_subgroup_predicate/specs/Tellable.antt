@@ -6,7 +6,7 @@ use lib.ListN.{length, getD, take}
 use Rattle.theory.specs.Appearance.{recorded}
 use Rattle.build_numbering_laws.specs.Orbit.{numberedStep, Appearing}
 use Rattle.build_numbering_laws.specs.Subgroup.{rightBy}
-use Rattle.promises_subgroup.specs.Predicate.{Chosen}
+use Rattle.promises_subgroup_predicate.specs.Predicate.{Chosen}
 
 -- What these elements generate can be built: numbered in order of first appearance it is within the room, and no recorded word passes 4,096.
 pub record Buildable (op : ℕ → ℕ → ℕ) (M room : ℕ) (gens : List ℕ) : Type 0 where

@@ -42,13 +42,14 @@ use Rattle.build_checks_laws.proofs.Accepted.{sound-group}
 use Rattle.build_numbering_laws.specs.Maps.{Held}
 use Rattle.build_numbering_laws.specs.Subgroup.{rightBy}
 use Rattle.build_numbering_laws.proofs.Subgroups.{generator-outside}
-use Rattle.promises_subgroup.specs.Predicate.{Reach}
-use Rattle.promises_subgroup.specs.Told.{Told}
-use Rattle.promises_subgroup.specs.Tells.{Predicated, Tells}
+use Rattle.promises_subgroup_predicate.specs.Predicate.{Reach}
+use Rattle.promises_subgroup_predicate.specs.Told.{Told}
+use Rattle.promises_subgroup_predicate.specs.Tells.{Predicated, Tells}
 use Rattle.promises_subgroup.proofs.Overgroup.{product-answers, product-overgroup, generated-as}
-use Rattle.promises_subgroup.proofs.Given.{held-homomorphic, predicate-told, told-subgroup, predicate-narrow}
+use Rattle.promises_subgroup.proofs.Held.{held-homomorphic}
+use Rattle.promises_subgroup_predicate.proofs.Given.{predicate-told, told-subgroup, predicate-narrow}
 use Rattle.promises_subgroup.proofs.Stretches.{step-cut, held-steps, first-part, handle-fits}
 use Rattle.promises_subgroup.proofs.Called.{front-cell, carried-as, homomorphic-as, fine-refused, same-refusal}
 
 module _ (from : List ℕ) (over : Group) (members table : List ℕ) (start : ℕ) (work inn outw : List ℕ) (room : ℕ) where
   abbrev M : ℕ

@@ -32,13 +32,13 @@ use Rattle.subgroup_build.specs.declared.Subgroup.{Subgroup}
 use Rattle.subgroup_build.specs.Lent.{subgrouping}
 use Rattle.subgroup_predicate_choices.specs.Choices.{Picked, picked, againIn}
 use Rattle.subgroup_predicate.specs.Predicate.{predicateIn, toldBack, fromPredicate}
-use Rattle.promises_subgroup.specs.Predicate.{Chosen}
-use Rattle.promises_subgroup.specs.Tells.{Predicated}
-use Rattle.promises_subgroup.specs.Tellable.{Buildable, Tellable}
-use Rattle.promises_subgroup.proofs.Telling.{eight-rows, eight-work, answering, again-faithful, predicate-ends, ends-accepted, members-reached}
-use Rattle.promises_subgroup.proofs.Roomier.{Counts, Accepts}
-use Rattle.promises_subgroup.proofs.Firsts.{each-asked, each-suffices}
-use Rattle.promises_subgroup.proofs.ToldCalls as told
+use Rattle.promises_subgroup_predicate.specs.Predicate.{Chosen}
+use Rattle.promises_subgroup_predicate.specs.Tells.{Predicated}
+use Rattle.promises_subgroup_predicate.specs.Tellable.{Buildable, Tellable}
+use Rattle.promises_subgroup_predicate.proofs.Telling.{eight-rows, eight-work, answering, again-faithful, predicate-ends, ends-accepted, members-reached}
+use Rattle.promises_subgroup_predicate.proofs.Roomier.{Counts, Accepts}
+use Rattle.promises_subgroup_predicate.proofs.Firsts.{each-asked, each-suffices}
+use Rattle.promises_subgroup_predicate.proofs.ToldCalls as told
 
 module _ {M : ℕ} {op : ℕ → ℕ → ℕ} {inv : ℕ → ℕ} (G : GroupOn M op inv) (small : M ≤ 4294967295) (source : ℕ → ℕ → Reached)
     (answers : (y x : ℕ) → y < M → x < M → source y x ≡ reached.Element (record { 0 = op y x }))
