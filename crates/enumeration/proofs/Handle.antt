@@ -52,41 +52,42 @@ module _ (table : List ℕ) (start : ℕ) (work orders : List ℕ) (n room : ℕ
   unfolding enumerates
   enumerates-is-build = simp (le-ltb _ _ generators, right, lent)
 
-module _ (table : List ℕ) (start : ℕ) (work orders : List ℕ) (n room : ℕ) {f : Factor} {t w : List ℕ} where
+module _ (table : List ℕ) (start : ℕ) (work orders : List ℕ) (n room : ℕ) where
   abbrev Passed : Type 0
   Passed = (n ≤ 8) × (ordersRight orders n ≡ verdict.Fine) × (lentRight (length table) start (length work) room n ≡ true)
 
-  abbrev accepted : Making
-  accepted = making (record { answer = verdict.Fine; factor = f }) t w
+  module _ (f : Factor) (t w : List ℕ) where
+    abbrev accepted : Making
+    accepted = making (record { answer = verdict.Fine; factor = f }) t w
 
-  -- Where the call is accepted, 1 to 4 have passed.
-  pub passed : enumerates table start work orders n room ≡ accepted → Passed
-  unfolding enumerates
-  passed h = first (ltb 8 n) refl h where
-    third : (v : Verdict) → ordersRight orders n ≡ v → ltb 8 n ≡ false → (b : Bool) → lentRight (length table) start (length work) room n ≡ b
-        → refusedMaking v table work (pick b (lentBack table start work n room (enumeratedIn (tableNeed n room) (workNeed n room) orders n room))
-        (making (refusedMade 4 0) table work)) ≡ accepted
-        → Passed
-    third verdict.Fine o g true l e = (ltb-false 8 n g, o, l)
-    third verdict.Fine o g false l e = absurd (refused-making e)
-    third (verdict.Refused r) o g b l e = absurd (refused-making e)
+    -- Where the call is accepted, 1 to 4 have passed.
+    pub passed : enumerates table start work orders n room ≡ accepted → Passed
+    unfolding enumerates
+    passed h = first (ltb 8 n) refl h where
+      third : (v : Verdict) → ordersRight orders n ≡ v → ltb 8 n ≡ false → (b : Bool) → lentRight (length table) start (length work) room n ≡ b
+          → refusedMaking v table work (pick b (lentBack table start work n room (enumeratedIn (tableNeed n room) (workNeed n room) orders n room))
+          (making (refusedMade 4 0) table work)) ≡ accepted
+          → Passed
+      third verdict.Fine o g true l e = (ltb-false 8 n g, o, l)
+      third verdict.Fine o g false l e = absurd (refused-making e)
+      third (verdict.Refused r) o g b l e = absurd (refused-making e)
 
-    first : (a : Bool) → ltb 8 n ≡ a
-        → pick a (making (refusedMade 1 n) table work)
-        (refusedMaking (ordersRight orders n) table work
-        (pick (lentRight (length table) start (length work) room n)
-        (lentBack table start work n room (enumeratedIn (tableNeed n room) (workNeed n room) orders n room))
-        (making (refusedMade 4 0) table work))) ≡ accepted
-        → Passed
-    first true g e = absurd (refused-making e)
-    first false g e = third (ordersRight orders n) refl g (lentRight (length table) start (length work) room n) refl e
+      first : (a : Bool) → ltb 8 n ≡ a
+          → pick a (making (refusedMade 1 n) table work)
+          (refusedMaking (ordersRight orders n) table work
+          (pick (lentRight (length table) start (length work) room n)
+          (lentBack table start work n room (enumeratedIn (tableNeed n room) (workNeed n room) orders n room))
+          (making (refusedMade 4 0) table work))) ≡ accepted
+          → Passed
+      first true g e = absurd (refused-making e)
+      first false g e = third (ordersRight orders n) refl g (lentRight (length table) start (length work) room n) refl e
 
-  pub accepted-handle : enumerates table start work orders n room ≡ accepted
-      → (f ≡ handle start n room (f .elements)) × (f .elements ≤ room)
-  accepted-handle h =
-      let (g, o, l) = passed h in
-      let b = by-build table start work n room (enumeratedIn (tableNeed n room) (workNeed n room) orders n room)
-      (sym (enumerates-is-build table start work orders n room g o l) ∙ h) in
-      let same : f .elements ≡ b .0 = ap (λ (x : Factor). x .elements) (b .3 .1 .0) in
-      let most = enumerated-within (limits table start work orders n room g o l) (b .3 .0) in
-      (b .3 .1 .0 ∙ ap (handle start n room) (sym same), omega arith)
+    pub accepted-handle : enumerates table start work orders n room ≡ accepted
+        → (f ≡ handle start n room (f .elements)) × (f .elements ≤ room)
+    accepted-handle h =
+        let (g, o, l) = passed h in
+        let b = by-build table start work n room (enumeratedIn (tableNeed n room) (workNeed n room) orders n room)
+        (sym (enumerates-is-build table start work orders n room g o l) ∙ h) in
+        let same : f .elements ≡ b .0 = ap (λ (x : Factor). x .elements) (b .3 .1 .0) in
+        let most = enumerated-within (limits table start work orders n room g o l) (b .3 .0) in
+        (b .3 .1 .0 ∙ ap (handle start n room) (sym same), omega arith)

@@ -38,7 +38,7 @@ module _ (table work orders : List ℕ) (n : ℕ) (few : n ≤ 4) where
   accepted-fits : (f : Factor) (t w : List ℕ) → enumerates table 0 work orders n 120 ≡ making (record { answer = verdict.Fine; factor = f }) t w
       → Fits (groupText t (f .generators) (f .elements))
   accepted-fits f t w q =
-      let (handle, within) = accepted-handle table 0 work orders n 120 q in
+      let (handle, within) = accepted-handle table 0 work orders n 120 f t w q in
       let g : f .generators ≡ n = ap (λ (x : Factor). x .generators) handle in
       group-fits t (f .generators) (f .elements) (omega arith) within
 

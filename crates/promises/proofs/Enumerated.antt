@@ -29,7 +29,7 @@ module _ (table : List ℕ) (start : ℕ) (work orders : List ℕ) (n room : ℕ
 
   -- Where the call is accepted, 1 to 4 have passed.
   pub begun : enumerates table start work orders n room ≡ accepted → OrdersRight table start work orders n room
-  begun h = let (g, o, l) = passed table start work orders n room h in record { generators = g; right = o; lent = l }
+  begun h = let (g, o, l) = passed table start work orders n room f t w h in record { generators = g; right = o; lent = l }
 
   module _ (B : OrdersRight table start work orders n room) where
     has-room : hasRoom (length table) start room n ≡ true
