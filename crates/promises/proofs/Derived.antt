@@ -23,7 +23,7 @@ use Rattle.build_checks_laws.specs.Stored.{Kept, wordOf}
 use Rattle.build_checks_laws.specs.Sound.{Sound, Ruled}
 use Rattle.build_checks_laws.proofs.Inverses.{kept-cell}
 use Rattle.build_checks_laws.proofs.Ruling.{ruled}
-use Rattle.factor_laws.proofs.Relators.{orders-long, relations-exact, relations-first}
+use Rattle.factor_relations_laws.proofs.Relators.{orders-long, relations-exact, relations-first}
 use Rattle.enumeration_run_laws.specs.Invariant.{Worded}
 use Rattle.enumeration_run.specs.Limits.{Limits}
 use Rattle.enumeration_run_laws.specs.Recorded as run

@@ -25,8 +25,8 @@ use Rattle.theory.specs.Presentation.{pairs-below, pair-place, order-of, altern
 use Rattle.theory.proofs.Pairs.{pair-at, pair-inside}
 use Rattle.build_checks_laws.specs.Sound.{Sound}
 use Rattle.factor_laws.specs.Accepted.{Accepted, factorStep}
-use Rattle.factor_laws.proofs.Codes.{code-first, code-second, pair-count}
-use Rattle.factor_laws.proofs.Relators.{turned-is, doubled-row, relations-identity}
+use Rattle.factor_relations_laws.proofs.Codes.{code-first, code-second, pair-count}
+use Rattle.factor_relations_laws.proofs.Relators.{turned-is, doubled-row, relations-identity}
 use Rattle.factor_laws.proofs.Handles.{few-generators, admits-fine, check-is, check-answer}
 use Rattle.promises_refusals.specs.Firsts.{FirstOf}
 use Rattle.promises_refusals.specs.Orders.{OrderRight, OrdersRight, OrdersFault, wrong-length, wrong-order, FirstPair, RelationFault, doubled, paired}

@@ -10,8 +10,8 @@ use Rattle.theory.specs.Regular.{compose, inverse}
 use Rattle.build_checks_laws.specs.Stored.{wordOf}
 use Rattle.build_checks_laws.specs.Sound.{Sound}
 use Rattle.build_numbering_laws.specs.Maps.{Held}
-use Rattle.build_numbering_laws.specs.Subgroup.{rightBy}
-use Rattle.build_numbering_laws.proofs.Subgroups.{outward-composes, outward-inverts}
+use Rattle.theory.specs.Subgroup.{rightBy}
+use Rattle.theory.proofs.Subgroups.{outward-composes, outward-inverts}
 use Rattle.promises_subgroup.specs.Carried.{Carried, Homomorphic}
 
 -- The two lists of an accepted build are a pair of maps, by which the index formulas go on.

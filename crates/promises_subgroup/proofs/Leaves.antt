@@ -33,7 +33,7 @@ use Rattle.promises.proofs.Passing.{read-ranges}
 use Rattle.group_handles.specs.declared.Group.{Group}
 use Rattle.group_handles.specs.Handles.{handles, elementsOf, allFit}
 use Rattle.build_numbering.specs.Build.{renumbering}
-use Rattle.build_numbering_laws.specs.Orbit.{Inside, numberedStep, Appearing}
+use Rattle.theory.specs.Orbit.{Inside, numberedStep, Appearing}
 use Rattle.build_numbering_laws.proofs.Partial.{total, total-answering}
 use Rattle.build_numbering_laws.proofs.Numberings.{refused-5-or-6}
 use Rattle.build_numbering_laws.proofs.Builds.{builtOf}

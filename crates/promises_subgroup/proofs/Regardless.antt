@@ -33,7 +33,7 @@ use Rattle.group_digits.specs.Digits.{digitOf, digitwise, composes}
 use Rattle.group_handles.proofs.Lists.{positive}
 use Rattle.group_digits.proofs.Walks.{Below, element, below-element, below-on, digit-below}
 use Rattle.build_numbering.specs.Build.{renumbering, renumberIn}
-use Rattle.build_numbering_laws.specs.Orbit.{Inside, numberedStep, Appearing}
+use Rattle.theory.specs.Orbit.{Inside, numberedStep, Appearing}
 use Rattle.build_numbering_laws.specs.Source.{Answering}
 use Rattle.build_numbering_laws.specs.Maps.{Filled}
 use Rattle.build_numbering_laws.proofs.Order.{appearing}

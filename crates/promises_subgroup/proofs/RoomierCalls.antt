@@ -23,10 +23,10 @@ use Rattle.promises_group.specs.Products.{AllAccepted}
 use Rattle.build_numbering.specs.Build.{Renumbering, renumbering, renumberIn}
 use Rattle.build_numbering_laws.specs.Source.{Answering}
 use Rattle.build_numbering_laws.specs.Maps.{Filled}
-use Rattle.build_numbering_laws.specs.Subgroup.{rightBy}
-use Rattle.build_numbering_laws.specs.Orbit.{numberedStep}
+use Rattle.theory.specs.Subgroup.{rightBy}
+use Rattle.theory.specs.Orbit.{numberedStep}
 use Rattle.build_numbering_laws.proofs.Order.{appearing}
-use Rattle.build_numbering_laws.proofs.Subgroups.{right-inside}
+use Rattle.theory.proofs.Subgroups.{right-inside}
 use Rattle.build_numbering_laws.proofs.Builds.{builtOf, renumber-built, renumber-filled}
 use Rattle.build_numbering_laws.proofs.RoomierMaps.{inward-same, outward-same}
 use Rattle.subgroup_build.specs.declared.Subgroup.{Subgroup}

@@ -18,7 +18,7 @@ use Rattle.build_laws.specs.Taken.{Taken}
 use Rattle.group_handles.specs.declared.Group.{Group}
 use Rattle.group_handles.specs.Handles.{handles, elementsOf, allFit, groupOf}
 use Rattle.build_numbering.specs.Build.{renumbering}
-use Rattle.build_numbering_laws.specs.Orbit.{numberedStep, Appearing}
+use Rattle.theory.specs.Orbit.{numberedStep, Appearing}
 use Rattle.build_numbering_laws.specs.Source.{outOf}
 use Rattle.build_numbering_laws.specs.Maps.{Filled}
 use Rattle.subgroup_build.specs.declared.Subgroup.{Subgroup}

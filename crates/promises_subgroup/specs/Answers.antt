@@ -15,8 +15,8 @@ use Rattle.promises_refusals.specs.Firsts.{FirstOf}
 use Rattle.group_handles.specs.declared.Group.{Group}
 use Rattle.group_handles.specs.Handles.{handles, elementsOf, allFit}
 use Rattle.promises_group.specs.Products.{direct}
-use Rattle.build_numbering_laws.specs.Orbit.{numberedStep, Appearing}
-use Rattle.build_numbering_laws.specs.Subgroup.{rightBy, FirstIdentity, FirstRepeat}
+use Rattle.theory.specs.Orbit.{numberedStep, Appearing}
+use Rattle.theory.specs.Subgroup.{rightBy, FirstIdentity, FirstRepeat}
 use Rattle.subgroup_build.specs.Lent.{shown, Subgrouping, subgrouping}
 use Rattle.promises_subgroup.specs.Generates.{Acceptable}
 

@@ -10,7 +10,7 @@ use Rattle.build_checks_laws.specs.Stored.{wordOf}
 use Rattle.build_checks_laws.specs.Sound.{Sound, Ruled}
 use Rattle.build_numbering.specs.Renumber as appear
 use Rattle.build_numbering_laws.specs.Maps.{Held}
-use Rattle.build_numbering_laws.specs.Subgroup.{rightBy, Generated, Proper}
+use Rattle.theory.specs.Subgroup.{rightBy, Generated, Proper}
 use Rattle.promises_subgroup.specs.Carried.{Carried, Homomorphic}
 
 pub record SubgroupMade (op : ℕ → ℕ → ℕ) (inv : ℕ → ℕ) (n M room K size L : ℕ) (gen : ℕ → ℕ) (c : ℕ) (t w inn outw : List ℕ) : Type 1 where

@@ -17,8 +17,8 @@ use Rattle.egg.specs.declared.Counted.the-variants.{Count, Refused}
 use Rattle.build_lending.specs.Finish.{built}
 use Rattle.build_numbering.specs.Renumber as appear
 use Rattle.build_numbering.specs.Build.{Renumbering, renumbering}
-use Rattle.build_numbering_laws.specs.Orbit.{Orbit, origin, onward}
-use Rattle.build_numbering_laws.specs.Subgroup.{rightBy}
+use Rattle.theory.specs.Orbit.{Orbit, origin, onward}
+use Rattle.theory.specs.Subgroup.{rightBy}
 use Rattle.subgroup_predicate_choices.specs.Choices.{Picked, isNew, chooses}
 use Rattle.promises_subgroup_predicate.specs.Predicate.{Reach, Chosen, Knows, Faithful, Ends, accepted, refused, too-many}
 

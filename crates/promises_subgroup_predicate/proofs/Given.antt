@@ -15,10 +15,10 @@ use Rattle.theory.specs.Group.{GroupOn}
 use Rattle.build_checks_laws.specs.Sound.{Sound, Ruled}
 use Rattle.build_numbering.specs.Renumber as appear
 use Rattle.build_numbering.specs.Build.{renumbering}
-use Rattle.build_numbering_laws.specs.Orbit.{numberedStep}
-use Rattle.build_numbering_laws.specs.Subgroup.{rightBy, Subgroup}
+use Rattle.theory.specs.Orbit.{numberedStep}
+use Rattle.theory.specs.Subgroup.{rightBy, Subgroup}
 use Rattle.build_numbering_laws.proofs.Order.{appearing}
-use Rattle.build_numbering_laws.proofs.Subgroups.{right-inside, orbit-generated}
+use Rattle.theory.proofs.Subgroups.{right-inside, orbit-generated}
 use Rattle.build_numbering_laws.proofs.Builds.{builtOf, renumber-built, renumber-holds}
 use Rattle.subgroup_predicate_choices.specs.Choices.{picked}
 use Rattle.subgroup_predicate.specs.Predicate.{predicateIn}

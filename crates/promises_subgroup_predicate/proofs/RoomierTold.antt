@@ -10,10 +10,10 @@ use Rattle.egg.specs.declared.Reached.the-variants as reached
 use Rattle.theory.specs.Group.{GroupOn}
 use Rattle.theory.proofs.Reading.{numbered-once}
 use Rattle.build_laws.specs.Taken.{Taken}
-use Rattle.build_numbering_laws.specs.Orbit.{numberedStep}
-use Rattle.build_numbering_laws.specs.Subgroup.{rightBy}
+use Rattle.theory.specs.Orbit.{numberedStep}
+use Rattle.theory.specs.Subgroup.{rightBy}
 use Rattle.build_numbering_laws.proofs.Order.{appearing}
-use Rattle.build_numbering_laws.proofs.Subgroups.{right-inside}
+use Rattle.theory.proofs.Subgroups.{right-inside}
 use Rattle.build_numbering_laws.proofs.Builds.{renumber-holds, renumber-exactly}
 use Rattle.subgroup_predicate_choices.specs.Choices.{Picked, againIn}
 use Rattle.subgroup_predicate.specs.Predicate.{predicateIn}

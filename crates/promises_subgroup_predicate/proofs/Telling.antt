@@ -17,9 +17,9 @@ use Rattle.build_numbering.specs.Renumber as appear
 use Rattle.build_numbering.specs.Build.{Renumbering, renumbering}
 use Rattle.build_numbering_laws.specs.Source.{Answering}
 use Rattle.build_numbering_laws.specs.Maps.{Held}
-use Rattle.build_numbering_laws.specs.Subgroup.{rightBy, Subgroup, Proper}
+use Rattle.theory.specs.Subgroup.{rightBy, Subgroup, Proper}
 use Rattle.build_numbering_laws.proofs.Order.{appearing}
-use Rattle.build_numbering_laws.proofs.Subgroups.{right-inside, orbit-generated}
+use Rattle.theory.proofs.Subgroups.{right-inside, orbit-generated}
 use Rattle.build_numbering_laws.proofs.Builds.{not-refused, renumber-work, renumber-maps}
 use Rattle.build_numbering_laws.proofs.Chosen.{chosen-proper, chosen-all, orbit-more}
 use Rattle.subgroup_predicate_choices.specs.Choices.{Picked, picked, againIn}

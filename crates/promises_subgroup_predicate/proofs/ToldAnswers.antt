@@ -33,11 +33,11 @@ use Rattle.group_handles.specs.Handles.{handles, elementsOf, allFit}
 use Rattle.group_digits.specs.Digits.{composes}
 use Rattle.promises_group.specs.Products.{AllAccepted, direct}
 use Rattle.build_numbering.specs.Build.{Renumbering, renumbering}
-use Rattle.build_numbering_laws.specs.Orbit.{numberedStep}
-use Rattle.build_numbering_laws.specs.Subgroup.{rightBy, FirstIdentity, FirstRepeat, Proper}
+use Rattle.theory.specs.Orbit.{numberedStep}
+use Rattle.theory.specs.Subgroup.{rightBy, FirstIdentity, FirstRepeat, Proper}
 use Rattle.build_laws.proofs.Twelve.{refused-reading}
 use Rattle.build_numbering_laws.proofs.Order.{appearing}
-use Rattle.build_numbering_laws.proofs.Subgroups.{right-inside}
+use Rattle.theory.proofs.Subgroups.{right-inside}
 use Rattle.build_numbering_laws.proofs.Numberings.{refused-5-or-6}
 use Rattle.build_numbering_laws.proofs.Chosen.{chosen-proper, orbit-more}
 use Rattle.build_numbering_laws.proofs.Builds.{same-refusal, not-refused, renumber-built}

@@ -40,8 +40,8 @@ use Rattle.subgroup_predicate.proofs.Told.{over-fine, over-admitted}
 use Rattle.build_checks_laws.specs.Sound.{Sound, Ruled}
 use Rattle.build_checks_laws.proofs.Accepted.{sound-group}
 use Rattle.build_numbering_laws.specs.Maps.{Held}
-use Rattle.build_numbering_laws.specs.Subgroup.{rightBy}
-use Rattle.build_numbering_laws.proofs.Subgroups.{generator-outside}
+use Rattle.theory.specs.Subgroup.{rightBy}
+use Rattle.theory.proofs.Subgroups.{generator-outside}
 use Rattle.promises_subgroup_predicate.specs.Predicate.{Reach}
 use Rattle.promises_subgroup_predicate.specs.Told.{Told}
 use Rattle.promises_subgroup_predicate.specs.Tells.{Predicated, Tells}

@@ -21,10 +21,10 @@ use Rattle.group_handles.specs.Handles.{handles, elementsOf, groupOf}
 use Rattle.group_digits.specs.Digits.{composes}
 use Rattle.promises_group.specs.Products.{AllAccepted, direct}
 use Rattle.build_numbering.specs.Build.{Renumbering, renumbering}
-use Rattle.build_numbering_laws.specs.Orbit.{numberedStep}
-use Rattle.build_numbering_laws.specs.Subgroup.{rightBy}
+use Rattle.theory.specs.Orbit.{numberedStep}
+use Rattle.theory.specs.Subgroup.{rightBy}
 use Rattle.build_numbering_laws.proofs.Order.{appearing}
-use Rattle.build_numbering_laws.proofs.Subgroups.{right-inside}
+use Rattle.theory.proofs.Subgroups.{right-inside}
 use Rattle.build_numbering_laws.proofs.Builds.{renumber-holds}
 use Rattle.build_numbering_laws.proofs.Chosen.{chosen-proper}
 use Rattle.build_numbering_laws.proofs.SubgroupBuilds.{subgroup-exactly}

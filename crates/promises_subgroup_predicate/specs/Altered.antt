@@ -13,7 +13,7 @@ use Rattle.build_lending.specs.Lending.{tableNeed}
 use Rattle.build_checks_laws.specs.Numbers.{In}
 use Rattle.group_handles.specs.declared.Group.{Group}
 use Rattle.group_handles.specs.Handles.{handles, elementsOf}
-use Rattle.build_numbering_laws.specs.Orbit.{numberedStep, Appearing}
+use Rattle.theory.specs.Orbit.{numberedStep, Appearing}
 use Rattle.subgroup_rows.specs.Rows.{productOf}
 use Rattle.promises_subgroup.specs.Altered.{stepsRead}
 

@@ -10,8 +10,8 @@ use Rattle.build_lending.specs.Finish.{built}
 use Rattle.build_numbering.specs.Renumber as appear
 use Rattle.build_numbering.specs.Build.{Renumbering, renumbering}
 use Rattle.subgroup_predicate_choices.specs.Choices.{Picked, picked, ninth}
-use Rattle.build_numbering_laws.specs.Orbit.{Orbit}
-use Rattle.build_numbering_laws.specs.Subgroup.{rightBy}
+use Rattle.theory.specs.Orbit.{Orbit}
+use Rattle.theory.specs.Subgroup.{rightBy}
 
 -- What the elements of a list generate, by the first n of them.
 abbrev pub Reach : (ℕ → ℕ → ℕ) → List ℕ → ℕ → ℕ → Type 0

@@ -4,8 +4,8 @@ use Prim.Native.Nat.{ℕ, _≤_, _<_}
 use mathlib.Core.List.{List}
 use lib.ListN.{length, getD, take}
 use Rattle.theory.specs.Appearance.{recorded}
-use Rattle.build_numbering_laws.specs.Orbit.{numberedStep, Appearing}
-use Rattle.build_numbering_laws.specs.Subgroup.{rightBy}
+use Rattle.theory.specs.Orbit.{numberedStep, Appearing}
+use Rattle.theory.specs.Subgroup.{rightBy}
 use Rattle.promises_subgroup_predicate.specs.Predicate.{Chosen}
 
 -- What these elements generate can be built: numbered in order of first appearance it is within the room, and no recorded word passes 4,096.

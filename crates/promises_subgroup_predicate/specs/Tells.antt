@@ -10,7 +10,7 @@ use Rattle.group_handles.specs.declared.Group.{Group}
 use Rattle.group_handles.specs.Handles.{handles, elementsOf, allFit}
 use Rattle.promises_group.specs.Products.{direct}
 use Rattle.build_numbering.specs.Renumber as appear
-use Rattle.build_numbering_laws.specs.Subgroup as sub
+use Rattle.theory.specs.Subgroup as sub
 use Rattle.subgroup_build.specs.declared.Subgroup.{Subgroup}
 use Rattle.subgroup_build.specs.Lent.{mapsRight}
 use Rattle.subgroup_build.specs.Generated.{smallEnough}

@@ -10,7 +10,7 @@ use Rattle.build_checks_laws.specs.Stored.{wordOf}
 use Rattle.build_checks_laws.specs.Sound.{Sound}
 use Rattle.build_numbering.specs.Renumber as appear
 use Rattle.build_numbering_laws.specs.Maps.{Held}
-use Rattle.build_numbering_laws.specs.Subgroup.{rightBy, Generated, Proper}
+use Rattle.theory.specs.Subgroup.{rightBy, Generated, Proper}
 use Rattle.promises_subgroup.specs.Carried.{Carried, Homomorphic}
 use Rattle.promises_subgroup_predicate.specs.Predicate.{Reach, Chosen}
 

@@ -16,8 +16,8 @@ use Rattle.build_reading_laws.specs.Read.{Refuses}
 use Rattle.group_handles.specs.declared.Group.{Group}
 use Rattle.group_handles.specs.Handles.{handles, elementsOf, allFit}
 use Rattle.promises_group.specs.Products.{direct}
-use Rattle.build_numbering_laws.specs.Orbit.{numberedStep, Appearing}
-use Rattle.build_numbering_laws.specs.Subgroup.{rightBy}
+use Rattle.theory.specs.Orbit.{numberedStep, Appearing}
+use Rattle.theory.specs.Subgroup.{rightBy}
 use Rattle.promises_subgroup_predicate.specs.Predicate.{Reach, Chosen}
 use Rattle.promises_subgroup_predicate.specs.Tellable.{Buildable, Tellable}
 use Rattle.promises_subgroup.specs.Answers.{Small, Enough}

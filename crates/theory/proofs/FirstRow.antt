@@ -4,8 +4,8 @@ use mathlib.Core.Path.{_≡_, sym}
 use mathlib.Core.Logic.{_⊎_, inl, inr, ⊎-elim}
 use native.Mathlib.Decide.{ℕ-discrete, decLt}
 use native.Mathlib.Omega.{arith}
 use Rattle.theory.proofs.BoundedTests.{below-suc}
-use Rattle.build_numbering_laws.specs.Subgroup.{Proper, FirstIdentity, FirstRepeat}
+use Rattle.theory.specs.Subgroup.{Proper, FirstIdentity, FirstRepeat}
 
 -- Generators of which none is as an earlier one are different.
 pub sooner-apart : {n : ℕ} {gen : ℕ → ℕ} → ((g h : ℕ) → g < h → h < n → ¬ (gen g ≡ gen h)) → {g h : ℕ} → g < n → h < n → gen g ≡ gen h → g ≡ h

@@ -1,11 +1,11 @@
 -- By cases on the answer.
 use mathlib.Core.Path.{_≡_, sym, ap, _∙_}
 use borrow.Author.Needs.{needs}
-use Rattle.capi_values.proofs.inner.stored_code.Statement.{statement}
-use Rattle.capi_values.proofs.inner.stored_code.Tie as tie
-use Rattle.capi_values.proofs.inner.stored_code.Reads as reads
-use Rattle.capi_values.proofs.inner.stored_code.Lts as lts
+use Rattle.capi_builder.proofs.stored_code.Statement.{statement}
+use Rattle.capi_builder.proofs.stored_code.Tie as tie
+use Rattle.capi_builder.proofs.stored_code.Reads as reads
+use Rattle.capi_builder.proofs.stored_code.Lts as lts
 use Rattle.capi_values.proofs.inner.refusal_code.Reads as refusal-code-reads
 
 enum-told : tie.Need-enum-told
 enum-told c = search needs

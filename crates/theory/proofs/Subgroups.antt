@@ -5,19 +5,18 @@ use mathlib.Core.Path.{_≡_, sym, _∙_, ap, subst}
 use mathlib.Core.Logic.{_↔_}
 use mathlib.Core.List.{List}
 use native.Mathlib.Omega.{arith}
 use Rattle.theory.specs.Table.{Columns}
 use Rattle.theory.specs.Words.{Spelled}
 use Rattle.theory.specs.Group.{GroupOn, RightSteps, RightRegular, power}
 use Rattle.theory.specs.Regular.{compose, inverse}
 use Rattle.theory.specs.Numbering.{IdentityRow}
 use Rattle.theory.proofs.Counting.{numbered-table}
 use Rattle.theory.proofs.GroupLaws.{inverse-unique, power-closed}
 use Rattle.theory.proofs.Periods.{period-exists}
 use Rattle.theory.proofs.IdentityRows.{identity-row-distinct}
 use Rattle.theory.proofs.Complete.{compose-is-op, inverse-is-inv}
-use Rattle.build_numbering_laws.specs.Orbit.{Orbit, origin, onward, Inside}
-use Rattle.build_numbering_laws.specs.Maps.{Renumbered}
-use Rattle.build_numbering_laws.specs.Subgroup.{rightBy, Subgroup, Generated, Proper}
+use Rattle.theory.specs.Orbit.{Orbit, origin, onward, Inside, Renumbered}
+use Rattle.theory.specs.Subgroup.{rightBy, Subgroup, Generated, Proper}
 
 module _ {M : ℕ} {op : ℕ → ℕ → ℕ} {inv : ℕ → ℕ} (G : GroupOn M op inv) {n : ℕ} {gen : ℕ → ℕ} (gens : (g : ℕ) → g < n → gen g < M) where
   pub right-inside : Inside n M (rightBy op gen) 0

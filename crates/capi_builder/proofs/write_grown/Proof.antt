@@ -1,11 +1,11 @@
 -- The answer, and one store after it.
-use Rattle.capi_values.proofs.Laws.{grown-written}
+use Rattle.capi_builder.proofs.Laws.{grown-written}
 use borrow.Author.Needs.{needs}
-use Rattle.capi_values.proofs.inner.write_grown.Statement.{statement}
-use Rattle.capi_values.proofs.inner.write_grown.Tie as tie
-use Rattle.capi_values.proofs.inner.write_grown.Reads as reads
-use Rattle.capi_values.proofs.inner.write_grown.Lts as lts
-use Rattle.capi_values.proofs.inner.write_reached.Reads as write-reached-reads
+use Rattle.capi_builder.proofs.write_grown.Statement.{statement}
+use Rattle.capi_builder.proofs.write_grown.Tie as tie
+use Rattle.capi_builder.proofs.write_grown.Reads as reads
+use Rattle.capi_builder.proofs.write_grown.Lts as lts
+use Rattle.capi_builder.proofs.write_reached.Reads as write-reached-reads
 use Rattle.egg.proofs.inner.put.Reads as put-reads
 
 write-reached-requires : tie.Need-write-reached-requires

@@ -1,11 +1,11 @@
 -- As what is made.
-use Rattle.capi_values.specs.Bridge.{begunInto}
+use Rattle.capi_builder.specs.Answers.{begunInto}
 use borrow.Author.Needs.{needs}
-use Rattle.capi_values.proofs.inner.write_begun.Statement.{statement}
-use Rattle.capi_values.proofs.inner.write_begun.Tie as tie
-use Rattle.capi_values.proofs.inner.write_begun.Reads as reads
-use Rattle.capi_values.proofs.inner.write_begun.Lts as lts
+use Rattle.capi_builder.proofs.write_begun.Statement.{statement}
+use Rattle.capi_builder.proofs.write_begun.Tie as tie
+use Rattle.capi_builder.proofs.write_begun.Reads as reads
+use Rattle.capi_builder.proofs.write_begun.Lts as lts
 use Rattle.capi_values.proofs.inner.write_made.Reads as write-made-reads
 
 write-made-requires : tie.Need-write-made-requires
 write-made-requires c κs = search needs

@@ -1,11 +1,11 @@
 -- By cases on the answer.
-use Rattle.capi_values.proofs.Laws.{reached-refused, reached-element}
+use Rattle.capi_builder.proofs.Laws.{reached-refused, reached-element}
 use borrow.Author.Needs.{needs}
-use Rattle.capi_values.proofs.inner.write_reached.Statement.{statement}
-use Rattle.capi_values.proofs.inner.write_reached.Tie as tie
-use Rattle.capi_values.proofs.inner.write_reached.Reads as reads
-use Rattle.capi_values.proofs.inner.write_reached.Lts as lts
+use Rattle.capi_builder.proofs.write_reached.Statement.{statement}
+use Rattle.capi_builder.proofs.write_reached.Tie as tie
+use Rattle.capi_builder.proofs.write_reached.Reads as reads
+use Rattle.capi_builder.proofs.write_reached.Lts as lts
 use Rattle.capi_values.proofs.inner.write_refusal.Reads as write-refusal-reads
 use Rattle.egg.proofs.inner.put.Reads as put-reads
 
 enum-known-r : tie.Need-enum-known-r

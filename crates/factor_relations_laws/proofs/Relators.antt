@@ -10,6 +10,7 @@ use lib.ListN.{length, getD}
 use lib.Dec.{eqb}
 use Rattle.egg.specs.declared.Refusal.{Refusal}
 use Rattle.egg.specs.declared.Verdict.{Verdict}
+use Rattle.egg.specs.declared.Reached.the-variants.{Element}
 use Rattle.egg.specs.declared.Verdict.the-variants.{Fine, Refused}
 use Rattle.egg.specs.Table.{pick, stepOf}
 use Rattle.egg.specs.Pairs.{pairCode, pairCount, ordersRight, orderAt}
@@ -22,11 +23,10 @@ use Rattle.theory.proofs.Pairs.{pair-at, pair-inside}
 use Rattle.theory.proofs.Relations.{relator-word}
 use Rattle.theory.proofs.Sound.{compose-walk}
 use Rattle.build_checks_laws.specs.Sound.{Sound}
-use Rattle.build_checks_laws.proofs.Accepted.{sound-group}
+use Rattle.build_checks_laws.proofs.Accepted.{sound-group, read-step}
 use Rattle.build_checks_laws.proofs.Passes.{eq-passes, eq-then}
-use Rattle.factor_laws.specs.Accepted.{reach, Fails}
-use Rattle.factor_laws.proofs.Steps.{read-step}
-use Rattle.factor_laws.proofs.Codes.{code-first, code-second, pair-count}
+use Rattle.factor_relations_laws.specs.Fails.{Fails}
+use Rattle.factor_relations_laws.proofs.Codes.{code-first, code-second, pair-count}
 
 -- An order list that is right has an order for each pair.
 pub orders-long : (o : List ℕ) (n : ℕ) → ordersRight o n ≡ Fine → length o ≡ pairs-below n
@@ -41,7 +41,7 @@ eq-refused a b {q} {r} = by (eqb a b) refl where
   by false e h = (cc, eqb-false a b e)
 
 module _ {s : List ℕ} {n N : ℕ} (S : Sound s n N) where
-  pub turned-is : (k : ℕ) {e a b : ℕ} → e < N → a < n → b < n → turned k s n N e a b ≡ reach (walk (stepOf s n) e (alternate a b k))
+  pub turned-is : (k : ℕ) {e a b : ℕ} → e < N → a < n → b < n → turned k s n N e a b ≡ Element (record { 0 = walk (stepOf s n) e (alternate a b k) })
   unfolding turned
   turned-is zero he ha hb = refl
   turned-is (suc k) {e} {a} {b} he ha hb =
