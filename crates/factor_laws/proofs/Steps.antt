@@ -66,7 +66,7 @@ module _ {s : List ℕ} {n N : ℕ} (S : Sound s n N) where
         lt-leb _ _ up,
         lt-leb _ _ last,
         along-word k a ha up (parent-length pos he q),
-        read-step (walk-closed (S .table) ha (S .spelled .over up)) last,
+        read-step S (walk-closed (S .table) ha (S .spelled .over up)) last,
       )
       (ap reach (sym (walk-grow (S .recorded) (stepOf s n) a pos he)))
 
@@ -84,7 +84,7 @@ module _ {s : List ℕ} {n N : ℕ} (S : Sound s n N) where
       (simp (
         lt-leb _ _ last,
         ahead-word k j a ha up (omega arith) (parent-length pos he q),
-        read-step (walk-closed (S .table) ha (S .spelled .over up)) last,
+        read-step S (walk-closed (S .table) ha (S .spelled .over up)) last,
       )
       (ap reach (sym (walk-grow (S .recorded) (stepOf s n) a pos he))))
 
@@ -101,7 +101,7 @@ module _ {s : List ℕ} {n N : ℕ} (S : Sound s n N) where
 
   pub generator-in : {g : ℕ} → g < n → generatorIn s n N g ≡ reach (suc g)
   unfolding generatorIn
-  generator-in {g} hg = simp (lt-leb _ _ hg, read-step (S .table .origin) hg, S .identity-row hg)
+  generator-in {g} hg = simp (lt-leb _ _ hg, read-step S (S .table .origin) hg, S .identity-row hg)
 
   -- Back along the word of b's inverse is to b's product: going forward along it again leads to a.
   pub back-is-product : {a b : ℕ} → a < N → b < N
