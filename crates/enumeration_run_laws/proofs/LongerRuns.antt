@@ -23,7 +23,8 @@ use Rattle.enumeration_run.specs.declared.inner.Run.{Run}
 use Rattle.enumeration_run.specs.declared.inner.Ran.the-variants as ran
 use Rattle.enumeration_run.specs.Limits.{Limits}
 use Rattle.enumeration_run_laws.specs.Invariant.{Working, RunOk}
-use Rattle.enumeration_run_laws.proofs.Visiting.{IsDone, next}
+use Rattle.enumeration_run_laws.proofs.Visiting.{next}
+use Rattle.enumeration_run_laws.specs.Paused.{IsDone}
 use Rattle.enumeration_run_laws.proofs.Growing.{work-more, written}
 use Rattle.enumeration_run_laws.proofs.Running.{work-room, Counts, new-state, visits-ok}
 use Rattle.enumeration_run_laws.proofs.Settled.{settle-more, discovered-empty}

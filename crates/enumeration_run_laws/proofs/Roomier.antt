@@ -13,7 +13,7 @@ use Rattle.enumeration_rows.specs.Rows.{workWidth, addedRows}
 use Rattle.enumeration_run.specs.Run.{Outcome, outcome, runs, first, enumerated}
 use Rattle.enumeration_run.specs.declared.inner.Ran.the-variants as ran
 use Rattle.enumeration_run.specs.Limits.{Limits}
-use Rattle.enumeration_run_laws.proofs.Visiting.{IsDone}
+use Rattle.enumeration_run_laws.specs.Paused.{IsDone}
 use Rattle.enumeration_run_laws.proofs.Running.{work-room, first-work, first-ok}
 use Rattle.enumeration_run_laws.specs.Longer.{longer, longerOutcome, SameRun}
 use Rattle.enumeration_run_laws.proofs.LongerStores.{longer-zeros}

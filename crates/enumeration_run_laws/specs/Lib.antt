@@ -3,3 +3,4 @@ pub mod Recorded
 pub mod Stack
 pub mod Going
 pub mod Longer
+pub mod Paused

@@ -19,11 +19,8 @@ use Rattle.enumeration.specs.Calls.{enumerates}
 use Rattle.enumeration.proofs.Handle.{accepted-handle}
 use Rattle.listing_lines.specs.Text.{groupText, refusedText}
 use Rattle.listing_page.specs.Listing.{ordersIn, pageBy, pageOf, rightPage, listingOf}
+use Rattle.listing.specs.Fits.{Fits}
 use Rattle.listing_lines.proofs.Bounds.{group-length, refused-length}
-
--- 28 bytes of head and 120 lines of 33 + 11 · 4.
-pub record Fits (text : List ℕ) : Type 0 where
-  pub most : length text ≤ 9268
 
 refused-fits : (number : ℕ) → Fits (refusedText number)
 refused-fits number = record { most = omega (arith, refused-length number) }

@@ -20,7 +20,7 @@ use Rattle.subgroup_predicate_choices.specs.Choices.{Picked, picked, isNew, cho
 use Rattle.promises_subgroup_predicate.specs.Predicate.{Reach, Chosen, Faithful, Ends, accepted, refused, too-many}
 use Rattle.promises_subgroup_predicate.proofs.Choosing.{orbit-as, more-length, pick-ends, new-member, new-outside, not-new, knowing, chosen-same, chosen-more, nothing-chosen, chooses-ends}
 use Rattle.promises_subgroup_predicate.proofs.Telling.{ends-accepted}
-use Rattle.promises_subgroup_predicate.proofs.Roomier.{Counts, Accepts}
+use Rattle.promises_subgroup_predicate.specs.Accepts.{Counts, Accepts}
 
 -- The chosen below x are the first of those that are chosen in the end.
 module _ {op : ℕ → ℕ → ℕ} {byte : ℕ → ℕ} {x M : ℕ} {gens gs : List ℕ} (C : Chosen op byte x gens) (D : Chosen op byte M gs) (h : x ≤ M) where

@@ -13,24 +13,11 @@ use Rattle.build_numbering.specs.Renumber as appear
 use Rattle.build_numbering.specs.Build.{Renumbering, renumbering}
 use Rattle.subgroup_predicate_choices.specs.Choices.{Picked, picked, ninth, chooses}
 use Rattle.promises_subgroup_predicate.specs.Predicate.{Chosen, Knows, Faithful}
+use Rattle.promises_subgroup_predicate.specs.Accepts.{Counts, Accepts}
 use Rattle.promises_subgroup_predicate.proofs.Choosing.{chosen-same, chosen-more}
 use Rattle.build_numbering_laws.proofs.Builds.{not-refused}
 use Rattle.promises_subgroup_predicate.proofs.Telling.{same-gens, same-build}
 use Rattle.promises_subgroup_predicate.proofs.Loop.{choose-end, choose-stop, choose-known, choose-no-member, choose-next, choose-ninth}
-
-pub record Counts (r : Renumbering) : Type 0 where
-  pub count : ℕ
-  pub table : List ℕ
-  pub work : List ℕ
-  pub inn : List ℕ
-  pub outw : List ℕ
-  pub is : r ≡ renumbering (built (Count count) table work) inn outw
-
--- Accepted, with the elements gs.
-pub record Accepts (gs : List ℕ) (p : Picked) : Type 0 where
-  pub build : Renumbering
-  pub is : p ≡ picked gs build
-  pub counts : Counts build
 
 -- Where one build accepts a list that may be chosen, so does the other.
 pub record Grows (op : ℕ → ℕ → ℕ) (M L L′ : ℕ) (again more : List ℕ → List ℕ → Renumbering) : Type 0 where

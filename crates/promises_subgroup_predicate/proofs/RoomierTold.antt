@@ -20,7 +20,8 @@ use Rattle.subgroup_predicate.specs.Predicate.{predicateIn}
 use Rattle.promises_subgroup_predicate.specs.Predicate.{Chosen}
 use Rattle.promises_subgroup_predicate.proofs.Choosing.{nothing-chosen}
 use Rattle.promises_subgroup_predicate.proofs.Telling.{eight-rows, eight-work, answering, again-faithful}
-use Rattle.promises_subgroup_predicate.proofs.Roomier.{Counts, Accepts, Grows, same-chosen}
+use Rattle.promises_subgroup_predicate.proofs.Roomier.{Grows, same-chosen}
+use Rattle.promises_subgroup_predicate.specs.Accepts.{Counts, Accepts}
 
 taken-roomier : {src : ℕ → ℕ → ℕ} {n room room′ N : ℕ} → room ≤ room′ → Taken src n room N → Taken src n room′ N
 taken-roomier h T = record {

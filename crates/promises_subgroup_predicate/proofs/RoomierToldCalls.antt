@@ -26,7 +26,7 @@ use Rattle.promises_subgroup_predicate.specs.Predicate.{Chosen}
 use Rattle.promises_subgroup_predicate.specs.Tells.{Predicated}
 use Rattle.promises_subgroup.specs.Generates.{RoomierGenerates}
 use Rattle.promises_subgroup_predicate.proofs.Telling.{eight-rows, eight-work, answering, predicate-ends, ends-accepted}
-use Rattle.promises_subgroup_predicate.proofs.Roomier.{Accepts}
+use Rattle.promises_subgroup_predicate.specs.Accepts.{Accepts}
 use Rattle.promises_subgroup_predicate.proofs.RoomierTold.{predicate-roomier}
 use Rattle.promises_subgroup.proofs.RoomierCalls.{build-roomier}
 use Rattle.promises_subgroup.proofs.Called.{front-cell}

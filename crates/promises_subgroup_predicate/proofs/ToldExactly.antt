@@ -36,7 +36,7 @@ use Rattle.promises_subgroup_predicate.specs.Predicate.{Chosen}
 use Rattle.promises_subgroup_predicate.specs.Tells.{Predicated}
 use Rattle.promises_subgroup_predicate.specs.Tellable.{Buildable, Tellable}
 use Rattle.promises_subgroup_predicate.proofs.Telling.{eight-rows, eight-work, answering, again-faithful, predicate-ends, ends-accepted, members-reached}
-use Rattle.promises_subgroup_predicate.proofs.Roomier.{Counts, Accepts}
+use Rattle.promises_subgroup_predicate.specs.Accepts.{Counts, Accepts}
 use Rattle.promises_subgroup_predicate.proofs.Firsts.{each-asked, each-suffices}
 use Rattle.promises_subgroup_predicate.proofs.ToldCalls as told
 

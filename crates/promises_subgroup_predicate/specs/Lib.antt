@@ -1,4 +1,5 @@
 pub mod Predicate
+pub mod Accepts
 pub mod Told
 pub mod Tells
 pub mod Tellable
