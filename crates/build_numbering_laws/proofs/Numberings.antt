@@ -10,7 +10,7 @@ use Rattle.egg.specs.declared.Refusal.{Refusal}
 use Rattle.egg.specs.declared.Reached.{Reached}
 use Rattle.egg.specs.declared.Counted.the-variants.{Count, Refused}
 use Rattle.egg.specs.Table.{stepOf}
-use Rattle.build_reading.specs.Build.{numbered}
+use Rattle.egg.specs.Answers.{numbered}
 use Rattle.build_reading.specs.Reading.{Placed, placed, readAll}
 use Rattle.theory.specs.Appearance.{row, recorded}
 use Rattle.theory.proofs.Places.{ahead-row}

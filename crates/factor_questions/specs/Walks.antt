@@ -8,7 +8,8 @@ use Rattle.egg.specs.declared.Reached.the-variants.{Element}
 use Rattle.egg.specs.Table.{pick, hopOf, lengthOf, inverseOf}
 use Rattle.egg.specs.Factor.{refusedReach, readStep}
 -- The walks themselves, passed on.
-pub use Rattle.factor_word_walks.specs.Walks.{onReached, backAlong}
+use Rattle.egg.specs.Answers.{onReached}
+pub use Rattle.factor_word_walks.specs.Walks.{backAlong}
 unfoldable pub use Rattle.factor_word_walks.specs.Walks.{along, readBack, ahead, backBy}
 
 -- The inverse was found when the table was built, and stands in the row.

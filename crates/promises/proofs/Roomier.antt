@@ -26,7 +26,7 @@ use Rattle.build_checks_inverses.specs.Inverses.{invertFrom, invertOf, fillInve
 use Rattle.build_lending.specs.Finish.{built, zeroed, finishedPlaced}
 use Rattle.build_lending.specs.Lending.{tableNeed, workNeed, lentRight, within, making, lentBack, Making}
 use Rattle.build_lending.proofs.Lending.{lent-table}
-use Rattle.factor_questions.specs.Walks.{onReached}
+use Rattle.egg.specs.Answers.{onReached}
 use Rattle.factor_relations.specs.Relations.{turned, doubledRow, pairsRow, relationsRow}
 use Rattle.build_reading.specs.Reading.{placed, readAll, composedAt}
 use Rattle.factor.specs.Composed.{composedIn, composed}

@@ -16,7 +16,7 @@ use Rattle.egg.specs.declared.Counted.the-variants as counted
 use Rattle.egg.specs.Factor.{Paper, refusalPaper, hasRoom}
 use Rattle.egg.proofs.Rooms.{positive, limited, within-length, false-true}
 use Rattle.egg.proofs.Scans.{scan-each}
-use Rattle.build_reading.specs.Build.{numbered}
+use Rattle.egg.specs.Answers.{numbered}
 use Rattle.build_reading.specs.Reading.{Placed, placed, readAll}
 use Rattle.build_lending.specs.Finish.{built, zeroed, finished, finishedPlaced}
 use Rattle.build_lending.specs.Lending.{tableNeed, workNeed, lentRight}

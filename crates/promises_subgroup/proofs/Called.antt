@@ -20,7 +20,7 @@ use Rattle.egg.specs.Scan.{refusedOf}
 use Rattle.egg.specs.Factor.{hasRoom, stretch}
 use Rattle.egg.proofs.Rooms.{positive, limited}
 use Rattle.egg.proofs.Scans.{scan-each, refused-fine}
-use Rattle.build_reading.specs.Build.{numbered}
+use Rattle.egg.specs.Answers.{numbered}
 use Rattle.build_lending.specs.Finish.{built}
 use Rattle.build_lending.specs.Lending.{tableNeed, workNeed, lentRight, within, noFactor, refusedMade, madeOf}
 use Rattle.build_lending.proofs.Lending.{lent-table}

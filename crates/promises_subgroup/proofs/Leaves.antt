@@ -18,7 +18,7 @@ use Rattle.egg.specs.Scan.{andThen}
 use Rattle.egg.proofs.Rooms.{false-true}
 use Rattle.egg.proofs.Scans.{refused-fine}
 use Rattle.build_checks.specs.Checks.{check-group}
-use Rattle.build_reading.specs.Build.{numbered}
+use Rattle.egg.specs.Answers.{numbered}
 use Rattle.build_reading.specs.Reading.{Placed, placed, readAll}
 use Rattle.build_lending.specs.Finish.{built, finished, finishedPlaced}
 use Rattle.build_lending.specs.Lending.{tableNeed, workNeed}

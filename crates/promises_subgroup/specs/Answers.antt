@@ -7,7 +7,7 @@ use mathlib.Core.List.{List}
 use lib.ListN.{length, getD}
 use Rattle.egg.specs.declared.Refusal.{Refusal}
 use Rattle.egg.specs.Factor.{Paper, refusalPaper, verdictPaper}
-use Rattle.build_reading.specs.Build.{numbered}
+use Rattle.egg.specs.Answers.{numbered}
 use Rattle.build_lending.specs.Lending.{tableNeed, workNeed}
 use Rattle.build_reading_laws.specs.Read.{Readable, Refuses}
 use Rattle.factor_laws.specs.Papers.{valuePaper}

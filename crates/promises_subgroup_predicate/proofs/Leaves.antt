@@ -14,7 +14,7 @@ use Rattle.egg.specs.declared.Verdict.the-variants as verdict
 use Rattle.egg.specs.declared.Counted.the-variants.{Refused}
 use Rattle.egg.proofs.Rooms.{false-true, and-first, and-second}
 use Rattle.egg.proofs.Scans.{refused-fine}
-use Rattle.build_reading.specs.Build.{numbered}
+use Rattle.egg.specs.Answers.{numbered}
 use Rattle.build_lending.specs.Lending.{tableNeed}
 use Rattle.build_checks_laws.specs.Numbers.{member, In}
 use Rattle.build_checks_laws.proofs.Numbers.{each-in}

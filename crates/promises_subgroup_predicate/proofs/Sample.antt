@@ -13,7 +13,8 @@ use Rattle.egg.specs.Factor.{readStep}
 use Rattle.build_checks.specs.Checks as checks
 use Rattle.build_checks_inverses.specs.Inverses as inverses
 use Rattle.build_checks_group.specs.Lefts as lefts
-use Rattle.build_reading.specs.Build.{setStep, setWord, adds, numbered}
+use Rattle.build_reading.specs.Build.{setStep, setWord, adds}
+use Rattle.egg.specs.Answers.{numbered}
 use Rattle.build_word_cells.specs.Hops.{hopFrom, withHops}
 use Rattle.build_lending.specs.Finish.{built, finished}
 use Rattle.build_numbering.specs.Renumber.{none, mapPlace, mapRow, mapRows}

@@ -21,7 +21,7 @@ use Rattle.egg.specs.declared.Counted.{Counted}
 use Rattle.egg.specs.declared.Counted.the-variants.{Count, Refused}
 use Rattle.egg.specs.Factor.{Paper, verdictPaper}
 use Rattle.egg.proofs.Rooms.{false-true, and-first, and-second}
-use Rattle.build_reading.specs.Build.{numbered}
+use Rattle.egg.specs.Answers.{numbered}
 use Rattle.build_lending.specs.Finish.{built, zeroed}
 use Rattle.build_lending.specs.Lending.{tableNeed, workNeed}
 use Rattle.theory.specs.Group.{GroupOn}

@@ -6,7 +6,7 @@ use lib.ListN.{length, replicate}
 use Rattle.egg.specs.declared.Refusal.{Refusal}
 use Rattle.egg.specs.declared.Reached.the-variants as reached
 use Rattle.egg.specs.declared.Counted.the-variants as counted
-use Rattle.build_reading.specs.Build.{numbered}
+use Rattle.egg.specs.Answers.{numbered}
 use Rattle.build_reading.specs.Reading.{readAll}
 use Rattle.build_lending.specs.Finish.{built, finishedPlaced}
 use Rattle.build_lending.specs.Lending.{tableNeed}

@@ -10,7 +10,7 @@ use Rattle.egg.specs.declared.Verdict.{Verdict}
 use Rattle.egg.specs.declared.Verdict.the-variants.{Fine, Refused}
 use Rattle.egg.specs.Scan.{refusedOf}
 use Rattle.egg.specs.Factor.{Paper, refusalPaper, verdictPaper}
-use Rattle.build_reading.specs.Build.{numbered}
+use Rattle.egg.specs.Answers.{numbered}
 use Rattle.build_checks_laws.specs.Numbers.{In}
 use Rattle.build_reading_laws.specs.Read.{Refuses}
 use Rattle.group_handles.specs.declared.Group.{Group}
