@@ -253,8 +253,6 @@ uint32_t hg_image_check(const uint8_t *image, size_t image_len, uint8_t *work, s
 uint32_t hg_image_walk(const uint8_t *image, size_t image_len, uint32_t start, const uint8_t *word,
     size_t word_len);
 
-/* libcapi_image_build.a */
-
 /* Writes the image of a factor to the start of out and answers its length. Refuses in this
  * order: 17 for a handle that does not fit, 4 for a short out, 17 for a step that is missing or
  * out of range. */

@@ -7,6 +7,8 @@ use native.Mathlib.Omega.{arith}
 use lib.ListN.{length, getD, length-append, List·getD-eq-default}
 use Rattle.egg.specs.declared.Verdict.{Verdict}
 use Rattle.egg.specs.declared.Verdict.the-variants.{Fine, Refused}
+use Rattle.egg.specs.declared.Reached.the-variants.{Element}
+use Rattle.egg.specs.Factor.{readStep}
 use Rattle.egg.specs.Table.{startOf, parentOf, lastOf, lengthOf, stepOf, backOf}
 use Rattle.build_checks.specs.Checks.{check-table, counted, countsRight, Checked, checked, thenChecked, withTable, check-rest, check-group}
 use Rattle.build_checks_inverses.specs.Inverses.{fillInverses, inversesRight}
@@ -20,6 +22,7 @@ use Rattle.theory.proofs.Recording.{recorded-spelled, word-of-recorded}
 use Rattle.theory.proofs.Sound.{sound, sound-steps}
 use Rattle.build_checks_laws.specs.Stored.{Stored, Kept, wordOf}
 use Rattle.build_checks_laws.specs.Sound.{Sound}
+use Rattle.egg.proofs.Answers.{read-element}
 use Rattle.egg.proofs.Scans.{refused-fine}
 use Rattle.build_checks_laws.proofs.Permutations.{two-sided}
 use Rattle.build_checks_laws.proofs.Tests.{check8-fine, table-fine, steps-fine, ranges-fine, counts-fine, identity-fine, spelled-fine}
@@ -227,3 +230,9 @@ module _ {t : List ℕ} {n N : ℕ} (S : Sound t n N) where
 
   pub sound-empty : lengthOf t n 0 ≡ 0
   sound-empty = S .stored .lengths (S .table .origin) ∙ ap length (S .recorded .start)
+
+  -- A step that is read is the table's own.
+  pub read-step : {e g : ℕ} → e < N → g < n → readStep t n N e g ≡ Element (record { 0 = stepOf t n e g })
+  read-step {e} {g} he hg =
+      let q = S .stored .successor he hg in
+      sym (read-element t n N e g refl (omega arith) (omega (arith, S .table .closed he hg)))

@@ -8,7 +8,7 @@ use Rattle.theory.proofs.Induction.{induction}
 use Rattle.theory.proofs.Counting.{numbered-table}
 use Rattle.theory.proofs.FirstPlaces.{numbered-first}
 use Rattle.theory.proofs.RuleLaws.{numbered-agree}
-use Rattle.build_numbering_laws.specs.Orbit.{Orbit, origin, onward, Inside, numberedStep, Appearing}
+use Rattle.theory.specs.Orbit.{Orbit, origin, onward, Inside, numberedStep, Appearing}
 use Rattle.build_numbering_laws.proofs.Order.{number-is}
 use Rattle.build_numbering_laws.proofs.Once.{appearing-count, appearing-once}
 

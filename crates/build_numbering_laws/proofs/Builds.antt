@@ -13,7 +13,7 @@ use Rattle.build_lending.proofs.Finishing.{refused-counted}
 use Rattle.build_reading.specs.Reading.{readAll}
 use Rattle.build_laws.specs.Taken.{Taken, Holding}
 use Rattle.build_laws.proofs.Built.{passed, built-holds, built-work, taken-built}
-use Rattle.build_numbering_laws.specs.Orbit.{Inside, numberedStep, Appearing}
+use Rattle.theory.specs.Orbit.{Inside, numberedStep, Appearing}
 use Rattle.build_numbering.specs.Renumber.{Mapped, mapped, mapAll}
 use Rattle.build_numbering_laws.specs.Source.{Answering}
 use Rattle.build_numbering_laws.specs.Maps.{Filled, Held}

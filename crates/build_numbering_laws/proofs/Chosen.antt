@@ -5,10 +5,10 @@ use mathlib.Core.Path.{_≡_, subst}
 use mathlib.Core.Logic.{_↔_}
 use native.Mathlib.Omega.{arith}
 use Rattle.theory.specs.Group.{GroupOn}
-use Rattle.build_numbering_laws.specs.Orbit.{Orbit, origin, onward}
-use Rattle.build_numbering_laws.specs.Subgroup.{rightBy, Subgroup, Proper}
-use Rattle.build_numbering_laws.proofs.Subgroups.{orbit-generated}
-use Rattle.build_numbering_laws.proofs.FirstRow.{sooner-apart}
+use Rattle.theory.specs.Orbit.{Orbit, origin, onward}
+use Rattle.theory.specs.Subgroup.{rightBy, Subgroup, Proper}
+use Rattle.theory.proofs.Subgroups.{orbit-generated}
+use Rattle.theory.proofs.FirstRow.{sooner-apart}
 
 -- More generators reach more.
 pub orbit-more : {n m : ℕ} {out : ℕ → ℕ → ℕ} {x₀ x : ℕ} → n ≤ m → Orbit n out x₀ x → Orbit m out x₀ x

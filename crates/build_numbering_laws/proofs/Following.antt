@@ -22,7 +22,7 @@ use Rattle.theory.proofs.Places.{ahead-row}
 use Rattle.theory.proofs.Counting.{row-known}
 use Rattle.theory.proofs.RuleLaws.{no-skip, count-within}
 use Rattle.theory.proofs.Reading.{numbered-once}
-use Rattle.build_numbering_laws.specs.Orbit.{Inside, numberedStep, Appearing}
+use Rattle.theory.specs.Orbit.{Inside, numberedStep, Appearing}
 use Rattle.build_numbering.specs.Renumber.{none, Mapped, mapped, thenMapped, mapPlace, mapFrom, mapRow, mapRows, mapAll}
 use Rattle.build_numbering_laws.specs.Source.{Answering}
 use Rattle.build_numbering_laws.specs.Maps.{Filled}

@@ -2,11 +2,9 @@ pub mod Order
 pub mod Once
 pub mod Following
 pub mod Numberings
-pub mod Subgroups
 pub mod Sizes
 pub mod Builds
 pub mod Refusals
-pub mod FirstRow
 pub mod SubgroupBuilds
 pub mod Partial
 pub mod Whole

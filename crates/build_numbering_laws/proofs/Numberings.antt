@@ -10,7 +10,7 @@ use Rattle.egg.specs.declared.Refusal.{Refusal}
 use Rattle.egg.specs.declared.Reached.{Reached}
 use Rattle.egg.specs.declared.Counted.the-variants.{Count, Refused}
 use Rattle.egg.specs.Table.{stepOf}
-use Rattle.build_reading.specs.Build.{numbered}
+use Rattle.egg.specs.Answers.{numbered}
 use Rattle.build_reading.specs.Reading.{Placed, placed, readAll}
 use Rattle.theory.specs.Appearance.{row, recorded}
 use Rattle.theory.proofs.Places.{ahead-row}
@@ -18,10 +18,10 @@ use Rattle.theory.proofs.Counting.{row-known, numbered-table}
 use Rattle.theory.proofs.RuleLaws.{numbered-agree, no-skip, count-within}
 use Rattle.build_reading_laws.specs.Read.{Read, Held, Stops, skips-ahead, no-room, long-word, Refuses}
 use Rattle.build_reading_laws.proofs.Readings.{accepted-read, refused-read, readable-accepted, read-steps, read-readable}
-use Rattle.build_numbering_laws.specs.Orbit.{Orbit, Inside, numberOf, numberedStep, Appearing}
+use Rattle.theory.specs.Orbit.{Orbit, Inside, numberOf, numberedStep, Appearing, Renumbered}
 use Rattle.build_numbering.specs.Renumber.{none, Mapped, mapped, mapAll}
 use Rattle.build_numbering_laws.specs.Source.{Answering}
-use Rattle.build_numbering_laws.specs.Maps.{Filled, Renumbered}
+use Rattle.build_numbering_laws.specs.Maps.{Filled}
 use Rattle.build_numbering_laws.specs.Maps as maps
 use Rattle.build_numbering_laws.proofs.Order.{number-found, number-at-most, step-outside, step-below, orbit-numbered, number-below, number-elt, elt-number}
 use Rattle.build_numbering_laws.proofs.Following.{Agree, all-follows}

@@ -11,7 +11,7 @@ use Rattle.theory.proofs.Places.{ahead-row}
 use Rattle.theory.proofs.Counting.{row-known}
 use Rattle.theory.proofs.RuleLaws.{no-skip, count-within}
 use Rattle.theory.proofs.Reading.{numbered-once}
-use Rattle.build_numbering_laws.specs.Orbit.{numberedStep, Appearing}
+use Rattle.theory.specs.Orbit.{numberedStep, Appearing}
 use Rattle.build_numbering_laws.proofs.Order.{number-is, step-outside}
 
 module _ {n M M′ : ℕ} {out : ℕ → ℕ → ℕ} {x₀ N N′ : ℕ} {elt elt′ : ℕ → ℕ} (A : Appearing n M out x₀ N elt) (A′ : Appearing n M′ out x₀ N′ elt′) where

@@ -13,7 +13,7 @@ use Rattle.theory.proofs.BoundedTests.{below-suc, eq→eqb, least-holds, least-
 use Rattle.theory.proofs.RuleLaws.{ahead-above}
 use Rattle.theory.proofs.Counting.{row-known, read-known, known-same, numbered-table}
 use Rattle.theory.proofs.Pigeonhole.{pigeonhole}
-use Rattle.build_numbering_laws.specs.Orbit.{Orbit, origin, onward, Inside, numberOf, numberedStep, Appearing}
+use Rattle.theory.specs.Orbit.{Orbit, origin, onward, Inside, numberOf, numberedStep, Appearing}
 
 -- A number that is found, and one that is not.
 pub number-found : (c : ℕ) (elt : ℕ → ℕ) (x : ℕ) → numberOf c elt x < c → elt (numberOf c elt x) ≡ x

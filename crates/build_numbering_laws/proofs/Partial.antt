@@ -17,7 +17,7 @@ use Rattle.egg.specs.Table.{pick, putAt}
 use Rattle.build_lending.specs.Finish.{built, zeroed, finished}
 use Rattle.build_reading.specs.Reading.{placed}
 use Rattle.build_numbering.specs.Build.{renumbering, finishedMapped, renumberIn}
-use Rattle.build_numbering_laws.specs.Orbit.{Inside}
+use Rattle.theory.specs.Orbit.{Inside}
 use Rattle.build_numbering.specs.Renumber.{none, Mapped, mapped, thenMapped, mapFrom, mapRow, mapRows, mapAll}
 use Rattle.build_numbering_laws.specs.Source.{Answering, Ranged, answered, outOf}
 

@@ -6,7 +6,7 @@ use native.Mathlib.Decide.{decLt}
 use native.Mathlib.Omega.{arith}
 use lib.ListN.{getD}
 use lib.Seq.{ext-getD}
-use Rattle.build_numbering_laws.specs.Orbit.{numberOf}
+use Rattle.theory.specs.Orbit.{numberOf}
 use Rattle.build_numbering_laws.specs.Maps.{Filled}
 use Rattle.build_numbering_laws.proofs.Order.{number-found, number-at-most}
 

@@ -8,7 +8,8 @@ use Rattle.egg.specs.declared.Reached.the-variants.{Element}
 use Rattle.egg.specs.declared.Counted.{Counted}
 use Rattle.egg.specs.declared.Counted.the-variants.{Count, Refused}
 use Rattle.egg.specs.Table.{putAt, startOf}
-use Rattle.build_reading.specs.Build.{setStep, setWord, adds, numbered}
+use Rattle.build_reading.specs.Build.{setStep, setWord, adds}
+use Rattle.egg.specs.Answers.{numbered}
 use Rattle.build_reading.specs.Reading.{placed}
 use Rattle.build_numbering.specs.Renumber.{none, Mapped, mapped, mapPlace, mapRow, mapRows, mapAll}
 

@@ -11,7 +11,7 @@ use Rattle.egg.specs.declared.Reached.{Reached}
 use Rattle.egg.specs.declared.Verdict.the-variants as verdict
 use Rattle.egg.specs.declared.Counted.the-variants.{Count, Refused}
 use Rattle.build_checks.specs.Checks.{checked, check-group}
-use Rattle.build_reading.specs.Build.{numbered}
+use Rattle.egg.specs.Answers.{numbered}
 use Rattle.build_lending.specs.Finish.{Built, built, zeroed}
 use Rattle.build_reading.specs.Reading.{Placed, placed, readAll}
 use Rattle.theory.specs.Group.{GroupOn, RightRegular}
@@ -23,17 +23,16 @@ use Rattle.build_reading_laws.specs.Read.{Read, Readable, Refuses}
 use Rattle.build_reading_laws.proofs.Readings.{accepted-read, refused-read, readable-accepted, read-readable}
 use Rattle.build_laws.proofs.Built.{work-enough, rows-fit}
 use Rattle.build_laws.proofs.Twelve.{refused-build, refused-reading}
-use Rattle.build_numbering_laws.specs.Orbit.{numberOf, numberedStep, Appearing}
+use Rattle.theory.specs.Orbit.{numberOf, numberedStep, Appearing, Renumbered}
 use Rattle.build_numbering_laws.specs.Source.{Answering}
-use Rattle.build_numbering_laws.specs.Maps.{Renumbered}
 use Rattle.build_numbering.specs.Build.{Renumbering, renumbering, renumberIn}
-use Rattle.build_numbering_laws.specs.Subgroup.{rightBy, Proper, FirstIdentity, FirstRepeat}
+use Rattle.theory.specs.Subgroup.{rightBy, Proper, FirstIdentity, FirstRepeat}
 use Rattle.build_numbering_laws.proofs.Order.{origin-below, step-below}
 use Rattle.build_numbering_laws.proofs.Numberings.{appearing-renumbered}
-use Rattle.build_numbering_laws.proofs.Subgroups.{right-inside, numbers-regular, generator-outside, identity-row-proper}
+use Rattle.theory.proofs.Subgroups.{right-inside, numbers-regular, generator-outside, identity-row-proper}
 use Rattle.build_numbering_laws.proofs.Builds.{builtOf, same-refusal, not-refused, renumber-built, renumber-exactly}
 use Rattle.build_numbering_laws.proofs.Refusals.{check-9, check-11}
-use Rattle.build_numbering_laws.proofs.FirstRow.{sooner-apart, generators-are}
+use Rattle.theory.proofs.FirstRow.{sooner-apart, generators-are}
 
 -- The maps of whatever was built.
 pub with-maps : (m : Renumbering) {b : Built} → builtOf m ≡ b → (inn : List ℕ) × (outw : List ℕ) × (m ≡ renumbering b inn outw)

@@ -6,8 +6,7 @@ use native.Mathlib.Decide.{decLt}
 use native.Mathlib.Omega.{arith}
 use Rattle.theory.proofs.Pigeonhole.{pigeonhole}
 use Rattle.theory.proofs.ColumnLaws.{injective-onto}
-use Rattle.build_numbering_laws.specs.Orbit.{Orbit}
-use Rattle.build_numbering_laws.specs.Maps.{Renumbered}
+use Rattle.theory.specs.Orbit.{Orbit, Renumbered}
 
 module _ {n M : ℕ} {out : ℕ → ℕ → ℕ} {x₀ c : ℕ} {step : ℕ → ℕ → ℕ} {inn outw : ℕ → ℕ} (R : Renumbered n M out x₀ c step inn outw) where
   pub count-fits : c ≤ M

@@ -1,4 +1,2 @@
-pub mod Orbit
 pub mod Source
 pub mod Maps
-pub mod Subgroup

@@ -4,8 +4,7 @@ use Prim.Native.Nat.{ℕ, _≤_, _<_}
 use mathlib.Core.Path.{_≡_}
 use mathlib.Core.List.{List}
 use lib.ListN.{length, getD}
-use Rattle.theory.specs.Numbering.{Numbered}
-use Rattle.build_numbering_laws.specs.Orbit.{Orbit}
+use Rattle.theory.specs.Orbit.{Orbit, Renumbered}
 use Rattle.build_numbering.specs.Renumber.{none}
 
 -- When c elements are known, of which e is `elt e` outside: `inn` has the number of each of these and `none` for the others; `outw` has the outside
@@ -19,20 +18,7 @@ pub record Filled (M room K : ℕ) (elt : ℕ → ℕ) (c : ℕ) (inn outw : Lis
   pub elements : {e : ℕ} → e < c → getD outw e 0 ≡ elt e
   pub beyond : {e : ℕ} → c ≤ e → getD outw e 0 ≡ 0
 
--- The c elements that are reached from x₀ by the steps `out`, numbered in order of first appearance: `inn` and `outw` undo each other between them and
--- 0 .. c-1; x₀ is 0; a step of the numbers is a step outside, and follows the numbering rule.
-pub record Renumbered (n M : ℕ) (out : ℕ → ℕ → ℕ) (x₀ c : ℕ) (step : ℕ → ℕ → ℕ) (inn outw : ℕ → ℕ) : Type 0 where
-  pub by-rule : Numbered n c step
-  pub origin : outw 0 ≡ x₀
-  pub outward : {e : ℕ} → e < c → Orbit n out x₀ (outw e)
-  pub outward-below : {e : ℕ} → e < c → outw e < M
-  pub inward : {x : ℕ} → Orbit n out x₀ x → inn x < c
-  pub there-and-back : {e : ℕ} → e < c → inn (outw e) ≡ e
-  pub back-and-there : {x : ℕ} → Orbit n out x₀ x → outw (inn x) ≡ x
-  pub once : {d e : ℕ} → d < c → e < c → outw d ≡ outw e → d ≡ e
-  pub steps : {e g : ℕ} → e < c → g < n → outw (step e g) ≡ out (outw e) g
-
--- The same of two lists, which say besides what is not reached: `inn` has `none` for it. Beyond the last element `outw` is zero.
+-- `Renumbered` of two lists, which say besides what is not reached: `inn` has `none` for it. Beyond the last element `outw` is zero.
 pub record Held (n M room K : ℕ) (out : ℕ → ℕ → ℕ) (x₀ c : ℕ) (step : ℕ → ℕ → ℕ) (inn outw : List ℕ) : Type 0 where
   pub renumbered : Renumbered n M out x₀ c step (λ x. getD inn x 0) (λ e. getD outw e 0)
   pub reached : {x : ℕ} → x < M → ¬ (getD inn x 0 ≡ none) → Orbit n out x₀ x

@@ -10,7 +10,8 @@ use Rattle.egg.specs.declared.GeneratorId.{GeneratorId}
 use Rattle.egg.specs.declared.Reached.{Reached}
 use Rattle.egg.specs.declared.Reached.the-variants.{Element, Refused}
 use Rattle.egg.specs.Table.{putAt, startOf, succAt, predAt, lengthOf}
-use Rattle.build_reading.specs.Build.{isNew, setStep, setWord, numbered, Adds, adds}
+use Rattle.build_reading.specs.Build.{isNew, setStep, setWord, Adds, adds}
+use Rattle.egg.specs.Answers.{numbered}
 
 module _ (t : List ℕ) (n : ℕ) (e : GroupElementId) (g : GeneratorId) where
   pub step-stored : (r : GroupElementId) {at back old : ℕ} {t₁ t₂ : List ℕ} → at ≡ succAt n e g → back ≡ predAt n r g → old ≡ getD t at 0

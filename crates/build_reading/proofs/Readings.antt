@@ -13,7 +13,8 @@ use Rattle.egg.specs.declared.Reached.{Reached}
 use Rattle.egg.specs.declared.Reached.the-variants as reached
 use Rattle.egg.specs.declared.Counted.{Counted}
 use Rattle.egg.specs.declared.Counted.the-variants.{Count, Refused}
-use Rattle.build_reading.specs.Build.{setStep, numbered, adds}
+use Rattle.build_reading.specs.Build.{setStep, adds}
+use Rattle.egg.specs.Answers.{numbered}
 use Rattle.build_reading.proofs.Laws.{adds-full, parts}
 use Rattle.build_reading.specs.Reading.{Placed, placed, thenPlaced, readPlace, readRow, readFrom}
 

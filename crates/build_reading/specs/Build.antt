@@ -7,9 +7,9 @@ use lib.ListN.{getD}
 use lib.Dec.{leb, eqb}
 use Rattle.egg.specs.declared.GroupElementId.{GroupElementId}
 use Rattle.egg.specs.declared.GeneratorId.{GeneratorId}
-use Rattle.egg.specs.declared.Refusal.{Refusal}
 use Rattle.egg.specs.declared.Reached.{Reached}
 use Rattle.egg.specs.declared.Reached.the-variants.{Element, Refused}
+use Rattle.egg.specs.Answers.{numbered}
 use Rattle.egg.specs.Table.{pick, putAt, startOf, succAt, predAt, lengthOf}
 
 -- True where the step is not known yet.
@@ -25,10 +25,6 @@ setStep t n e g r = putAt (putAt t (succAt n e g) (r .0 + 1)) (predAt n r g) (e 
 unfoldable pub setWord : (t : List ℕ) (n : ℕ) (new e : GroupElementId) (g : GeneratorId) (len : ℕ) → List ℕ
 setWord t n new e g len =
     putAt (putAt (putAt t (startOf n (new .0) + 2 * n) (e .0)) (startOf n (new .0) + 2 * n + 1) (g .0)) (startOf n (new .0) + 2 * n + 2) len
-
--- The refusal with this number and these places.
-abbrev pub numbered : ℕ → ℕ → ℕ → ℕ → Refusal
-numbered k a b c = record { number = k; a = a; b = b; c = c }
 
 -- What adding an element answers, and the table then.
 pub record Adds : Type 0 where

@@ -12,7 +12,8 @@ use Rattle.egg.specs.declared.Reached.the-variants as reached
 use Rattle.egg.specs.declared.Counted.{Counted}
 use Rattle.egg.specs.declared.Counted.the-variants.{Count, Refused}
 use Rattle.egg.specs.Table.{pick}
-use Rattle.build_reading.specs.Build.{setStep, numbered, Adds, adds}
+use Rattle.build_reading.specs.Build.{setStep, Adds, adds}
+use Rattle.egg.specs.Answers.{numbered}
 
 -- What a reading comes to: the count of elements, or a refusal; and the table.
 pub data Placed : Type 0 where

@@ -9,7 +9,7 @@ use lib.ListN.{length, replicate}
 use Rattle.egg.specs.Table.{parentOf, lastOf, lengthOf, stepOf}
 use Rattle.egg.specs.declared.Refusal.{Refusal}
 use Rattle.egg.specs.declared.Counted.the-variants.{Count, Refused}
-use Rattle.build_reading.specs.Build.{numbered}
+use Rattle.egg.specs.Answers.{numbered}
 use Rattle.build_reading.specs.Reading.{Placed, placed, readAll}
 use Rattle.theory.specs.Words.{word-of}
 use Rattle.theory.specs.Numbering.{Numbered, Skips}

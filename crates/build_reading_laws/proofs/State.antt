@@ -13,7 +13,8 @@ use lib.ListN.{length, getD}
 use Rattle.egg.specs.Table.{startOf, lengthOf}
 use Rattle.egg.specs.declared.Refusal.{Refusal}
 use Rattle.egg.specs.declared.Counted.the-variants.{Count, Refused}
-use Rattle.build_reading.specs.Build.{numbered, adds}
+use Rattle.build_reading.specs.Build.{adds}
+use Rattle.egg.specs.Answers.{numbered}
 use Rattle.build_reading.specs.Reading.{Placed, placed, readPlace}
 use Rattle.theory.specs.Numbering.{old, new}
 use Rattle.theory.specs.Appearance.{recorded}

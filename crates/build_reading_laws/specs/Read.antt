@@ -6,7 +6,7 @@ use mathlib.Core.List.{List}
 use lib.ListN.{length, getD}
 use Rattle.egg.specs.Table.{startOf, parentOf, hopOf, lastOf, lengthOf, inverseOf}
 use Rattle.egg.specs.declared.Refusal.{Refusal}
-use Rattle.build_reading.specs.Build.{numbered}
+use Rattle.egg.specs.Answers.{numbered}
 use Rattle.theory.specs.Numbering.{Known, Numbered}
 use Rattle.theory.specs.Appearance.{FirstAppearance, recorded}
 

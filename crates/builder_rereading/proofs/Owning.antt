@@ -14,7 +14,7 @@ use Rattle.egg.specs.declared.Counted.{Counted}
 use Rattle.egg.specs.declared.Counted.the-variants.{Count, Refused}
 use Rattle.egg.specs.Table.{pick}
 use Rattle.build_checks.specs.Checks.{check8}
-use Rattle.build_reading.specs.Build.{numbered}
+use Rattle.egg.specs.Answers.{numbered}
 use Rattle.build_reading.specs.Reading.{Placed, placed, thenPlaced, readPlace}
 use Rattle.build_reading.proofs.Readings.{then-same}
 use Rattle.build_lending.specs.Finish.{built, zeroed, finished, finishedPlaced}

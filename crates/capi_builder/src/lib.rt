@@ -1,11 +1,17 @@
 // The builder's calls as C functions. A builder's handle is four numbers, as a factor's is: start, room, generators, and how many elements it knows.
 ghost use mathlib.Core.Path.{_≡_};
 ghost use Rattle.builder.specs.Calls.{Leaving, begins, grows, stores, builds};
-ghost use Rattle.capi_values.specs.Bridge.{handle, Bridged, bridged, Answered, begunWith, grownWith, storedWith};
+ghost use Rattle.capi_values.specs.Bridge.{handle, Bridged, bridged};
+ghost use Rattle.capi_builder.specs.Answers.{storedCode, reachedInto, begunInto, grownInto, Answered, begunWith, grownWith, storedWith};
+use builder::Begun;
 use builder::Builder;
+use builder::Grown;
+use builder::Stored;
 use capi_values::inner;
 use egg::GeneratorId;
 use egg::GroupElementId;
+use egg::Made;
+use egg::Reached;
 
 // The builder with this handle.
 fn builder_of(start: usize, room: u32, n: u8, count: u32) -> Builder
@@ -15,6 +21,53 @@ fn builder_of(start: usize, room: u32, n: u8, count: u32) -> Builder
     Builder(f)
 }
 
+// Says whether a stored step was new, 1 or 0, or gives the refusal's number.
+fn stored_code(s: Stored) -> u64
+    ensures { λ x. ⌜ x ≡ storedCode s ⌝ }
+{
+    match s {
+        Stored::New => 1,
+        Stored::Known => 0,
+        Stored::Refused(why) => inner::refusal_code(why),
+    }
+}
+
+// Writes 0 and the element that was asked for, or the refusal.
+fn write_reached(out: &mut [u32], r: Reached)
+    ensures { λ x. ⌜ now (out .exit) ≡ reachedInto r (now (out .entry)) ⌝ }
+{
+    match r {
+        Reached::Refused(why) => inner::write_refusal(out, why),
+        Reached::Element(e) => {
+            egg::inner::put(out, 0, 0);
+            egg::inner::put(out, 1, e.0 as usize);
+            egg::inner::put(out, 2, 0);
+            egg::inner::put(out, 3, 0);
+        }
+    }
+}
+
+// Writes the verdict, and after it how many elements the builder knows: 0 where there is none.
+fn write_begun(out: &mut [u32], b: Begun)
+    ensures { λ x. ⌜ now (out .exit) ≡ begunInto b (now (out .entry)) ⌝ }
+{
+    let answer = b.answer;
+    let h = b.builder;
+    let factor = h.0;
+    inner::write_made(out, Made { answer, factor });
+}
+
+// Writes the new element or the refusal, and after it how many elements the builder knows.
+fn write_grown(out: &mut [u32], g: Grown)
+    ensures { λ x. ⌜ now (out .exit) ≡ grownInto g (now (out .entry)) ⌝ }
+{
+    let r = g.answer;
+    let h = g.builder;
+    let f = h.0;
+    write_reached(out, r);
+    egg::inner::put(out, 4, f.elements as usize);
+}
+
 // Begins a build in the stretch of table that starts at start. Refuses in this order: 1 for more than 8 generators, 4 for a room out of range or a
 // short table.
 #[no_mangle]
@@ -22,7 +75,7 @@ pub extern "C" fn hg_begin(table: &mut [u32], start: usize, room: u32, n: u8, ou
     ensures { λ x. ⌜ Answered.holds (now (table .exit)) (now (out .exit)) ≡ begunWith (begins (now (table .entry)) start room n) (now (out .entry)) ⌝ }
 {
     let b = builder::begin(table, start, room, n);
-    inner::write_begun(out, b);
+    write_begun(out, b);
 }
 
 // Adds a new element, reached from e by g. Refuses in this order: 17 for a handle that does not fit, 14 for an element or a generator out of range,
@@ -42,7 +95,7 @@ pub extern "C" fn hg_add(
 {
     let b = builder_of(start, room, n, count);
     let r = builder::add_successor(table, b, GroupElementId(e), GeneratorId(g));
-    inner::write_grown(out, r);
+    write_grown(out, r);
 }
 
 // Sets the step from e by g to x, both ways, and says whether the place was new. Refuses in this order: 17 for a handle that does not fit, 14 for an
@@ -64,7 +117,7 @@ pub extern "C" fn hg_set(
     let from = GroupElementId(e);
     let to = GroupElementId(x);
     let s = builder::set_successor(table, b, from, GeneratorId(g), to);
-    inner::stored_code(s)
+    stored_code(s)
 }
 
 // Reads the builder's steps, checks them and makes them a factor. Refuses in this order: 17 for a handle that does not fit, 4 for short work, 17, 7

@@ -15,7 +15,7 @@ use Rattle.egg.specs.declared.Reached.the-variants.{Element, Refused}
 use Rattle.egg.specs.Factor.{fitsIn, stretch, readStep}
 use Rattle.egg.proofs.Rooms.{some}
 use Rattle.build_lending.specs.Lending.{noFactor}
-use Rattle.factor_questions.specs.Walks.{onReached}
+use Rattle.egg.specs.Answers.{onReached}
 use Rattle.theory_radix.specs.Radix.{count, stride, project, replace}
 use Rattle.theory_radix.proofs.RadixLaws.{high-small, projected-fits, replace-is, replace-small}
 use Rattle.group_handles.specs.Handles.{sizes, elementsOf, generatorsOf, allFit}

@@ -1,8 +1,12 @@
-// The image's two calls that need no factor, as C functions on bytes and numbers, for a host: host/hypergroup.h has them for C.
+// The image's four calls as C functions on bytes and numbers, for a host: host/hypergroup.h has them for C. The check and the walk need no factor.
 ghost use mathlib.Core.Path.{_≡_};
 ghost use lib.ListN.{length};
 ghost use Rattle.image.specs.Image.{imageNumber, imageWork};
 ghost use Rattle.image.specs.Walked.{walkNumber};
+ghost use Rattle.image.specs.Written.{writeCount, writtenImage};
+ghost use Rattle.image.specs.Read.{readImage};
+ghost use Rattle.capi_values.specs.Bridge.{handle, countedCode, Bridged, bridged};
+use capi_values::inner;
 use egg::GroupElementId;
 
 // Checks an image in lent bytes and answers the refusal's number, or 0. Refuses in this order: 16 or 1 for the head, 4 for short work, 7, 5 or 6
@@ -21,4 +25,36 @@ pub extern "C" fn hg_image_walk(image: &[u8], start: u32, word: &[u8]) -> u32
     ensures { λ r. ⌜ r ≡ walkNumber (now (image .entry)) start (now (word .entry)) ⌝ }
 {
     image::walk(image, GroupElementId(start), word)
+}
+
+// Writes the image of a factor to the start of out and answers its length. Refuses in this order: 17 for a handle that does not fit, 4 for a short
+// out, 17 for a step that is missing or out of range.
+#[no_mangle]
+pub extern "C" fn hg_image_write(
+    table: &[u32],
+    start: usize,
+    room: u32,
+    n: u8,
+    count: u32,
+    out: &mut [u8],
+) -> u64
+    ensures { λ r. ⌜ (r ≡ countedCode (writeCount (now (table .entry)) (handle start room n count) (length (now (out .entry))))) × (now (out .exit) ≡ writtenImage (now (table .entry)) (handle start room n count) (now (out .entry))) ⌝ }
+{
+    let f = inner::factor_of(start, room, n, count);
+    inner::counted_code(image::write(table, f, out))
+}
+
+// Builds the factor that an image stores. Refuses as hg_image_check does, with the places; 4 is for a short table or work.
+#[no_mangle]
+pub extern "C" fn hg_image_read(
+    bytes: &[u8],
+    table: &mut [u32],
+    start: usize,
+    work: &mut [u32],
+    out: &mut [u32],
+)
+    ensures { λ x. ⌜ Bridged.holds (now (table .exit)) (now (work .exit)) (now (out .exit)) ≡ bridged (readImage (now (bytes .entry)) (now (table .entry)) start (now (work .entry))) (now (out .entry)) ⌝ }
+{
+    let m = image::read(bytes, table, start, work);
+    inner::write_made(out, m);
 }

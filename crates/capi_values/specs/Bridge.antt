@@ -12,14 +12,9 @@ use Rattle.egg.specs.declared.Reached.the-variants as reached
 use Rattle.egg.specs.declared.Counted.{Counted}
 use Rattle.egg.specs.declared.Counted.the-variants as counted
 use Rattle.egg.specs.Table.{pick, putAt}
-use Rattle.egg.specs.Factor.{Paper, verdictPaper, reachedPaper}
+use Rattle.egg.specs.Factor.{Paper, verdictPaper}
 use Rattle.egg.specs.declared.Made.{Made}
-use Rattle.builder.specs.declared.Begun.{Begun}
-use Rattle.builder.specs.declared.Grown.{Grown}
-use Rattle.builder.specs.declared.Stored.{Stored}
-use Rattle.builder.specs.declared.Stored.the-variants as stored
 use Rattle.build_lending.specs.Lending.{Making, making}
-use Rattle.builder.specs.Calls.{Leaving, leaving}
 
 -- A handle from its numbers.
 abbrev pub handle : ℕ → ℕ → ℕ → ℕ → Factor
@@ -39,12 +34,6 @@ abbrev pub countedCode : Counted → ℕ
 countedCode (counted.Count k) = k
 countedCode (counted.Refused r) = refusalCode r
 
--- One number for a stored step, which "says whether the place was new": 1 or 0, or the refusal's.
-abbrev pub storedCode : Stored → ℕ
-storedCode stored.New = 1
-storedCode stored.Known = 0
-storedCode (stored.Refused r) = refusalCode r
-
 -- One number for a place in a word that was handed back: its letter, or, from the end on, 256 and the length.
 unfoldable pub letterOf : List ℕ → ℕ → ℕ
 letterOf part k = pick (ltb k (length part)) (getD part k 0) (256 + length part)
@@ -57,10 +46,6 @@ papered p out = putAt (putAt (putAt (putAt out 0 (p .number)) 1 (p .a)) 2 (p .b)
 unfoldable pub paperInto : Verdict → List ℕ → List ℕ
 paperInto v out = papered (verdictPaper v) out
 
--- An answer about elements there: 0 and the element, or the refusal with its places.
-unfoldable pub reachedInto : Reached → List ℕ → List ℕ
-reachedInto r out = papered (reachedPaper r) out
-
 -- The verdict of a build, and the element count after it.
 unfoldable pub madeInto : Made → List ℕ → List ℕ
 madeInto m out = putAt (paperInto (m .answer) out) 4 (m .factor .elements)
@@ -72,27 +57,3 @@ pub data Bridged : Type 0 where
 -- The same for what was made, with its answer written into the list `out`.
 abbrev pub bridged : Making → List ℕ → Bridged
 bridged (making m t w) out = Bridged.holds t w (madeInto m out)
-
--- What `begin` answers, and after it how many elements its builder knows: 0 where it was refused.
-unfoldable pub begunInto : Begun → List ℕ → List ℕ
-begunInto b out = madeInto (record { answer = b .answer; factor = b .builder .0 }) out
-
--- What `add_successor` answers, and after it how many elements its builder knows: 0 where a refusal ended the build.
-unfoldable pub grownInto : Grown → List ℕ → List ℕ
-grownInto g out = putAt (reachedInto (g .answer) out) 4 (g .builder .0 .elements)
-
--- What the two lent lists of a builder's call hold: the table, and the answer's.
-pub data Answered : Type 0 where
-  holds : List ℕ → List ℕ → Answered
-
--- The same after `begin`.
-abbrev pub begunWith : Leaving Begun → List ℕ → Answered
-begunWith (leaving b t) out = Answered.holds t (begunInto b out)
-
--- The same after `add_successor`.
-abbrev pub grownWith : Leaving Grown → List ℕ → Answered
-grownWith (leaving g t) out = Answered.holds t (grownInto g out)
-
--- The one number of a stored step, and what the table holds.
-abbrev pub storedWith : Leaving Stored → Leaving ℕ
-storedWith (leaving s t) = leaving (storedCode s) t

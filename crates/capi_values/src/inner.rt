@@ -1,10 +1,7 @@
 // Turns handles and answers into numbers, for the crates that export the calls as C functions.
 ghost use mathlib.Core.Path.{_≡_};
 ghost use Prim.Native.Nat.{_+_, _*_};
-ghost use Rattle.capi_values.specs.Bridge.{handle, reachedCode, countedCode, storedCode, paperInto, reachedInto, madeInto, begunInto, grownInto};
-use builder::Begun;
-use builder::Grown;
-use builder::Stored;
+ghost use Rattle.capi_values.specs.Bridge.{handle, reachedCode, countedCode, paperInto, madeInto};
 use egg::Counted;
 use egg::Factor;
 use egg::Made;
@@ -51,8 +48,8 @@ pub fn factor_of(start: usize, room: u32, n: u8, count: u32) -> Factor
     }
 }
 
-// Writes a refusal's number and places.
-fn write_refusal(out: &mut [u32], r: Refusal)
+// Writes a refusal's number and its three places to the list's first four numbers.
+pub fn write_refusal(out: &mut [u32], r: Refusal)
     ensures { λ x. ⌜ now (out .exit) ≡ paperInto (Verdict.Refused r) (now (out .entry)) ⌝ }
 {
     egg::inner::put(out, 0, r.number as usize);
@@ -83,52 +80,5 @@ pub fn write_made(out: &mut [u32], m: Made)
     let v = m.answer;
     let f = m.factor;
     write_verdict(out, v);
-    egg::inner::put(out, 4, f.elements as usize);
-}
-
-// Says whether a stored step was new, 1 or 0, or gives the refusal's number.
-pub fn stored_code(s: Stored) -> u64
-    ensures { λ x. ⌜ x ≡ storedCode s ⌝ }
-{
-    match s {
-        Stored::New => 1,
-        Stored::Known => 0,
-        Stored::Refused(why) => refusal_code(why),
-    }
-}
-
-// Writes 0 and the element that was asked for, or the refusal.
-fn write_reached(out: &mut [u32], r: Reached)
-    ensures { λ x. ⌜ now (out .exit) ≡ reachedInto r (now (out .entry)) ⌝ }
-{
-    match r {
-        Reached::Refused(why) => write_refusal(out, why),
-        Reached::Element(e) => {
-            egg::inner::put(out, 0, 0);
-            egg::inner::put(out, 1, e.0 as usize);
-            egg::inner::put(out, 2, 0);
-            egg::inner::put(out, 3, 0);
-        }
-    }
-}
-
-// Writes the verdict, and after it how many elements the builder knows: 0 where there is none.
-pub fn write_begun(out: &mut [u32], b: Begun)
-    ensures { λ x. ⌜ now (out .exit) ≡ begunInto b (now (out .entry)) ⌝ }
-{
-    let answer = b.answer;
-    let h = b.builder;
-    let factor = h.0;
-    write_made(out, Made { answer, factor });
-}
-
-// Writes the new element or the refusal, and after it how many elements the builder knows.
-pub fn write_grown(out: &mut [u32], g: Grown)
-    ensures { λ x. ⌜ now (out .exit) ≡ grownInto g (now (out .entry)) ⌝ }
-{
-    let r = g.answer;
-    let h = g.builder;
-    let f = h.0;
-    write_reached(out, r);
     egg::inner::put(out, 4, f.elements as usize);
 }

@@ -12,6 +12,7 @@ ghost use Rattle.egg.specs.Table.{pick, putAt, startOf, succAt, predAt, 
 ghost use Rattle.egg.specs.Pairs.{pairCode, pairCount};
 ghost use Rattle.egg.specs.Scan.{refusedOf};
 ghost use Rattle.egg.specs.Factor.{fitsIn, stretch, refusedReach, readStep};
+use super::Counted;
 use super::Factor;
 use super::GeneratorId;
 use super::GroupElementId;
@@ -288,4 +289,16 @@ pub fn refused(number: u32, a: u32, b: u32, c: u32) -> Verdict
     ensures { λ r. ⌜ r ≡ refusedOf number a b c ⌝ }
 {
     Verdict::Refused(Refusal { number, a, b, c })
+}
+
+// A refused question about a count, with the refusal's number.
+pub fn refused_count(number: u32) -> Counted
+    ensures { λ r. ⌜ r ≡ Counted.Refused (record { number = number; a = 0; b = 0; c = 0 }) ⌝ }
+{
+    Counted::Refused(Refusal {
+        number,
+        a: 0,
+        b: 0,
+        c: 0,
+    })
 }

@@ -13,9 +13,9 @@ use Rattle.enumeration_run_laws.specs.Invariant.{Known}
 use Rattle.enumeration_run_laws.specs.Stack.{bottom}
 use Rattle.enumeration_run_laws.proofs.Running.{zeros}
 use Rattle.enumeration_loop_laws.specs.Rings.{first, second, Looped}
-use Rattle.enumeration_waiting_laws.specs.Queues.{Held, Begun}
+use Rattle.enumeration_closure_laws.specs.Queues.{Held, Begun}
 use Rattle.enumeration_closure_laws.specs.Closure.{Rowed, Open, none, Closed}
-use Rattle.enumeration_waiting_laws.proofs.Beginning.{begins}
+use Rattle.enumeration_closure_laws.proofs.BeginningLists.{begins}
 use Rattle.enumeration_closure_laws.proofs.Ground.{Ground, ground, sized}
 use Rattle.enumeration_closure_laws.proofs.NewRows.{new-rowed, new-open}
 

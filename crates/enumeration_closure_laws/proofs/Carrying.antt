@@ -9,7 +9,7 @@ use Rattle.enumeration_rows.specs.declared.inner.SideOfGap.the-variants.{Left, 
 use Rattle.enumeration_rows.specs.Rows.{readRow}
 use Rattle.enumeration_run_laws.specs.Invariant.{Known}
 use Rattle.enumeration_loop_laws.specs.Rings.{turn, ring, first, second, Column}
-use Rattle.enumeration_waiting_laws.specs.Queues.{In, placeOf, copyAt, Held}
+use Rattle.enumeration_closure_laws.specs.Queues.{In, placeOf, copyAt, Held}
 use Rattle.enumeration_closure_laws.specs.Closure.{Rowed, Awaits, listed, in-hand, Open}
 use Rattle.enumeration_closure_laws.proofs.Columns.{left-end, right-end}
 

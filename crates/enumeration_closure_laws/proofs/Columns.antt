@@ -12,10 +12,10 @@ use Rattle.enumeration_rows.specs.declared.inner.SideOfGap.the-variants.{Left, 
 use Rattle.enumeration_rows.specs.Rows.{readRow}
 use Rattle.enumeration_run_laws.specs.Invariant.{Known}
 use Rattle.enumeration_loop_laws.specs.Rings.{turn, ring, first, second, Told, Column}
-use Rattle.enumeration_waiting_laws.specs.Queues.{copyAt, Held}
+use Rattle.enumeration_closure_laws.specs.Queues.{copyAt, Held}
 use Rattle.enumeration_closure_laws.specs.Closure.{Rowed, Awaits, listed, in-hand, Open, Whole, none, Closed}
 use Rattle.enumeration_loop_laws.proofs.Letters.{turn-below}
-use Rattle.enumeration_waiting_laws.proofs.Lists.{in-empty, in-none}
+use Rattle.enumeration_closure_laws.proofs.Lists.{in-empty, in-none}
 
 -- What waits where nothing is in hand, waits for a step that is not known.
 not-known : {n : ℕ} {t : List ℕ} {held : Held} {hand : SideOfGap → List ℕ} {side : SideOfGap} {p e g : ℕ} → Awaits n t held [] hand side p e g → hand side ≡ [] → Known n t e g → ⊥

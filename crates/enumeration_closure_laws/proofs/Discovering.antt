@@ -24,13 +24,13 @@ use Rattle.enumeration_run_laws.specs.Stack.{Stack, bottom, above}
 use Rattle.enumeration_run_laws.proofs.Spots.{place-link}
 use Rattle.enumeration_run_laws.proofs.Stacking.{place-within}
 use Rattle.enumeration_loop_laws.specs.Rings.{first, second, Looped}
-use Rattle.enumeration_waiting_laws.specs.Queues.{In, here, placeOf, copyAt, Pushed, Begun}
+use Rattle.enumeration_closure_laws.specs.Queues.{In, here, placeOf, copyAt, Pushed, Begun}
 use Rattle.enumeration_closure_laws.specs.Closure.{Rowed, Open, Whole, Machine, none, Closed}
-use Rattle.enumeration_waiting_laws.proofs.Beginning.{begins}
-use Rattle.enumeration_waiting_laws.proofs.Taking.{pushes}
+use Rattle.enumeration_closure_laws.proofs.BeginningLists.{begins}
+use Rattle.enumeration_closure_laws.proofs.Taking.{pushes}
 use Rattle.enumeration_loop_laws.proofs.Telling.{told-new}
 use Rattle.enumeration_loop_laws.proofs.Stepping.{stepped, stepped-length, stepped-more, stepped-only, stepped-here}
-use Rattle.enumeration_waiting_laws.proofs.Lists.{in-none}
+use Rattle.enumeration_closure_laws.proofs.Lists.{in-none}
 use Rattle.enumeration_closure_laws.proofs.Ground.{Ground, ground, sized, letter-below}
 use Rattle.enumeration_closure_laws.proofs.Carrying.{More, awaits-more, column-more, rowed-more, open-more}
 use Rattle.enumeration_closure_laws.proofs.NewRows.{new-rowed, new-open}

@@ -16,9 +16,9 @@ use Rattle.enumeration_rows.specs.Rows.{genOf}
 use Rattle.enumeration_wake.specs.Waking.{State, learns, gives}
 use Rattle.enumeration_run_laws.specs.Invariant.{Known}
 use Rattle.enumeration_loop_laws.specs.Rings.{turn, ring, first, second, Told, Column, rowAt}
-use Rattle.enumeration_waiting_laws.specs.Queues.{In, copyAt, Held}
+use Rattle.enumeration_closure_laws.specs.Queues.{In, copyAt, Held}
 use Rattle.enumeration_closure_laws.specs.Closure.{Open, Whole, Machine}
-use Rattle.enumeration_waiting_laws.proofs.Places.{copy-apart}
+use Rattle.enumeration_closure_laws.proofs.Places.{copy-apart}
 use Rattle.enumeration_loop_laws.proofs.Letters.{gen-turn}
 use Rattle.enumeration_loop_laws.proofs.Telling.{told-both}
 use Rattle.enumeration_closure_laws.proofs.Ground.{Ground, paired, letter-below}

@@ -14,9 +14,9 @@ use Rattle.enumeration_run_laws.proofs.Rowing.{new-row-ok}
 use Rattle.enumeration_run_laws.proofs.Waiting.{pairs-twice}
 use Rattle.enumeration_run_laws.proofs.Running.{pairs-full, work-room}
 use Rattle.enumeration_loop_laws.specs.Rings.{turn, ring, first, second, Looped, rowAt}
-use Rattle.enumeration_waiting_laws.specs.Queues.{placeOf, listOf, Sized, Small}
+use Rattle.enumeration_closure_laws.specs.Queues.{placeOf, listOf, Sized, Small}
 use Rattle.enumeration_loop_laws.proofs.Letters.{gen-turn, turn-below}
-use Rattle.enumeration_waiting_laws.proofs.Places.{bit}
+use Rattle.enumeration_closure_laws.proofs.Places.{bit}
 
 -- At most 8 generators, an order for each pair, steps in which the relations hold, and stretches with room for `count` of their elements.
 pub record Ground (n N : ℕ) (o : List ℕ) (step : ℕ → ℕ → ℕ) (count lt lw : ℕ) : Type 0 where

@@ -24,8 +24,8 @@ use Rattle.enumeration_run_laws.proofs.Marking.{set-length}
 use Rattle.enumeration_run_laws.proofs.Knowing.{set-more, set-known}
 use Rattle.enumeration_run_laws.proofs.Since.{set-other}
 use Rattle.enumeration_run_laws.proofs.Stacking.{stack-more, stack-put, stack-absent, stack-small, place-within}
-use Rattle.enumeration_waiting_laws.specs.Queues.{In, here, there, placeOf, Hand, Held, Queues, SameRows, Beyond}
-use Rattle.enumeration_waiting_laws.proofs.Taking.{pushes}
+use Rattle.enumeration_closure_laws.specs.Queues.{In, here, there, placeOf, Hand, Held, Queues, SameRows, Beyond}
+use Rattle.enumeration_closure_laws.proofs.Taking.{pushes}
 use Rattle.enumeration_closure_laws.proofs.Ground.{Ground, sized}
 
 -- From the state s to s′: all that was known is known, and what is known anew is on the stack; lists, rows and copies in hand are as they were.

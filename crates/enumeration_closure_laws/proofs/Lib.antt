@@ -1,3 +1,12 @@
+pub mod Lists
+pub mod Places
+pub mod Chains
+pub mod Choosing
+pub mod Taking
+pub mod Joining
+pub mod Linking
+pub mod Appending
+pub mod BeginningLists
 pub mod Columns
 pub mod Ground
 pub mod Learning

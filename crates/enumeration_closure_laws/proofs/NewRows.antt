@@ -10,7 +10,7 @@ use Rattle.enumeration_rows.specs.declared.inner.SideOfGap.the-variants.{Left, 
 use Rattle.enumeration_rows.specs.Rows.{genOf, readRow, newRow}
 use Rattle.enumeration_run_laws.specs.Invariant.{Known}
 use Rattle.enumeration_loop_laws.specs.Rings.{turn, ring, first, second}
-use Rattle.enumeration_waiting_laws.specs.Queues.{In, copyAt, Held}
+use Rattle.enumeration_closure_laws.specs.Queues.{In, copyAt, Held}
 use Rattle.enumeration_closure_laws.specs.Closure.{Rowed, listed, Open}
 use Rattle.enumeration_loop_laws.proofs.Turns.{turn-in}
 use Rattle.enumeration_loop_laws.proofs.Letters.{gen-turn, new-row-at}

@@ -14,10 +14,10 @@ use Rattle.enumeration_wake.specs.Waking.{State, state}
 use Rattle.enumeration_run_laws.specs.Invariant.{Known}
 use Rattle.enumeration_run_laws.proofs.Stacking.{stack-more}
 use Rattle.enumeration_loop_laws.specs.Rings.{turn, ring, first, second, Told, rowAt}
-use Rattle.enumeration_waiting_laws.specs.Queues.{In, copyAt, Held, Appended}
+use Rattle.enumeration_closure_laws.specs.Queues.{In, copyAt, Held, Appended}
 use Rattle.enumeration_closure_laws.specs.Closure.{Rowed, Awaits, listed, Open, Whole, Machine}
-use Rattle.enumeration_waiting_laws.proofs.Appending.{appends}
-use Rattle.enumeration_waiting_laws.proofs.Places.{copy-apart}
+use Rattle.enumeration_closure_laws.proofs.Appending.{appends}
+use Rattle.enumeration_closure_laws.proofs.Places.{copy-apart}
 use Rattle.enumeration_closure_laws.proofs.Ground.{Ground, paired, sized, small-row, letter-below, waitsFrom, waitsBy, list-at, left-right}
 use Rattle.enumeration_closure_laws.proofs.Columns.{left-end, right-end, column-back}
 use Rattle.enumeration_closure_laws.proofs.Carrying.{awaits-more, rowed-more, open-more}

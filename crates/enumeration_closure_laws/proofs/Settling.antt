@@ -9,7 +9,7 @@ use Rattle.enumeration_rows.specs.Rows.{placeAt}
 use Rattle.enumeration_wake.specs.Waking.{State, state}
 use Rattle.enumeration_facts.specs.Facts.{updated, settleFrom}
 use Rattle.enumeration_run_laws.specs.Stack.{Fact, Absent, Stack, bottom, above}
-use Rattle.enumeration_waiting_laws.specs.Queues.{placeOf, Held}
+use Rattle.enumeration_closure_laws.specs.Queues.{placeOf, Held}
 use Rattle.enumeration_closure_laws.specs.Closure.{Machine, none, Closed}
 use Rattle.enumeration_closure_laws.proofs.Ground.{Ground}
 use Rattle.enumeration_closure_laws.proofs.Updating.{Idle, updated-idle}

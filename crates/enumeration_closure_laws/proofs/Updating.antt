@@ -15,11 +15,11 @@ use Rattle.enumeration_facts.specs.Facts.{emptied, updated}
 use Rattle.enumeration_run_laws.specs.Invariant.{Known}
 use Rattle.enumeration_run_laws.specs.Stack.{Absent, Stack}
 use Rattle.enumeration_run_laws.proofs.Emptying.{emptied-stack}
-use Rattle.enumeration_waiting_laws.specs.Queues.{In, here, there, placeOf, listOf, Held, Taken}
+use Rattle.enumeration_closure_laws.specs.Queues.{In, here, there, placeOf, listOf, Held, Taken}
 use Rattle.enumeration_closure_laws.specs.Closure.{Awaits, listed, in-hand, Machine, none}
-use Rattle.enumeration_waiting_laws.proofs.Places.{place-once}
-use Rattle.enumeration_waiting_laws.proofs.Taking.{takes}
-use Rattle.enumeration_waiting_laws.proofs.Lists.{in-none}
+use Rattle.enumeration_closure_laws.proofs.Places.{place-once}
+use Rattle.enumeration_closure_laws.proofs.Taking.{takes}
+use Rattle.enumeration_closure_laws.proofs.Lists.{in-none}
 use Rattle.enumeration_closure_laws.proofs.Ground.{Ground, sized, letter-below}
 use Rattle.enumeration_closure_laws.proofs.Carrying.{rowed-more, open-more}
 use Rattle.enumeration_closure_laws.proofs.WakingAll.{sided, Rousing, rouse-all}

@@ -17,9 +17,9 @@ use Rattle.enumeration_wake.specs.Waking.{State, state, gives, woken, wakes}
 use Rattle.enumeration_run_laws.specs.Invariant.{Known}
 use Rattle.enumeration_run_laws.specs.Stack.{Absent}
 use Rattle.enumeration_loop_laws.specs.Rings.{Column, rowAt, Fills}
-use Rattle.enumeration_waiting_laws.specs.Queues.{In, listOf, copyAt, Hand, Held}
+use Rattle.enumeration_closure_laws.specs.Queues.{In, listOf, copyAt, Hand, Held}
 use Rattle.enumeration_closure_laws.specs.Closure.{Rowed, Machine}
-use Rattle.enumeration_waiting_laws.proofs.Places.{list-once}
+use Rattle.enumeration_closure_laws.proofs.Places.{list-once}
 use Rattle.enumeration_loop_laws.proofs.Filling.{fills}
 use Rattle.enumeration_closure_laws.proofs.Ground.{Ground, waitsFrom, waitsBy}
 use Rattle.enumeration_closure_laws.proofs.Giving.{Drops, Filled, gives-learnt, gives-machine}

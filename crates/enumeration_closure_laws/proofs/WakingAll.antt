@@ -11,11 +11,11 @@ use Rattle.enumeration_rows.specs.declared.inner.SideOfGap.the-variants.{Left, 
 use Rattle.enumeration_wake.specs.Waking.{State, wakes, wakesAll}
 use Rattle.enumeration_run_laws.specs.Invariant.{Known}
 use Rattle.enumeration_run_laws.specs.Stack.{Absent}
-use Rattle.enumeration_waiting_laws.specs.Queues.{In, here, there, listOf, Chain, end, Waiter, Hand, Held}
+use Rattle.enumeration_closure_laws.specs.Queues.{In, here, there, listOf, Chain, end, Waiter, Hand, Held}
 use Rattle.enumeration_closure_laws.specs.Closure.{Machine}
-use Rattle.enumeration_waiting_laws.proofs.Chains.{hand-next}
-use Rattle.enumeration_waiting_laws.proofs.Places.{copy-apart, list-once}
-use Rattle.enumeration_waiting_laws.proofs.Lists.{in-empty, absent}
+use Rattle.enumeration_closure_laws.proofs.Chains.{hand-next}
+use Rattle.enumeration_closure_laws.proofs.Places.{copy-apart, list-once}
+use Rattle.enumeration_closure_laws.proofs.Lists.{in-empty, absent}
 use Rattle.enumeration_closure_laws.proofs.Ground.{Ground, paired, left-right}
 use Rattle.enumeration_closure_laws.proofs.Waking.{Woke, wakes-woke}
 

@@ -13,7 +13,7 @@ use Rattle.enumeration_wake.specs.Waking.{State, state}
 use Rattle.enumeration_run_laws.specs.Invariant.{Known}
 use Rattle.enumeration_run_laws.specs.Stack.{Stack}
 use Rattle.enumeration_loop_laws.specs.Rings.{turn, ring, first, second, Told, Column, rowAt}
-use Rattle.enumeration_waiting_laws.specs.Queues.{In, placeOf, copyAt, Held, Queues}
+use Rattle.enumeration_closure_laws.specs.Queues.{In, placeOf, copyAt, Held, Queues}
 
 -- What is stored in the copy, on a side, of the row of u and the pair at place k: its ends are at columns of the row's loop, with elements below the
 -- count there, and every column outside of them is known.

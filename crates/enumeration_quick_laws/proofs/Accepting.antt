@@ -15,8 +15,8 @@ use Rattle.theory.specs.Presentation.{pairs-below, pair-place, order-of, altern
 use Rattle.theory.proofs.Pairs.{pair-at}
 use Rattle.build_checks_laws.specs.Stored.{Kept}
 use Rattle.build_checks_laws.specs.Sound.{Sound}
-use Rattle.factor_laws.proofs.Codes.{code-first, code-second}
-use Rattle.factor_laws.proofs.Relators.{relations-exact, relations-first}
+use Rattle.factor_relations_laws.proofs.Codes.{code-first, code-second}
+use Rattle.factor_relations_laws.proofs.Relators.{relations-exact, relations-first}
 use Rattle.build_laws.proofs.Settled.{by-count, settled-kept, settled-sound}
 use Rattle.enumeration_run_laws.proofs.Running.{pairs-full}
 use Rattle.enumeration_run.specs.Limits.{Limits}

@@ -14,7 +14,8 @@ use Rattle.egg.specs.declared.Reached.the-variants as reached
 use Rattle.egg.specs.declared.Counted.{Counted}
 use Rattle.egg.specs.declared.Counted.the-variants as counted
 use Rattle.egg.specs.Table.{pick, stepOf, parentOf, lastOf, lengthOf}
-use Rattle.build_reading.specs.Build.{isNew, setStep, setWord, numbered, adds}
+use Rattle.build_reading.specs.Build.{isNew, setStep, setWord, adds}
+use Rattle.egg.specs.Answers.{numbered}
 use Rattle.enumeration_run.specs.Run.{onAdds}
 use Rattle.enumeration_run_laws.specs.Invariant.{RunOk}
 use Rattle.enumeration_run.specs.Limits.{Limits}

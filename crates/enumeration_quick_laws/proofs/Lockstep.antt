@@ -19,7 +19,8 @@ use Rattle.enumeration_run.specs.declared.inner.Run.{Run}
 use Rattle.enumeration_run.specs.declared.inner.Ran.the-variants as ran
 use Rattle.enumeration_run_laws.specs.Invariant.{Known}
 use Rattle.enumeration_run.specs.Limits.{Limits}
-use Rattle.enumeration_run_laws.proofs.Visiting.{IsDone, doneOf, next}
+use Rattle.enumeration_run_laws.proofs.Visiting.{next}
+use Rattle.enumeration_run_laws.specs.Paused.{IsDone, doneOf}
 use Rattle.enumeration_run_laws.proofs.Running.{zeros}
 use Rattle.enumeration_run_laws.proofs.Going.{VisitedBy, visited, goes-on, first-going}
 use Rattle.enumeration_loop_laws.specs.Rings.{Looped}

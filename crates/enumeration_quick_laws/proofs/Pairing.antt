@@ -10,7 +10,7 @@ use lib.ListN.{getD, length}
 use Rattle.egg.specs.Pairs.{pairCount}
 use Rattle.theory.specs.Presentation.{pairs-below, pair-place}
 use Rattle.theory.proofs.Pairs.{pairs-length, pair-inside}
-use Rattle.factor_laws.proofs.Codes.{code-first, code-second}
+use Rattle.factor_relations_laws.proofs.Codes.{code-first, code-second}
 use Rattle.enumeration_loop_laws.specs.Rings.{first, second}
 use Rattle.enumeration_quick_loops.specs.Loops.{orderFor}
 

@@ -15,7 +15,7 @@ use Rattle.factor_relations.specs.Relations.{relationsRow}
 use Rattle.enumeration_run.specs.declared.inner.Ran.the-variants as ran
 use Rattle.enumeration_run.specs.Run.{first, enumerated}
 use Rattle.enumeration_run.specs.Limits.{Limits}
-use Rattle.enumeration_run_laws.proofs.Visiting.{doneOf}
+use Rattle.enumeration_run_laws.specs.Paused.{doneOf}
 use Rattle.enumeration_run_laws.proofs.Derivation.{work-long}
 use Rattle.build_laws.proofs.AnyWork.{any-work}
 use Rattle.enumeration_quick_run.specs.Sweeps.{Sweep, sweep, sweepFrom, swiftly}

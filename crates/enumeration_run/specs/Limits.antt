@@ -3,6 +3,7 @@ use Prim.Native.Nat.{ℕ, _+_, _*_, _-_, _/_, _<_, _≤_}
 use mathlib.Core.Path.{_≡_}
 use mathlib.Core.List.{List}
 use lib.ListN.{getD, length}
+use Rattle.egg.specs.Table.{workOf}
 
 -- There are at most 8 generators, an order for each pair and within its limits, a room of 1 to 65,535, and stretches of lt and lw numbers that are
 -- long enough for it.
@@ -13,4 +14,4 @@ pub record Limits (n : ℕ) (o : List ℕ) (room lt lw : ℕ) : Type 0 where
   pub some : 1 ≤ room
   pub limit : room ≤ 65535
   pub table-room : room * (2 * n + 4) ≤ lt
-  pub work-room : room * (6 * n * n + 4 * n) ≤ lw
+  pub work-room : room * workOf n ≤ lw

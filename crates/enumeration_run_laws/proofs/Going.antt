@@ -20,7 +20,8 @@ use Rattle.egg.specs.declared.Refusal.{Refusal}
 use Rattle.egg.specs.declared.Counted.{Counted}
 use Rattle.egg.specs.declared.Counted.the-variants as counted
 use Rattle.egg.specs.Table.{pick, putAt, startOf, succAt, lengthOf}
-use Rattle.build_reading.specs.Build.{isNew, setStep, numbered, adds}
+use Rattle.build_reading.specs.Build.{isNew, setStep, adds}
+use Rattle.egg.specs.Answers.{numbered}
 use Rattle.enumeration_rows.specs.Rows.{placeAt, addedRows}
 use Rattle.enumeration_wake.specs.Waking.{State, state, link, belowAt}
 use Rattle.enumeration_facts.specs.Facts.{settleFrom}

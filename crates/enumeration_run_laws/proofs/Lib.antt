@@ -19,3 +19,9 @@ pub mod Since
 pub mod Going
 pub mod Moving
 pub mod Sample
+pub mod LongerStores
+pub mod LongerRows
+pub mod LongerAdding
+pub mod LongerFacts
+pub mod LongerRuns
+pub mod Roomier

@@ -17,7 +17,8 @@ use Rattle.egg.specs.declared.Reached.the-variants as reached
 use Rattle.egg.specs.declared.Counted.{Counted}
 use Rattle.egg.specs.declared.Counted.the-variants as counted
 use Rattle.egg.specs.Table.{pick, putAt, startOf, lengthOf}
-use Rattle.build_reading.specs.Build.{isNew, setStep, numbered, adds}
+use Rattle.build_reading.specs.Build.{isNew, setStep, adds}
+use Rattle.egg.specs.Answers.{numbered}
 use Rattle.enumeration_rows.specs.Rows.{workWidth, placeAt, addedRows}
 use Rattle.enumeration_wake.specs.Waking.{state, link, belowAt}
 use Rattle.enumeration_run.specs.Run.{discovered, Visit, visit, onAdds, visits, advanced, Outcome, outcome, onVisit, after, runs, first, enumerated}

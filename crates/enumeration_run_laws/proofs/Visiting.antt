@@ -19,24 +19,9 @@ use Rattle.build_reading.specs.Build.{isNew, adds}
 use Rattle.enumeration_rows.specs.Rows.{addedRows}
 use Rattle.enumeration_run.specs.Run.{discovered, Visit, visit, onReached, visits, advanced, Outcome, outcome, onVisit, runs, first, enumerated}
 use Rattle.enumeration_run.specs.declared.inner.Run.{Run}
-use Rattle.enumeration_run.specs.declared.inner.Ran.{Ran}
 use Rattle.enumeration_run.specs.declared.inner.Ran.the-variants as ran
+use Rattle.enumeration_run_laws.specs.Paused.{IsDone, IsPaused, doneOf}
 use Rattle.egg.proofs.Cells.{inside}
-
-abbrev pub IsDone : Ran → Type 0
-IsDone (ran.Done c) = Unit {0}
-IsDone (ran.Paused at) = ⊥
-IsDone (ran.Refused r) = ⊥
-
-abbrev pub IsPaused : Ran → Type 0
-IsPaused (ran.Done c) = ⊥
-IsPaused (ran.Paused at) = Unit {0}
-IsPaused (ran.Refused r) = ⊥
-
-abbrev pub doneOf : Ran → ℕ
-doneOf (ran.Done c) = c
-doneOf (ran.Paused at) = 0
-doneOf (ran.Refused r) = 0
 
 -- The number of a place, in the order of visits.
 abbrev pub place : ℕ → Run → ℕ

@@ -8,7 +8,7 @@ use Rattle.egg.specs.declared.Refusal.{Refusal}
 use Rattle.theory.specs.Presentation.{order-of}
 use Rattle.theory.specs.Appearance.{Ahead}
 use Rattle.theory.specs.Past.{Past}
-use Rattle.build_reading.specs.Build.{numbered}
+use Rattle.egg.specs.Answers.{numbered}
 use Rattle.enumeration_run_laws.specs.Invariant.{RunOk, Known}
 
 -- Between two places, with c elements and the place of x and g next: both stretches are right (`run`), the places before have been visited (`past`),

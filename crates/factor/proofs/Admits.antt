@@ -14,7 +14,8 @@ use Rattle.egg.specs.declared.Counted.{Counted}
 use Rattle.egg.specs.declared.Counted.the-variants as counted
 use Rattle.egg.specs.Scan.{refusedOf}
 use Rattle.egg.specs.Factor.{fitsIn}
-use Rattle.factor.specs.Questions.{admits, ifReach, ifCount}
+use Rattle.factor.specs.Questions.{admits}
+use Rattle.egg.specs.Answers.{ifReach, ifCount}
 
 module _ (len : ℕ) (f : Factor) (a b : ℕ) where
   pub admits-handle : fitsIn len f ≡ false → refusedOf 17 0 0 0 ≡ admits len f a b

@@ -12,7 +12,8 @@ use Rattle.egg.specs.declared.Counted.{Counted}
 use Rattle.egg.specs.declared.Counted.the-variants as counted
 use Rattle.egg.specs.Factor.{stretch}
 use Rattle.factor_words.proofs.Words.{never-both, write-fits}
-use Rattle.factor.specs.Questions.{admits, ifCount, writeAnswer, filledBy}
+use Rattle.factor.specs.Questions.{admits, writeAnswer, filledBy}
+use Rattle.egg.specs.Answers.{ifCount}
 
 pub counted-by : (v : Verdict) {x : Counted} {k : ℕ} → ifCount v x ≡ counted.Count k → x ≡ counted.Count k
 counted-by verdict.Fine h = h

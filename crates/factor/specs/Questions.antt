@@ -16,6 +16,7 @@ use Rattle.egg.specs.declared.Counted.{Counted}
 use Rattle.egg.specs.declared.Counted.the-variants as counted
 use Rattle.egg.specs.Table.{pick}
 use Rattle.egg.specs.Scan.{refusedOf}
+use Rattle.egg.specs.Answers.{ifReach, ifCount}
 use Rattle.egg.specs.Factor.{fitsIn, stretch}
 use Rattle.factor_questions.specs.Walks.{inverseIn, composeIn, conjugateIn, generatorIn}
 use Rattle.factor_words.specs.Words.{lengthIn, writeIn, writtenBy}
@@ -27,16 +28,6 @@ admits len f a b =
     pick (fitsIn len f)
     (pick (leb (f .elements) a) (refusedOf 14 0 0 0) (pick (leb (f .elements) b) (refusedOf 14 1 0 0) verdict.Fine))
     (refusedOf 17 0 0 0)
-
--- The refusal of a test where it has one, else the element that is answered.
-abbrev pub ifReach : Verdict → Reached → Reached
-ifReach verdict.Fine x = x
-ifReach (verdict.Refused r) x = Refused r
-
--- The refusal of a test where it has one, else the count that is answered.
-abbrev pub ifCount : Verdict → Counted → Counted
-ifCount verdict.Fine x = x
-ifCount (verdict.Refused r) x = counted.Refused r
 
 -- What `compose` answers: a·b.
 unfoldable pub composeAnswer : List ℕ → Factor → GroupElementId → GroupElementId → Reached

@@ -21,10 +21,12 @@ use Rattle.factor.specs.Relations.{checkAnswer}
 use Rattle.theory.specs.Group.{conjugate}
 use Rattle.theory.specs.Regular.{compose, inverse}
 use Rattle.theory.specs.Presentation.{order-of, Holds}
-use Rattle.factor_laws.specs.Accepted.{Accepted, factorStep, factorBack, factorWord, reach, Fails}
-use Rattle.factor_laws.proofs.Steps.{read-step, inverse-in, generator-in, compose-in, conjugate-in}
+use Rattle.factor_laws.specs.Accepted.{Accepted, factorStep, factorBack, factorWord, reach}
+use Rattle.factor_relations_laws.specs.Fails.{Fails}
+use Rattle.factor_laws.proofs.Steps.{inverse-in, generator-in, compose-in, conjugate-in}
+use Rattle.build_checks_laws.proofs.Accepted.{read-step}
 use Rattle.factor_laws.proofs.Letters.{length-in, write-in, spell-word}
-use Rattle.factor_laws.proofs.Relators.{orders-long, relations-exact, relations-fail}
+use Rattle.factor_relations_laws.proofs.Relators.{orders-long, relations-exact, relations-fail}
 
 pub admits-fine : (len : ℕ) (f : Factor) {a b : ℕ} → fitsIn len f ≡ true → a < f .elements → b < f .elements → admits len f a b ≡ Fine
 unfolding admits

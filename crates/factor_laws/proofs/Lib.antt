@@ -1,7 +1,5 @@
 pub mod Steps
 pub mod Letters
-pub mod Codes
-pub mod Relators
 pub mod Handles
 pub mod Answers
 pub mod FirstWords

@@ -25,10 +25,10 @@ use Rattle.egg.specs.Pairs.{ordersRight}
 use Rattle.egg.specs.Factor.{fitsIn, stretch, refusedReach, readStep, stepAnswer}
 use Rattle.egg.proofs.Rooms.{some}
 use Rattle.egg.proofs.Scans.{refused-fine, says-scan}
-use Rattle.factor.specs.Questions.{admits, ifReach, ifCount}
-use Rattle.factor_questions.specs.Walks.{onReached, along, readBack, ahead, backBy, composeIn, inverseIn, conjugateIn, generatorIn}
+use Rattle.factor.specs.Questions.{admits, composeAnswer, inverseAnswer, conjugateAnswer, countAnswer, generatorAnswer, lengthAnswer, writeAnswer, written, wordPart}
+use Rattle.egg.specs.Answers.{ifReach, ifCount, onReached}
+use Rattle.factor_questions.specs.Walks.{along, readBack, ahead, backBy, composeIn, inverseIn, conjugateIn, generatorIn}
 use Rattle.factor_words.specs.Words.{lengthIn, readable, writeIn}
-use Rattle.factor.specs.Questions.{composeAnswer, inverseAnswer, conjugateAnswer, countAnswer, generatorAnswer, lengthAnswer, writeAnswer, written, wordPart}
 use Rattle.factor_relations.specs.Relations.{turned, returnsTo, relationAt, doubledRow, pairsRow, relations}
 use Rattle.factor.specs.Relations.{checkAnswer}
 use Rattle.build_checks_laws.specs.Numbers.{member, every, In}

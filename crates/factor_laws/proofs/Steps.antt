@@ -9,8 +9,6 @@ use lib.Dec.{ltb, leb}
 use lib.ListN.{length}
 use Rattle.egg.specs.Table.{pick, parentOf, hopOf, lastOf, lengthOf, stepOf, backOf}
 use Rattle.egg.specs.declared.Reached.{Reached}
-use Rattle.egg.specs.Factor.{readStep}
-use Rattle.egg.proofs.Answers.{read-element}
 use Rattle.factor_word_walks.proofs.Walks.{back-element}
 use Rattle.factor_questions.specs.Walks.{along, readBack, ahead, backBy, backAlong, composeIn, inverseIn, conjugateIn, generatorIn}
 use Rattle.build_word_cells.specs.Hops.{hopFrom, Hops}
@@ -23,7 +21,7 @@ use Rattle.theory.proofs.GroupLaws.{inverse-unique, inv-inv}
 use Rattle.theory.proofs.Recording.{walk-grow, retrace-grow, length-grow}
 use Rattle.build_checks_laws.specs.Stored.{wordOf}
 use Rattle.build_checks_laws.specs.Sound.{Sound}
-use Rattle.build_checks_laws.proofs.Accepted.{sound-group}
+use Rattle.build_checks_laws.proofs.Accepted.{sound-group, read-step}
 use Rattle.factor_laws.specs.Accepted.{reach}
 
 pub no-letters : (w : List ℕ) → 0 ≡ length w → w ≡ []
@@ -45,11 +43,6 @@ pub rest-of : {s : List ℕ} {n N e : ℕ} → Hops s n N → e < N → hopOf s 
 rest-of {s} {n} {e = e} H he = ap (λ (c : ℕ). c / 8) (H .five he) ∙ hop-before 4 s n e
 
 module _ {s : List ℕ} {n N : ℕ} (S : Sound s n N) where
-  pub read-step : {e g : ℕ} → e < N → g < n → readStep s n N e g ≡ reach (stepOf s n e g)
-  read-step {e} {g} he hg =
-      let q = S .stored .successor he hg in
-      sym (read-element s n N e g refl (omega arith) (omega (arith, S .table .closed he hg)))
-
   -- An element with a letter in its word is not the identity.
   pub not-first : (e : ℕ) {k : ℕ} → suc k ≡ length (wordOf s n e) → 0 < e
   not-first zero q = absurd (omega (arith, ap length (S .recorded .start)))
@@ -73,7 +66,7 @@ module _ {s : List ℕ} {n N : ℕ} (S : Sound s n N) where
         lt-leb _ _ up,
         lt-leb _ _ last,
         along-word k a ha up (parent-length pos he q),
-        read-step (walk-closed (S .table) ha (S .spelled .over up)) last,
+        read-step S (walk-closed (S .table) ha (S .spelled .over up)) last,
       )
       (ap reach (sym (walk-grow (S .recorded) (stepOf s n) a pos he)))
 
@@ -91,7 +84,7 @@ module _ {s : List ℕ} {n N : ℕ} (S : Sound s n N) where
       (simp (
         lt-leb _ _ last,
         ahead-word k j a ha up (omega arith) (parent-length pos he q),
-        read-step (walk-closed (S .table) ha (S .spelled .over up)) last,
+        read-step S (walk-closed (S .table) ha (S .spelled .over up)) last,
       )
       (ap reach (sym (walk-grow (S .recorded) (stepOf s n) a pos he))))
 
@@ -108,7 +101,7 @@ module _ {s : List ℕ} {n N : ℕ} (S : Sound s n N) where
 
   pub generator-in : {g : ℕ} → g < n → generatorIn s n N g ≡ reach (suc g)
   unfolding generatorIn
-  generator-in {g} hg = simp (lt-leb _ _ hg, read-step (S .table .origin) hg, S .identity-row hg)
+  generator-in {g} hg = simp (lt-leb _ _ hg, read-step S (S .table .origin) hg, S .identity-row hg)
 
   -- Back along the word of b's inverse is to b's product: going forward along it again leads to a.
   pub back-is-product : {a b : ℕ} → a < N → b < N

@@ -22,9 +22,10 @@ use Rattle.factor.specs.Relations.{checkAnswer}
 use Rattle.theory.specs.Table.{generator}
 use Rattle.theory.specs.Words.{walk}
 use Rattle.theory.specs.Group.{GroupOn, RightSteps, conjugate}
-use Rattle.theory.specs.Presentation.{order-of, alternate, Relator, Holds}
+use Rattle.theory.specs.Presentation.{order-of, Holds}
 use Rattle.build_checks_laws.specs.Stored.{wordOf}
 use Rattle.build_checks_laws.specs.Sound.{Sound, Ruled}
+use Rattle.factor_relations_laws.specs.Fails.{Fails}
 
 -- A factor that was accepted, whichever call made it: its handle fits the buffer, its stretch holds a table that the checks let through, and that
 -- table follows the numbering rule, with the parent and last generator of each element's first appearance. In each row the cell of the last generator
@@ -51,16 +52,6 @@ factorWord t f = wordOf (stretch t f) (f .generators)
 -- The answer that an element was reached.
 abbrev pub reach : ℕ → Reached
 reach e = Element (record { 0 = e })
-
--- The refusal r is 13, "a relation fails", with its places, "element, generator, generator"; and a relator of these two generators does not lead from
--- e back to e.
-pub record Fails (n : ℕ) (m step : ℕ → ℕ → ℕ) (e : ℕ) (r : Refusal) : Type 0 where
-  pub first : ℕ
-  pub second : ℕ
-  pub times : ℕ
-  pub places : r ≡ record { number = 13; a = e; b = first; c = second }
-  pub relator : Relator n m (alternate first second times)
-  pub broken : walk step e (alternate first second times) ≡ e → ⊥
 
 -- Every answer about the factor is the group's whose product is op and whose inverse is inv.
 pub record AnswersOf (t : List ℕ) (f : Factor) (op : ℕ → ℕ → ℕ) (inv : ℕ → ℕ) : Type 0 where

@@ -7,7 +7,8 @@ use borrow.Author.Tests.{lt-ltb, le-ltb, le-leb, lt-leb}
 use Rattle.egg.specs.declared.Reached.the-variants.{Element}
 use Rattle.egg.specs.Table.{hopOf, lengthOf, inverseOf}
 use Rattle.egg.specs.Factor.{refusedReach, readStep}
-use Rattle.factor_questions.specs.Walks.{onReached, along, ahead, backAlong, inverseIn, composeIn, generatorIn}
+use Rattle.factor_questions.specs.Walks.{along, ahead, backAlong, inverseIn, composeIn, generatorIn}
+use Rattle.egg.specs.Answers.{onReached}
 
 module _ (s : List ℕ) (n count a b : ℕ) {len : ℕ} (q : len ≡ lengthOf s n b) where
   pub compose-ahead : len ≤ 5 → {c : ℕ} → c ≡ hopOf s n b → ahead len s n count a c ≡ composeIn s n count a b

@@ -7,8 +7,9 @@ use Rattle.egg.specs.declared.Reached.{Reached}
 use Rattle.egg.specs.declared.Reached.the-variants.{Element}
 use Rattle.egg.specs.Table.{pick, hopOf, lengthOf, inverseOf}
 use Rattle.egg.specs.Factor.{refusedReach, readStep}
+use Rattle.egg.specs.Answers.{onReached}
 -- The walks themselves, for those who use the answers.
-pub use Rattle.factor_word_walks.specs.Walks.{onReached, backAlong}
+pub use Rattle.factor_word_walks.specs.Walks.{backAlong}
 unfoldable pub use Rattle.factor_word_walks.specs.Walks.{along, readBack, ahead, backBy}
 
 -- The inverse, which was found when the table was built and stands in the row; 17 where it is beyond the elements.

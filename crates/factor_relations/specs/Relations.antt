@@ -13,7 +13,7 @@ use Rattle.egg.specs.Table.{pick}
 use Rattle.egg.specs.Scan.{refusedOf, andThen, scan}
 use Rattle.egg.specs.Pairs.{pairCode}
 use Rattle.egg.specs.Factor.{readStep}
-use Rattle.factor_word_walks.specs.Walks.{onReached}
+use Rattle.egg.specs.Answers.{onReached}
 
 -- The walk from e by a and then b, k times both.
 unfoldable pub turned : (k : ℕ) (s : List ℕ) (n count e a b : ℕ) → Reached

@@ -16,7 +16,8 @@ use Rattle.egg.specs.Factor.{refusedReach, readStep}
 use Rattle.build_word_cells.specs.Hops.{without}
 use Rattle.build_word_cells.proofs.Hops.{five-off}
 use Rattle.factor_word_walks.specs.Letters.{LettersBack}
-use Rattle.factor_word_walks.specs.Walks.{onReached, along, readBack, ahead, backBy, backAlong}
+use Rattle.factor_word_walks.specs.Walks.{along, readBack, ahead, backBy, backAlong}
+use Rattle.egg.specs.Answers.{onReached}
 
 -- Going on from an element, and not from a refusal.
 module _ {v w : Reached} (q : v ≡ w) (f : ℕ → Reached) where

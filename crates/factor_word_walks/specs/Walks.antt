@@ -5,14 +5,10 @@ use mathlib.Core.List.{List}
 use lib.ListN.{getD}
 use lib.Dec.{eqb, ltb, leb}
 use Rattle.egg.specs.declared.Reached.{Reached}
-use Rattle.egg.specs.declared.Reached.the-variants.{Element, Refused}
+use Rattle.egg.specs.declared.Reached.the-variants.{Element}
 use Rattle.egg.specs.Table.{pick, startOf, parentOf, hopOf, lastOf}
+use Rattle.egg.specs.Answers.{onReached}
 use Rattle.egg.specs.Factor.{refusedReach, readStep}
-
--- What comes after an answer: f goes on from an element, and a refusal stands.
-abbrev pub onReached : Reached → (ℕ → Reached) → Reached
-onReached (Element e) f = f (e .0)
-onReached (Refused r) f = Refused r
 
 -- The walk from an element along the last k letters of the recorded word that ends at e: first along those of the parent's word, then by the last
 -- letter.

@@ -7,19 +7,6 @@ ghost use Rattle.factor_word_letters.specs.Spell.{readable, spell};
 ghost use Rattle.factor_words.specs.Words.{lengthIn, writeIn, writtenBy};
 use egg::Counted;
 use egg::GroupElementId;
-use egg::Refusal;
-
-// A refused question about a count, with the refusal's number.
-pub fn refused_count(number: u32) -> Counted
-    ensures { λ r. ⌜ r ≡ Counted.Refused (record { number = number; a = 0; b = 0; c = 0 }) ⌝ }
-{
-    Counted::Refused(Refusal {
-        number,
-        a: 0,
-        b: 0,
-        c: 0,
-    })
-}
 
 // The recorded length of e's word; refuses 17 where it is over 4,096.
 pub fn length_in(s: &[u32], n: u8, e: GroupElementId) -> Counted
@@ -27,7 +14,7 @@ pub fn length_in(s: &[u32], n: u8, e: GroupElementId) -> Counted
 {
     let len = egg::inner::word_length(s, n, e);
     if 4096 < len {
-        return refused_count(17);
+        return egg::inner::refused_count(17);
     }
     Counted::Count(len)
 }
@@ -86,19 +73,19 @@ pub fn write_in(s: &[u32], n: u8, count: u32, e: GroupElementId, out: &mut [u8])
 {
     let letters = egg::inner::word_length(s, n, e);
     if 4096 < letters {
-        return refused_count(17);
+        return egg::inner::refused_count(17);
     }
     if out.len() < (letters as usize) {
-        return refused_count(4);
+        return egg::inner::refused_count(4);
     }
     if letters <= 64 {
         if write_short(&s[..], n, count, e, letters, out) {
             return Counted::Count(letters);
         }
-        return refused_count(17);
+        return egg::inner::refused_count(17);
     }
     if write_long(&s[..], n, count, e, letters, out) {
         return Counted::Count(letters);
     }
-    refused_count(17)
+    egg::inner::refused_count(17)
 }

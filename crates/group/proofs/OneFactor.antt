@@ -25,8 +25,8 @@ use Rattle.egg.specs.Factor.{fitsIn, stretch, readStep}
 use Rattle.egg.proofs.Rooms.{some}
 use Rattle.build_lending.proofs.Fits.{fits-small}
 use Rattle.factor.specs.Questions as factor
-use Rattle.factor.specs.Questions.{ifReach, ifCount}
-use Rattle.factor_questions.specs.Walks.{onReached, composeIn, inverseIn, generatorIn}
+use Rattle.egg.specs.Answers.{ifReach, ifCount, onReached}
+use Rattle.factor_questions.specs.Walks.{composeIn, inverseIn, generatorIn}
 use Rattle.factor_words.specs.Words.{readable, spell, lengthIn, writeIn, writtenBy}
 use Rattle.factor_words.proofs.Words.{never-both}
 use Rattle.group_handles.specs.declared.Group.{Group}

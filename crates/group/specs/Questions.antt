@@ -14,7 +14,8 @@ use Rattle.egg.specs.declared.Counted.{Counted}
 use Rattle.egg.specs.declared.Counted.the-variants as counted
 use Rattle.egg.specs.Table.{pick}
 use Rattle.egg.specs.Factor.{refusedReach}
-use Rattle.factor.specs.Questions.{ifReach, ifCount, filledBy}
+use Rattle.factor.specs.Questions.{filledBy}
+use Rattle.egg.specs.Answers.{ifReach, ifCount}
 use Rattle.theory_radix.specs.Radix.{project, inject}
 use Rattle.group_handles.specs.declared.Group.{Group}
 use Rattle.group_digits.specs.declared.inner.Asked.the-variants.{Conjugate}

@@ -15,7 +15,8 @@ use Rattle.egg.specs.declared.Reached.{Reached}
 use Rattle.egg.specs.declared.Reached.the-variants.{Element, Refused}
 use Rattle.egg.specs.Table.{pick, startOf, parentOf, hopOf, lastOf, lengthOf, inverseOf}
 use Rattle.egg.specs.Factor.{stretch, refusedReach, readStep}
-use Rattle.factor_questions.specs.Walks.{onReached, along, readBack, ahead, backBy, backAlong, composeIn, inverseIn, conjugateIn}
+use Rattle.factor_questions.specs.Walks.{along, readBack, ahead, backBy, backAlong, composeIn, inverseIn, conjugateIn}
+use Rattle.egg.specs.Answers.{onReached}
 use Rattle.theory_radix.proofs.RadixLaws.{joined-small, high-small, range-pos}
 use Rattle.group_digits.specs.declared.inner.Asked.{Asked}
 use Rattle.group_digits.specs.declared.inner.Asked.the-variants.{Compose, Inverse, Conjugate}

@@ -8,7 +8,8 @@ use Rattle.egg.specs.declared.Reached.{Reached}
 use Rattle.egg.specs.declared.Reached.the-variants.{Element}
 use Rattle.egg.specs.Table.{pick}
 use Rattle.egg.specs.Factor.{stretch, refusedReach, readStep}
-use Rattle.factor_questions.specs.Walks.{onReached, composeIn, inverseIn, conjugateIn}
+use Rattle.factor_questions.specs.Walks.{composeIn, inverseIn, conjugateIn}
+use Rattle.egg.specs.Answers.{onReached}
 use Rattle.group_digits.specs.declared.inner.Asked.{Asked}
 use Rattle.group_digits.specs.declared.inner.Asked.the-variants.{Compose, Inverse, Conjugate}
 

@@ -193,7 +193,7 @@ pub fn split_in(table: &[u32], g: Group, e: GroupElementId, out: &mut [u32]) -> 
 {
     let c = group_handles::inner::listed(g);
     if out.len() < c {
-        return factor_words::inner::refused_count(4);
+        return egg::inner::refused_count(4);
     }
     let mut f: usize = 0;
     let mut rest = e.0;

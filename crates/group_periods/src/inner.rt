@@ -49,7 +49,7 @@ fn period_in(s: &[u32], n: u8, count: u32, a: GroupElementId) -> Counted
         k += 1;
         left -= 1;
     }
-    factor_words::inner::refused_count(17)
+    egg::inner::refused_count(17)
 }
 
 // Answers the least common multiple of the periods of the digits.

@@ -11,8 +11,9 @@ use Rattle.egg.specs.declared.GroupElementId.{GroupElementId}
 use Rattle.egg.specs.declared.Reached.{Reached}
 use Rattle.egg.specs.declared.Reached.the-variants.{Element}
 use Rattle.egg.specs.Factor.{stretch}
-use Rattle.factor.specs.Questions.{admits, ifReach}
-use Rattle.factor_questions.specs.Walks.{onReached, composeIn, inverseIn}
+use Rattle.factor.specs.Questions.{admits}
+use Rattle.egg.specs.Answers.{ifReach, onReached}
+use Rattle.factor_questions.specs.Walks.{composeIn, inverseIn}
 
 -- x, and once more a where the last argument, the exponent's remainder by 2, is not 0.
 abbrev pub oddToo : (ℕ → ℕ → Reached) → ℕ → ℕ → ℕ → Reached

@@ -100,10 +100,10 @@ pub fn write_in(table: &[u32], g: Group, e: GroupElementId, out: &mut [u8]) -> C
         return r;
     };
     if out.len() < (k as usize) {
-        return factor_words::inner::refused_count(4);
+        return egg::inner::refused_count(4);
     }
     if !readables(table, g, e) {
-        return factor_words::inner::refused_count(17);
+        return egg::inner::refused_count(17);
     }
     spells(table, g, e, out);
     Counted::Count(k)

@@ -127,13 +127,13 @@ pub fn write(table: &[u32], f: Factor, out: &mut [u8]) -> Counted
     ensures { λ r. ⌜ (r ≡ writeCount (now (table .entry)) f (length (now (out .entry)))) × (now (out .exit) ≡ writtenImage (now (table .entry)) f (now (out .entry))) ⌝ }
 {
     if !egg::fits(table, f) {
-        return factor_words::inner::refused_count(17);
+        return egg::inner::refused_count(17);
     }
     let n = f.generators;
     let count = f.elements;
     let need = size(n, count);
     if out.len() < (need as usize) {
-        return factor_words::inner::refused_count(4);
+        return egg::inner::refused_count(4);
     }
     let s = egg::inner::part(table, f);
     match image_writing::inner::all_known(s, n, count) {

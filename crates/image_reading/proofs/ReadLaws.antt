@@ -7,7 +7,7 @@ use lib.ListN.{replicate}
 use Rattle.egg.specs.declared.Refusal.{Refusal}
 use Rattle.egg.specs.declared.Counted.{Counted}
 use Rattle.egg.specs.declared.Counted.the-variants.{Count, Refused}
-use Rattle.build_reading.specs.Build.{numbered}
+use Rattle.egg.specs.Answers.{numbered}
 use Rattle.build_lending.specs.Finish.{Built, finished, finishedPlaced}
 use Rattle.build_reading.specs.Reading.{Placed, placed, readAll, composedAt}
 use Rattle.image_reading.specs.Read.{reachedAll, allPlaced, imageIn}

@@ -6,7 +6,7 @@ use lib.Dec.{ltb}
 use Rattle.egg.specs.declared.Counted.{Counted}
 use Rattle.egg.specs.declared.Counted.the-variants.{Count, Refused}
 use Rattle.egg.specs.Table.{pick}
-use Rattle.build_reading.specs.Build.{numbered}
+use Rattle.egg.specs.Answers.{numbered}
 use Rattle.build_lending.specs.Finish.{Built, finishedPlaced}
 use Rattle.build_reading.specs.Reading.{Placed, placed, readAll, composedAt}
 

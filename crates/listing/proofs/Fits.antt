@@ -1,5 +1,5 @@
 -- Every listing fits the program's buffer: a refusal is short, and what an accepted enumeration with room 120 prints has at most 120 lines with at most
--- four steps each, by what is promised of an accepted enumeration.
+-- four steps each, by what the handle of an accepted enumeration says.
 use Prim.Native.Nat.{ℕ, _+_, _*_, _≤_}
 use mathlib.Core.Path.{_≡_, refl, ap}
 use mathlib.Core.Bool.{Bool, true, false}
@@ -14,17 +14,13 @@ use Rattle.egg.specs.declared.Verdict.{Verdict}
 use Rattle.egg.specs.declared.Verdict.the-variants as verdict
 use Rattle.egg.specs.Table.{pick}
 use Rattle.egg.specs.Pairs.{pairCount, ordersRight}
-use Rattle.egg.proofs.Rooms.{room-enough}
 use Rattle.build_lending.specs.Lending.{Making, making}
 use Rattle.enumeration.specs.Calls.{enumerates}
-use Rattle.promises.proofs.Enumerated.{enumeration-accepted}
+use Rattle.enumeration.proofs.Handle.{accepted-handle}
 use Rattle.listing_lines.specs.Text.{groupText, refusedText}
 use Rattle.listing_page.specs.Listing.{ordersIn, pageBy, pageOf, rightPage, listingOf}
+use Rattle.listing.specs.Fits.{Fits}
 use Rattle.listing_lines.proofs.Bounds.{group-length, refused-length}
-
--- 28 bytes of head and 120 lines of 33 + 11 · 4.
-pub record Fits (text : List ℕ) : Type 0 where
-  pub most : length text ≤ 9268
 
 refused-fits : (number : ℕ) → Fits (refusedText number)
 refused-fits number = record { most = omega (arith, refused-length number) }
@@ -39,10 +35,9 @@ module _ (table work orders : List ℕ) (n : ℕ) (few : n ≤ 4) where
   accepted-fits : (f : Factor) (t w : List ℕ) → enumerates table 0 work orders n 120 ≡ making (record { answer = verdict.Fine; factor = f }) t w
       → Fits (groupText t (f .generators) (f .elements))
   accepted-fits f t w q =
-      let E = enumeration-accepted table 0 work orders n 120 f t w q in
-      let g : f .generators ≡ n = ap (λ (x : Factor). x .generators) (E .handle) in
-      let r : f .room ≡ 120 = ap (λ (x : Factor). x .room) (E .handle) in
-      group-fits t (f .generators) (f .elements) (omega arith) (omega (arith, room-enough (length t) f (E .accepted .fits)))
+      let (handle, within) = accepted-handle table 0 work orders n 120 f t w q in
+      let g : f .generators ≡ n = ap (λ (x : Factor). x .generators) handle in
+      group-fits t (f .generators) (f .elements) (omega arith) within
 
   page-fits : Fits (pageOf (enumerates table 0 work orders n 120))
   page-fits = by (enumerates table 0 work orders n 120) refl where

@@ -6,14 +6,13 @@ use native.Mathlib.Nat.{mul-le-mul, le-refl, div-add-mod', mod-lt, le-div-iff-mu
 use native.Mathlib.Omega.{arith}
 use lib.ListN.{length, getD, replicate}
 use Rattle.egg.specs.declared.Verdict.the-variants as verdict
-use Rattle.egg.specs.declared.Counted.the-variants.{Count, Refused}
+use Rattle.egg.specs.declared.Counted.the-variants.{Count}
 use Rattle.egg.specs.Table.{startOf, stepOf}
 use Rattle.egg.specs.Pairs.{ordersRight}
 use Rattle.build_word_cells.specs.Hops.{Hops}
 use Rattle.build_checks.specs.Checks.{check-group}
 use Rattle.build_lending.specs.Finish.{built, finished}
 use Rattle.factor_relations.specs.Relations.{relationsRow, relations}
-use Rattle.enumeration_run.specs.declared.inner.Ran.{Ran}
 use Rattle.enumeration_run.specs.declared.inner.Ran.the-variants as ran
 use Rattle.enumeration_run.specs.Run.{enumerated}
 use Rattle.enumeration.specs.Calls.{ranCount, enumeratedIn}
@@ -24,15 +23,15 @@ use Rattle.build_checks_laws.specs.Stored.{Kept, wordOf}
 use Rattle.build_checks_laws.specs.Sound.{Sound, Ruled}
 use Rattle.build_checks_laws.proofs.Inverses.{kept-cell}
 use Rattle.build_checks_laws.proofs.Ruling.{ruled}
-use Rattle.factor_laws.proofs.Relators.{orders-long, relations-exact, relations-first}
+use Rattle.factor_relations_laws.proofs.Relators.{orders-long, relations-exact, relations-first}
 use Rattle.enumeration_run_laws.specs.Invariant.{Worded}
 use Rattle.enumeration_run.specs.Limits.{Limits}
 use Rattle.enumeration_run_laws.specs.Recorded as run
 use Rattle.enumeration_run_laws.proofs.Derivation.{words-traced, work-long, done-sound, sound-derived}
 use Rattle.enumeration_run_laws.proofs.Going.{done-finished}
-use Rattle.enumeration_run_laws.proofs.Ending.{never-paused}
 use Rattle.build_laws.proofs.Settled.{Settled, by-count, settled-kept, settled-work, settled-sound, settled-hops}
 use Rattle.enumeration.proofs.Calls.{by-relations}
+use Rattle.enumeration.proofs.Handle.{done}
 use Rattle.build_laws.proofs.Built.{below-cells}
 
 -- Words recorded alike are the same.
@@ -53,14 +52,6 @@ module _ (o : List ℕ) (n room lt lw : ℕ) (L : Limits n o room lt lw) (right 
       let pos : 0 < 2 * n + 4 = omega arith in
       rw (div-add-mod' i (2 * n + 4)) at (D .blank (i / (2 * n + 4)) (i % (2 * n + 4)) (le-div-iff-mul-le pos .1 h) (mod-lt i pos))
 
-  -- A run that counts N is done with N elements.
-  done : (a : Ran) → enumerated n o room lt lw .answer ≡ a → {N : ℕ} → ranCount a ≡ Count N → enumerated n o room lt lw .answer ≡ ran.Done N
-  done (ran.Done c) e q = e ∙ ap ran.Done (cc)
-  done (ran.Paused at) e q = absurd (never-paused L e)
-  done (ran.Refused r) e {N} q = absurd (never q) where
-    never : Refused r ≡ Count N → ⊥
-    never x = let z : _≡_ {A = ℕ} 0 1 = cc in omega arith
-
   -- How an enumeration was accepted: the run was done, 8 to 12 passed, and 13 at the identity.
   pub record Steps (N : ℕ) (t w : List ℕ) : Type 0 where
     pub finish : enumerated n o room lt lw .answer ≡ ran.Done N
@@ -73,7 +64,7 @@ module _ (o : List ℕ) (n room lt lw : ℕ) (L : Limits n o room lt lw) (right 
       let a = by-relations n o (finished (ranCount (enumerated n o room lt lw .answer)) n (enumerated n o room lt lw .table) (enumerated n o room lt lw .work)) q in
       let b = by-count (ranCount (enumerated n o room lt lw .answer)) n (enumerated n o room lt lw .table) (enumerated n o room lt lw .work) (a .0) in
       record {
-        finish = done (enumerated n o room lt lw .answer) refl (b .0);
+        finish = done L (enumerated n o room lt lw .answer) refl (b .0);
         end = b .1;
         identity = a .1;
       }

@@ -1,20 +1,15 @@
 -- Demand 3: whatever the arguments, an enumeration that is accepted gives the group that the pair orders present.
 use Prim.Native.Nat.{ℕ, _≤_}
 use mathlib.Core.Path.{_≡_, refl, sym, ap, _∙_}
-use mathlib.Core.Bool.{Bool, true, false}
+use mathlib.Core.Bool.{true}
 use mathlib.Core.List.{List}
-use borrow.Author.Tests.{le-ltb, ltb-false}
 use lib.ListN.{length}
-use lib.Dec.{ltb}
 use Rattle.egg.specs.declared.Factor.{Factor}
-use Rattle.egg.specs.declared.Verdict.{Verdict}
 use Rattle.egg.specs.declared.Verdict.the-variants as verdict
-use Rattle.egg.specs.Table.{pick}
-use Rattle.egg.specs.Pairs.{ordersRight}
 use Rattle.egg.specs.Factor.{hasRoom, stretch}
-use Rattle.build_lending.specs.Lending.{tableNeed, workNeed, lentRight, within, refusedMade, Making, making, lentBack}
+use Rattle.build_lending.specs.Lending.{tableNeed, workNeed, within, Making, making}
 use Rattle.build_lending.proofs.Lending.{lent-table}
-use Rattle.enumeration.specs.Calls.{enumeratedIn, refusedMaking, enumerates}
+use Rattle.enumeration.specs.Calls.{enumeratedIn, enumerates}
 use Rattle.theory.proofs.Walking.{walk-closed}
 use Rattle.theory.proofs.Sound.{compose-words}
 use Rattle.theory.proofs.Presented.{presented}
@@ -23,17 +18,10 @@ use Rattle.factor_laws.proofs.Handles.{compose-answer}
 use Rattle.enumeration_run.specs.Limits.{Limits}
 use Rattle.enumeration_run_laws.specs.Recorded as run
 use Rattle.enumeration.proofs.Calls.{limits}
+use Rattle.enumeration.proofs.Handle.{enumerates-is-build, passed}
 use Rattle.promises.specs.Enumerated.{OrdersRight, Enumerated, Demand3}
-use Rattle.build_laws.proofs.Lent.{refused-making, handle, lentTable, by-build, stretch-part, fits-still}
+use Rattle.build_laws.proofs.Lent.{handle, lentTable, by-build, stretch-part, fits-still}
 use Rattle.promises.proofs.Derived.{Related, enumerated-related}
-
--- Where 1 to 4 pass, the call is the build in its stretches, put back into the buffers.
-module _ (table : List ℕ) (start : ℕ) (work orders : List ℕ) (n room : ℕ) (generators : n ≤ 8) (right : ordersRight orders n ≡ verdict.Fine)
-    (lent : lentRight (length table) start (length work) room n ≡ true) where
-  pub enumerates-is-build : enumerates table start work orders n room
-      ≡ lentBack table start work n room (enumeratedIn (tableNeed n room) (workNeed n room) orders n room)
-  unfolding enumerates
-  enumerates-is-build = simp (le-ltb _ _ generators, right, lent)
 
 module _ (table : List ℕ) (start : ℕ) (work orders : List ℕ) (n room : ℕ) (f : Factor) (t w : List ℕ) where
   abbrev pub accepted : Making
@@ -41,25 +29,7 @@ module _ (table : List ℕ) (start : ℕ) (work orders : List ℕ) (n room : ℕ
 
   -- Where the call is accepted, 1 to 4 have passed.
   pub begun : enumerates table start work orders n room ≡ accepted → OrdersRight table start work orders n room
-  unfolding enumerates
-  begun h = first (ltb 8 n) refl h where
-    third : (v : Verdict) → ordersRight orders n ≡ v → ltb 8 n ≡ false → (b : Bool) → lentRight (length table) start (length work) room n ≡ b
-        → refusedMaking v table work (pick b (lentBack table start work n room (enumeratedIn (tableNeed n room) (workNeed n room) orders n room))
-        (making (refusedMade 4 0) table work)) ≡ accepted
-        → OrdersRight table start work orders n room
-    third verdict.Fine o g true l e = record { generators = ltb-false 8 n g; right = o; lent = l }
-    third verdict.Fine o g false l e = absurd (refused-making e)
-    third (verdict.Refused r) o g b l e = absurd (refused-making e)
-
-    first : (a : Bool) → ltb 8 n ≡ a
-        → pick a (making (refusedMade 1 n) table work)
-        (refusedMaking (ordersRight orders n) table work
-        (pick (lentRight (length table) start (length work) room n)
-        (lentBack table start work n room (enumeratedIn (tableNeed n room) (workNeed n room) orders n room))
-        (making (refusedMade 4 0) table work))) ≡ accepted
-        → OrdersRight table start work orders n room
-    first true g e = absurd (refused-making e)
-    first false g e = third (ordersRight orders n) refl g (lentRight (length table) start (length work) room n) refl e
+  begun h = let (g, o, l) = passed table start work orders n room f t w h in record { generators = g; right = o; lent = l }
 
   module _ (B : OrdersRight table start work orders n room) where
     has-room : hasRoom (length table) start room n ≡ true

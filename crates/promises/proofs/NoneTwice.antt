@@ -34,12 +34,12 @@ use Rattle.enumeration.specs.Calls.{enumeratedIn, enumerates}
 use Rattle.build_checks_laws.specs.Stored.{Stored}
 use Rattle.build_checks_laws.proofs.Inverses.{kept-same}
 use Rattle.build_checks_laws.proofs.Complete.{checks-complete}
-use Rattle.factor_laws.proofs.Relators.{orders-long, relations-exact, relations-identity}
+use Rattle.factor_relations_laws.proofs.Relators.{orders-long, relations-exact, relations-identity}
 use Rattle.enumeration_run.specs.Limits.{Limits}
 use Rattle.enumeration_run_laws.specs.Recorded as run
 use Rattle.build_laws.proofs.Settled.{settle, settled-kept, settled-sound}
 use Rattle.build_laws.proofs.Lent.{handle, by-build}
-use Rattle.promises.proofs.Enumerated.{enumerates-is-build}
+use Rattle.enumeration.proofs.Handle.{enumerates-is-build}
 use Rattle.enumeration.proofs.Calls.{limits}
 use Rattle.promises.proofs.Derived.{enumerated-related, enumerated-steps, steps-enumerated, word-same}
 use Rattle.theory.specs.Past.{Past, start, old, new, next-row}

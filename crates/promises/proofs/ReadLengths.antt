@@ -12,7 +12,8 @@ use Rattle.egg.specs.declared.Counted.the-variants.{Count, Refused}
 use Rattle.egg.specs.declared.GroupElementId.{GroupElementId}
 use Rattle.egg.specs.declared.GeneratorId.{GeneratorId}
 use Rattle.egg.specs.Table.{pick, lengthOf}
-use Rattle.build_reading.specs.Build.{setStep, setWord, numbered, Adds, adds}
+use Rattle.build_reading.specs.Build.{setStep, setWord, Adds, adds}
+use Rattle.egg.specs.Answers.{numbered}
 use Rattle.build_reading.specs.Reading.{Placed, placed, thenPlaced, onAdds, readPlace, readRow, readFrom, readAll}
 use Rattle.enumeration_run_laws.proofs.Marking.{set-length}
 use Rattle.enumeration_run_laws.proofs.Growing.{word-length}

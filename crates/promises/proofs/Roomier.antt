@@ -26,7 +26,7 @@ use Rattle.build_checks_inverses.specs.Inverses.{invertFrom, invertOf, fillInve
 use Rattle.build_lending.specs.Finish.{built, zeroed, finishedPlaced}
 use Rattle.build_lending.specs.Lending.{tableNeed, workNeed, lentRight, within, making, lentBack, Making}
 use Rattle.build_lending.proofs.Lending.{lent-table}
-use Rattle.factor_questions.specs.Walks.{onReached}
+use Rattle.egg.specs.Answers.{onReached}
 use Rattle.factor_relations.specs.Relations.{turned, doubledRow, pairsRow, relationsRow}
 use Rattle.build_reading.specs.Reading.{placed, readAll, composedAt}
 use Rattle.factor.specs.Composed.{composedIn, composed}
@@ -45,14 +45,14 @@ use Rattle.build_reading_laws.proofs.Readings.{accepted-read, readable-accepted
 use Rattle.enumeration_run.specs.Limits.{Limits}
 use Rattle.enumeration_run_laws.specs.Recorded as run
 use Rattle.enumeration_run_laws.proofs.Derivation.{work-long, done-sound}
-use Rattle.enumeration_room_laws.specs.Longer.{longer}
-use Rattle.enumeration_room_laws.proofs.Stores.{longer-get, longer-put, longer-length}
-use Rattle.enumeration_room_laws.proofs.Roomier.{more-room}
+use Rattle.enumeration_run_laws.specs.Longer.{longer}
+use Rattle.enumeration_run_laws.proofs.LongerStores.{longer-get, longer-put, longer-length}
+use Rattle.enumeration_run_laws.proofs.Roomier.{more-room}
 use Rattle.promises.specs.Roomier.{Roomier}
 use Rattle.build_laws.proofs.SameRows.{SameRows, same-cells}
 use Rattle.build_laws.proofs.Lent.{handle, lentTable, by-build, stretch-cell}
 use Rattle.promises.proofs.Derived.{steps-enumerated, enumerated-steps, enumerated-related}
-use Rattle.promises.proofs.Enumerated.{enumerates-is-build}
+use Rattle.enumeration.proofs.Handle.{enumerates-is-build}
 use Rattle.enumeration.proofs.Calls.{limits}
 use Rattle.promises.proofs.Enumerated as enumeration
 use Rattle.promises.proofs.Composed as rows-call

@@ -27,7 +27,7 @@ use Rattle.enumeration_run.specs.Limits.{Limits}
 use Rattle.build_reading_laws.specs.Read.{Refuses}
 use Rattle.build_reading_laws.proofs.Readings.{accepted-read, refused-read, refuses-refused, refused-number}
 use Rattle.promises.proofs.Composed.{composed-is-build}
-use Rattle.promises.proofs.Enumerated.{enumerates-is-build}
+use Rattle.enumeration.proofs.Handle.{enumerates-is-build}
 use Rattle.enumeration.proofs.Calls.{limits}
 use Rattle.build_checks_laws.specs.Numbers.{member, lateNumbers}
 use Rattle.build_checks_laws.proofs.Numbers.{none-of, ranged-numbers}

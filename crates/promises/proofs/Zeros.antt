@@ -31,8 +31,8 @@ use Rattle.build_checks_laws.proofs.Hopping.{hopping-sound}
 use Rattle.build_checks_laws.proofs.Lengths.{checks-work}
 use Rattle.build_checks_laws.proofs.Numbers.{each-in, none-of, ranged-numbers, full-numbers, checks-number}
 use Rattle.build_reading_laws.proofs.Readings.{accepted-read, refused-read, refused-number}
-use Rattle.factor_laws.specs.Accepted.{Fails}
-use Rattle.factor_laws.proofs.Relators.{orders-long, relations-identity, relations-fail}
+use Rattle.factor_relations_laws.specs.Fails.{Fails}
+use Rattle.factor_relations_laws.proofs.Relators.{orders-long, relations-identity, relations-fail}
 use Rattle.enumeration_run.specs.Limits.{Limits}
 use Rattle.enumeration_run_laws.specs.Recorded as run
 use Rattle.enumeration_run_laws.specs.Going.{Broken, no-room, long-word}

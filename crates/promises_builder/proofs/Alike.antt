@@ -10,7 +10,7 @@ use lib.Dec.{ltb}
 use Rattle.egg.specs.declared.Refusal.{Refusal}
 use Rattle.egg.specs.declared.Counted.the-variants.{Count, Refused}
 use Rattle.egg.specs.Table.{pick, lengthOf}
-use Rattle.build_reading.specs.Build.{numbered}
+use Rattle.egg.specs.Answers.{numbered}
 use Rattle.build_reading.specs.Reading.{Placed, placed, thenPlaced, readPlace, readRow, readFrom, readAll}
 use Rattle.builder_rereading.specs.Own.{ownPlace, ownRow, ownFrom, ownAll}
 use Rattle.theory.proofs.Induction.{Order, less, equal, more, order}

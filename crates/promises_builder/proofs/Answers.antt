@@ -11,7 +11,7 @@ use Rattle.egg.specs.declared.Refusal.{Refusal}
 use Rattle.egg.specs.declared.Verdict.{Verdict}
 use Rattle.egg.specs.declared.Verdict.the-variants as verdict
 use Rattle.egg.specs.Factor.{Paper, refusalPaper, verdictPaper, fitsIn}
-use Rattle.build_reading.specs.Build.{numbered}
+use Rattle.egg.specs.Answers.{numbered}
 use Rattle.builder.specs.declared.Builder.{Builder}
 use Rattle.build_lending.specs.Lending.{workNeed, refusedMade, Making, making}
 use Rattle.builder.specs.Calls.{builds}

@@ -16,7 +16,7 @@ use Rattle.egg.specs.declared.Verdict.the-variants.{Fine, Refused}
 use Rattle.egg.specs.Table.{pick, startOf}
 use Rattle.egg.specs.Scan.{refusedOf, andThen, scan}
 use Rattle.egg.proofs.Scans.{refused-fine, andThen-fine, scan-first, scan-each}
-use Rattle.build_reading.specs.Build.{numbered}
+use Rattle.egg.specs.Answers.{numbered}
 use Rattle.build_checks.specs.Checks.{missingAt, missingRow, missing, check8}
 use Rattle.theory.specs.Appearance.{Ahead, row, column}
 use Rattle.theory.proofs.Places.{Places, sooner, same, later, places}

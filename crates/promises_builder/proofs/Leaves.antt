@@ -21,7 +21,8 @@ use Rattle.egg.specs.Scan.{refusedOf}
 use Rattle.egg.specs.Factor.{hasRoom, fitsIn, stretch, refusedReach}
 use Rattle.egg.proofs.Rooms.{has, within-length, false-true, room-generators}
 use Rattle.egg.proofs.Scans.{refused-fine, Says, says-fine, says-then, says-pick, says-refused}
-use Rattle.build_reading.specs.Build.{numbered, isNew, Adds, adds}
+use Rattle.build_reading.specs.Build.{isNew, Adds, adds}
+use Rattle.egg.specs.Answers.{numbered}
 use Rattle.builder.specs.declared.Builder.{Builder}
 use Rattle.builder.specs.declared.Begun.{Begun}
 use Rattle.builder.specs.declared.Grown.{Grown}

@@ -10,7 +10,7 @@ use Rattle.egg.specs.declared.Refusal.{Refusal}
 use Rattle.egg.specs.declared.Factor.{Factor}
 use Rattle.egg.specs.Factor.{fitsIn}
 use Rattle.egg.proofs.Rooms.{false-true}
-use Rattle.build_reading.specs.Build.{numbered}
+use Rattle.egg.specs.Answers.{numbered}
 use Rattle.builder.specs.declared.Builder.{Builder}
 use Rattle.build_lending.specs.Lending.{workNeed}
 use Rattle.builder.specs.Calls.{builds}

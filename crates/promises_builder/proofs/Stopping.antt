@@ -10,7 +10,7 @@ use borrow.Author.Tests.{lt-ltb, le-ltb}
 use lib.Dec.{ltb}
 use Rattle.egg.specs.declared.Refusal.{Refusal}
 use Rattle.egg.specs.Table.{pick}
-use Rattle.build_reading.specs.Build.{numbered}
+use Rattle.egg.specs.Answers.{numbered}
 use Rattle.theory.specs.Numbering.{Known, start, old, new, next-row}
 use Rattle.theory.proofs.Counting.{appeared}
 use Rattle.build_checks_laws.specs.Numbers.{member}

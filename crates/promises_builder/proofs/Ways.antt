@@ -15,7 +15,7 @@ use Rattle.egg.specs.declared.Verdict.the-variants as verdict
 use Rattle.egg.specs.declared.Counted.the-variants.{Count, Refused}
 use Rattle.egg.specs.Factor.{fitsIn, stretch}
 use Rattle.egg.proofs.Rooms.{some, room-enough}
-use Rattle.build_reading.specs.Build.{numbered}
+use Rattle.egg.specs.Answers.{numbered}
 use Rattle.build_reading.specs.Reading.{placed, composedAt}
 use Rattle.build_checks.specs.Checks.{checked, check8, check-group}
 use Rattle.builder.specs.declared.Builder.{Builder}

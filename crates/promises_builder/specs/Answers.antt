@@ -7,7 +7,7 @@ use mathlib.Core.List.{List}
 use lib.ListN.{length}
 use Rattle.egg.specs.declared.Refusal.{Refusal}
 use Rattle.egg.specs.Factor.{Paper, refusalPaper, fitsIn}
-use Rattle.build_reading.specs.Build.{numbered}
+use Rattle.egg.specs.Answers.{numbered}
 use Rattle.builder.specs.declared.Builder.{Builder}
 use Rattle.build_lending.specs.Lending.{workNeed}
 use Rattle.build_reading.specs.Reading.{composedAt}

@@ -11,7 +11,8 @@ use Rattle.egg.specs.declared.GroupElementId.{GroupElementId}
 use Rattle.egg.specs.declared.GeneratorId.{GeneratorId}
 use Rattle.egg.specs.Table.{lengthOf}
 use Rattle.egg.specs.Factor.{Paper, refusalPaper, verdictPaper, reachedPaper, hasRoom, fitsIn, stretch}
-use Rattle.build_reading.specs.Build.{numbered, setStep, setWord}
+use Rattle.build_reading.specs.Build.{setStep, setWord}
+use Rattle.egg.specs.Answers.{numbered}
 use Rattle.builder.specs.declared.Builder.{Builder}
 use Rattle.builder.specs.declared.Begun.{Begun}
 use Rattle.builder.specs.declared.Grown.{Grown}

@@ -7,7 +7,7 @@ use Rattle.egg.specs.declared.Refusal.{Refusal}
 use Rattle.egg.specs.declared.Factor.{Factor}
 use Rattle.egg.specs.Table.{pick}
 use Rattle.egg.specs.Factor.{stretch}
-use Rattle.build_reading.specs.Build.{numbered}
+use Rattle.egg.specs.Answers.{numbered}
 use Rattle.builder_rereading.specs.Own.{storedAt, copied}
 
 -- What stands for the step from e by g of a builder: one more than its number, or 0 where it is missing.

@@ -3,7 +3,7 @@
 use Prim.Native.Nat.{ℕ, suc, _<_}
 use mathlib.Core.Path.{_≡_}
 use Rattle.egg.specs.declared.Refusal.{Refusal}
-use Rattle.build_reading.specs.Build.{numbered}
+use Rattle.egg.specs.Answers.{numbered}
 use Rattle.theory.specs.Appearance.{Ahead}
 
 -- Every step of the first c rows is there.

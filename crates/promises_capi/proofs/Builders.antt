@@ -2,7 +2,8 @@
 -- over the values at entry, so two outcomes that meet it are both that.
 use mathlib.Core.Path.{sym, _∙_}
 use Rattle.builder.specs.Calls.{leaving}
-use Rattle.capi_values.specs.Bridge.{Bridged, Answered}
+use Rattle.capi_values.specs.Bridge.{Bridged}
+use Rattle.capi_builder.specs.Answers.{Answered}
 use Rattle.capi_builder.proofs.hg_begin.Kinds as hg-begin-kinds
 use Rattle.capi_builder.proofs.hg_begin.Reads as hg-begin-reads
 use Rattle.capi_builder.proofs.hg_add.Kinds as hg-add-kinds

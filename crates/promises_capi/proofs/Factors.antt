@@ -8,8 +8,8 @@ use Rattle.capi_factor_build.proofs.hg_composed.Kinds as hg-composed-kinds
 use Rattle.capi_factor_build.proofs.hg_composed.Reads as hg-composed-reads
 use Rattle.capi_factor_build.proofs.hg_enumerate.Kinds as hg-enumerate-kinds
 use Rattle.capi_factor_build.proofs.hg_enumerate.Reads as hg-enumerate-reads
-use Rattle.capi_image_build.proofs.hg_image_read.Kinds as hg-image-read-kinds
-use Rattle.capi_image_build.proofs.hg_image_read.Reads as hg-image-read-reads
+use Rattle.capi_image.proofs.hg_image_read.Kinds as hg-image-read-kinds
+use Rattle.capi_image.proofs.hg_image_read.Reads as hg-image-read-reads
 use Rattle.capi_factor.proofs.hg_count.Kinds as hg-count-kinds
 use Rattle.capi_factor.proofs.hg_count.Reads as hg-count-reads
 use Rattle.capi_factor.proofs.hg_step.Kinds as hg-step-kinds
@@ -28,8 +28,8 @@ use Rattle.capi_factor_words.proofs.hg_part.Kinds as hg-part-kinds
 use Rattle.capi_factor_words.proofs.hg_part.Reads as hg-part-reads
 use Rattle.capi_factor_words.proofs.hg_word.Kinds as hg-word-kinds
 use Rattle.capi_factor_words.proofs.hg_word.Reads as hg-word-reads
-use Rattle.capi_image_build.proofs.hg_image_write.Kinds as hg-image-write-kinds
-use Rattle.capi_image_build.proofs.hg_image_write.Reads as hg-image-write-reads
+use Rattle.capi_image.proofs.hg_image_write.Kinds as hg-image-write-kinds
+use Rattle.capi_image.proofs.hg_image_write.Reads as hg-image-write-reads
 use Rattle.capi_factor.proofs.hg_check.Kinds as hg-check-kinds
 use Rattle.capi_factor.proofs.hg_check.Reads as hg-check-reads
 use Rattle.promises.specs.Unique.{Unique}

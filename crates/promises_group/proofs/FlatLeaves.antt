@@ -24,7 +24,7 @@ use Rattle.build_reading.specs.Reading.{Placed, placed, thenPlaced, readPlace, 
 use Rattle.build_lending.specs.Finish.{built, zeroed, finished, finishedPlaced}
 use Rattle.build_lending.specs.Lending.{tableNeed, workNeed, lentRight, noFactor, refusedMade, Making, making, lentBack}
 use Rattle.build_lending.proofs.Lending.{lent-table}
-use Rattle.factor_questions.specs.Walks.{onReached}
+use Rattle.egg.specs.Answers.{onReached}
 use Rattle.build_checks_laws.specs.Numbers.{In}
 use Rattle.promises.specs.Leaves.{Leaves, lentFor}
 use Rattle.build_laws.proofs.Lent.{work-taken}

@@ -10,7 +10,8 @@ use lib.ListN.{length}
 use Rattle.egg.specs.declared.Factor.{Factor}
 use Rattle.theory.specs.Group.{conjugate}
 use Rattle.factor_laws.specs.Accepted.{Accepted, reach}
-use Rattle.factor_laws.proofs.Steps.{read-step, compose-in, inverse-in, conjugate-in}
+use Rattle.factor_laws.proofs.Steps.{compose-in, inverse-in, conjugate-in}
+use Rattle.build_checks_laws.proofs.Accepted.{read-step}
 use Rattle.factor_laws.proofs.Handles.{few-elements}
 use Rattle.theory_products.specs.Product as theory
 use Rattle.theory_products.specs.Product.{Part, product, ranges, Each, IsGroup, Worded, Parted}

@@ -25,7 +25,7 @@ use Rattle.image_cells.specs.Cells.{halves}
 use Rattle.build_reading_laws.specs.Read.{Read, Readable}
 use Rattle.build_reading_laws.proofs.Readings.{accepted-read, readable-accepted, refused-read, refused-number}
 use Rattle.image_check.specs.Short.{verdictNumber, numberBy, built}
-use Rattle.image_check_laws.proofs.Composed.{fewer, madeNumber, built-is-composed}
+use Rattle.promises_image.proofs.Composed.{fewer, madeNumber, built-is-composed}
 use Rattle.image.specs.Image.{generatorsOf, elementsOf, headNumber, bytesNeed, imageNumber}
 use Rattle.image_reading.specs.Read.{allPlaced, imageIn}
 use Rattle.image.specs.Read.{headPlace, readImage}

@@ -22,7 +22,7 @@ use Rattle.promises.specs.Composed.{RowsRight}
 use Rattle.promises.specs.Papers.{madePaper}
 use Rattle.promises.specs.Leaves.{Leaves, untouched, zeros, AllCleared, lentFor, composedNumbers}
 use Rattle.promises.proofs.Leaves.{composed-leaves}
-use Rattle.image_check_laws.proofs.Composed.{fewer, madeNumber}
+use Rattle.promises_image.proofs.Composed.{fewer, madeNumber}
 use Rattle.image.specs.Image.{lengthOf, generatorsOf, elementsOf, headNumber}
 use Rattle.image.specs.Read.{headPlace, readImage}
 use Rattle.promises_image.specs.Images.{Bytes, WellFormed, ImageRight, imageNumbers}

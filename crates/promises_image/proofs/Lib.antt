@@ -1,6 +1,7 @@
 pub mod Spelling
 pub mod Heads
 pub mod Numbers
+pub mod Composed
 pub mod Back
 pub mod Rounds
 pub mod Walks

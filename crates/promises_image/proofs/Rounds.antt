@@ -23,10 +23,9 @@ use Rattle.theory.proofs.Walking.{walk-agree}
 use Rattle.theory.proofs.RuleLaws.{numbered-agree}
 use Rattle.theory.proofs.Shortest.{recorded-best}
 use Rattle.theory.proofs.AnyCarrier.{any-carrier}
-use Rattle.build_checks_laws.proofs.Accepted.{sound-regular}
+use Rattle.build_checks_laws.proofs.Accepted.{sound-regular, read-step}
 use Rattle.build_checks_laws.proofs.Refused.{regular-same}
 use Rattle.factor_laws.specs.Accepted.{Accepted, factorStep, factorWord}
-use Rattle.factor_laws.proofs.Steps.{read-step}
 use Rattle.factor_laws.proofs.Handles.{few-generators, few-elements}
 use Rattle.promises.specs.Composed.{Given}
 use Rattle.build_laws.specs.Taken.{Taken}

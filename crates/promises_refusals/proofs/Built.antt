@@ -12,7 +12,7 @@ use Rattle.egg.specs.declared.Counted.the-variants.{Count, Refused}
 use Rattle.build_checks.specs.Checks.{checked, check-group}
 use Rattle.build_lending.specs.Finish.{Built, built, zeroed, finished, finishedPlaced}
 use Rattle.build_lending.proofs.Finishing.{refused-counted}
-use Rattle.build_reading.specs.Build.{numbered}
+use Rattle.egg.specs.Answers.{numbered}
 use Rattle.build_reading.specs.Reading.{placed, readAll}
 use Rattle.build_reading_laws.specs.Read.{Readable}
 use Rattle.build_reading_laws.proofs.Readings.{accepted-read, refused-read, readable-accepted, refuses-refused}

@@ -13,11 +13,10 @@ use Rattle.egg.specs.declared.Verdict.the-variants.{Fine, Refused}
 use Rattle.egg.specs.Table.{parentOf, lastOf, backOf}
 use Rattle.egg.specs.Scan.{andThen}
 use Rattle.egg.proofs.Scans.{refused-fine}
-use Rattle.build_reading.specs.Build.{numbered}
-use Rattle.build_checks.specs.Checks.{missing, missingRow, check8, ranges, wrong, wrongRow, check-table, counted, countsRight}
+use Rattle.egg.specs.Answers.{numbered}
+use Rattle.build_checks.specs.Checks.{missing, missingRow, check8, ranges, wrong, wrongRow, check-table, counted, countsRight, Checked, checked, thenChecked, withTable, check-rest, check-group}
 use Rattle.build_checks_inverses.specs.Inverses.{fillInverses, inversesRight}
 use Rattle.build_checks_group.specs.Lefts.{identityRow, spelled, check-steps, lefts}
-use Rattle.build_checks.specs.Checks.{Checked, checked, thenChecked, withTable, check-rest, check-group}
 use Rattle.theory.specs.Table.{Table, Columns, generator}
 use Rattle.theory.specs.Words.{Parents, Recorded}
 use Rattle.theory.specs.Appearance.{recorded}

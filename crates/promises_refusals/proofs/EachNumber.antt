@@ -6,7 +6,7 @@ use mathlib.Core.List.{List}
 use native.Mathlib.Omega.{arith}
 use lib.Dec.{lit<}
 use Rattle.egg.specs.Factor.{Paper}
-use Rattle.build_reading.specs.Build.{numbered}
+use Rattle.egg.specs.Answers.{numbered}
 use Rattle.factor.specs.Composed.{composed}
 use Rattle.build_reading.specs.Reading.{composedAt}
 use Rattle.build_laws.specs.Taken.{Taken, Groupless}

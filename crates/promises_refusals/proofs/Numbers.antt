@@ -4,7 +4,7 @@ use mathlib.Core.Path.{_≡_, refl}
 use mathlib.Core.Logic.{_⊎_, inl, inr}
 use native.Mathlib.Omega.{arith}
 use Rattle.egg.specs.declared.Refusal.{Refusal}
-use Rattle.build_reading.specs.Build.{numbered}
+use Rattle.egg.specs.Answers.{numbered}
 use Rattle.build_reading_laws.specs.Read.{Held, Stops, skips-ahead, no-room, long-word, Refuses}
 use Rattle.build_reading_laws.proofs.Readings.{refused-number}
 use Rattle.build_laws.specs.Taken.{Groupless}

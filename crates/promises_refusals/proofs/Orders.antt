@@ -17,7 +17,7 @@ use Rattle.egg.specs.Scan.{refusedOf, scan}
 use Rattle.egg.specs.Pairs.{pairCode, pairCount, orderAt, ordersRight}
 use Rattle.egg.specs.Factor.{Paper, verdictPaper}
 use Rattle.egg.proofs.Scans.{refused-fine, scan-fine}
-use Rattle.build_reading.specs.Build.{numbered}
+use Rattle.egg.specs.Answers.{numbered}
 use Rattle.factor_relations.specs.Relations.{relationAt, doubledRow, pairsRow, relations}
 use Rattle.factor.specs.Relations.{checkAnswer}
 use Rattle.theory.specs.Words.{walk}
@@ -25,12 +25,11 @@ use Rattle.theory.specs.Presentation.{pairs-below, pair-place, order-of, altern
 use Rattle.theory.proofs.Pairs.{pair-at, pair-inside}
 use Rattle.build_checks_laws.specs.Sound.{Sound}
 use Rattle.factor_laws.specs.Accepted.{Accepted, factorStep}
-use Rattle.factor_laws.proofs.Codes.{code-first, code-second, pair-count}
-use Rattle.factor_laws.proofs.Relators.{turned-is, doubled-row, relations-identity}
+use Rattle.factor_relations_laws.proofs.Codes.{code-first, code-second, pair-count}
+use Rattle.factor_relations_laws.proofs.Relators.{turned-is, doubled-row, relations-identity}
 use Rattle.factor_laws.proofs.Handles.{few-generators, admits-fine, check-is, check-answer}
 use Rattle.promises_refusals.specs.Firsts.{FirstOf}
-use Rattle.promises_refusals.specs.Orders.{OrderRight, OrdersRight, OrdersFault, wrong-length, wrong-order, FirstPair, RelationFault, doubled, paired}
-use Rattle.promises_refusals.specs.Orders.{CheckPaper, wrong-orders, fails, holds}
+use Rattle.promises_refusals.specs.Orders.{OrderRight, OrdersRight, OrdersFault, wrong-length, wrong-order, FirstPair, RelationFault, doubled, paired, CheckPaper, wrong-orders, fails, holds}
 use Rattle.promises_refusals.proofs.Firsts.{Decides, first-found, first-refused, first-fine}
 use Rattle.promises_refusals.proofs.Tests.{refused-different}
 use Rattle.promises_refusals.proofs.Checked.{then-split}

@@ -13,7 +13,7 @@ use Rattle.egg.specs.declared.Refusal.{Refusal}
 use Rattle.egg.specs.declared.Verdict.the-variants.{Fine, Refused}
 use Rattle.egg.specs.Table.{pick, startOf, inverseOf, stepOf}
 use Rattle.egg.specs.Scan.{refusedOf}
-use Rattle.build_reading.specs.Build.{numbered}
+use Rattle.egg.specs.Answers.{numbered}
 use Rattle.build_checks.specs.Checks.{missingAt, wrongAt}
 use Rattle.build_checks_inverses.specs.Inverses.{fillInverses, inverseAt}
 use Rattle.theory.specs.Table.{Table, Columns, generator}

@@ -5,7 +5,7 @@ use Prim.Native.Nat.{ℕ, suc, _<_}
 use mathlib.Core.Path.{_≡_}
 use lib.ListN.{length}
 use Rattle.egg.specs.declared.Refusal.{Refusal}
-use Rattle.build_reading.specs.Build.{numbered}
+use Rattle.egg.specs.Answers.{numbered}
 use Rattle.theory.specs.Table.{Columns, generator}
 use Rattle.theory.specs.Appearance.{recorded}
 use Rattle.theory.specs.Regular.{inverse}

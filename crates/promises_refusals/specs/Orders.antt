@@ -5,7 +5,7 @@ use mathlib.Core.List.{List}
 use lib.ListN.{length, getD}
 use Rattle.egg.specs.declared.Refusal.{Refusal}
 use Rattle.egg.specs.Factor.{Paper, refusalPaper}
-use Rattle.build_reading.specs.Build.{numbered}
+use Rattle.egg.specs.Answers.{numbered}
 use Rattle.theory.specs.Words.{walk}
 use Rattle.theory.specs.Presentation.{pairs-below, pair-place, order-of, alternate, Holds}
 use Rattle.promises_refusals.specs.Firsts.{FirstOf}

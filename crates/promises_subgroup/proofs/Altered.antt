@@ -16,7 +16,7 @@ use Rattle.build_lending.specs.Lending.{tableNeed, workNeed}
 use Rattle.group_handles.specs.declared.Group.{Group}
 use Rattle.group_handles.specs.Handles.{handles, elementsOf}
 use Rattle.build_numbering.specs.Build.{Renumbering, renumbering, renumberIn}
-use Rattle.build_numbering_laws.specs.Orbit.{Inside, numberedStep, Appearing}
+use Rattle.theory.specs.Orbit.{Inside, numberedStep, Appearing}
 use Rattle.build_numbering_laws.specs.Maps.{Filled}
 use Rattle.build_numbering_laws.proofs.Order.{appearing}
 use Rattle.build_numbering_laws.proofs.Partial.{total, total-answering, partial-build}

@@ -17,12 +17,10 @@ use Rattle.build_numbering.specs.Renumber.{mapPlace, mapRow, mapRows}
 use Rattle.build_numbering.specs.Build.{renumberIn}
 use Rattle.subgroup_build.specs.Lent.{mapsRight}
 use Rattle.subgroup_build.specs.Generated.{entriesRight, smallEnough, admitsGenerators, generatedInto, fromGenerators}
-use Rattle.subgroup_predicate_choices.specs.Choices.{chooses}
-use Rattle.subgroup_predicate.specs.Predicate.{admitsOver, toldInto, fromPredicate}
 use Rattle.promises_subgroup.specs.AlteredCases.{AlteredCases}
 
 pub altered-cases : AlteredCases
-unfolding putAt startOf scan hasRoom fitsIn stretch readStep missingRow missing check8 rangeRow linksOf ranges wrongRow wrong check-table wiped arriveRow arrivals countsRight invertFrom fillInverses inversesRight identityRow columnsRow spelledRow spelled check-steps fillLeft goesRow allGo lefts check-rest check-group setStep setWord adds hopFrom withHops finished lentRight within ahead composeIn limited digitwise mapPlace mapRow mapRows renumberIn mapsRight entriesRight smallEnough admitsGenerators generatedInto fromGenerators chooses admitsOver toldInto fromPredicate
+unfolding putAt startOf scan hasRoom fitsIn stretch readStep missingRow missing check8 rangeRow linksOf ranges wrongRow wrong check-table wiped arriveRow arrivals countsRight invertFrom fillInverses inversesRight identityRow columnsRow spelledRow spelled check-steps fillLeft goesRow allGo lefts check-rest check-group setStep setWord adds hopFrom withHops finished lentRight within ahead composeIn limited digitwise mapPlace mapRow mapRows renumberIn mapsRight entriesRight smallEnough admitsGenerators generatedInto fromGenerators
 altered-cases = record {
   generators-5 = refl;
   generators-8 = refl;
@@ -31,12 +29,4 @@ altered-cases = record {
   generators-11 = refl;
   generators-12 = refl;
   generators-17 = refl;
-  predicate-5 = refl;
-  predicate-8 = refl;
-  predicate-9 = refl;
-  predicate-10 = refl;
-  predicate-11 = refl;
-  predicate-12 = refl;
-  predicate-15 = refl;
-  predicate-17 = refl;
 }

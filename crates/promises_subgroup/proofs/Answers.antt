@@ -16,7 +16,7 @@ use Rattle.egg.specs.declared.Counted.the-variants as counted
 use Rattle.egg.specs.Factor.{Paper, refusalPaper, hasRoom}
 use Rattle.egg.proofs.Rooms.{positive, limited, within-length, false-true}
 use Rattle.egg.proofs.Scans.{scan-each}
-use Rattle.build_reading.specs.Build.{numbered}
+use Rattle.egg.specs.Answers.{numbered}
 use Rattle.build_reading.specs.Reading.{Placed, placed, readAll}
 use Rattle.build_lending.specs.Finish.{built, zeroed, finished, finishedPlaced}
 use Rattle.build_lending.specs.Lending.{tableNeed, workNeed, lentRight}
@@ -32,11 +32,11 @@ use Rattle.group_handles.specs.Handles.{handles, elementsOf, allFit}
 use Rattle.group_handles.proofs.Admitted.{few-factors}
 use Rattle.promises_group.specs.Products.{AllAccepted, direct}
 use Rattle.build_numbering.specs.Build.{Renumbering, renumbering, renumberIn}
-use Rattle.build_numbering_laws.specs.Orbit.{numberedStep}
-use Rattle.build_numbering_laws.specs.Subgroup.{rightBy, FirstIdentity, FirstRepeat, Proper}
+use Rattle.theory.specs.Orbit.{numberedStep}
+use Rattle.theory.specs.Subgroup.{rightBy, FirstIdentity, FirstRepeat, Proper}
 use Rattle.build_numbering_laws.proofs.Order.{appearing}
-use Rattle.build_numbering_laws.proofs.Subgroups.{right-inside}
-use Rattle.build_numbering_laws.proofs.FirstRow.{generators-are}
+use Rattle.theory.proofs.Subgroups.{right-inside}
+use Rattle.theory.proofs.FirstRow.{generators-are}
 use Rattle.build_numbering_laws.proofs.Builds.{builtOf, renumber-built}
 use Rattle.build_numbering_laws.proofs.SubgroupBuilds.{subgroup-9, subgroup-11}
 use Rattle.subgroup_build.specs.Lent.{shown, mapsRight, mapsBack}

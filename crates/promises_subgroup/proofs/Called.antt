@@ -20,7 +20,7 @@ use Rattle.egg.specs.Scan.{refusedOf}
 use Rattle.egg.specs.Factor.{hasRoom, stretch}
 use Rattle.egg.proofs.Rooms.{positive, limited}
 use Rattle.egg.proofs.Scans.{scan-each, refused-fine}
-use Rattle.build_reading.specs.Build.{numbered}
+use Rattle.egg.specs.Answers.{numbered}
 use Rattle.build_lending.specs.Finish.{built}
 use Rattle.build_lending.specs.Lending.{tableNeed, workNeed, lentRight, within, noFactor, refusedMade, madeOf}
 use Rattle.build_lending.proofs.Lending.{lent-table}
@@ -33,10 +33,10 @@ use Rattle.group_handles.specs.Handles.{handles, elementsOf, groupOf}
 use Rattle.promises_group.specs.Products.{AllAccepted, direct}
 use Rattle.build_numbering.specs.Renumber as appear
 use Rattle.build_numbering.specs.Build.{Renumbering, renumbering, renumberIn}
-use Rattle.build_numbering_laws.specs.Orbit.{Appearing}
+use Rattle.theory.specs.Orbit.{Appearing}
 use Rattle.build_numbering_laws.specs.Source.{Answering}
-use Rattle.build_numbering_laws.specs.Subgroup.{rightBy}
-use Rattle.build_numbering_laws.proofs.Subgroups.{right-inside, generator-outside}
+use Rattle.theory.specs.Subgroup.{rightBy}
+use Rattle.theory.proofs.Subgroups.{right-inside, generator-outside}
 use Rattle.build_numbering_laws.proofs.Builds.{renumber-holds}
 use Rattle.build_numbering_laws.proofs.SubgroupBuilds.{subgroup-exactly}
 use Rattle.subgroup_build.specs.declared.Subgroup.{Subgroup}

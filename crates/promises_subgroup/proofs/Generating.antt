@@ -8,7 +8,7 @@ use lib.ListN.{length, getD}
 use Rattle.egg.specs.declared.Verdict.the-variants.{Fine}
 use Rattle.egg.specs.Factor.{stretch, readStep}
 use Rattle.factor_laws.specs.Accepted.{factorStep, reach}
-use Rattle.factor_laws.proofs.Steps.{read-step}
+use Rattle.build_checks_laws.proofs.Accepted.{read-step}
 use Rattle.group_handles.specs.declared.Group.{Group}
 use Rattle.group_handles.specs.Handles.{handles, elementsOf, generatorsOf, groupOf, capped}
 use Rattle.group_handles.proofs.Caps.{cap-small}

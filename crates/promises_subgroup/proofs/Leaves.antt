@@ -1,13 +1,13 @@
--- What a refused `from_generators` or `from_predicate` leaves, on every input, whatever the handles and the buffers hold: with wrong arguments every buffer as it
+-- What a refused `from_generators` leaves, on every input, whatever the handles and the buffers hold: with wrong arguments every buffer as it
 -- was, else exactly the needed stretches and maps zero; and by which numbers in each case.
 use Prim.Native.Nat.{ℕ, _+_, _*_, _≤_, _<_}
 use mathlib.Core.Path.{_≡_, refl, sym, ap, _∙_, subst}
 use mathlib.Core.Logic.{_⊎_, inl, inr}
-use mathlib.Core.Bool.{Bool, true, false, _&&_}
+use mathlib.Core.Bool.{Bool, true, false}
 use mathlib.Core.List.{List, [], _∷_}
 use native.Mathlib.Nat.{le-refl}
 use native.Mathlib.Omega.{arith}
-use borrow.Author.Tests.{le-leb, leb-true, ltb-true, ltb-false}
+use borrow.Author.Tests.{ltb-true, ltb-false}
 use lib.Dec.{ltb, leb}
 use lib.ListN.{length, getD, take, replicate}
 use Rattle.egg.specs.declared.Refusal.{Refusal}
@@ -15,10 +15,10 @@ use Rattle.egg.specs.declared.Verdict.{Verdict}
 use Rattle.egg.specs.declared.Verdict.the-variants as verdict
 use Rattle.egg.specs.declared.Counted.the-variants.{Count, Refused}
 use Rattle.egg.specs.Scan.{andThen}
-use Rattle.egg.proofs.Rooms.{false-true, and-first, and-second}
+use Rattle.egg.proofs.Rooms.{false-true}
 use Rattle.egg.proofs.Scans.{refused-fine}
 use Rattle.build_checks.specs.Checks.{check-group}
-use Rattle.build_reading.specs.Build.{numbered}
+use Rattle.egg.specs.Answers.{numbered}
 use Rattle.build_reading.specs.Reading.{Placed, placed, readAll}
 use Rattle.build_lending.specs.Finish.{built, finished, finishedPlaced}
 use Rattle.build_lending.specs.Lending.{tableNeed, workNeed}
@@ -33,7 +33,7 @@ use Rattle.promises.proofs.Passing.{read-ranges}
 use Rattle.group_handles.specs.declared.Group.{Group}
 use Rattle.group_handles.specs.Handles.{handles, elementsOf, allFit}
 use Rattle.build_numbering.specs.Build.{renumbering}
-use Rattle.build_numbering_laws.specs.Orbit.{Inside, numberedStep, Appearing}
+use Rattle.theory.specs.Orbit.{Inside, numberedStep, Appearing}
 use Rattle.build_numbering_laws.proofs.Partial.{total, total-answering}
 use Rattle.build_numbering_laws.proofs.Numberings.{refused-5-or-6}
 use Rattle.build_numbering_laws.proofs.Builds.{builtOf}
@@ -42,20 +42,13 @@ use Rattle.subgroup_build.specs.Lent.{shown, subgrouping, mapsRight}
 use Rattle.subgroup_rows.specs.Rows.{productOf}
 use Rattle.subgroup_build.specs.Generated.{entryRight, entriesRight, smallEnough, admitsGenerators, fromGenerators}
 use Rattle.subgroup_build.proofs.Admits.{generators-fine, admitted}
-use Rattle.subgroup_predicate.specs.Predicate.{admitsOver, fromPredicate}
-use Rattle.subgroup_predicate.proofs.Told.{over-fine, over-admitted}
 use Rattle.promises_subgroup.specs.Generates.{Started}
-use Rattle.promises_subgroup.specs.Tells.{Predicated}
-use Rattle.promises_subgroup.specs.Altered.{stepsRead, BySteps, Stopped, ToldStops, ninth, stopped, by-steps}
-use Rattle.promises_subgroup.specs.Leaves.{mapsFor, generatorsBefore, generatorsAfter, predicateBefore, predicateAfter}
+use Rattle.promises_subgroup.specs.Altered.{stepsRead, BySteps, Stopped}
+use Rattle.promises_subgroup.specs.Leaves.{mapsFor, generatorsBefore, generatorsAfter}
 use Rattle.promises_subgroup.proofs.Called as called
-use Rattle.promises_subgroup.proofs.ToldCalls as told
-use Rattle.promises_subgroup.proofs.Telling.{eight-rows}
 use Rattle.promises_subgroup.proofs.Leaving.{generators-cleared}
-use Rattle.promises_subgroup.proofs.ToldLeaving.{predicate-cleared}
 use Rattle.promises_subgroup.proofs.Regardless.{steps-inside}
 use Rattle.promises_subgroup.proofs.Altered.{generators-any}
-use Rattle.promises_subgroup.proofs.AlteredTold.{told-stops}
 
 -- The steps that are read, numbered in order of first appearance: a build of them is refused by 5 or 6 in its reading, where 7 never comes, or by 8 to 12.
 module _ (from : List ℕ) (over : Group) (gens : List ℕ) (fits : allFit (length from) (handles over) ≡ true) (small : elementsOf (handles over) ≤ 4294967295)
@@ -106,11 +99,6 @@ admits-in len over gens =
     (λ i. verdict-pick (leb (elementsOf (handles over)) (getD gens i 0)) _ _ (verdict-refused _ refl) verdict-fine))
     (verdict-pick (smallEnough over) _ _ verdict-fine (verdict-refused _ refl)))
     (verdict-refused _ refl)
-
-over-in : (len : ℕ) (over : Group) → VerdictIn predicateBefore (admitsOver len over)
-unfolding admitsOver
-over-in len over =
-    verdict-pick (allFit len (handles over)) _ _ (verdict-pick (smallEnough over) _ _ verdict-fine (verdict-refused _ refl)) (verdict-refused _ refl)
 
 module _ (from : List ℕ) (over : Group) (gens table : List ℕ) (start : ℕ) (work inn outw : List ℕ) (room : ℕ) (r : Refusal) (s : Subgroup) (t w i o : List ℕ)
     (z : fromGenerators from over gens table start work inn outw room ≡ subgrouping (record { answer = verdict.Refused r; subgroup = s }) t w i o) where
@@ -164,52 +152,3 @@ module _ (from : List ℕ) (over : Group) (gens table : List ℕ) (start : ℕ) 
           let S : Started from over gens table start work inn outw room =
           record { fits = A .fits; entries = A .entries; small = A .small; few = ltb-false 8 (length gens) k; lent = l } in
           zeros S (generators-late S) (generators-cleared from over gens table start work inn outw room S z)
-
-module _ (from : List ℕ) (over : Group) (members table : List ℕ) (start : ℕ) (work inn outw : List ℕ) (room : ℕ) (r : Refusal) (s : Subgroup) (t w i o : List ℕ)
-    (z : fromPredicate from over members table start work inn outw room ≡ subgrouping (record { answer = verdict.Refused r; subgroup = s }) t w i o) where
-  abbrev among : ℕ
-  among = elementsOf (handles over)
-
-  abbrev Left : Type 0
-  Left = Leaves (Predicated from over members table start work inn outw room) predicateBefore predicateAfter
-      (mapsFor table start work inn outw 8 among room t w i o) r
-
-  predicate-late : Predicated from over members table start work inn outw room → In predicateAfter r
-  predicate-late S = by (told-stops from over members table start work inn outw room S z) where
-    by : ToldStops from over room r → In predicateAfter r
-    by (ninth q) = rw q
-    by (stopped gens x g few m q) = each-in (λ x. member x predicateAfter) (r .number) (17 ∷ []) refl m
-    by (by-steps gens count elt v t′ w′ few A q) =
-        each-in (λ x. member x predicateAfter) (r .number) generatorsAfter refl
-        (steps-number from over gens (S .fits) (told.small from over members table start work inn outw room S) A room (tableNeed 8 room) v few
-        (told.lo from over members table start work inn outw room S) (told.hi from over members table start work inn outw room S)
-        (eight-rows (length gens) room (tableNeed 8 room) few (le-refl (tableNeed 8 room))) q)
-
-  early-told : {f : Refusal} {s′ : Subgroup} → ¬ (Predicated from over members table start work inn outw room) → In predicateBefore f
-      → subgrouping (record { answer = verdict.Refused f; subgroup = s′ }) table work inn outw ≡ subgrouping (record { answer = verdict.Refused r; subgroup = s }) t w i o
-      → Left
-  early-told wrong p e = untouched wrong (subst (In predicateBefore) (called.same-refusal e) p) (cc, (cc, (cc, (cc, tt))))
-
-  pub predicate-leaves : Leaves (Predicated from over members table start work inn outw room) predicateBefore predicateAfter
-      (mapsFor table start work inn outw 8 (elementsOf (handles over)) room t w i o) r
-  predicate-leaves =
-      by (admitsOver (length from) over)
-      (mapsRight (length table) start (length work) (length inn) (length outw) room 8 among && leb among (length members)) refl refl
-    where
-      by : (v : Verdict) (b : Bool) → admitsOver (length from) over ≡ v
-          → mapsRight (length table) start (length work) (length inn) (length outw) room 8 among && leb among (length members) ≡ b → Left
-      by (verdict.Refused f) b q l =
-          early-told (λ S. refused-fine (sym q ∙ sym (over-fine (length from) over (S .fits) refl (S .small)))) (over-in (length from) over .of f q)
-          (sym (told.early-arguments from over members table start work inn outw room q) ∙ z)
-      by verdict.Fine false q l =
-          early-told {f = numbered 4 0 0 0} (λ S. false-true (sym l ∙ rw (S .lent, le-leb among (length members) (S .bytes)))) refl
-          (sym (told.early-short from over members table start work inn outw room q l) ∙ z)
-      by verdict.Fine true q l =
-          let A = over-admitted (length from) over refl q in
-          let S : Predicated from over members table start work inn outw room = record {
-            fits = A .0;
-            small = A .1;
-            lent = and-first _ _ l;
-            bytes = leb-true _ _ (and-second (mapsRight (length table) start (length work) (length inn) (length outw) room 8 among) _ l);
-          } in
-          zeros S (predicate-late S) (predicate-cleared from over members table start work inn outw room S z)

@@ -29,7 +29,7 @@ use Rattle.group_handles.specs.declared.Group.{Group}
 use Rattle.group_handles.specs.Handles.{handles, elementsOf}
 use Rattle.build_numbering.specs.Renumber.{none, Mapped, mapped, thenMapped, onNew, mapPlace, mapFrom, mapRow, mapRows, mapAll}
 use Rattle.build_numbering.specs.Build.{renumbering, finishedMapped, renumberIn}
-use Rattle.build_numbering_laws.proofs.Builds.{builtOf, settled-built, refused-maps}
+use Rattle.build_numbering_laws.proofs.Builds.{builtOf, settled-built, refused-maps, settled-count}
 use Rattle.subgroup_build.specs.declared.Subgroup.{Subgroup}
 use Rattle.subgroup_build.specs.Lent.{subgrouping, mapsRight}
 use Rattle.subgroup_rows.specs.Rows.{productOf}
@@ -38,6 +38,10 @@ use Rattle.subgroup_build.proofs.Admits.{maps-lent, maps-inn, maps-outw}
 use Rattle.promises_subgroup.specs.Generates.{Started}
 use Rattle.promises_subgroup.specs.Leaves.{mapsFor}
 use Rattle.promises_subgroup.proofs.Called.{is-build, back-refused, work-long}
+use Rattle.egg.specs.declared.Counted.{Counted}
+use Rattle.build_laws.proofs.Settled.{settled-kept, settled-work}
+use Rattle.build_laws.proofs.Built.{passed}
+use Rattle.build_numbering_laws.proofs.Sizes.{Long, all-long}
 
 abbrev pub tableIn : Mapped → List ℕ
 tableIn (mapped (placed c t) inn outw) = t
@@ -144,3 +148,27 @@ module _ (from : List ℕ) (over : Group) (gens table : List ℕ) (start : ℕ) 
       (T .table-is ∙ ap (λ (x : List ℕ). within table start (start + tableNeed n room) x) (Z .0))
       (T .work-is ∙ ap (λ (x : List ℕ). within work 0 (workNeed n room) x) (Z .1 ∙ ap (λ (k : ℕ). replicate k 0) l))
       (T .inn-is ∙ ap (λ (x : List ℕ). within inn 0 (elementsOf (handles over)) x) (Y .0)) (T .outw-is ∙ ap (λ (x : List ℕ). within outw 0 room x) (Y .1))
+
+-- What an accepted numbering leaves is as long as it was lent.
+finished-long : (k : Counted) (n : ℕ) (t₀ w₀ : List ℕ) {c : ℕ} {t w : List ℕ} → finished k n t₀ w₀ ≡ built (Count c) t w
+    → (length t ≡ length t₀) × (length w ≡ length w₀)
+finished-long k n t₀ w₀ q =
+    let p = passed (placed k t₀) n w₀ q in
+    let same : p .before ≡ t₀ = cc in
+    (settled-kept (p .before) w₀ (p .end) .size ∙ ap length same, ap length (settled-work (p .before) w₀ (p .end)) ∙ length-replicate {A = ℕ} (length w₀) 0)
+
+pub accepted-lengths : (size : ℕ) (w₀ : List ℕ) (source : ℕ → ℕ → Reached) (n room M K x₀ : ℕ) {c : ℕ} {t w i o : List ℕ}
+    → renumberIn size w₀ source n room M K x₀ ≡ renumbering (built (Count c) t w) i o
+    → (length t ≡ size) × ((length w ≡ length w₀) × ((length i ≡ M) × (length o ≡ K)))
+unfolding renumberIn
+accepted-lengths size w₀ source n room M K x₀ {c} {t} {w} {i} {o} q =
+    go (mapAll source n room M K x₀ (replicate size 0))
+    (rows-long room source n room 0 1 (replicate size 0) (putAt (replicate M none) x₀ 0) (putAt (replicate K 0) 0 x₀) ∙ length-replicate size 0)
+    (all-long source n room M K x₀ (replicate size 0)) q
+  where
+    go : (m : Mapped) → length (tableIn m) ≡ size → Long M K m → finishedMapped m n w₀ ≡ renumbering (built (Count c) t w) i o
+        → (length t ≡ size) × ((length w ≡ length w₀) × ((length i ≡ M) × (length o ≡ K)))
+    go (mapped (placed k t₀) i₀ o₀) h g z =
+        let S = settled-count (finished k n t₀ w₀) i₀ o₀ z in
+        let F = finished-long k n t₀ w₀ (S .0) in
+        (F .0 ∙ h, (F .1, (ap length (sym (S .1 .0)) ∙ g .0, ap length (sym (S .1 .1)) ∙ g .1)))

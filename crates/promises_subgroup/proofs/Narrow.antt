@@ -9,7 +9,7 @@ use Rattle.egg.specs.declared.Counted.the-variants.{Count}
 use Rattle.build_lending.specs.Finish.{Built, built, finishedPlaced}
 use Rattle.build_lending.specs.Lending.{tableNeed, workNeed}
 use Rattle.build_reading.specs.Reading.{readAll}
-use Rattle.enumeration_room_laws.specs.Longer.{longer}
+use Rattle.enumeration_run_laws.specs.Longer.{longer}
 use Rattle.build_laws.specs.Taken.{Holding}
 use Rattle.build_laws.proofs.Built.{built-holds, taken-built}
 use Rattle.promises.proofs.Roomier.{built-roomier}

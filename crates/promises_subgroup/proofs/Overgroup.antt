@@ -21,12 +21,12 @@ use Rattle.promises_group.proofs.Parts.{parts-elements, all-groups, composes-ar
 use Rattle.build_numbering.specs.Renumber as appear
 use Rattle.build_numbering.specs.Build.{renumbering, renumberIn}
 use Rattle.build_numbering_laws.specs.Source.{Answering}
-use Rattle.build_numbering_laws.specs.Subgroup.{rightBy, Generated}
+use Rattle.theory.specs.Subgroup.{rightBy, Generated}
 use Rattle.build_numbering_laws.proofs.Order.{appearing}
-use Rattle.build_numbering_laws.proofs.Subgroups.{right-inside, orbit-generated, identity-row-proper}
+use Rattle.theory.proofs.Subgroups.{right-inside, orbit-generated, identity-row-proper}
 use Rattle.build_numbering_laws.proofs.Builds.{renumber-holds, renumber-work, renumber-maps}
 use Rattle.promises_subgroup.specs.Made.{SubgroupMade}
-use Rattle.promises_subgroup.proofs.Given.{held-carried, held-homomorphic}
+use Rattle.promises_subgroup.proofs.Held.{held-carried, held-homomorphic}
 
 module _ (t : List ℕ) {hs : List Factor} (As : AllAccepted t hs) where
   pub product-answers : (y x : ℕ) → y < elementsOf hs → x < elementsOf hs

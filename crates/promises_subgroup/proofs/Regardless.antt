@@ -33,7 +33,7 @@ use Rattle.group_digits.specs.Digits.{digitOf, digitwise, composes}
 use Rattle.group_handles.proofs.Lists.{positive}
 use Rattle.group_digits.proofs.Walks.{Below, element, below-element, below-on, digit-below}
 use Rattle.build_numbering.specs.Build.{renumbering, renumberIn}
-use Rattle.build_numbering_laws.specs.Orbit.{Inside, numberedStep, Appearing}
+use Rattle.theory.specs.Orbit.{Inside, numberedStep, Appearing}
 use Rattle.build_numbering_laws.specs.Source.{Answering}
 use Rattle.build_numbering_laws.specs.Maps.{Filled}
 use Rattle.build_numbering_laws.proofs.Order.{appearing}
@@ -47,7 +47,7 @@ use Rattle.subgroup_build.proofs.Admits.{small-elements, maps-lent, maps-inn, m
 use Rattle.promises_subgroup.specs.Altered.{stepsRead, Regardless}
 use Rattle.promises_subgroup.proofs.Narrow.{narrow}
 use Rattle.promises_subgroup.proofs.Stretches.{fewer-rows, fewer-work, first-part, handle-fits}
-use Rattle.promises_subgroup.proofs.Given.{held-carried}
+use Rattle.promises_subgroup.proofs.Held.{held-carried}
 use Rattle.promises_subgroup.proofs.Called.{front-cell, front-part, front-long, carried-as}
 
 -- A product in whatever buffer is an element of the overgroup, or is refused by 17.

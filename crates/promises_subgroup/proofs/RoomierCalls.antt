@@ -13,8 +13,8 @@ use Rattle.build_lending.specs.Finish.{Built, built, finishedPlaced}
 use Rattle.build_lending.specs.Lending.{tableNeed, workNeed, within}
 use Rattle.build_reading.specs.Reading.{readAll}
 use Rattle.theory.specs.Group.{GroupOn}
-use Rattle.enumeration_room_laws.specs.Longer.{longer}
-use Rattle.enumeration_room_laws.proofs.Stores.{longer-get}
+use Rattle.enumeration_run_laws.specs.Longer.{longer}
+use Rattle.enumeration_run_laws.proofs.LongerStores.{longer-get}
 use Rattle.promises.proofs.Roomier.{built-roomier}
 use Rattle.build_laws.proofs.Lent.{handle, stretch-cell}
 use Rattle.group_handles.specs.declared.Group.{Group}
@@ -23,10 +23,10 @@ use Rattle.promises_group.specs.Products.{AllAccepted}
 use Rattle.build_numbering.specs.Build.{Renumbering, renumbering, renumberIn}
 use Rattle.build_numbering_laws.specs.Source.{Answering}
 use Rattle.build_numbering_laws.specs.Maps.{Filled}
-use Rattle.build_numbering_laws.specs.Subgroup.{rightBy}
-use Rattle.build_numbering_laws.specs.Orbit.{numberedStep}
+use Rattle.theory.specs.Subgroup.{rightBy}
+use Rattle.theory.specs.Orbit.{numberedStep}
 use Rattle.build_numbering_laws.proofs.Order.{appearing}
-use Rattle.build_numbering_laws.proofs.Subgroups.{right-inside}
+use Rattle.theory.proofs.Subgroups.{right-inside}
 use Rattle.build_numbering_laws.proofs.Builds.{builtOf, renumber-built, renumber-filled}
 use Rattle.build_numbering_laws.proofs.RoomierMaps.{inward-same, outward-same}
 use Rattle.subgroup_build.specs.declared.Subgroup.{Subgroup}
@@ -35,7 +35,7 @@ use Rattle.subgroup_rows.specs.Rows.{productOf}
 use Rattle.subgroup_build.specs.Generated.{fromGenerators}
 use Rattle.promises_subgroup.specs.Generates.{Started, RoomierGenerates}
 use Rattle.promises_subgroup.proofs.Called as called
-use Rattle.promises_subgroup.proofs.ToldLeaving.{accepted-lengths}
+use Rattle.promises_subgroup.proofs.Leaving.{accepted-lengths}
 
 -- The build in its stretches, over any group.
 module _ {M : ℕ} {op : ℕ → ℕ → ℕ} {inv : ℕ → ℕ} (G : GroupOn M op inv) (small : M ≤ 4294967295) {n : ℕ} {gen : ℕ → ℕ} (gens : (g : ℕ) → g < n → gen g < M)

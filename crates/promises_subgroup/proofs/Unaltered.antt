@@ -34,7 +34,6 @@ use Rattle.subgroup_sides.specs.Generators.{sideGenerator}
 use Rattle.subgroup_rows.specs.Rows.{productOf}
 use Rattle.subgroup_build.specs.Generated.{admitsGenerators, generatedInto, fromGenerators}
 use Rattle.subgroup_sides.proofs.SideLaws.{fit-law}
-use Rattle.subgroup_predicate.specs.Predicate.{admitsOver, toldInto, fromPredicate}
 use Rattle.promises_subgroup.specs.Generates.{Holds}
 use Rattle.promises_subgroup.specs.Asked.{Known}
 use Rattle.promises_subgroup.specs.Unaltered.{SameMaps, UnalteredMaps, EachSame, all, also, SameStretches}
@@ -48,7 +47,7 @@ module _ {t t′ : List ℕ} where
   steps-same all e x = refl
   steps-same (also {h} q S) e x = rw (q, steps-same S (e / h .elements) (x - h .generators))
 
-  composes-same : {hs : List Factor} → EachSame t t′ hs → (a b : ℕ) → composes t′ hs a b ≡ composes t hs a b
+  pub composes-same : {hs : List Factor} → EachSame t t′ hs → (a b : ℕ) → composes t′ hs a b ≡ composes t hs a b
   unfolding digitwise
   composes-same all a b = refl
   composes-same (also {h} q S) a b = simp (q, composes-same S (a / h .elements) (b / h .elements))
@@ -135,20 +134,12 @@ module _ {from from′ table table′ : List ℕ} {s : Subgroup} {inn inn′ out
 -- The overgroup's stretches decide what is made of it, whatever else its buffer holds: every answer and every lent buffer.
 module _ {from from′ : List ℕ} (over : Group) (fits : allFit (length from) (handles over) ≡ true) (fits′ : allFit (length from′) (handles over) ≡ true)
     (same : EachSame from from′ (handles over)) where
-  products : composes from′ (handles over) ≡ composes from (handles over)
-  products = fun-ext λ a. fun-ext λ b. composes-same same a b
-
   pub generators-same : (gens table : List ℕ) (start : ℕ) (work inn outw : List ℕ) (room : ℕ)
       → fromGenerators from′ over gens table start work inn outw room ≡ fromGenerators from over gens table start work inn outw room
   unfolding fromGenerators admitsGenerators generatedInto
   generators-same gens table start work inn outw room =
       let p : productOf from′ (handles over) gens ≡ productOf from (handles over) gens = fun-ext λ x. fun-ext λ g. composes-same same x (getD gens g 0) in
       rw (fits, fits′, p)
-
-  pub predicate-same : (members table : List ℕ) (start : ℕ) (work inn outw : List ℕ) (room : ℕ)
-      → fromPredicate from′ over members table start work inn outw room ≡ fromPredicate from over members table start work inn outw room
-  unfolding fromPredicate admitsOver toldInto
-  predicate-same members table start work inn outw room = rw (fits, fits′, products)
 
 -- Factors that are unaltered, the subgroup's own and those of its overgroup, keep their stretches, and the handles fit.
 module _ {t t′ : List ℕ} where

@@ -14,18 +14,12 @@ use Rattle.subgroup.proofs.to_subgroup.Kinds as to-subgroup-kinds
 use Rattle.subgroup.proofs.to_subgroup.Reads as to-subgroup-reads
 use Rattle.subgroup.proofs.generator.Kinds as generator-kinds
 use Rattle.subgroup.proofs.generator.Reads as generator-reads
-use Rattle.subgroup_predicate.proofs.from_predicate.Kinds as from-predicate-kinds
-use Rattle.subgroup_predicate.proofs.from_predicate.Reads as from-predicate-reads
 use Rattle.promises.specs.Unique.{Unique}
 
--- The calls that make a subgroup: the verdict and the value, the table, the work and both maps. The overgroup's buffer and the list are only read.
+-- The call that makes a subgroup: the verdict and the value, the table, the work and both maps. The overgroup's buffer and the list are only read.
 pub from-generators-unique : Unique 6 from-generators-kinds.ps from-generators-kinds.r from-generators-reads.Post
     (λ κs a x. subgrouping a (x .1 .1 .1 .0 .now) (x .1 .1 .1 .1 .1 .0 .now) (x .1 .1 .1 .1 .1 .1 .0 .now) (x .1 .1 .1 .1 .1 .1 .1 .0 .now))
 from-generators-unique = λ κs args a b x y p q. p ∙ sym q
-
-pub from-predicate-unique : Unique 6 from-predicate-kinds.ps from-predicate-kinds.r from-predicate-reads.Post
-    (λ κs a x. subgrouping a (x .1 .1 .1 .0 .now) (x .1 .1 .1 .1 .1 .0 .now) (x .1 .1 .1 .1 .1 .1 .0 .now) (x .1 .1 .1 .1 .1 .1 .1 .0 .now))
-from-predicate-unique = λ κs args a b x y p q. p ∙ sym q
 
 -- The products with further factors, and the questions: they write to no buffer.
 pub product-left-unique : Unique 2 product-left-kinds.ps product-left-kinds.r product-left-reads.Post (λ κs a x. a)

@@ -1,10 +1,10 @@
--- What `from_generators` and `from_predicate` never give and never write, on every input: by which numbers they are not refused, that no factor comes with a
+-- What `from_generators` never gives and never writes, on every input: by which numbers it is not refused, that no factor comes with a
 -- refusal, that of each buffer at most the needed stretch is written, and so that a factor elsewhere in the table's buffer is as it was.
 use Prim.Native.Nat.{ℕ}
 use mathlib.Core.Path.{_≡_, refl, sym, ap, _∙_}
 use mathlib.Core.Bool.{false}
 use mathlib.Core.List.{List, [], _∷_}
-use lib.ListN.{length, getD, take, replicate, length-replicate}
+use lib.ListN.{length, take, replicate, length-replicate}
 use Rattle.egg.specs.declared.Factor.{Factor}
 use Rattle.egg.specs.declared.Refusal.{Refusal}
 use Rattle.egg.specs.declared.Verdict.{Verdict}
@@ -23,7 +23,6 @@ use Rattle.promises.proofs.Never.{leaves-number}
 use Rattle.promises.proofs.Unaltered.{kept}
 use Rattle.group_handles.specs.declared.Group.{Group}
 use Rattle.group_handles.specs.Handles.{handles, elementsOf}
-use Rattle.group_digits.specs.Digits.{composes}
 use Rattle.build_numbering.specs.Build.{Renumbering, renumbering, renumberIn}
 use Rattle.subgroup_build.specs.declared.Subgroup.{Subgroup}
 use Rattle.subgroup_build.specs.declared.Subgrouped.{Subgrouped}
@@ -31,15 +30,11 @@ use Rattle.subgroup_build.specs.Lent.{subgrouping, mapsBack}
 use Rattle.subgroup_rows.specs.Rows.{productOf}
 use Rattle.subgroup_build.specs.Generated.{fromGenerators}
 use Rattle.subgroup_sides.specs.Sides.{sidesFit}
-use Rattle.subgroup_predicate_choices.specs.Choices.{Picked, picked}
-use Rattle.subgroup_predicate.specs.Predicate.{predicateIn, toldBack, fromPredicate}
-use Rattle.promises_subgroup.specs.Leaves.{mapsFor, generatorsAfter, predicateAfter, AllWrote}
+use Rattle.promises_subgroup.specs.Leaves.{mapsFor, generatorsAfter, AllWrote}
 use Rattle.promises_subgroup.proofs.Called as called
 use Rattle.promises_subgroup.proofs.Called.{fine-refused}
-use Rattle.promises_subgroup.proofs.ToldCalls as told
 use Rattle.promises_subgroup.proofs.Altered.{accepted-regardless}
-use Rattle.promises_subgroup.proofs.AlteredTold.{told-regardless}
-use Rattle.promises_subgroup.proofs.Leaves.{generators-leaves, predicate-leaves}
+use Rattle.promises_subgroup.proofs.Leaves.{generators-leaves}
 
 -- A refused call has written nothing, or zeros in the needed stretches.
 as-before-wrote : (l : List Lent) → AsBefore l → AllWrote l
@@ -50,15 +45,15 @@ cleared-wrote : (l : List Lent) → AllCleared l → AllWrote l
 cleared-wrote [] s = tt
 cleared-wrote (b ∷ l) s = (part (replicate (b .need) 0) (s .0 .inside) (length-replicate (b .need) 0) (s .0 .zero), cleared-wrote l (s .1))
 
-leaves-all-wrote : {right : Type 0} {before after : List ℕ} {l : List Lent} {r : Refusal} → Leaves right before after l r → AllWrote l
+pub leaves-all-wrote : {right : Type 0} {before after : List ℕ} {l : List Lent} {r : Refusal} → Leaves right before after l r → AllWrote l
 leaves-all-wrote {l = l} (untouched wrong m s) = as-before-wrote l s
 leaves-all-wrote {l = l} (zeros ok m s) = cleared-wrote l s
 
 -- No factor comes with a refusal, and that one fits no buffer: every question about such a subgroup is refused by 17.
-the-factor : {a b : Subgrouped} {t t′ w w′ i i′ o o′ : List ℕ} → subgrouping a t w i o ≡ subgrouping b t′ w′ i′ o′ → b .subgroup .factor ≡ a .subgroup .factor
+pub the-factor : {a b : Subgrouped} {t t′ w w′ i i′ o o′ : List ℕ} → subgrouping a t w i o ≡ subgrouping b t′ w′ i′ o′ → b .subgroup .factor ≡ a .subgroup .factor
 the-factor {a} {b} h = let m : a ≡ b = cc in sym (ap (λ (x : Subgrouped). x .subgroup .factor) m)
 
-back-none : (over : Group) (table : List ℕ) (start : ℕ) (work inn outw : List ℕ) (M k n room : ℕ) (b : Renumbering) {r : Refusal} {s : Subgroup} {t w i o : List ℕ}
+pub back-none : (over : Group) (table : List ℕ) (start : ℕ) (work inn outw : List ℕ) (M k n room : ℕ) (b : Renumbering) {r : Refusal} {s : Subgroup} {t w i o : List ℕ}
     → mapsBack over table start work inn outw M k n room b ≡ subgrouping (record { answer = verdict.Refused r; subgroup = s }) t w i o → s .factor ≡ noFactor
 back-none over table start work inn outw M k n room (renumbering (built (counted.Count c) t′ w′) i′ o′) q = absurd (fine-refused (sym q))
 back-none over table start work inn outw M k n room (renumbering (built (counted.Refused f) t′ w′) i′ o′) q = the-factor q
@@ -97,37 +92,3 @@ module _ (from : List ℕ) (over : Group) (gens table : List ℕ) (start : ℕ) 
       → fromGenerators from over gens table start work inn outw room ≡ subgrouping (record { answer = v; subgroup = s }) t w i o
       → {f : Factor} → Accepted table f → Apart f (tableFor table start (length gens) room t) → Unaltered table t f
   generators-unaltered v h A apart = kept (tableFor table start (length gens) room t) A apart (generators-wrote v h .0)
-
-told-none : (over : Group) (table : List ℕ) (start : ℕ) (work inn outw : List ℕ) (M room : ℕ) (p : Picked) {r : Refusal} {s : Subgroup} {t w i o : List ℕ}
-    → toldBack over table start work inn outw M room p ≡ subgrouping (record { answer = verdict.Refused r; subgroup = s }) t w i o → s .factor ≡ noFactor
-told-none over table start work inn outw M room (picked gens b) q = back-none over table start work inn outw M 8 (length gens) room b q
-
-module _ (from : List ℕ) (over : Group) (members table : List ℕ) (start : ℕ) (work inn outw : List ℕ) (room : ℕ) (s : Subgroup) (t w i o : List ℕ) where
-  pub predicate-no-factor : (r : Refusal)
-      → fromPredicate from over members table start work inn outw room ≡ subgrouping (record { answer = verdict.Refused r; subgroup = s }) t w i o → s .factor ≡ noFactor
-  predicate-no-factor r h = by (told.ways from over members table start work inn outw room) where
-    by : told.Ways from over members table start work inn outw room → s .factor ≡ noFactor
-    by (told.early f z) = the-factor (sym z ∙ h)
-    by (told.late S) =
-        told-none over table start work inn outw (elementsOf (handles over)) room
-        (predicateIn (tableNeed 8 room) (take (workNeed 8 room) work) (composes from (handles over)) room (elementsOf (handles over)) room (λ x. getD members x 0))
-        (sym (told.is-told from over members table start work inn outw room S) ∙ h)
-
-  -- 1 to 3, 7, 13, 14 and 16 never come.
-  pub predicate-never : (r : Refusal)
-      → fromPredicate from over members table start work inn outw room ≡ subgrouping (record { answer = verdict.Refused r; subgroup = s }) t w i o
-      → ¬ (In (1 ∷ 2 ∷ 3 ∷ 7 ∷ 13 ∷ 14 ∷ 16 ∷ []) r)
-  predicate-never r h m =
-      none-of (r .number) (1 ∷ 2 ∷ 3 ∷ 7 ∷ 13 ∷ 14 ∷ 16 ∷ []) (4 ∷ predicateAfter) refl m
-      (leaves-number (4 ∷ predicateAfter) refl refl (predicate-leaves from over members table start work inn outw room r s t w i o h))
-
-  pub predicate-wrote : (v : Verdict)
-      → fromPredicate from over members table start work inn outw room ≡ subgrouping (record { answer = v; subgroup = s }) t w i o
-      → AllWrote (mapsFor table start work inn outw 8 (elementsOf (handles over)) room t w i o)
-  predicate-wrote verdict.Fine h = told-regardless from over members table start work inn outw room h .2 .wrote
-  predicate-wrote (verdict.Refused r) h = leaves-all-wrote (predicate-leaves from over members table start work inn outw room r s t w i o h)
-
-  pub predicate-unaltered : (v : Verdict)
-      → fromPredicate from over members table start work inn outw room ≡ subgrouping (record { answer = v; subgroup = s }) t w i o
-      → {f : Factor} → Accepted table f → Apart f (tableFor table start 8 room t) → Unaltered table t f
-  predicate-unaltered v h A apart = kept (tableFor table start 8 room t) A apart (predicate-wrote v h .0)

@@ -1,5 +1,5 @@
--- This file states what `from_generators` and `from_predicate` answer whatever the overgroup's buffer holds: its stretches may have been altered
--- since they were accepted. Document 01: "then 17 in what they read (13 or 17 as met)", and "Demand 1 and 17 need no premise".
+-- This file states what a call that makes a subgroup answers whatever the overgroup's buffer holds: its stretches may have been altered since they
+-- were accepted. Document 01: "then 17 in what they read (13 or 17 as met)", and "Demand 1 and 17 need no premise".
 use Prim.Native.Nat.{ℕ, _+_, _*_, _≤_, _<_}
 use mathlib.Core.Path.{_≡_}
 use mathlib.Core.Bool.{true}
@@ -9,7 +9,6 @@ use Rattle.egg.specs.declared.Refusal.{Refusal}
 use Rattle.egg.specs.declared.Reached.the-variants as reached
 use Rattle.egg.specs.declared.Verdict.the-variants as verdict
 use Rattle.egg.specs.declared.Counted.the-variants as counted
-use Rattle.build_reading.specs.Build.{numbered}
 use Rattle.build_reading.specs.Reading.{readAll}
 use Rattle.build_lending.specs.Finish.{Built, built, finishedPlaced}
 use Rattle.build_lending.specs.Lending.{tableNeed, workNeed, within, noFactor}
@@ -19,7 +18,7 @@ use Rattle.build_laws.specs.Taken.{Taken}
 use Rattle.group_handles.specs.declared.Group.{Group}
 use Rattle.group_handles.specs.Handles.{handles, elementsOf, allFit, groupOf}
 use Rattle.build_numbering.specs.Build.{renumbering}
-use Rattle.build_numbering_laws.specs.Orbit.{numberedStep, Appearing}
+use Rattle.theory.specs.Orbit.{numberedStep, Appearing}
 use Rattle.build_numbering_laws.specs.Source.{outOf}
 use Rattle.build_numbering_laws.specs.Maps.{Filled}
 use Rattle.subgroup_build.specs.declared.Subgroup.{Subgroup}
@@ -88,13 +87,3 @@ pub record Regardless (from : List ℕ) (over : Group) (gens : List ℕ) (k : �
   pub beyond : {j : ℕ} → s .factor .elements * (2 * length gens + 4) ≤ j → j < tableNeed k room → getD t (start + j) 0 ≡ 0
   pub work-zero : w ≡ within work 0 (workNeed k room) (replicate (workNeed k room) 0)
   pub wrote : AllWrote (mapsFor table start work inn outw k (elementsOf (handles over)) room t w i o)
-
--- By what a call of `from_predicate` is refused that has started: by 15 for a ninth generator; or because a build by at most eight elements is
--- refused, by 17 as a product is, or as the build from composed rows is, of the steps that are read.
-pub data ToldStops (from : List ℕ) (over : Group) (room : ℕ) (r : Refusal) : Type 0 where
-  ninth : r ≡ numbered 15 0 0 0 → ToldStops from over room r
-  stopped : (gens : List ℕ) (x g : ℕ) → length gens ≤ 8 → In (17 ∷ []) r → productOf from (handles over) gens x g ≡ reached.Refused r → ToldStops from over room r
-  by-steps : (gens : List ℕ) (count : ℕ) (elt : ℕ → ℕ) (w t w′ : List ℕ) → length gens ≤ 8
-      → Appearing (length gens) (elementsOf (handles over)) (stepsRead from over gens) 0 count elt
-      → finishedPlaced (readAll (numberedStep count elt (stepsRead from over gens)) (length gens) room (replicate (tableNeed 8 room) 0)) (length gens) w
-      ≡ built (counted.Refused r) t w′ → ToldStops from over room r

@@ -7,7 +7,7 @@ use mathlib.Core.List.{List}
 use lib.ListN.{length, getD}
 use Rattle.egg.specs.declared.Refusal.{Refusal}
 use Rattle.egg.specs.Factor.{Paper, refusalPaper, verdictPaper}
-use Rattle.build_reading.specs.Build.{numbered}
+use Rattle.egg.specs.Answers.{numbered}
 use Rattle.build_lending.specs.Lending.{tableNeed, workNeed}
 use Rattle.build_reading_laws.specs.Read.{Readable, Refuses}
 use Rattle.factor_laws.specs.Papers.{valuePaper}
@@ -15,8 +15,8 @@ use Rattle.promises_refusals.specs.Firsts.{FirstOf}
 use Rattle.group_handles.specs.declared.Group.{Group}
 use Rattle.group_handles.specs.Handles.{handles, elementsOf, allFit}
 use Rattle.promises_group.specs.Products.{direct}
-use Rattle.build_numbering_laws.specs.Orbit.{numberedStep, Appearing}
-use Rattle.build_numbering_laws.specs.Subgroup.{rightBy, FirstIdentity, FirstRepeat}
+use Rattle.theory.specs.Orbit.{numberedStep, Appearing}
+use Rattle.theory.specs.Subgroup.{rightBy, FirstIdentity, FirstRepeat}
 use Rattle.subgroup_build.specs.Lent.{shown, Subgrouping, subgrouping}
 use Rattle.promises_subgroup.specs.Generates.{Acceptable}
 

@@ -16,8 +16,8 @@ use Rattle.group_handles.specs.declared.Group.{Group}
 use Rattle.group_handles.specs.Handles.{handles, elementsOf, allFit, groupOf}
 use Rattle.promises_group.specs.Products.{direct}
 use Rattle.build_numbering.specs.Renumber as appear
-use Rattle.build_numbering_laws.specs.Orbit.{numberedStep, Appearing}
-use Rattle.build_numbering_laws.specs.Subgroup.{rightBy, Generated, Proper}
+use Rattle.theory.specs.Orbit.{numberedStep, Appearing}
+use Rattle.theory.specs.Subgroup.{rightBy, Generated, Proper}
 use Rattle.subgroup_build.specs.declared.Subgroup.{Subgroup}
 use Rattle.subgroup_build.specs.Lent.{Subgrouping, subgrouping, mapsRight}
 use Rattle.subgroup_build.specs.Generated.{entriesRight, smallEnough}

@@ -1,5 +1,5 @@
--- This file states what a refused `from_generators` or `from_predicate` leaves, in the words of every call that makes a factor (`Leaves` of
--- promises): its four lent buffers with their needed stretches, and the numbers that may be given before the build starts and afterwards.
+-- This file states what a refused call that makes a subgroup leaves, in the words of every call that makes a factor (`Leaves` of promises): its four
+-- lent buffers with their needed stretches, and the numbers that `from_generators` may give before the build starts and afterwards.
 use Prim.Native.Nat.{ℕ}
 use mathlib.Core.List.{List, [], _∷_}
 use Rattle.build_lending.specs.Lending.{workNeed}
@@ -25,14 +25,6 @@ generatorsBefore = 17 ∷ 14 ∷ 15 ∷ 1 ∷ 4 ∷ []
 -- but for 7: a number in order of first appearance never skips ahead.
 abbrev pub generatorsAfter : List ℕ
 generatorsAfter = 17 ∷ 5 ∷ 6 ∷ 8 ∷ lateNumbers
-
--- The numbers before `from_predicate` starts, which has no arguments for 14 and 1.
-abbrev pub predicateBefore : List ℕ
-predicateBefore = 17 ∷ 15 ∷ 4 ∷ []
-
--- The numbers afterwards: the same, and 15 for "a predicate that needs a ninth generator".
-abbrev pub predicateAfter : List ℕ
-predicateAfter = 15 ∷ generatorsAfter
 
 -- "Longer buffers are taken and the excess is untouched": of each buffer at most the needed stretch was written.
 abbrev pub AllWrote : List Lent → Type 0

@@ -1,15 +1,10 @@
 pub mod Carried
-pub mod Predicate
-pub mod Told
 pub mod Made
 pub mod Generates
 pub mod Leaves
 pub mod Asked
 pub mod Unaltered
-pub mod Tells
 pub mod Refuses
 pub mod Altered
-pub mod Tellable
 pub mod Answers
 pub mod AlteredCases
-pub mod ToldAnswers

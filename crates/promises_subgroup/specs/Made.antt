@@ -10,7 +10,7 @@ use Rattle.build_checks_laws.specs.Stored.{wordOf}
 use Rattle.build_checks_laws.specs.Sound.{Sound, Ruled}
 use Rattle.build_numbering.specs.Renumber as appear
 use Rattle.build_numbering_laws.specs.Maps.{Held}
-use Rattle.build_numbering_laws.specs.Subgroup.{rightBy, Generated, Proper}
+use Rattle.theory.specs.Subgroup.{rightBy, Generated, Proper}
 use Rattle.promises_subgroup.specs.Carried.{Carried, Homomorphic}
 
 -- A table of c elements that passes the checks and follows the numbering rule; two maps that hold its numbering, undo each other and carry the

@@ -11,7 +11,7 @@ use Rattle.egg.specs.declared.GroupElementId.{GroupElementId}
 use Rattle.egg.specs.declared.Reached.{Reached}
 use Rattle.egg.specs.declared.Reached.the-variants as reached
 use Rattle.egg.specs.Factor.{refusedReach}
-use Rattle.factor_questions.specs.Walks.{onReached}
+use Rattle.egg.specs.Answers.{onReached}
 use Rattle.theory_radix.proofs.RadixLaws.{range-pos, high-small}
 use Rattle.group_handles.specs.Handles.{handles, elementsOf, capped}
 use Rattle.group_handles.proofs.Caps.{cap-small}

@@ -15,7 +15,7 @@ use Rattle.egg.specs.Scan.{refusedOf}
 use Rattle.egg.specs.Factor.{fitsIn}
 use Rattle.egg.proofs.Rooms.{and-first, and-second}
 use Rattle.egg.proofs.Scans.{refused-fine}
-use Rattle.factor.specs.Questions.{ifReach}
+use Rattle.egg.specs.Answers.{ifReach}
 use Rattle.group_handles.specs.declared.inner.Seen.{Seen}
 use Rattle.group_handles.specs.Handles.{handles, elementsOf, capped, seen}
 use Rattle.group_handles.proofs.Caps.{cap-small, cap-within, capped-bound}

@@ -10,7 +10,7 @@ use Rattle.egg.specs.declared.Verdict.the-variants as verdict
 use Rattle.egg.specs.declared.Reached.{Reached}
 use Rattle.egg.specs.Table.{pick}
 use Rattle.egg.specs.Scan.{refusedOf}
-use Rattle.factor.specs.Questions.{ifReach}
+use Rattle.egg.specs.Answers.{ifReach}
 use Rattle.group_handles.specs.declared.inner.Seen.{Seen}
 use Rattle.group_handles.specs.Handles.{handles, elementsOf, capped}
 use Rattle.subgroup_build.specs.declared.Subgroup.{Subgroup}

@@ -12,8 +12,7 @@ use Rattle.egg.specs.declared.Reached.{Reached}
 use Rattle.egg.specs.declared.Reached.the-variants as reached
 use Rattle.egg.specs.Table.{pick}
 use Rattle.egg.specs.Factor.{Paper, refusalPaper, refusedReach}
-use Rattle.factor.specs.Questions.{ifReach}
-use Rattle.factor_questions.specs.Walks.{onReached}
+use Rattle.egg.specs.Answers.{ifReach, onReached}
 use Rattle.group_handles.specs.Handles.{elementsOf, generatorsOf, capped}
 use Rattle.build_numbering.specs.Renumber.{none}
 use Rattle.subgroup_build.specs.declared.Subgroup.{Subgroup}

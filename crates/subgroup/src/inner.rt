@@ -3,7 +3,7 @@ ghost use mathlib.Core.Path.{_≡_};
 ghost use mathlib.Core.Bool.{true};
 ghost use Prim.Native.Nat.{_*_, _<_, _≤_};
 ghost use lib.ListN.{length};
-ghost use Rattle.factor_questions.specs.Walks.{onReached};
+ghost use Rattle.egg.specs.Answers.{onReached};
 ghost use Rattle.subgroup.specs.Indices.{factorIndices, unfactorIndices, withWithin};
 ghost use Rattle.subgroup_sides.specs.Sides.{sidesFit, sidesLimited};
 ghost use Rattle.subgroup.specs.Outline.{outlineBy, outlineOf, Measured, outlineLimited, admitsOutline, overByOutline, backByOutline};

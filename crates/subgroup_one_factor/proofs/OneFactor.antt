@@ -11,7 +11,8 @@ use Rattle.egg.specs.declared.Reached.{Reached}
 use Rattle.egg.specs.declared.Reached.the-variants.{Element, Refused}
 use Rattle.egg.specs.Factor.{fitsIn, stretch}
 use Rattle.egg.proofs.Rooms.{and-first}
-use Rattle.factor_questions.specs.Walks.{onReached, composeIn}
+use Rattle.factor_questions.specs.Walks.{composeIn}
+use Rattle.egg.specs.Answers.{onReached}
 use Rattle.group_digits.specs.Digits.{above, digitwise, composes}
 
 -- A factor whose handle fits has an element.

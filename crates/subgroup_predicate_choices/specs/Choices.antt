@@ -10,7 +10,7 @@ use lib.Dec.{eqb, ltb}
 use Rattle.egg.specs.declared.Reached.{Reached}
 use Rattle.egg.specs.declared.Counted.the-variants.{Count, Refused}
 use Rattle.egg.specs.Table.{pick}
-use Rattle.build_reading.specs.Build.{numbered}
+use Rattle.egg.specs.Answers.{numbered}
 use Rattle.build_lending.specs.Finish.{built, zeroed}
 use Rattle.build_numbering.specs.Renumber as appear
 use Rattle.build_numbering.specs.Build.{Renumbering, renumbering, renumberIn}

@@ -6,7 +6,7 @@ use Rattle.egg.specs.declared.Reached.{Reached}
 use Rattle.egg.specs.declared.Reached.the-variants as reached
 use Rattle.egg.specs.Table.{pick}
 use Rattle.egg.specs.Factor.{readStep, stretch}
-use Rattle.factor_questions.specs.Walks.{onReached}
+use Rattle.egg.specs.Answers.{onReached}
 use Rattle.group_handles.specs.Handles.{handles, generatorsOf}
 use Rattle.group_digits.specs.Digits.{stepIn}
 use Rattle.subgroup_build.specs.declared.Subgroup.{Subgroup}

@@ -29,3 +29,5 @@ pub mod Parting
 pub mod Examples
 pub mod Parity
 pub mod Pasts
+pub mod Subgroups
+pub mod FirstRow

@@ -11,3 +11,5 @@ pub mod Presentation
 pub mod Test
 pub mod Past
 pub mod Parting
+pub mod Subgroup
+pub mod Orbit

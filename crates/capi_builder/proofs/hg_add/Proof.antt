@@ -1,12 +1,12 @@
 -- The call's own table, and its answer written.
-use Rattle.capi_values.proofs.Laws.{grown-holds}
+use Rattle.capi_builder.proofs.Laws.{grown-holds}
 use borrow.Author.Needs.{needs}
 use Rattle.capi_builder.proofs.hg_add.Statement.{statement}
 use Rattle.capi_builder.proofs.hg_add.Tie as tie
 use Rattle.capi_builder.proofs.hg_add.Reads as reads
 use Rattle.capi_builder.proofs.hg_add.Lts as lts
 use Rattle.capi_builder.proofs.builder_of.Reads as builder-of-reads
-use Rattle.capi_values.proofs.inner.write_grown.Reads as write-grown-reads
+use Rattle.capi_builder.proofs.write_grown.Reads as write-grown-reads
 use Rattle.builder.proofs.add_successor.Reads as add-successor-reads
 
 builder-of-requires : tie.Need-builder-of-requires

@@ -1,11 +1,11 @@
 -- The call's own table, and its answer written.
-use Rattle.capi_values.proofs.Laws.{begun-holds}
+use Rattle.capi_builder.proofs.Laws.{begun-holds}
 use borrow.Author.Needs.{needs}
 use Rattle.capi_builder.proofs.hg_begin.Statement.{statement}
 use Rattle.capi_builder.proofs.hg_begin.Tie as tie
 use Rattle.capi_builder.proofs.hg_begin.Reads as reads
 use Rattle.capi_builder.proofs.hg_begin.Lts as lts
-use Rattle.capi_values.proofs.inner.write_begun.Reads as write-begun-reads
+use Rattle.capi_builder.proofs.write_begun.Reads as write-begun-reads
 use Rattle.builder.proofs.begin.Reads as begin-reads
 
 begin-requires : tie.Need-begin-requires

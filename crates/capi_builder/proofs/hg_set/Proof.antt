@@ -1,12 +1,12 @@
 -- The call's own answer, as one number, and its table.
-use Rattle.capi_values.proofs.Laws.{stored-leaves}
+use Rattle.capi_builder.proofs.Laws.{stored-leaves}
 use borrow.Author.Needs.{needs}
 use Rattle.capi_builder.proofs.hg_set.Statement.{statement}
 use Rattle.capi_builder.proofs.hg_set.Tie as tie
 use Rattle.capi_builder.proofs.hg_set.Reads as reads
 use Rattle.capi_builder.proofs.hg_set.Lts as lts
 use Rattle.capi_builder.proofs.builder_of.Reads as builder-of-reads
-use Rattle.capi_values.proofs.inner.stored_code.Reads as stored-code-reads
+use Rattle.capi_builder.proofs.stored_code.Reads as stored-code-reads
 use Rattle.builder.proofs.set_successor.Reads as set-successor-reads
 
 builder-of-requires : tie.Need-builder-of-requires

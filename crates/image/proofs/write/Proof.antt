@@ -12,7 +12,7 @@ use Rattle.image.proofs.write.Reads as reads
 use Rattle.image.proofs.write.Lts as lts
 use Rattle.egg.proofs.fits.Reads as fits-reads
 use Rattle.egg.proofs.inner.part.Reads as part-reads
-use Rattle.factor_words.proofs.inner.refused_count.Reads as refused-count-reads
+use Rattle.egg.proofs.inner.refused_count.Reads as refused-count-reads
 use Rattle.image.proofs.size.Reads as size-reads
 use Rattle.image_writing.proofs.inner.all_known.Reads as all-known-reads
 use Rattle.image_writing.proofs.inner.put_head.Reads as put-head-reads

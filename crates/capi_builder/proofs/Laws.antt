@@ -1,0 +1,40 @@
+-- What a list holds after the stores of a builder's answer.
+use Prim.Native.Nat.{ℕ}
+use mathlib.Core.Path.{_≡_, ap, _∙_}
+use mathlib.Core.List.{List}
+use Rattle.egg.specs.declared.Refusal.{Refusal}
+use Rattle.egg.specs.declared.Verdict.the-variants.{Refused}
+use Rattle.egg.specs.Table.{putAt}
+use Rattle.egg.specs.declared.Reached.{Reached}
+use Rattle.egg.specs.declared.Reached.the-variants.{Element}
+use Rattle.egg.specs.declared.Reached.the-variants as reached
+use Rattle.egg.specs.declared.GroupElementId.{GroupElementId}
+use Rattle.builder.specs.declared.Begun.{Begun}
+use Rattle.builder.specs.declared.Grown.{Grown}
+use Rattle.builder.specs.declared.Stored.{Stored}
+use Rattle.builder.specs.Calls.{Leaving, leaving}
+use Rattle.capi_values.specs.Bridge.{paperInto}
+use Rattle.capi_builder.specs.Answers.{reachedInto, begunInto, grownInto, storedCode, Answered, begunWith, grownWith, storedWith}
+use Rattle.capi_values.proofs.Laws.{stored-four}
+
+pub reached-refused : (r : Refusal) {x : Reached} (l : List ℕ) {m : List ℕ} → x ≡ reached.Refused r → m ≡ paperInto (Refused r) l → m ≡ reachedInto x l
+unfolding paperInto reachedInto
+reached-refused r l e p = rw e p
+
+pub reached-element : (e : GroupElementId) {x : Reached} (l : List ℕ) {l₁ l₂ l₃ l₄ : List ℕ} → x ≡ Element e → l₁ ≡ putAt l 0 0 → l₂ ≡ putAt l₁ 1 (e .0) → l₃ ≡ putAt l₂ 2 0
+    → l₄ ≡ putAt l₃ 3 0 → l₄ ≡ reachedInto x l
+unfolding reachedInto
+reached-element e l q p₁ p₂ p₃ p₄ = rw q (stored-four l 0 (e .0) 0 0 p₁ p₂ p₃ p₄)
+
+pub grown-written : (g : Grown) (l : List ℕ) {l₁ l₂ : List ℕ} → l₁ ≡ reachedInto (g .answer) l → l₂ ≡ putAt l₁ 4 (g .builder .0 .elements) → l₂ ≡ grownInto g l
+unfolding grownInto
+grown-written g l p q = q ∙ rw p
+
+pub begun-holds : {b : Begun} {t : List ℕ} {x : Leaving Begun} (out : List ℕ) {l : List ℕ} → leaving b t ≡ x → l ≡ begunInto b out → Answered.holds t l ≡ begunWith x out
+begun-holds {b} {t} out p q = ap (Answered.holds t) q ∙ ap (λ (y : Leaving Begun). begunWith y out) p
+
+pub grown-holds : {g : Grown} {t : List ℕ} {x : Leaving Grown} (out : List ℕ) {l : List ℕ} → leaving g t ≡ x → l ≡ grownInto g out → Answered.holds t l ≡ grownWith x out
+grown-holds {g} {t} out p q = ap (Answered.holds t) q ∙ ap (λ (y : Leaving Grown). grownWith y out) p
+
+pub stored-leaves : {s : Stored} {t : List ℕ} {x : Leaving Stored} {r : ℕ} → leaving s t ≡ x → r ≡ storedCode s → leaving r t ≡ storedWith x
+stored-leaves {s} {t} p q = ap (λ (k : ℕ). leaving k t) q ∙ ap storedWith p

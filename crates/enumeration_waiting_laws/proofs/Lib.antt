@@ -1,9 +1,0 @@
-pub mod Lists
-pub mod Places
-pub mod Chains
-pub mod Choosing
-pub mod Taking
-pub mod Joining
-pub mod Linking
-pub mod Appending
-pub mod Beginning

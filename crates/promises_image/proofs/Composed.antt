@@ -1,0 +1,99 @@
+-- The number of rows read over bytes is the one that `from_composed` gives on the same rows with room N, but for 16 where fewer than N are reached.
+use Prim.Native.Nat.{ℕ, _+_, _*_, _≤_, _<_}
+use mathlib.Core.Path.{_≡_, refl, sym, ap, _∙_, subst}
+use mathlib.Core.Bool.{Bool, true, false}
+use mathlib.Core.List.{List}
+use native.Mathlib.Nat.{mul-le-mul, le-refl}
+use native.Mathlib.Omega.{arith}
+use borrow.Author.Tests.{le-leb, le-ltb, leb-true, ltb-false}
+use lib.Dec.{ltb}
+use lib.ListN.{length, take, replicate}
+use lib.Seq.{length-take-le}
+use Rattle.egg.specs.declared.Verdict.the-variants as verdict
+use Rattle.egg.specs.declared.Counted.the-variants.{Count, Refused}
+use Rattle.egg.specs.Table.{pick}
+use Rattle.egg.specs.Factor.{countedPaper}
+use Rattle.egg.proofs.Rooms.{positive, limited}
+use Rattle.build_checks.specs.Checks.{Checked, checked, verdictOf, check-group}
+use Rattle.build_lending.specs.Finish as finish
+use Rattle.build_lending.specs.Finish.{Built, settledBy, finished, finishedPlaced}
+use Rattle.build_lending.specs.Lending.{tableNeed, workNeed, lentRight, Making, making, lentBack}
+use Rattle.build_lending.proofs.Lending.{lent-table, lent-enough}
+use Rattle.build_reading.specs.Reading.{Placed, placed, readAll, composedAt}
+use Rattle.factor.specs.Composed.{composedIn, composed}
+use Rattle.build_reading_laws.specs.Read.{Read}
+use Rattle.build_reading_laws.proofs.Readings.{accepted-read}
+use Rattle.image_check.specs.Short.{verdictNumber, numberBy, built}
+use Rattle.image_check_laws.proofs.Short.{whole-same}
+
+-- A reading that ended with fewer than N elements.
+abbrev pub fewer : Placed → ℕ → Bool
+fewer (placed (Count c) t) room = ltb c room
+fewer (placed (Refused r) t) room = false
+
+-- The number that a call which makes a factor answers.
+abbrev pub madeNumber : Making → ℕ
+madeNumber (making m t w) = verdictNumber (m .answer)
+
+abbrev builtNumber : Built → ℕ
+builtNumber (finish.built c t w) = countedPaper c .number
+
+back-number : (table : List ℕ) (start : ℕ) (work : List ℕ) (n room : ℕ) (b : Built) → madeNumber (lentBack table start work n room b) ≡ builtNumber b
+back-number table start work n room (finish.built (Count c) t w) = refl
+back-number table start work n room (finish.built (Refused r) t w) = refl
+
+settled-number : (n c : ℕ) (k : Checked) → verdictNumber (verdictOf k) ≡ builtNumber (settledBy n c k)
+settled-number n c (checked verdict.Fine t w) = refl
+settled-number n c (checked (verdict.Refused r) t w) = refl
+
+module _ (table : List ℕ) (start : ℕ) (work rows : List ℕ) (n room : ℕ) (hn : n ≤ 8)
+    (lent : lentRight (length table) start (length work) room n ≡ true) (listed : room * n ≤ length rows)
+    (w : List ℕ) (enough : 0 < n → room ≤ length w) where
+  abbrev w₁ : List ℕ
+  w₁ = take (workNeed n room) work
+
+  lo : 1 ≤ room
+  lo = positive (length table) start room n (lent-table (length table) start (length work) room n lent)
+
+  hi : room ≤ 65535
+  hi = limited (length table) start room n (lent-table (length table) start (length work) room n lent)
+
+  enough₁ : 0 < n → room ≤ length w₁
+  enough₁ pos =
+      let p : 1 ≤ 6 * n * n + 4 * n = omega arith in
+      rw (length-take-le (workNeed n room) work (leb-true _ _ (lent-enough (length table) start (length work) room n lent)))
+      (omega (arith, mul-le-mul (le-refl room) p))
+
+  composed-number : madeNumber (composed table start work rows n room) ≡ builtNumber (composedIn (tableNeed n room) w₁ rows n room)
+  unfolding composed
+  composed-number =
+      simp (le-ltb _ _ hn, lent, le-leb _ _ listed) (back-number table start work n room (composedIn (tableNeed n room) w₁ rows n room))
+
+  -- By what the reading gave.
+  whole : (c : ℕ) (t : List ℕ) → readAll (composedAt rows n) n room (replicate (tableNeed n room) 0) ≡ placed (Count c) t → room ≤ c
+      → verdictNumber (verdictOf (check-group t w n room)) ≡ builtNumber (finishedPlaced (placed (Count c) t) n w₁)
+  unfolding finished
+  whole c t q h =
+      let R = accepted-read (composedAt rows n) n room (tableNeed n room) hn lo hi (le-refl (tableNeed n room)) q in
+      let e : c ≡ room = omega (arith, R .within) in
+      ap verdictNumber (whole-same hn hi (subst (λ (k : ℕ). Read (composedAt rows n) n room (tableNeed n room) k t) e R) w w₁ enough enough₁)
+      ∙ settled-number n c (check-group t w₁ n room)
+      ∙ ap (λ (k : ℕ). builtNumber (settledBy n c (check-group t w₁ n k))) (sym e)
+
+  counting : (c : ℕ) (t : List ℕ) → readAll (composedAt rows n) n room (replicate (tableNeed n room) 0) ≡ placed (Count c) t → (b : Bool) → ltb c room ≡ b
+      → pick b 16 (verdictNumber (verdictOf (check-group t w n room))) ≡ pick b 16 (builtNumber (finishedPlaced (placed (Count c) t) n w₁))
+  counting c t q true e = refl
+  counting c t q false e = whole c t q (ltb-false c room e)
+
+  by : (p : Placed) → readAll (composedAt rows n) n room (replicate (tableNeed n room) 0) ≡ p
+      → numberBy (λ t. verdictOf (check-group t w n room)) p room ≡ pick (fewer p room) 16 (builtNumber (finishedPlaced p n w₁))
+  unfolding finished
+  by (placed (Refused r) t) q = refl
+  by (placed (Count c) t) q = counting c t q (ltb c room) refl
+
+  pub built-is-composed : built (tableNeed n room) w rows n room
+      ≡ pick (fewer (readAll (composedAt rows n) n room (replicate (tableNeed n room) 0)) room) 16 (madeNumber (composed table start work rows n room))
+  unfolding built composedIn
+  built-is-composed =
+      by (readAll (composedAt rows n) n room (replicate (tableNeed n room) 0)) refl
+      ∙ ap (λ (k : ℕ). pick (fewer (readAll (composedAt rows n) n room (replicate (tableNeed n room) 0)) room) 16 k) (sym composed-number)
