@@ -20,7 +20,7 @@ use Rattle.theory.specs.Regular.{compose, inverse}
 use Rattle.theory.proofs.Induction.{induction}
 use Rattle.theory.proofs.Recording.{recorded-spelled, word-of-recorded}
 use Rattle.theory.proofs.Sound.{sound, sound-steps}
-use Rattle.build_checks_laws.specs.Stored.{Stored, Kept, wordOf}
+use Rattle.build_checks_laws.specs.Stored.{StoredTable, Kept, wordOf}
 use Rattle.build_checks_laws.specs.Sound.{Sound}
 use Rattle.egg.proofs.Answers.{read-element}
 use Rattle.egg.proofs.Scans.{refused-fine}
@@ -141,7 +141,7 @@ module _ (t : List ℕ) (n N : ℕ) (origin : 1 ≤ N) (r : Ranged t n N) (steps
           length-append (wordOf t n (parentOf t n (suc e))) (lastOf t n (suc e) ∷ []),
         )
 
-  stored : Stored t n N (stepOf t n) (backOf t n) (parentOf t n) (lastOf t n) (wordOf t n)
+  stored : StoredTable t n N (stepOf t n) (backOf t n) (parentOf t n) (lastOf t n) (wordOf t n)
   stored = record {
     successor = λ {e} {g} he hg. omega (arith, r .successor e g he hg);
     predecessor = λ {e} {g} he hg. omega (arith, r .predecessor e g he hg);

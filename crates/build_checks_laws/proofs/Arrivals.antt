@@ -14,7 +14,7 @@ use Rattle.egg.specs.Table.{pick, putAt, stepOf}
 use Rattle.build_checks.specs.Checks.{wiped, arriveRow, arrivals, counted}
 use Rattle.theory.specs.Table.{Columns}
 use Rattle.theory.proofs.Induction.{Order, less, equal, more, order}
-use Rattle.build_checks_laws.specs.Stored.{Stored}
+use Rattle.build_checks_laws.specs.Stored.{StoredTable}
 use Rattle.egg.proofs.Cells.{put-same, put-other, put-length}
 use Rattle.build_checks_laws.proofs.Inverses.{step-is}
 
@@ -88,7 +88,7 @@ tally-split a e zero = refl
 tally-split a e (suc k) = omega (arith, tally-split a e k, one-split (a k) e)
 
 module _ {n N : ℕ} {step back : ℕ → ℕ → ℕ} {parent last : ℕ → ℕ} {word : ℕ → List ℕ} {t : List ℕ} (few : n ≤ 8)
-    (S : Stored t n N step back parent last word) (C : Columns n N step back) where
+    (S : StoredTable t n N step back parent last word) (C : Columns n N step back) where
   abbrev Counts : List ℕ → ℕ → ℕ → Type 0
   Counts w e g = (r : ℕ) → r < N → getD w r 0 ≡ tally (λ h. ltb (back r h) e) n + tally (λ h. eqb (back r h) e) g
 

@@ -17,14 +17,14 @@ use Rattle.theory.specs.Group.{RightRegular}
 use Rattle.theory.specs.Regular.{inverse}
 use Rattle.theory.proofs.Complete.{no-fixed-point, only-identity, complete, inverse-involution}
 use Rattle.theory.proofs.Recording.{recorded-spelled, length-grow}
-use Rattle.build_checks_laws.specs.Stored.{Stored}
+use Rattle.build_checks_laws.specs.Stored.{StoredTable}
 use Rattle.build_checks_laws.proofs.Tests.{check8-fine, table-fine, steps-fine, ranges-fine, wrong-fine, counts-fine, inverses-fine, identity-fine, spelled-fine}
 use Rattle.build_checks_laws.proofs.Inverses.{fill-kept, stored-kept, step-is, back-is, inverse-small, fill-inverse}
 use Rattle.build_checks_laws.proofs.Lefts.{lefts-complete}
 use Rattle.build_checks_laws.proofs.Arrivals.{counted-length, arrivals-right}
 
 module _ {n N : ℕ} {step back : ℕ → ℕ → ℕ} {parent last : ℕ → ℕ} {word : ℕ → List ℕ} {t : List ℕ}
-    (S : Stored t n N step back parent last word) (T : Table n N step) (P : Parents n N step parent last) (R : Recorded N parent last word)
+    (S : StoredTable t n N step back parent last word) (T : Table n N step) (P : Parents n N step parent last) (R : Recorded N parent last word)
     (C : Columns n N step back) where
   pub present : check8 t n N ≡ Fine
   present = check8-fine t n N .1 (λ e he g hg z. omega (arith, S .successor he hg), λ e he g hg z. omega (arith, S .predecessor he hg))
@@ -66,7 +66,7 @@ module _ {n N : ℕ} {step back : ℕ → ℕ → ℕ} {parent last : ℕ → �
   right-steps first = steps-fine t n N .1 (identity-fine t n N .1 (λ g hg. omega (arith, step-is S (T .origin) hg, first g hg)), words-right)
 
 module _ {n N : ℕ} {step back : ℕ → ℕ → ℕ} {parent last : ℕ → ℕ} {word : ℕ → List ℕ} {t : List ℕ}
-    (few : n ≤ 8) (small : N ≤ 65535) (room : N * (2 * n + 4) ≤ length t) (S : Stored t n N step back parent last word)
+    (few : n ≤ 8) (small : N ≤ 65535) (room : N * (2 * n + 4) ≤ length t) (S : StoredTable t n N step back parent last word)
     (T : Table n N step) (P : Parents n N step parent last) (R : Recorded N parent last word) (C : Columns n N step back)
     (short : (e : ℕ) → e < N → length (word e) ≤ 4096) where
   inverse-is : (e : ℕ) → e < N → inverseOf (fillInverses N t n 0) n e ≡ inverse back word e

@@ -11,7 +11,7 @@ use Rattle.theory.specs.Words.{Parents, Recorded, retrace}
 use Rattle.theory.specs.Regular.{inverse}
 use Rattle.theory.proofs.Walking.{retrace-closed}
 use Rattle.theory.proofs.Recording.{recorded-spelled, length-grow}
-use Rattle.build_checks_laws.specs.Stored.{Stored, Kept}
+use Rattle.build_checks_laws.specs.Stored.{StoredTable, Kept}
 use Rattle.egg.proofs.Cells.{put-same, put-other, put-length, cell-inside, other-cell, other-row}
 use Rattle.egg.proofs.Scans.{here-or-later}
 
@@ -86,7 +86,7 @@ retrace-append back x [] g = refl
 retrace-append back x (h ∷ u) g = ap (λ (y : ℕ). back y h) (retrace-append back x u g)
 
 module _ {n N : ℕ} {step back : ℕ → ℕ → ℕ} {parent last : ℕ → ℕ} {word : ℕ → List ℕ} where
-  pub stored-kept : {t t₁ : List ℕ} → Kept t t₁ n N → Stored t n N step back parent last word → Stored t₁ n N step back parent last word
+  pub stored-kept : {t t₁ : List ℕ} → Kept t t₁ n N → StoredTable t n N step back parent last word → StoredTable t₁ n N step back parent last word
   stored-kept K S = record {
     successor = λ {e} {g} he hg. kept-cell K (startOf n e + g) e g (omega arith) refl ∙ S .successor he hg;
     predecessor = λ {e} {g} he hg. kept-cell K (startOf n e + n + g) e (n + g) (omega arith) (omega arith) ∙ S .predecessor he hg;
@@ -96,15 +96,15 @@ module _ {n N : ℕ} {step back : ℕ → ℕ → ℕ} {parent last : ℕ → �
   }
 
   -- The step and the step back that are read.
-  pub step-is : {t : List ℕ} → Stored t n N step back parent last word → {e g : ℕ} → e < N → g < n → stepOf t n e g ≡ step e g
+  pub step-is : {t : List ℕ} → StoredTable t n N step back parent last word → {e g : ℕ} → e < N → g < n → stepOf t n e g ≡ step e g
   step-is S he hg = omega (arith, S .successor he hg)
 
-  pub back-is : {t : List ℕ} → Stored t n N step back parent last word → {e g : ℕ} → e < N → g < n → backOf t n e g ≡ back e g
+  pub back-is : {t : List ℕ} → StoredTable t n N step back parent last word → {e g : ℕ} → e < N → g < n → backOf t n e g ≡ back e g
   back-is S he hg = omega (arith, S .predecessor he hg)
 
   module _ (T : Table n N step) (P : Parents n N step parent last) (R : Recorded N parent last word) (C : Columns n N step back) where
     -- Going from parent to parent, through the predecessors.
-    invert-is : {t : List ℕ} → Stored t n N step back parent last word → (k e x : ℕ) → e < N → x < N → k ≡ length (word e)
+    invert-is : {t : List ℕ} → StoredTable t n N step back parent last word → (k e x : ℕ) → e < N → x < N → k ≡ length (word e)
         → invertFrom k t n e x ≡ retrace back x (word e)
     unfolding invertFrom
     invert-is S zero zero x he hx q = rw (R .start)
@@ -120,7 +120,7 @@ module _ {n N : ℕ} {step back : ℕ → ℕ → ℕ} {parent last : ℕ → �
     pub inverse-small : {e : ℕ} → e < N → inverse back word e < N
     inverse-small he = retrace-closed C (T .origin) (recorded-spelled P R .over he)
 
-    pub fill-inverse : N ≤ 65535 → (k : ℕ) (t : List ℕ) → N * (2 * n + 4) ≤ length t → Stored t n N step back parent last word
+    pub fill-inverse : N ≤ 65535 → (k : ℕ) (t : List ℕ) → N * (2 * n + 4) ≤ length t → StoredTable t n N step back parent last word
         → (e : ℕ) → e + k ≤ N → (d : ℕ) → e ≤ d → d < e + k → inverseOf (fillInverses k t n e) n d ≡ inverse back word d
     unfolding fillInverses
     fill-inverse small zero t room S e end d l m = absurd (omega arith)

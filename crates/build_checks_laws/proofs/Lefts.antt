@@ -16,7 +16,7 @@ use Rattle.theory.specs.Regular.{Check}
 use Rattle.theory.specs.Regular as regular
 use Rattle.theory.proofs.Walking.{walk-closed}
 use Rattle.theory.proofs.Recording.{recorded-spelled, walk-grow}
-use Rattle.build_checks_laws.specs.Stored.{Stored}
+use Rattle.build_checks_laws.specs.Stored.{StoredTable}
 use Rattle.egg.proofs.Cells.{put-length, put-extends}
 use Rattle.egg.proofs.Scans.{here-or-later, refused-fine}
 use Rattle.build_checks_laws.proofs.Tests.{all-go-fine}
@@ -32,7 +32,7 @@ then-fine Fine w l w₁ h = (refl, h)
 then-fine (Refused r) w l w₁ h = absurd (refused-fine {r = r} (cc))
 
 module _ {n N : ℕ} {step back : ℕ → ℕ → ℕ} {parent last : ℕ → ℕ} {word : ℕ → List ℕ} {t : List ℕ} (small : N ≤ 65535)
-    (S : Stored t n N step back parent last word) (T : Table n N step) (P : Parents n N step parent last) (R : Recorded N parent last word) where
+    (S : StoredTable t n N step back parent last word) (T : Table n N step) (P : Parents n N step parent last) (R : Recorded N parent last word) where
   left-small : {s x : ℕ} → s < n → x < N → regular.left step word s x < N
   left-small hs hx = walk-closed T (T .closed (T .origin) hs) (recorded-spelled P R .over hx)
 

@@ -16,7 +16,7 @@ use Rattle.egg.proofs.Scans.{Says, says-fine, says-refused, says-pick, says-the
 use Rattle.build_checks.specs.Checks.{missing, missingRow, check8, ranges, wrong, wrongRow, check-table, counted, countsRight, checked, check-rest, check-group}
 use Rattle.build_checks_inverses.specs.Inverses.{fillInverses, inversesRight}
 use Rattle.build_checks_group.specs.Lefts.{identityRow, columnsRow, spelledRow, spelled, check-steps, fillLeft, goesRow, allGo, lefts}
-use Rattle.build_checks_laws.specs.Numbers.{member, every, In, lateNumbers}
+use Rattle.build_checks_laws.specs.Numbers.{member, every, RefusalIn, lateNumbers}
 use Rattle.build_checks_laws.proofs.Refused.{leftVerdict, verdictOf, left-says, checked-says, table-says}
 
 -- What holds of each of these numbers holds of any one of them.
@@ -33,13 +33,13 @@ each-in p k (x ∷ l) a h = by (p x) refl a (eqb k x) refl h (each-in p k l) whe
 pub none-of : (k : ℕ) (l m : List ℕ) → every (λ x. pick (member x m) false true) l ≡ true → member k l ≡ true → member k m ≡ true → ⊥
 none-of k l m a h q = false-true (rw q at (each-in (λ x. pick (member x m) false true) k l a h))
 
-pub says-widen : (l m : List ℕ) → every (λ x. member x m) l ≡ true → (v : Verdict) → Says (In l) v → Says (In m) v
+pub says-widen : (l m : List ℕ) → every (λ x. member x m) l ≡ true → (v : Verdict) → Says (RefusalIn l) v → Says (RefusalIn m) v
 says-widen l m a v p = record { of = λ r h. each-in (λ x. member x m) (r .number) l a (p .of r h) }
 
-refuses : (k a b c : ℕ) → member k lateNumbers ≡ true → Says (In lateNumbers) (refusedOf k a b c)
+refuses : (k a b c : ℕ) → member k lateNumbers ≡ true → Says (RefusalIn lateNumbers) (refusedOf k a b c)
 refuses k a b c h = says-refused h
 
-refuses-8 : (a b c : ℕ) → Says (In (8 ∷ [])) (refusedOf 8 a b c)
+refuses-8 : (a b c : ℕ) → Says (RefusalIn (8 ∷ [])) (refusedOf 8 a b c)
 refuses-8 a b c = says-refused refl
 
 ruleset numbers = (says-then, says-scan, says-pick, says-fine, refuses)
@@ -47,50 +47,50 @@ ruleset numbers = (says-then, says-scan, says-pick, says-fine, refuses)
 ruleset eight = (says-then, says-scan, says-pick, says-fine, refuses-8)
 
 module _ (t : List ℕ) (n N : ℕ) where
-  missing-number : Says (In (8 ∷ [])) (check8 t n N)
+  missing-number : Says (RefusalIn (8 ∷ [])) (check8 t n N)
   unfolding check8 missing missingRow
   missing-number = search eight depth 12
 
-  wrong-numbers : Says (In lateNumbers) (wrong t n N)
+  wrong-numbers : Says (RefusalIn lateNumbers) (wrong t n N)
   unfolding wrong wrongRow
   wrong-numbers = search numbers depth 12
 
-  counts-numbers : (w : List ℕ) → Says (In lateNumbers) (countsRight w n N)
+  counts-numbers : (w : List ℕ) → Says (RefusalIn lateNumbers) (countsRight w n N)
   unfolding countsRight
   counts-numbers w = search numbers
 
-  inverses-numbers : Says (In lateNumbers) (inversesRight t n N)
+  inverses-numbers : Says (RefusalIn lateNumbers) (inversesRight t n N)
   unfolding inversesRight
   inverses-numbers = search numbers
 
-  steps-numbers : Says (In lateNumbers) (check-steps t n N)
+  steps-numbers : Says (RefusalIn lateNumbers) (check-steps t n N)
   unfolding check-steps identityRow spelled columnsRow spelledRow
   steps-numbers = search numbers depth 12
 
-  all-go-numbers : (w : List ℕ) → Says (In lateNumbers) (allGo t w n N)
+  all-go-numbers : (w : List ℕ) → Says (RefusalIn lateNumbers) (allGo t w n N)
   unfolding allGo goesRow
   all-go-numbers w = search numbers
 
   -- Where all numbers are in range, the checks of the table alone give 8 or 9; with nothing missing, 9.
-  pub ranged-numbers : ranges t n N ≡ Fine → Says (In (8 ∷ lateNumbers)) (check-table t n N)
+  pub ranged-numbers : ranges t n N ≡ Fine → Says (RefusalIn (8 ∷ lateNumbers)) (check-table t n N)
   unfolding check-table
   ranged-numbers q =
       rw q (says-then (check8 t n N) (wrong t n N) (says-widen (8 ∷ []) (8 ∷ lateNumbers) refl (check8 t n N) missing-number)
       (says-widen lateNumbers (8 ∷ lateNumbers) refl (wrong t n N) wrong-numbers))
 
-  pub full-numbers : check8 t n N ≡ Fine → ranges t n N ≡ Fine → Says (In lateNumbers) (check-table t n N)
+  pub full-numbers : check8 t n N ≡ Fine → ranges t n N ≡ Fine → Says (RefusalIn lateNumbers) (check-table t n N)
   unfolding check-table
   full-numbers p q = rw (p, q) wrong-numbers
 
-lefts-numbers : (k : ℕ) (t : List ℕ) (n N : ℕ) (w : List ℕ) (s : ℕ) → Says (In lateNumbers) (leftVerdict (lefts k t n N w s))
+lefts-numbers : (k : ℕ) (t : List ℕ) (n N : ℕ) (w : List ℕ) (s : ℕ) → Says (RefusalIn lateNumbers) (leftVerdict (lefts k t n N w s))
 unfolding lefts
 lefts-numbers zero t n N w s = says-fine
 lefts-numbers (suc k) t n N w s =
     let v = fillLeft N t n s w 0 in
     left-says (allGo t v n N) v (lefts k t n N v (s + 1)) (all-go-numbers t n N v) (lefts-numbers k t n N v (s + 1))
 
-module _ (l : List ℕ) (late : every (λ x. member x l) lateNumbers ≡ true) (t w : List ℕ) (n N : ℕ) (first : Says (In l) (check-table t n N)) where
-  group-numbers : Says (In l) (verdictOf (check-group t w n N))
+module _ (l : List ℕ) (late : every (λ x. member x l) lateNumbers ≡ true) (t w : List ℕ) (n N : ℕ) (first : Says (RefusalIn l) (check-table t n N)) where
+  group-numbers : Says (RefusalIn l) (verdictOf (check-group t w n N))
   unfolding check-group check-rest
   group-numbers =
       let f = fillInverses N t n 0 in
@@ -106,7 +106,7 @@ module _ (l : List ℕ) (late : every (λ x. member x l) lateNumbers ≡ true) (
   checks-number {r} h = group-numbers .of r (ap verdictOf h)
 
 -- 2 or 3, where the orders are not right.
-refuses-orders : (k a b c : ℕ) → member k (2 ∷ 3 ∷ []) ≡ true → Says (In (2 ∷ 3 ∷ [])) (refusedOf k a b c)
+refuses-orders : (k a b c : ℕ) → member k (2 ∷ 3 ∷ []) ≡ true → Says (RefusalIn (2 ∷ 3 ∷ [])) (refusedOf k a b c)
 refuses-orders k a b c h = says-refused h
 
 ruleset orders = (says-then, says-scan, says-pick, says-fine, refuses-orders)
@@ -114,5 +114,5 @@ ruleset orders = (says-then, says-scan, says-pick, says-fine, refuses-orders)
 pub orders-number : (o : List ℕ) (n : ℕ) {r : Refusal} → ordersRight o n ≡ Refused r → member (r .number) (2 ∷ 3 ∷ []) ≡ true
 unfolding ordersRight
 orders-number o n {r} h = says .of r h where
-  says : Says (In (2 ∷ 3 ∷ [])) (ordersRight o n)
+  says : Says (RefusalIn (2 ∷ 3 ∷ [])) (ordersRight o n)
   says = search orders depth 12

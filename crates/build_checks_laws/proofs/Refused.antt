@@ -22,7 +22,7 @@ use Rattle.theory.specs.Table.{Table, Columns}
 use Rattle.theory.specs.Words.{Parents, Recorded}
 use Rattle.theory.specs.Group.{RightRegular}
 use Rattle.theory.proofs.ColumnLaws.{arrivals-are}
-use Rattle.build_checks_laws.specs.Stored.{Stored}
+use Rattle.build_checks_laws.specs.Stored.{StoredTable}
 use Rattle.build_checks_laws.specs.Until12.{Until12}
 use Rattle.egg.proofs.Scans.{refused-fine, Says, says-fine, says-refused, says-pick, says-then, says-scan}
 use Rattle.build_checks_laws.proofs.Tests.{table-fine, wrong-fine, counts-fine, identity-fine}
@@ -154,7 +154,7 @@ regular-same T same G = record {
 }
 
 module _ {n N : ℕ} {step back : ℕ → ℕ → ℕ} {parent last : ℕ → ℕ} {word : ℕ → List ℕ} {t : List ℕ}
-    (few : n ≤ 8) (small : N ≤ 65535) (room : N * (2 * n + 4) ≤ length t) (S : Stored t n N step back parent last word)
+    (few : n ≤ 8) (small : N ≤ 65535) (room : N * (2 * n + 4) ≤ length t) (S : StoredTable t n N step back parent last word)
     (T : Table n N step) (P : Parents n N step parent last) (R : Recorded N parent last word) (C : Columns n N step back)
     (short : (e : ℕ) → e < N → length (word e) ≤ 4096) (w : List ℕ) (work : 0 < n → N ≤ length w) where
   pub refused-no-group : {r : Refusal} {t₁ w₁ : List ℕ} → check-group t w n N ≡ checked (Refused r) t₁ w₁ → ((g : ℕ) → g < n → step 0 g ≡ suc g)

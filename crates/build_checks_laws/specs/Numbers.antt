@@ -18,8 +18,8 @@ every p [] = true
 every p (x ∷ l) = pick (p x) (every p l) false
 
 -- The refusal's number is in the list.
-abbrev pub In : List ℕ → Refusal → Type 0
-In l r = member (r .number) l ≡ true
+abbrev pub RefusalIn : List ℕ → Refusal → Type 0
+RefusalIn l r = member (r .number) l ≡ true
 
 -- The numbers of the refusals that are checked after 8.
 abbrev pub lateNumbers : List ℕ

@@ -8,7 +8,7 @@ use Rattle.theory.specs.Words.{Parents, Recorded, Spelled}
 use Rattle.theory.specs.Numbering.{NumberingRule}
 use Rattle.theory.specs.Appearance.{FirstAppearance}
 use Rattle.theory.specs.Regular.{inverse, Check}
-use Rattle.build_checks_laws.specs.Stored.{Stored, wordOf}
+use Rattle.build_checks_laws.specs.Stored.{StoredTable, wordOf}
 
 -- What checks 8 to 12 say of the first N rows of t: a table whose columns are permutations, in which the words recorded by parent and last generator lead
 -- to their elements; multiplication on the left by a generator commutes with every step, which is what 12, "no group has these right steps", decides;
@@ -21,7 +21,7 @@ pub record Sound (t : List ℕ) (n N : ℕ) : Type 0 where
   pub columns : Columns n N (stepOf t n) (backOf t n)
   pub check : Check n N (stepOf t n) (wordOf t n)
   pub identity-row : {g : ℕ} → g < n → stepOf t n 0 g ≡ suc g
-  pub stored : Stored t n N (stepOf t n) (backOf t n) (parentOf t n) (lastOf t n) (wordOf t n)
+  pub stored : StoredTable t n N (stepOf t n) (backOf t n) (parentOf t n) (lastOf t n) (wordOf t n)
   pub short : {e : ℕ} → e < N → lengthOf t n e ≤ 4096
   pub inverses : {e : ℕ} → e < N → inverseOf t n e ≡ inverse (backOf t n) (wordOf t n) e
 

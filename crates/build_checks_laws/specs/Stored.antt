@@ -8,7 +8,7 @@ use Rattle.theory.specs.Words.{word-of}
 
 -- The first N rows of t hold these steps and steps back, none of them missing, and for each element the parent, last generator and length of its
 -- recorded word. Document 01: "parent, last generator and length per element". Nothing is said of the inverses, nor of the identity's parent.
-pub record Stored (t : List ℕ) (n N : ℕ) (step back : ℕ → ℕ → ℕ) (parent last : ℕ → ℕ) (word : ℕ → List ℕ) : Type 0 where
+pub record StoredTable (t : List ℕ) (n N : ℕ) (step back : ℕ → ℕ → ℕ) (parent last : ℕ → ℕ) (word : ℕ → List ℕ) : Type 0 where
   pub successor : {e g : ℕ} → e < N → g < n → getD t (startOf n e + g) 0 ≡ suc (step e g)
   pub predecessor : {e g : ℕ} → e < N → g < n → getD t (startOf n e + n + g) 0 ≡ suc (back e g)
   pub parents : {e : ℕ} → 0 < e → e < N → parentOf t n e ≡ parent e

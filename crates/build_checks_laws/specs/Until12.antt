@@ -2,7 +2,7 @@
 use Prim.Native.Nat.{ℕ, _<_}
 use mathlib.Core.Path.{_≡_}
 use mathlib.Core.List.{List}
-use Rattle.theory.specs.Table.{Table, Columns, generator, arrivals}
+use Rattle.theory.specs.Table.{Table, Columns, generator, arrival-count}
 use Rattle.theory.specs.Numbering.{IdentityRow}
 use Rattle.theory.specs.Regular.{inverse}
 
@@ -17,6 +17,6 @@ pub record Until12 (n N : ℕ) (step back : ℕ → ℕ → ℕ) (word : ℕ →
   pub predecessors : Columns n N step back
   pub no-fixed-point : {e g : ℕ} → e < N → g < n → ¬ (step e g ≡ e)
   pub generator-row : {e g : ℕ} → 0 < e → e < N → g < n → ¬ (step e g ≡ generator step g)
-  pub counts : {e : ℕ} → e < N → arrivals n N step e ≡ n
+  pub counts : {e : ℕ} → e < N → arrival-count n N step e ≡ n
   pub inverse-of-inverse : {e : ℕ} → e < N → inverse back word (inverse back word e) ≡ e
   pub identity-row : IdentityRow n step

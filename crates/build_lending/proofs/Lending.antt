@@ -13,7 +13,7 @@ use Rattle.egg.specs.declared.Counted.{Counted}
 use Rattle.egg.specs.Factor.{hasRoom, stretch}
 use Rattle.egg.proofs.Rooms.{and-first, and-second}
 use Rattle.build_lending.specs.Finish.{Built, built}
-use Rattle.build_lending.specs.Lending.{tableNeed, workNeed, lentRight, within, Ends, making, madeOf, lentBack}
+use Rattle.build_lending.specs.Lending.{tableNeed, workNeed, lentRight, within, StretchEnd, making, madeOf, lentBack}
 
 module _ (table start work room n : ℕ) where
   module _ {b : Bool} (q : b ≡ hasRoom table start room n) where
@@ -46,7 +46,7 @@ unfolding within
 put-front l p q = rw q
 
 -- A part that starts at a and has k numbers: while it is lent, its length, and when it is back.
-module _ (l : List ℕ) (a k : ℕ) {e : ℕ} (q : Ends e a k (length l)) where
+module _ (l : List ℕ) (a k : ℕ) {e : ℕ} (q : StretchEnd e a k (length l)) where
   pub part-lent : midOf a (e - a) l ≡ take k (drop a l)
   part-lent = let z : e - a ≡ k = omega (arith, q .at) in rw z
 
@@ -57,14 +57,14 @@ module _ (l : List ℕ) (a k : ℕ) {e : ℕ} (q : Ends e a k (length l)) where
   part-back p = let h : a ≤ e = omega (arith, q .at) in put-within l p a e h ∙ ap (λ (z : ℕ). within l a z p) (q .at)
 
 -- The stretch of a factor, while it is lent.
-pub stretch-lent : (t : List ℕ) (f : Factor) {e : ℕ} → Ends e (f .start) (tableNeed (f .generators) (f .room)) (length t)
+pub stretch-lent : (t : List ℕ) (f : Factor) {e : ℕ} → StretchEnd e (f .start) (tableNeed (f .generators) (f .room)) (length t)
     → midOf (f .start) (e - f .start) t ≡ stretch t f
 unfolding stretch
 stretch-lent t f q = part-lent t (f .start) (tableNeed (f .generators) (f .room)) q
 
 -- A build that went on in both stretches, with the handle of what it made: the buffers when both are back.
 pub build-back : (table : List ℕ) (start : ℕ) (work : List ℕ) (n room : ℕ) {e d : ℕ} {c : Counted} {t w : List ℕ} {m : Made} {b : Built}
-    → Ends e start (tableNeed n room) (length table) → d ≡ workNeed n room → m ≡ madeOf start room n c → built c t w ≡ b
+    → StretchEnd e start (tableNeed n room) (length table) → d ≡ workNeed n room → m ≡ madeOf start room n c → built c t w ≡ b
     → making m (putMid start (e - start) table t) (w ++ drop d work) ≡ lentBack table start work n room b
 build-back table start work n room {e} {d} {c} {t} {w} {m} q k g h =
     let x : putMid start (e - start) table t ≡ within table start (start + tableNeed n room) t = part-back table start (tableNeed n room) q t in

@@ -30,7 +30,7 @@ unfoldable pub lentRight : (table start work room n : ℕ) → Bool
 lentRight table start work room n = hasRoom table start room n && leb (workNeed n room) work
 
 -- r is where a stretch of k numbers ends that starts at `start`, and it is within a buffer of `len` numbers.
-pub record Ends (r start k len : ℕ) : Type 0 where
+pub record StretchEnd (r start k len : ℕ) : Type 0 where
   pub at : r ≡ start + k
   pub inside : r ≤ len
 

@@ -3,7 +3,7 @@ ghost use mathlib.Core.Path.{_≡_};
 ghost use mathlib.Core.Bool.{true};
 ghost use Rattle.egg.specs.Factor.{hasRoom};
 ghost use Rattle.build_lending.specs.Finish.{Built, finished};
-ghost use Rattle.build_lending.specs.Lending.{tableNeed, workNeed, lentRight, Ends, noFactor, madeOf, refusedMade};
+ghost use Rattle.build_lending.specs.Lending.{tableNeed, workNeed, lentRight, StretchEnd, noFactor, madeOf, refusedMade};
 use egg::Counted;
 use egg::Factor;
 use egg::Made;
@@ -62,7 +62,7 @@ pub fn lent_right(table: usize, start: usize, work: usize, room: u32, n: u8) -> 
 // Where a build's stretch of the table buffer ends, if there is room for it.
 pub fn stretch_end(len: usize, start: usize, room: u32, n: u8) -> usize
     requires { ⌜ hasRoom len start room n ≡ true ⌝ }
-    ensures { λ r. ⌜ Ends r start (tableNeed n room) len ⌝ }
+    ensures { λ r. ⌜ StretchEnd r start (tableNeed n room) len ⌝ }
 {
     start + table_need(n, room)
 }

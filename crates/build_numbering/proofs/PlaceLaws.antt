@@ -15,29 +15,29 @@ use Rattle.egg.specs.declared.Counted.the-variants.{Count, Refused}
 use Rattle.egg.specs.Table.{putAt}
 use Rattle.build_reading.specs.Build.{setStep, adds}
 use Rattle.build_reading.specs.Reading.{placed}
-use Rattle.build_numbering.specs.Renumber.{none, mapped, mapPlace, mapRow, mapRows}
+use Rattle.build_numbering.specs.Renumber.{noNumber, mapped, mapPlace, mapRow, mapRows}
 
 module _ (t inn outw : List ℕ) (n room count e g x : ℕ) {v : ℕ} (is : v ≡ getD inn x 0) where
   -- It has a number.
-  pub map-known : (v ≡ none → ⊥)
+  pub map-known : (v ≡ noNumber → ⊥)
       → mapped (placed (Count count) (setStep t n (record { 0 = e }) (record { 0 = g }) (record { 0 = v }))) inn outw ≡ mapPlace t inn outw n room count e g x
   unfolding mapPlace
-  map-known f = rw (← is) (simp (ne-eqb v none f))
+  map-known f = rw (← is) (simp (ne-eqb v noNumber f))
 
-  module _ (no-number : v ≡ none) {a : Reached} {l : List ℕ}
+  module _ (no-number : v ≡ noNumber) {a : Reached} {l : List ℕ}
       (q : a ≡ adds t n room count (record { 0 = e }) (record { 0 = g }) .answer)
       (p : l ≡ adds t n room count (record { 0 = e }) (record { 0 = g }) .table)
     where
       -- It has none, and there is no room, or the word would be too long.
       pub map-refused : {r : Refusal} → a ≡ reached.Refused r → mapped (placed (Refused r) l) inn outw ≡ mapPlace t inn outw n room count e g x
       unfolding mapPlace
-      map-refused s = rw (← is) (simp (eq-eqb v none no-number) (rw (← q, ← p, s)))
+      map-refused s = rw (← is) (simp (eq-eqb v noNumber no-number) (rw (← q, ← p, s)))
 
       -- It has none, and gets the next.
       pub map-new : {y : GroupElementId} → a ≡ reached.Element y
           → mapped (placed (Count (count + 1)) l) (putAt inn x count) (putAt outw count x) ≡ mapPlace t inn outw n room count e g x
       unfolding mapPlace
-      map-new s = rw (← is) (simp (eq-eqb v none no-number) (rw (← q, ← p, s)))
+      map-new s = rw (← is) (simp (eq-eqb v noNumber no-number) (rw (← q, ← p, s)))
 
 -- A row of a source, in a loop: `whole` is what comes back from here on.
 module _ (source : ℕ → ℕ → Reached) (n room e g count : ℕ) (t inn outw : List ℕ) where
@@ -88,5 +88,5 @@ pub asked : (f : ℕ → ℕ → Reached) {a : Reached} {x x′ y y′ : ℕ} �
 asked f p q h = rw (← p, ← q) h
 
 -- A list that was marked to its end.
-pub marked : (s l : List ℕ) (i : ℕ) → i ≡ length l → s ≡ replicate i none ++ drop i l → s ≡ replicate (length l) none
+pub marked : (s l : List ℕ) (i : ℕ) → i ≡ length l → s ≡ replicate i noNumber ++ drop i l → s ≡ replicate (length l) noNumber
 marked s l i e q = q ∙ rw (e, drop-length, append-nil)

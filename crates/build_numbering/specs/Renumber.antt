@@ -13,8 +13,8 @@ use Rattle.build_reading.specs.Build.{setStep, adds}
 use Rattle.build_reading.specs.Reading.{Placed, placed}
 
 -- "`Not in the subgroup` is 4,294,967,295 in the map, which is no element number."
-abbrev pub none : ℕ
-none = 4294967295
+abbrev pub noNumber : ℕ
+noNumber = 4294967295
 
 -- What a numbering comes to: what a reading comes to, the map `inn` from outside to the numbers, and the map `outw` from the numbers to outside.
 pub data Mapped : Type 0 where
@@ -34,7 +34,7 @@ onNew (reached.Refused r) t inn outw count x = mapped (placed (Refused r) t) inn
 -- the next.
 unfoldable pub mapPlace : (t inn outw : List ℕ) (n room count e g x : ℕ) → Mapped
 mapPlace t inn outw n room count e g x =
-    pick (eqb (getD inn x 0) none)
+    pick (eqb (getD inn x 0) noNumber)
     (onNew (adds t n room count (record { 0 = e }) (record { 0 = g }) .answer) (adds t n room count (record { 0 = e }) (record { 0 = g }) .table) inn outw count x)
     (mapped (placed (Count count) (setStep t n (record { 0 = e }) (record { 0 = g }) (record { 0 = getD inn x 0 }))) inn outw)
 
@@ -60,4 +60,4 @@ mapRows (suc k) source n room e count t inn outw =
 -- The whole numbering, from x₀ alone, which is element 0, with maps of M and K numbers: before it no other outside element has a number, and the
 -- other map is zero.
 abbrev pub mapAll : (source : ℕ → ℕ → Reached) (n room M K x₀ : ℕ) (t : List ℕ) → Mapped
-mapAll source n room M K x₀ t = mapRows room source n room 0 1 t (putAt (replicate M none) x₀ 0) (putAt (replicate K 0) 0 x₀)
+mapAll source n room M K x₀ t = mapRows room source n room 0 1 t (putAt (replicate M noNumber) x₀ 0) (putAt (replicate K 0) 0 x₀)

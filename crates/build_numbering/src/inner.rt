@@ -5,7 +5,7 @@ ghost use mathlib.Core.Path.{_≡_};
 ghost use Rattle.egg.specs.Table.{putAt};
 ghost use lib.ListN.{length, replicate};
 ghost use Rattle.build_reading.specs.Reading.{Placed};
-ghost use Rattle.build_numbering.specs.Renumber.{none, Mapped, mapPlace};
+ghost use Rattle.build_numbering.specs.Renumber.{noNumber, Mapped, mapPlace};
 ghost use Rattle.build_numbering.specs.Build.{keptAfter};
 use egg::Counted;
 use egg::GeneratorId;
@@ -45,7 +45,7 @@ pub fn place(
 
 // Fills a map with 4,294,967,295, which is no element number.
 fn mark(s: &mut [u32])
-    ensures { λ r. ⌜ now (s .exit) ≡ replicate (length (now (s .entry))) none ⌝ }
+    ensures { λ r. ⌜ now (s .exit) ≡ replicate (length (now (s .entry))) noNumber ⌝ }
 {
     let mut i = 0;
     while i < s.len() {
@@ -56,7 +56,7 @@ fn mark(s: &mut [u32])
 
 // Sets the maps as they are before a numbering: of the outside elements x alone has a number, 0.
 pub fn start(inn: &mut [u32], outw: &mut [u32], x: GroupElementId)
-    ensures { λ r. ⌜ (now (inn .exit) ≡ putAt (replicate (length (now (inn .entry))) none) (x .0) 0) × (now (outw .exit) ≡ putAt (replicate (length (now (outw .entry))) 0) 0 (x .0)) ⌝ }
+    ensures { λ r. ⌜ (now (inn .exit) ≡ putAt (replicate (length (now (inn .entry))) noNumber) (x .0) 0) × (now (outw .exit) ≡ putAt (replicate (length (now (outw .entry))) 0) 0 (x .0)) ⌝ }
 {
     let outside = x.0;
     mark(inn);

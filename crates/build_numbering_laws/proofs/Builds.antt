@@ -16,7 +16,7 @@ use Rattle.build_laws.proofs.Built.{passed, built-holds, built-work, taken-buil
 use Rattle.theory.specs.Orbit.{Inside, numberedStep, Appearing}
 use Rattle.build_numbering.specs.Renumber.{Mapped, mapped, mapAll}
 use Rattle.build_numbering_laws.specs.Source.{Answering}
-use Rattle.build_numbering_laws.specs.Maps.{Filled, Held}
+use Rattle.build_numbering_laws.specs.Maps.{MapsFilled, RenumberedLists}
 use Rattle.build_numbering.specs.Build.{Renumbering, renumbering, settledMaps, finishedMapped, renumberIn}
 use Rattle.build_numbering_laws.proofs.Numberings.{placedOf, numbering-placed, numbering-filled, filled-held}
 use Rattle.build_numbering_laws.proofs.Sizes.{Long, all-long}
@@ -80,21 +80,21 @@ module _ {n M : ℕ} {out : ℕ → ℕ → ℕ} {x₀ N : ℕ} {elt : ℕ → �
     pub renumber-work : w₁ ≡ replicate (length w) 0
     renumber-work = built-work (numberedStep N elt out) n room size w few lo hi fits work by-placed
 
-    pub renumber-filled : (c ≡ N) × Filled M room K elt c inn outw
+    pub renumber-filled : (c ≡ N) × MapsFilled M room K elt c inn outw
     unfolding renumberIn
     renumber-filled = go (mapAll source n room M K x₀ (replicate size 0)) refl q where
       go : (m : Mapped) → mapAll source n room M K x₀ (replicate size 0) ≡ m → finishedMapped m n w ≡ renumbering (built (Count c) t w₁) inn outw
-          → (c ≡ N) × Filled M room K elt c inn outw
+          → (c ≡ N) × MapsFilled M room K elt c inn outw
       go (mapped p i o) z h =
           let s = settled-count (finishedPlaced p n w) i o h in
           let P = passed p n w (s .0) in
           let W = numbering-filled A I small source answering room K lo hi lent (replicate size 0) (z ∙ ap (λ p. mapped p i o) (P .count)) in
           (W .0, rw (s .1 .0, s .1 .1) at (W .1))
 
-    pub renumber-maps : Held n M room K out x₀ c (stepOf t n) inn outw
+    pub renumber-maps : RenumberedLists n M room K out x₀ c (stepOf t n) inn outw
     renumber-maps =
         let W = renumber-filled in
-        subst (λ k. Held n M room K out x₀ k (stepOf t n) inn outw) (sym (W .0))
+        subst (λ k. RenumberedLists n M room K out x₀ k (stepOf t n) inn outw) (sym (W .0))
         (filled-held A (rw (W .0) at (W .1)) hi (λ e g h hg. renumber-holds .steps (rw (W .0) h) hg))
 
   -- Accepted exactly when the numbered step is taken.

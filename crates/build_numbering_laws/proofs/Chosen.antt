@@ -6,7 +6,7 @@ use mathlib.Core.Logic.{_↔_}
 use native.Mathlib.Omega.{arith}
 use Rattle.theory.specs.Group.{GroupOn}
 use Rattle.theory.specs.Orbit.{Orbit, origin, onward}
-use Rattle.theory.specs.Subgroup.{rightBy, Subgroup, Proper}
+use Rattle.theory.specs.Subgroup.{rightBy, IsSubgroup, Proper}
 use Rattle.theory.proofs.Subgroups.{orbit-generated}
 use Rattle.theory.proofs.FirstRow.{sooner-apart}
 
@@ -27,6 +27,6 @@ module _ {M : ℕ} {op : ℕ → ℕ → ℕ} {inv : ℕ → ℕ} (G : GroupOn M
         outside h hh (subst (Orbit h (rightBy op gen) 0) q (orbit-generated G {n = h} {gen = gen} (λ i m. gens i (omega arith)) .generators l))
 
   -- Taken from a subgroup, with none of it left out, they generate it.
-  pub chosen-all : {K : ℕ → Type 0} {x : ℕ} → Subgroup M op inv K → ((g : ℕ) → g < n → K (gen g))
+  pub chosen-all : {K : ℕ → Type 0} {x : ℕ} → IsSubgroup M op inv K → ((g : ℕ) → g < n → K (gen g))
       → ((y : ℕ) → K y → Orbit n (rightBy op gen) 0 y) → Orbit n (rightBy op gen) 0 x ↔ K x
   chosen-all {K} {x} S taken all = (λ o. orbit-generated G gens .smallest S taken o, λ k. all x k)

@@ -23,9 +23,9 @@ use Rattle.theory.proofs.Counting.{row-known}
 use Rattle.theory.proofs.RuleLaws.{no-skip, count-within}
 use Rattle.theory.proofs.Reading.{numbered-once}
 use Rattle.theory.specs.Orbit.{Inside, numberedStep, Appearing}
-use Rattle.build_numbering.specs.Renumber.{none, Mapped, mapped, thenMapped, mapPlace, mapFrom, mapRow, mapRows, mapAll}
+use Rattle.build_numbering.specs.Renumber.{noNumber, Mapped, mapped, thenMapped, mapPlace, mapFrom, mapRow, mapRows, mapAll}
 use Rattle.build_numbering_laws.specs.Source.{Answering}
-use Rattle.build_numbering_laws.specs.Maps.{Filled}
+use Rattle.build_numbering_laws.specs.Maps.{MapsFilled}
 use Rattle.build_numbering_laws.proofs.Order.{number-is, step-outside}
 use Rattle.build_numbering.proofs.PlaceLaws.{map-known, map-refused, map-new}
 use Rattle.build_reading_laws.proofs.Runs.{zeros}
@@ -48,7 +48,7 @@ module _ {n M : ℕ} {out : ℕ → ℕ → ℕ} {x₀ N : ℕ} {elt : ℕ → �
   -- What holds when row e is to be read from column g on and c elements are known.
   record Before (e g c : ℕ) (inn outw : List ℕ) : Type 0 where
     known : Known n (numberedStep N elt out) e g c
-    filled : Filled M room K elt c inn outw
+    filled : MapsFilled M room K elt c inn outw
 
   module _ {e g c : ℕ} {inn outw : List ℕ} (S : Before e g c inn outw) (hg : g < n) where
     within-all : c ≤ N
@@ -70,7 +70,7 @@ module _ {n M : ℕ} {out : ℕ → ℕ → ℕ} {x₀ N : ℕ} {elt : ℕ → �
     number-there : src e g < c → src e g ≡ getD inn (out (elt e) g) 0
     number-there h = sym (ap (λ x. getD inn x 0) (sym outside) ∙ S .filled .numbers h)
 
-    no-number : out (elt e) g < M → ¬ (src e g < c) → none ≡ getD inn (out (elt e) g) 0
+    no-number : out (elt e) g < M → ¬ (src e g < c) → noNumber ≡ getD inn (out (elt e) g) 0
     no-number hx f = sym (S .filled .others hx (λ i l q.
         f (omega (arith, number-is N elt (out (elt e) g) i (λ d e. A .once) (omega (arith, within-all)) q))))
 
@@ -90,7 +90,7 @@ module _ {n M : ℕ} {out : ℕ → ℕ → ℕ} {x₀ N : ℕ} {elt : ℕ → �
           ∙ S .filled .numbers l)
           (below-suc h)
 
-      others₁ : {x : ℕ} → x < M → ((i : ℕ) → i < suc c → elt i ≡ x → ⊥) → getD (putAt inn (out (elt e) g) c) x 0 ≡ none
+      others₁ : {x : ℕ} → x < M → ((i : ℕ) → i < suc c → elt i ≡ x → ⊥) → getD (putAt inn (out (elt e) g) c) x 0 ≡ noNumber
       others₁ {x} h f =
           put-other inn (out (elt e) g) c (λ q. f c (omega arith) (there ∙ sym q))
           ∙ S .filled .others h (λ i l q. f i (omega arith) q)
@@ -102,7 +102,7 @@ module _ {n M : ℕ} {out : ℕ → ℕ → ℕ} {x₀ N : ℕ} {elt : ℕ → �
           (λ l. put-other outw c (out (elt e) g) (λ q. omega arith) ∙ S .filled .elements l)
           (below-suc h)
 
-      filled₁ : Filled M room K elt (suc c) (putAt inn (out (elt e) g) c) (putAt outw c (out (elt e) g))
+      filled₁ : MapsFilled M room K elt (suc c) (putAt inn (out (elt e) g) c) (putAt outw c (out (elt e) g))
       filled₁ = record {
         within = hc;
         inn-size = put-length inn _ _ ∙ S .filled .inn-size;
@@ -120,7 +120,7 @@ module _ {n M : ℕ} {out : ℕ → ℕ → ℕ} {x₀ N : ℕ} {elt : ℕ → �
     place-follows : (t : List ℕ) → out (elt e) g < M
         → Agree (Before e (suc g)) (readPlace t n room c e g (src e g)) (mapPlace t inn outw n room c e g (out (elt e) g))
     place-follows t hx = go (decLt (src e g) c) where
-      fresh : src e g ≡ c → none ≡ getD inn (out (elt e) g) 0 → (a : Reached) → a ≡ adds t n room c (record { 0 = e }) (record { 0 = g }) .answer
+      fresh : src e g ≡ c → noNumber ≡ getD inn (out (elt e) g) 0 → (a : Reached) → a ≡ adds t n room c (record { 0 = e }) (record { 0 = g }) .answer
           → Agree (Before e (suc g)) (readPlace t n room c e g (src e g)) (mapPlace t inn outw n room c e g (out (elt e) g))
       fresh is k (reached.Refused r) q = rw (
         ← (map-refused t inn outw n room c e g (out (elt e) g) k refl q refl refl),
@@ -135,7 +135,7 @@ module _ {n M : ℕ} {out : ℕ → ℕ → ℕ} {x₀ N : ℕ} {elt : ℕ → �
 
       go : Dec (src e g < c) → Agree (Before e (suc g)) (readPlace t n room c e g (src e g)) (mapPlace t inn outw n room c e g (out (elt e) g))
       go (yes h) =
-          let f : src e g ≡ none → ⊥ = λ q. omega (arith, S .filled .within) in
+          let f : src e g ≡ noNumber → ⊥ = λ q. omega (arith, S .filled .within) in
           rw (
             ← (map-known t inn outw n room c e g (out (elt e) g) (number-there h) f),
             ← (place-known t n room c e g (src e g) h),
@@ -161,7 +161,7 @@ module _ {n M : ℕ} {out : ℕ → ℕ → ℕ} {x₀ N : ℕ} {elt : ℕ → �
         (from-follows t S (omega arith)) (λ c′ t′ inn′ outw′ S′. rw p (row-follows k {g = suc g} t′ (omega arith) S′))
 
     abbrev Whole : ℕ → List ℕ → List ℕ → Type 0
-    Whole c inn outw = (c ≡ N) × Filled M room K elt c inn outw
+    Whole c inn outw = (c ≡ N) × MapsFilled M room K elt c inn outw
 
     ends-here : (k e c : ℕ) (t inn outw : List ℕ) → c ≤ e → Whole c inn outw
         → Agree Whole (readFrom k src n room e c t) (mapRows k source n room e c t inn outw)
@@ -195,19 +195,19 @@ module _ {n M : ℕ} {out : ℕ → ℕ → ℕ} {x₀ N : ℕ} {elt : ℕ → �
     at-first : {e : ℕ} → e < 1 → elt e ≡ x₀
     at-first {e} h = let q : e ≡ 0 = omega arith in ap elt q ∙ A .first
 
-    at-start : 1 ≤ room → Before 0 0 1 (putAt (replicate M none) x₀ 0) (putAt (replicate K 0) 0 x₀)
+    at-start : 1 ≤ room → Before 0 0 1 (putAt (replicate M noNumber) x₀ 0) (putAt (replicate K 0) 0 x₀)
     at-start lo =
-        let lm = length-replicate {A = ℕ} M none in
+        let lm = length-replicate {A = ℕ} M noNumber in
         let lr = length-replicate {A = ℕ} K 0 in
         record {
           known = start;
           filled = record {
             within = lo;
-            inn-size = put-length (replicate M none) x₀ 0 ∙ lm;
+            inn-size = put-length (replicate M noNumber) x₀ 0 ∙ lm;
             outw-size = put-length (replicate K 0) 0 x₀ ∙ lr;
-            numbers = λ {e} h. ap (λ x. getD (putAt (replicate M none) x₀ 0) x 0) (at-first h)
-                ∙ put-same (replicate M none) x₀ 0 (omega (arith, lm, I .here)) (omega arith) ∙ omega arith;
-            others = λ {x} h f. put-other (replicate M none) x₀ 0 (λ q. f 0 (omega arith) (A .first ∙ sym q)) ∙ nothing-there M none x h;
+            numbers = λ {e} h. ap (λ x. getD (putAt (replicate M noNumber) x₀ 0) x 0) (at-first h)
+                ∙ put-same (replicate M noNumber) x₀ 0 (omega (arith, lm, I .here)) (omega arith) ∙ omega arith;
+            others = λ {x} h f. put-other (replicate M noNumber) x₀ 0 (λ q. f 0 (omega arith) (A .first ∙ sym q)) ∙ nothing-there M noNumber x h;
             elements = λ {e} h.
                 let q : e ≡ 0 = omega arith in
                 ap (λ i. getD (putAt (replicate K 0) 0 x₀) i 0) q
@@ -218,5 +218,5 @@ module _ {n M : ℕ} {out : ℕ → ℕ → ℕ} {x₀ N : ℕ} {elt : ℕ → �
 
     -- The whole reading.
     pub all-follows : 1 ≤ room → (t : List ℕ)
-        → Agree (λ c inn outw. (c ≡ N) × Filled M room K elt c inn outw) (readAll (numberedStep N elt out) n room t) (mapAll source n room M K x₀ t)
+        → Agree (λ c inn outw. (c ≡ N) × MapsFilled M room K elt c inn outw) (readAll (numberedStep N elt out) n room t) (mapAll source n room M K x₀ t)
     all-follows lo t = rows-follow room t (omega arith) (at-start lo)

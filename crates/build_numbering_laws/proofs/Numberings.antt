@@ -16,12 +16,12 @@ use Rattle.theory.specs.Appearance.{row, recorded}
 use Rattle.theory.proofs.Places.{ahead-row}
 use Rattle.theory.proofs.Counting.{row-known, numbered-table}
 use Rattle.theory.proofs.RuleLaws.{numbered-agree, no-skip, count-within}
-use Rattle.build_reading_laws.specs.Read.{Read, Held, Stops, skips-ahead, no-room, long-word, Refuses}
+use Rattle.build_reading_laws.specs.Read.{Read, ReadSoFar, Stops, skips-ahead, no-room, long-word, ReadingRefused}
 use Rattle.build_reading_laws.proofs.Readings.{accepted-read, refused-read, readable-accepted, read-steps, read-readable}
 use Rattle.theory.specs.Orbit.{Orbit, Inside, numberOf, numberedStep, Appearing, Renumbered}
-use Rattle.build_numbering.specs.Renumber.{none, Mapped, mapped, mapAll}
+use Rattle.build_numbering.specs.Renumber.{noNumber, Mapped, mapped, mapAll}
 use Rattle.build_numbering_laws.specs.Source.{Answering}
-use Rattle.build_numbering_laws.specs.Maps.{Filled}
+use Rattle.build_numbering_laws.specs.Maps.{MapsFilled}
 use Rattle.build_numbering_laws.specs.Maps as maps
 use Rattle.build_numbering_laws.proofs.Order.{number-found, number-at-most, step-outside, step-below, orbit-numbered, number-below, number-elt, elt-number}
 use Rattle.build_numbering_laws.proofs.Following.{Agree, all-follows}
@@ -51,18 +51,18 @@ appearing-renumbered A = record {
 
 -- The maps at the end.
 module _ {n M : ℕ} {out : ℕ → ℕ → ℕ} {x₀ N : ℕ} {elt : ℕ → ℕ} (A : Appearing n M out x₀ N elt) {room K : ℕ} {inn outw : List ℕ}
-    (F : Filled M room K elt N inn outw) (limited : room ≤ 65535) where
+    (F : MapsFilled M room K elt N inn outw) (limited : room ≤ 65535) where
   number-of : {x : ℕ} → Orbit n out x₀ x → (e : ℕ) × (e < N) × (elt e ≡ x) × (getD inn x 0 ≡ e)
   number-of o = let (e, h, q) = orbit-numbered A o in (e, h, q, ap (λ x. getD inn x 0) (sym q) ∙ F .numbers h)
 
-  none-or-reached : {x : ℕ} → x < M → (getD inn x 0 ≡ none) ⊎ Orbit n out x₀ x
+  none-or-reached : {x : ℕ} → x < M → (getD inn x 0 ≡ noNumber) ⊎ Orbit n out x₀ x
   none-or-reached {x} hx = go (decLt (numberOf N elt x) N) where
-    go : Dec (numberOf N elt x < N) → (getD inn x 0 ≡ none) ⊎ Orbit n out x₀ x
+    go : Dec (numberOf N elt x < N) → (getD inn x 0 ≡ noNumber) ⊎ Orbit n out x₀ x
     go (yes h) = inr (subst (Orbit n out x₀) (number-found N elt x h) (A .reached h))
     go (no f) = inl (F .others hx (λ e h q. f (omega (arith, number-at-most N elt x e q))))
 
   pub filled-held : {step : ℕ → ℕ → ℕ} → ((e g : ℕ) → e < N → g < n → step e g ≡ numberedStep N elt out e g)
-      → maps.Held n M room K out x₀ N step inn outw
+      → maps.RenumberedLists n M room K out x₀ N step inn outw
   filled-held {step} agree =
       let origin : 0 < N = numbered-table (A .by-rule) .origin in
       record {
@@ -85,11 +85,11 @@ module _ {n M : ℕ} {out : ℕ → ℕ → ℕ} {x₀ N : ℕ} {elt : ℕ → �
         outw-size = F .outw-size;
       }
     where
-      by : {x : ℕ} → ¬ (getD inn x 0 ≡ none) → (getD inn x 0 ≡ none) ⊎ Orbit n out x₀ x → Orbit n out x₀ x
+      by : {x : ℕ} → ¬ (getD inn x 0 ≡ noNumber) → (getD inn x 0 ≡ noNumber) ⊎ Orbit n out x₀ x → Orbit n out x₀ x
       by f (inl q) = absurd (f q)
       by f (inr o) = o
 
-      by-not : {x : ℕ} → ¬ Orbit n out x₀ x → (getD inn x 0 ≡ none) ⊎ Orbit n out x₀ x → getD inn x 0 ≡ none
+      by-not : {x : ℕ} → ¬ Orbit n out x₀ x → (getD inn x 0 ≡ noNumber) ⊎ Orbit n out x₀ x → getD inn x 0 ≡ noNumber
       by-not f (inl q) = q
       by-not f (inr o) = absurd (f o)
 
@@ -101,9 +101,9 @@ module _ {n M : ℕ} {out : ℕ → ℕ → ℕ} {x₀ N : ℕ} {elt : ℕ → �
 
   -- The maps of an accepted numbering.
   pub numbering-filled : (t₀ : List ℕ) {c : ℕ} {t inn outw : List ℕ} → mapAll source n room M K x₀ t₀ ≡ mapped (placed (Count c) t) inn outw
-      → (c ≡ N) × Filled M room K elt c inn outw
+      → (c ≡ N) × MapsFilled M room K elt c inn outw
   numbering-filled t₀ q =
-      subst (Agree (λ c inn outw. (c ≡ N) × Filled M room K elt c inn outw) (readAll (numberedStep N elt out) n room t₀)) q
+      subst (Agree (λ c inn outw. (c ≡ N) × MapsFilled M room K elt c inn outw) (readAll (numberedStep N elt out) n room t₀)) q
       (all-follows A small room K hi lent I source answering lo t₀) .1
 
   module _ (size : ℕ) (few : n ≤ 8) (fits : room * (2 * n + 4) ≤ size) where
@@ -114,11 +114,11 @@ module _ {n M : ℕ} {out : ℕ → ℕ → ℕ} {x₀ N : ℕ} {elt : ℕ → �
 
     -- What an accepted numbering leaves.
     pub numbering-held : {c : ℕ} {t inn outw : List ℕ} → mapAll source n room M K x₀ (replicate size 0) ≡ mapped (placed (Count c) t) inn outw
-        → maps.Held n M room K out x₀ c (stepOf t n) inn outw
+        → maps.RenumberedLists n M room K out x₀ c (stepOf t n) inn outw
     numbering-held {c} {t} {inn} {outw} q =
         let R = numbering-read q in
         let W = numbering-filled (replicate size 0) q in
-        subst (λ k. maps.Held n M room K out x₀ k (stepOf t n) inn outw) (sym (W .0))
+        subst (λ k. maps.RenumberedLists n M room K out x₀ k (stepOf t n) inn outw) (sym (W .0))
         (filled-held A (rw (W .0) at (W .1)) hi (λ e g h hg. read-steps R e g (rw (W .0) h) hg))
 
     -- What is accepted: elements within the room, and words within 4,096.
@@ -138,15 +138,15 @@ module _ {n M : ℕ} {out : ℕ → ℕ → ℕ} {x₀ N : ℕ} {elt : ℕ → �
 
     -- What is refused, and how.
     pub numbering-refused : {r : Refusal} {t inn outw : List ℕ} → mapAll source n room M K x₀ (replicate size 0) ≡ mapped (placed (Refused r) t) inn outw
-        → Refuses (numberedStep N elt out) n room r
+        → ReadingRefused (numberedStep N elt out) n room r
     numbering-refused q =
         refused-read (numberedStep N elt out) n room size few lo hi fits (sym (numbering-placed (replicate size 0)) ∙ ap placedOf q)
 
   -- 7 is never given: only 5 and 6 are, at an element and a generator.
-  pub refused-5-or-6 : {r : Refusal} → Refuses (numberedStep N elt out) n room r
+  pub refused-5-or-6 : {r : Refusal} → ReadingRefused (numberedStep N elt out) n room r
       → (e : ℕ) × (g : ℕ) × (g < n) × ((r ≡ numbered 5 e g 0) ⊎ (r ≡ numbered 6 e g 0))
   refused-5-or-6 {r} R = (R .row, R .column, R .place, go (R .before) (R .place) (R .stops)) where
-    go : {e g c : ℕ} {r : Refusal} → Held (numberedStep N elt out) n room e g c → g < n → Stops (numberedStep N elt out) n room e g c r → (r ≡ numbered 5 e g 0) ⊎ (r ≡ numbered 6 e g 0)
+    go : {e g c : ℕ} {r : Refusal} → ReadSoFar (numberedStep N elt out) n room e g c → g < n → Stops (numberedStep N elt out) n room e g c r → (r ≡ numbered 5 e g 0) ⊎ (r ≡ numbered 6 e g 0)
     go H hg (skips-ahead l) =
         let k = row-known (H .known) in
         absurd (omega (

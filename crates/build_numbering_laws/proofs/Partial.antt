@@ -18,7 +18,7 @@ use Rattle.build_lending.specs.Finish.{built, zeroed, finished}
 use Rattle.build_reading.specs.Reading.{placed}
 use Rattle.build_numbering.specs.Build.{renumbering, finishedMapped, renumberIn}
 use Rattle.theory.specs.Orbit.{Inside}
-use Rattle.build_numbering.specs.Renumber.{none, Mapped, mapped, thenMapped, mapFrom, mapRow, mapRows, mapAll}
+use Rattle.build_numbering.specs.Renumber.{noNumber, Mapped, mapped, thenMapped, mapFrom, mapRow, mapRows, mapAll}
 use Rattle.build_numbering_laws.specs.Source.{Answering, Ranged, answered, outOf}
 
 module _ {n M : ℕ} {source : ℕ → ℕ → Reached} (R : Ranged n M source) (x₀ : ℕ) (here : x₀ < M) where
@@ -93,7 +93,7 @@ module _ (source : ℕ → ℕ → Reached) (x₀ : ℕ) where
         (λ c t′ inn′ outw′. rows-follow k (e + 1) c t′ inn′ outw′))
 
     pub partial-or-total : (M K : ℕ) (t : List ℕ) → (mapAll source n room M K x₀ t ≡ mapAll total n room M K x₀ t) ⊎ Broken (mapAll source n room M K x₀ t)
-    partial-or-total M K t = rows-follow room 0 1 t (putAt (replicate M none) x₀ 0) (putAt (replicate K 0) 0 x₀)
+    partial-or-total M K t = rows-follow room 0 1 t (putAt (replicate M noNumber) x₀ 0) (putAt (replicate K 0) 0 x₀)
 
     -- An accepted numbering is that of the steps.
     pub partial-accepted : (M K : ℕ) (t₀ : List ℕ) {c : ℕ} {t inn outw : List ℕ} → mapAll source n room M K x₀ t₀ ≡ mapped (placed (Count c) t) inn outw

@@ -20,7 +20,7 @@ use Rattle.theory.proofs.Counting.{numbered-table}
 use Rattle.theory.proofs.FirstPlaces.{first-parents}
 use Rattle.theory.proofs.Recording.{word-of-recorded, recorded-spelled}
 use Rattle.theory.proofs.Complete.{columns, no-fixed-point, only-identity, inverse-involution}
-use Rattle.build_checks_laws.specs.Stored.{Stored, wordOf}
+use Rattle.build_checks_laws.specs.Stored.{StoredTable, wordOf}
 use Rattle.build_checks_laws.proofs.Inverses.{fill-kept, stored-kept, step-is}
 use Rattle.build_checks_laws.proofs.Passes.{scan-stops}
 use Rattle.build_checks_laws.proofs.Tests.{table-fine, wrong-fine, counts-fine}
@@ -38,7 +38,7 @@ module _ {src : ℕ → ℕ → ℕ} {n room size N : ℕ} {t : List ℕ} (R : R
   C : Columns n N src back
   C = columns (G .group) (G .steps)
 
-  S : Stored t n N src back (parentOf t n) (lastOf t n) (wordOf t n)
+  S : StoredTable t n N src back (parentOf t n) (lastOf t n) (wordOf t n)
   S = read-stored R C
 
   P : Parents n N src (parentOf t n) (lastOf t n)

@@ -7,10 +7,10 @@ use native.Mathlib.Omega.{arith}
 use lib.ListN.{getD}
 use lib.Seq.{ext-getD}
 use Rattle.theory.specs.Orbit.{numberOf}
-use Rattle.build_numbering_laws.specs.Maps.{Filled}
+use Rattle.build_numbering_laws.specs.Maps.{MapsFilled}
 use Rattle.build_numbering_laws.proofs.Order.{number-found, number-at-most}
 
-module _ {M room K room′ K′ N : ℕ} {elt : ℕ → ℕ} {inn outw inn′ outw′ : List ℕ} (F : Filled M room K elt N inn outw) (F′ : Filled M room′ K′ elt N inn′ outw′) where
+module _ {M room K room′ K′ N : ℕ} {elt : ℕ → ℕ} {inn outw inn′ outw′ : List ℕ} (F : MapsFilled M room K elt N inn outw) (F′ : MapsFilled M room′ K′ elt N inn′ outw′) where
   pub inward-same : inn ≡ inn′
   inward-same = ext-getD 0 inn inn′ (F .inn-size ∙ sym (F′ .inn-size)) (λ x h. go x (omega (arith, F .inn-size)) (decLt (numberOf N elt x) N)) where
     go : (x : ℕ) → x < M → Dec (numberOf N elt x < N) → getD inn x 0 ≡ getD inn′ x 0

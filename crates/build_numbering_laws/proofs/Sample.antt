@@ -11,7 +11,7 @@ use Rattle.egg.specs.Table.{putAt, startOf}
 use Rattle.build_reading.specs.Build.{setStep, setWord, adds}
 use Rattle.egg.specs.Answers.{numbered}
 use Rattle.build_reading.specs.Reading.{placed}
-use Rattle.build_numbering.specs.Renumber.{none, Mapped, mapped, mapPlace, mapRow, mapRows, mapAll}
+use Rattle.build_numbering.specs.Renumber.{noNumber, Mapped, mapped, mapPlace, mapRow, mapRows, mapAll}
 
 -- The count or refusal and the two maps.
 record Shown : Type 0 where
@@ -30,7 +30,7 @@ abbrev both : ℕ → ℕ → Reached
 both x g = Element (record { 0 = (x + 4 + 5 * g) % 6 })
 
 three : shown (mapAll four 1 3 6 4 0 (replicate 18 0))
-    ≡ record { answer = Count 3; inn = 0 ∷ none ∷ 2 ∷ none ∷ 1 ∷ none ∷ []; outw = 0 ∷ 4 ∷ 2 ∷ 0 ∷ [] }
+    ≡ record { answer = Count 3; inn = 0 ∷ noNumber ∷ 2 ∷ noNumber ∷ 1 ∷ noNumber ∷ []; outw = 0 ∷ 4 ∷ 2 ∷ 0 ∷ [] }
 unfolding mapPlace mapRow mapRows adds setStep setWord putAt startOf
 three = refl
 

@@ -12,7 +12,7 @@ use Rattle.egg.specs.Table.{pick}
 use Rattle.egg.proofs.Cells.{put-length}
 use Rattle.build_reading.specs.Build.{adds}
 use Rattle.build_reading.specs.Reading.{placed}
-use Rattle.build_numbering.specs.Renumber.{none, Mapped, mapped, thenMapped, onNew, mapPlace, mapFrom, mapRow, mapRows, mapAll}
+use Rattle.build_numbering.specs.Renumber.{noNumber, Mapped, mapped, thenMapped, onNew, mapPlace, mapFrom, mapRow, mapRows, mapAll}
 
 module _ (k l : ℕ) where
   -- Both lengths.
@@ -36,7 +36,7 @@ module _ (k l : ℕ) where
     from-long : (r : Reached) (t : List ℕ) (n room count e g : ℕ) → Long (mapFrom r t inn outw n room count e g)
     unfolding mapPlace
     from-long (reached.Element x) t n room count e g =
-        pick-long (eqb (getD inn (x .0) 0) none) _ _ (new-long (adds t n room count (record { 0 = e }) (record { 0 = g }) .answer) _ count (x .0)) (a, b)
+        pick-long (eqb (getD inn (x .0) 0) noNumber) _ _ (new-long (adds t n room count (record { 0 = e }) (record { 0 = g }) .answer) _ count (x .0)) (a, b)
     from-long (reached.Refused r) t n room count e g = (a, b)
 
   module _ (source : ℕ → ℕ → Reached) (n room : ℕ) where
@@ -57,5 +57,5 @@ module _ (k l : ℕ) where
 
 pub all-long : (source : ℕ → ℕ → Reached) (n room M K x₀ : ℕ) (t : List ℕ) → Long M K (mapAll source n room M K x₀ t)
 all-long source n room M K x₀ t =
-    rows-long M K source n room room 0 1 t _ _ (put-length (replicate M none) x₀ 0 ∙ length-replicate {A = ℕ} M none)
+    rows-long M K source n room room 0 1 t _ _ (put-length (replicate M noNumber) x₀ 0 ∙ length-replicate {A = ℕ} M noNumber)
     (put-length (replicate K 0) 0 x₀ ∙ length-replicate {A = ℕ} K 0)

@@ -19,7 +19,7 @@ use Rattle.theory.specs.Appearance.{recorded}
 use Rattle.theory.proofs.Reading.{numbered-once}
 use Rattle.theory.proofs.AnyCarrier.{any-carrier}
 use Rattle.theory.proofs.IdentityRows.{row-so-far}
-use Rattle.build_reading_laws.specs.Read.{Read, Readable, Refuses}
+use Rattle.build_reading_laws.specs.Read.{Read, Readable, ReadingRefused}
 use Rattle.build_reading_laws.proofs.Readings.{accepted-read, refused-read, readable-accepted, read-readable}
 use Rattle.build_laws.proofs.Built.{work-enough, rows-fit}
 use Rattle.build_laws.proofs.Twelve.{refused-build, refused-reading}
@@ -125,22 +125,22 @@ module _ {M : ℕ} {op : ℕ → ℕ → ℕ} {inv : ℕ → ℕ} (G : GroupOn M
 
     -- And these are all refusals: 5 or 6 as the numbering meets it, or, where that ends, 9 or 11.
     pub subgroup-refused : {r : Refusal} {t w₁ inn outw : List ℕ} → renumberIn size w source n room M K 0 ≡ renumbering (built (Refused r) t w₁) inn outw
-        → Refuses (numberedStep N elt (rightBy op gen)) n room r
+        → ReadingRefused (numberedStep N elt (rightBy op gen)) n room r
         ⊎ (((g : ℕ) × FirstIdentity n gen g × (r ≡ numbered 9 0 g 0)) ⊎ ((g : ℕ) × FirstRepeat n gen g × (r ≡ numbered 11 g 0 0)))
     subgroup-refused {r} {t} {w₁} {inn} {outw} q = go (readAll src n room (replicate size 0)) refl where
       by : Readable src n room N
           → ((g : ℕ) × FirstIdentity n gen g) ⊎ (((g : ℕ) × FirstRepeat n gen g) ⊎ Proper n gen)
-          → Refuses src n room r ⊎ (((g : ℕ) × FirstIdentity n gen g × (r ≡ numbered 9 0 g 0)) ⊎ ((g : ℕ) × FirstRepeat n gen g × (r ≡ numbered 11 g 0 0)))
+          → ReadingRefused src n room r ⊎ (((g : ℕ) × FirstIdentity n gen g × (r ≡ numbered 9 0 g 0)) ⊎ ((g : ℕ) × FirstRepeat n gen g × (r ≡ numbered 11 g 0 0)))
       by L (inl (g, F)) = let b = subgroup-9 (L .within) (λ e h. L .short h) F in inr (inl (g, F, same-refusal (sym q ∙ b .4)))
       by L (inr (inl (g, F))) = let b = subgroup-11 (L .within) (λ e h. L .short h) F in inr (inr (g, F, same-refusal (sym q ∙ b .4)))
       by L (inr (inr P)) = let b = subgroup-exactly .1 (L .within, (λ e h. L .short h, P)) in absurd (not-refused (sym q ∙ b .4))
 
       go : (p : Placed) → readAll src n room (replicate size 0) ≡ p
-          → Refuses src n room r ⊎ (((g : ℕ) × FirstIdentity n gen g × (r ≡ numbered 9 0 g 0)) ⊎ ((g : ℕ) × FirstRepeat n gen g × (r ≡ numbered 11 g 0 0)))
+          → ReadingRefused src n room r ⊎ (((g : ℕ) × FirstIdentity n gen g × (r ≡ numbered 9 0 g 0)) ⊎ ((g : ℕ) × FirstRepeat n gen g × (r ≡ numbered 11 g 0 0)))
       go (placed (Refused s) t₀) z =
           let b : built (Refused r) t w₁ ≡ built (Refused s) (zeroed t₀) (zeroed w) = sym (ap builtOf q) ∙ renumber-built A (right-inside G gens) small source answering room K lo hi lent size w few fits work ∙ refused-reading n w z in
           let e : s ≡ r = cc in
-          inl (subst (Refuses src n room) e (refused-read src n room size few lo hi fits z))
+          inl (subst (ReadingRefused src n room) e (refused-read src n room size few lo hi fits z))
       go (placed (Count c) t₀) z =
           let L = read-readable (accepted-read src n room size few lo hi fits z) in
           let e : c ≡ N = numbered-once (L .by-rule) (A .by-rule) in

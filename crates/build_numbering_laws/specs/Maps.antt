@@ -5,24 +5,24 @@ use mathlib.Core.Path.{_≡_}
 use mathlib.Core.List.{List}
 use lib.ListN.{length, getD}
 use Rattle.theory.specs.Orbit.{Orbit, Renumbered}
-use Rattle.build_numbering.specs.Renumber.{none}
+use Rattle.build_numbering.specs.Renumber.{noNumber}
 
--- When c elements are known, of which e is `elt e` outside: `inn` has the number of each of these and `none` for the others; `outw` has the outside
+-- When c elements are known, of which e is `elt e` outside: `inn` has the number of each of these and `noNumber` for the others; `outw` has the outside
 -- element of each number, and zero beyond the last.
-pub record Filled (M room K : ℕ) (elt : ℕ → ℕ) (c : ℕ) (inn outw : List ℕ) : Type 0 where
+pub record MapsFilled (M room K : ℕ) (elt : ℕ → ℕ) (c : ℕ) (inn outw : List ℕ) : Type 0 where
   pub within : c ≤ room
   pub inn-size : length inn ≡ M
   pub outw-size : length outw ≡ K
   pub numbers : {e : ℕ} → e < c → getD inn (elt e) 0 ≡ e
-  pub others : {x : ℕ} → x < M → ((e : ℕ) → e < c → elt e ≡ x → ⊥) → getD inn x 0 ≡ none
+  pub others : {x : ℕ} → x < M → ((e : ℕ) → e < c → elt e ≡ x → ⊥) → getD inn x 0 ≡ noNumber
   pub elements : {e : ℕ} → e < c → getD outw e 0 ≡ elt e
   pub beyond : {e : ℕ} → c ≤ e → getD outw e 0 ≡ 0
 
--- `Renumbered` of two lists, which say besides what is not reached: `inn` has `none` for it. Beyond the last element `outw` is zero.
-pub record Held (n M room K : ℕ) (out : ℕ → ℕ → ℕ) (x₀ c : ℕ) (step : ℕ → ℕ → ℕ) (inn outw : List ℕ) : Type 0 where
+-- `Renumbered` of two lists, which say besides what is not reached: `inn` has `noNumber` for it. Beyond the last element `outw` is zero.
+pub record RenumberedLists (n M room K : ℕ) (out : ℕ → ℕ → ℕ) (x₀ c : ℕ) (step : ℕ → ℕ → ℕ) (inn outw : List ℕ) : Type 0 where
   pub renumbered : Renumbered n M out x₀ c step (λ x. getD inn x 0) (λ e. getD outw e 0)
-  pub reached : {x : ℕ} → x < M → ¬ (getD inn x 0 ≡ none) → Orbit n out x₀ x
-  pub unreached : {x : ℕ} → x < M → ¬ Orbit n out x₀ x → getD inn x 0 ≡ none
+  pub reached : {x : ℕ} → x < M → ¬ (getD inn x 0 ≡ noNumber) → Orbit n out x₀ x
+  pub unreached : {x : ℕ} → x < M → ¬ Orbit n out x₀ x → getD inn x 0 ≡ noNumber
   pub beyond : {e : ℕ} → c ≤ e → getD outw e 0 ≡ 0
   pub within : c ≤ room
   pub inn-size : length inn ≡ M

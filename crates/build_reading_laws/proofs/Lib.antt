@@ -1,7 +1,7 @@
 pub mod Stores
 pub mod Steps
 pub mod Words
-pub mod State
+pub mod ReadingState
 pub mod Runs
 pub mod OnePlace
 pub mod Readings

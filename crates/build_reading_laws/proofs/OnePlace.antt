@@ -6,12 +6,12 @@ use Rattle.egg.specs.declared.Refusal.{Refusal}
 use Rattle.theory.specs.Appearance.{Ahead, row}
 use Rattle.theory.proofs.Places.{Places, sooner, same, later, places, ahead-row}
 use Rattle.theory.proofs.Counting.{row-known, read-known}
-use Rattle.build_reading_laws.specs.Read.{Readable, Held, Stops, skips-ahead, no-room, long-word, Refuses}
+use Rattle.build_reading_laws.specs.Read.{Readable, ReadSoFar, Stops, skips-ahead, no-room, long-word, ReadingRefused}
 use Rattle.theory.proofs.RuleLaws.{new-letters, count-once, no-skip, count-within}
 
 module _ {src : ℕ → ℕ → ℕ} {n room : ℕ} where
   -- A place that cannot be read is not passed.
-  not-passed : {x g c y h d : ℕ} {r : Refusal} → Held src n room x g c → g < n → Stops src n room x g c r → Held src n room y h d → Ahead x g y h → ⊥
+  not-passed : {x g c y h d : ℕ} {r : Refusal} → ReadSoFar src n room x g c → g < n → Stops src n room x g c r → ReadSoFar src n room y h d → Ahead x g y h → ⊥
   not-passed H hg (skips-ahead l) H′ a = omega (arith, no-skip (H .known) hg (H′ .known) a)
   not-passed H hg (no-room is full) H′ a = omega (arith, read-known (H′ .known) hg a, H′ .within)
   not-passed H hg (long-word is l w) H′ a =
@@ -29,9 +29,9 @@ module _ {src : ℕ → ℕ → ℕ} {n room : ℕ} where
   one-reason (long-word p q w) (no-room p′ q′) = absurd (omega arith)
   one-reason (long-word p q w) (long-word p′ q′ w′) = refl
 
-  pub refuses-once : {r r′ : Refusal} → Refuses src n room r → Refuses src n room r′ → r ≡ r′
+  pub refuses-once : {r r′ : Refusal} → ReadingRefused src n room r → ReadingRefused src n room r′ → r ≡ r′
   refuses-once {r} {r′} R R′ = go (places (R .row) (R .column) (R′ .row) (R′ .column)) where
-    at-one : {x g c : ℕ} → x ≡ R .row → g ≡ R .column → Held src n room x g c → Stops src n room x g c r′ → r ≡ r′
+    at-one : {x g c : ℕ} → x ≡ R .row → g ≡ R .column → ReadSoFar src n room x g c → Stops src n room x g c r′ → r ≡ r′
     at-one p q H S =
         let K = rw (p, q) at (H .known) in
         let i = count-once K (R .before .known) in
@@ -43,7 +43,7 @@ module _ {src : ℕ → ℕ → ℕ} {n room : ℕ} where
     go (later a) = absurd (not-passed (R′ .before) (R′ .place) (R′ .stops) (R .before) a)
 
   -- What can be read is not refused.
-  pub readable-not-refused : {N : ℕ} {r : Refusal} → Readable src n room N → Refuses src n room r → ⊥
+  pub readable-not-refused : {N : ℕ} {r : Refusal} → Readable src n room N → ReadingRefused src n room r → ⊥
   readable-not-refused R F =
       let B = R .by-rule in
       let l : F .row < suc (B .end) = omega (arith, row-known (F .before .known), count-within B (F .before .known), B .last-row) in

@@ -18,9 +18,9 @@ use Rattle.theory.proofs.Induction.{induction}
 use Rattle.theory.proofs.Recording.{word-of-recorded, length-grow}
 use Rattle.theory.proofs.FirstPlaces.{first-parents, first-recorded}
 use Rattle.theory.proofs.Reading.{numbered-once}
-use Rattle.build_reading_laws.specs.Read.{Read, Readable, Held, Stops, skips-ahead, no-room, long-word, Refuses}
+use Rattle.build_reading_laws.specs.Read.{Read, Readable, ReadSoFar, Stops, skips-ahead, no-room, long-word, ReadingRefused}
 use Rattle.theory.proofs.RuleLaws.{numbered-agree, appearance-agree}
-use Rattle.build_reading_laws.proofs.State.{On}
+use Rattle.build_reading_laws.proofs.ReadingState.{On}
 use Rattle.build_reading_laws.proofs.Runs.{read-all}
 use Rattle.build_reading_laws.proofs.OnePlace.{refuses-once, readable-not-refused}
 
@@ -56,29 +56,29 @@ module _ {src : ℕ → ℕ → ℕ} {n room size N : ℕ} {t : List ℕ} (R : R
   read-readable = record { by-rule = R .by-rule; within = R .within; short = λ {e} h. rw (← read-letters e h) (R .short h) }
 
 module _ (src : ℕ → ℕ → ℕ) (n room size : ℕ) (hn : n ≤ 8) (lo : 1 ≤ room) (hi : room ≤ 65535) (fits : room * (2 * n + 4) ≤ size) where
-  comes-to : On (Read src n room size) (Refuses src n room) (readAll src n room (replicate size 0))
+  comes-to : On (Read src n room size) (ReadingRefused src n room) (readAll src n room (replicate size 0))
   comes-to = read-all src n room size hn hi fits lo
 
   -- What an accepted reading leaves.
   pub accepted-read : {N : ℕ} {t : List ℕ} → readAll src n room (replicate size 0) ≡ placed (Count N) t → Read src n room size N t
-  accepted-read q = subst (On (Read src n room size) (Refuses src n room)) q comes-to
+  accepted-read q = subst (On (Read src n room size) (ReadingRefused src n room)) q comes-to
 
   -- What a refused reading has met.
-  pub refused-read : {r : Refusal} {t : List ℕ} → readAll src n room (replicate size 0) ≡ placed (Refused r) t → Refuses src n room r
-  refused-read q = subst (On (Read src n room size) (Refuses src n room)) q comes-to
+  pub refused-read : {r : Refusal} {t : List ℕ} → readAll src n room (replicate size 0) ≡ placed (Refused r) t → ReadingRefused src n room r
+  refused-read q = subst (On (Read src n room size) (ReadingRefused src n room)) q comes-to
 
   -- What reading takes.
   pub readable-accepted : {N : ℕ} → Readable src n room N → (t : List ℕ) × (readAll src n room (replicate size 0) ≡ placed (Count N) t)
   readable-accepted {N} R = go (readAll src n room (replicate size 0)) refl comes-to where
-    go : (p : Placed) → readAll src n room (replicate size 0) ≡ p → On (Read src n room size) (Refuses src n room) p
+    go : (p : Placed) → readAll src n room (replicate size 0) ≡ p → On (Read src n room size) (ReadingRefused src n room) p
         → (t : List ℕ) × (readAll src n room (replicate size 0) ≡ placed (Count N) t)
     go (placed (Count c) t) q a = (t, q ∙ ap (λ k. placed (Count k) t) (numbered-once (a .by-rule) (R .by-rule)))
     go (placed (Refused r) t) q a = absurd (readable-not-refused R a)
 
   -- What it refuses, and how.
-  pub refuses-refused : {r : Refusal} → Refuses src n room r → (t : List ℕ) × (readAll src n room (replicate size 0) ≡ placed (Refused r) t)
+  pub refuses-refused : {r : Refusal} → ReadingRefused src n room r → (t : List ℕ) × (readAll src n room (replicate size 0) ≡ placed (Refused r) t)
   refuses-refused {r} F = go (readAll src n room (replicate size 0)) refl comes-to where
-    go : (p : Placed) → readAll src n room (replicate size 0) ≡ p → On (Read src n room size) (Refuses src n room) p
+    go : (p : Placed) → readAll src n room (replicate size 0) ≡ p → On (Read src n room size) (ReadingRefused src n room) p
         → (t : List ℕ) × (readAll src n room (replicate size 0) ≡ placed (Refused r) t)
     go (placed (Count c) t) q a = absurd (readable-not-refused (read-readable a) F)
     go (placed (Refused s) t) q a = (t, q ∙ ap (λ k. placed (Refused k) t) (refuses-once a F))
@@ -87,12 +87,12 @@ module _ (src : ℕ → ℕ → ℕ) (n room size : ℕ) (hn : n ≤ 8) (lo : 1 
   pub accepts-exactly : (N : ℕ) → ((t : List ℕ) × (readAll src n room (replicate size 0) ≡ placed (Count N) t)) ↔ Readable src n room N
   accepts-exactly N = (λ p. read-readable (accepted-read (p .1)), readable-accepted)
 
-  pub refuses-exactly : (r : Refusal) → ((t : List ℕ) × (readAll src n room (replicate size 0) ≡ placed (Refused r) t)) ↔ Refuses src n room r
+  pub refuses-exactly : (r : Refusal) → ((t : List ℕ) × (readAll src n room (replicate size 0) ≡ placed (Refused r) t)) ↔ ReadingRefused src n room r
   refuses-exactly r = (λ p. refused-read (p .1), refuses-refused)
 
 module _ {src : ℕ → ℕ → ℕ} {n room : ℕ} where
   -- Only 7, 5 and 6 are given.
-  pub refused-number : {r : Refusal} → Refuses src n room r → (r .number ≡ 7) ⊎ ((r .number ≡ 5) ⊎ (r .number ≡ 6))
+  pub refused-number : {r : Refusal} → ReadingRefused src n room r → (r .number ≡ 7) ⊎ ((r .number ≡ 5) ⊎ (r .number ≡ 6))
   refused-number F = go (F .stops) where
     go : {x g c : ℕ} {r : Refusal} → Stops src n room x g c r → (r .number ≡ 7) ⊎ ((r .number ≡ 5) ⊎ (r .number ≡ 6))
     go (skips-ahead l) = inl refl
@@ -100,16 +100,16 @@ module _ {src : ℕ → ℕ → ℕ} {n room : ℕ} where
     go (long-word p q w) = inr (inr refl)
 
   -- And 7 is given where the numbering rule first fails.
-  pub refused-skips : {r : Refusal} → Refuses src n room r → r .number ≡ 7 → Skips n src (r .a) (r .b) (r .c)
+  pub refused-skips : {r : Refusal} → ReadingRefused src n room r → r .number ≡ 7 → Skips n src (r .a) (r .b) (r .c)
   refused-skips F seven = go (F .before) (F .place) (F .stops) seven where
-    go : {x g c : ℕ} {r : Refusal} → Held src n room x g c → g < n → Stops src n room x g c r → r .number ≡ 7 → Skips n src (r .a) (r .b) (r .c)
+    go : {x g c : ℕ} {r : Refusal} → ReadSoFar src n room x g c → g < n → Stops src n room x g c r → r .number ≡ 7 → Skips n src (r .a) (r .b) (r .c)
     go {x} {g} {c} H hg (skips-ahead l) q = record { count = c; known = H .known; column = hg; number = refl; ahead = l }
     go H hg (no-room p p′) q = absurd (omega arith)
     go H hg (long-word p p′ w) q = absurd (omega arith)
 
   -- The converse, with room and words allowing.
   pub skips-refused : {x g v : ℕ} (S : Skips n src x g v) → S .count ≤ room → ((e : ℕ) → e < S .count → length (recorded n src e) ≤ 4096)
-      → Refuses src n room (numbered 7 x g v)
+      → ReadingRefused src n room (numbered 7 x g v)
   skips-refused {x} {g} {v} S h short = record {
     row = x;
     column = g;

@@ -15,10 +15,10 @@ use Rattle.theory.specs.Appearance.{Ahead, row, parent-of, last-of, recorded}
 use Rattle.theory.proofs.Places.{ahead-row, nothing-ahead}
 use Rattle.theory.proofs.Counting.{row-known}
 use Rattle.theory.proofs.Recording.{length-grow}
-use Rattle.build_reading_laws.specs.Read.{Read, Refuses}
+use Rattle.build_reading_laws.specs.Read.{Read, ReadingRefused}
 use Rattle.build_reading_laws.proofs.Steps.{steps-row}
 use Rattle.theory.proofs.RuleLaws.{known-first, known-recorded}
-use Rattle.build_reading_laws.proofs.State.{State, On, read-place}
+use Rattle.build_reading_laws.proofs.ReadingState.{ReadingState, On, read-place}
 
 -- What follows a count follows on what is so there; a refusal stands.
 then-on : (A B : ℕ → List ℕ → Type 0) (R : Refusal → Type 0) (p : Placed) (f : ℕ → List ℕ → Placed)
@@ -34,7 +34,7 @@ zeros size i = go (decLt i size) where
 
 module _ (src : ℕ → ℕ → ℕ) (n room size : ℕ) where
   -- Before anything is read the identity is known, and all cells are zero.
-  state-start : 1 ≤ room → State src n room size 0 0 1 (replicate size 0)
+  state-start : 1 ≤ room → ReadingState src n room size 0 0 1 (replicate size 0)
   state-start h = record {
     held = record { known = start; within = h; short = λ {e} l. let q : e ≡ 0 = omega arith in rw q (omega arith) };
     whole = length-replicate size 0;
@@ -55,7 +55,7 @@ module _ (src : ℕ → ℕ → ℕ) (n room size : ℕ) where
   }
 
   -- The next row, where its element is known.
-  state-row : {x c : ℕ} {t : List ℕ} → suc x < c → State src n room size x n c t → State src n room size (suc x) 0 c t
+  state-row : {x c : ℕ} {t : List ℕ} → suc x < c → ReadingState src n room size x n c t → ReadingState src n room size (suc x) 0 c t
   state-row h S = record {
     held = record { known = next-row (S .held .known) h; within = S .held .within; short = S .held .short };
     whole = S .whole;
@@ -64,7 +64,7 @@ module _ (src : ℕ → ℕ → ℕ) (n room size : ℕ) where
     blank = S .blank;
   }
 
-  module _ (hn : n ≤ 8) {x c : ℕ} {t : List ℕ} (h : c ≤ suc x) (S : State src n room size x n c t) where
+  module _ (hn : n ≤ 8) {x c : ℕ} {t : List ℕ} (h : c ≤ suc x) (S : ReadingState src n room size x n c t) where
     origin : 0 < c
     origin = omega (arith, row-known (S .held .known))
 
@@ -126,31 +126,31 @@ module _ (src : ℕ → ℕ → ℕ) (n room size : ℕ) where
 
   module _ (hn : n ≤ 8) (hr : room ≤ 65535) (fits : room * (2 * n + 4) ≤ size) where
     -- The k places that are left of row x.
-    read-row : (k : ℕ) {x g c : ℕ} {t : List ℕ} → g + k ≡ n → State src n room size x g c t
-        → On (State src n room size x n) (Refuses src n room) (readRow k src n room x g c t)
+    read-row : (k : ℕ) {x g c : ℕ} {t : List ℕ} → g + k ≡ n → ReadingState src n room size x g c t
+        → On (ReadingState src n room size x n) (ReadingRefused src n room) (readRow k src n room x g c t)
     unfolding readRow
     read-row zero {x} {g} {c} {t} q S = let p : g ≡ n = omega arith in rw p at S
     read-row (suc k) {x} {g} {c} {t} q S =
         let p : g + 1 ≡ suc g = omega arith in
-        then-on (State src n room size x (suc g)) (State src n room size x n) _ (readPlace t n room c x g (src x g)) _
+        then-on (ReadingState src n room size x (suc g)) (ReadingState src n room size x n) _ (readPlace t n room c x g (src x g)) _
         (read-place hn hr fits S (omega arith)) (λ c′ t′ S′. rw p (read-row k (omega arith) S′))
 
     -- The rows from x on; k of them are enough.
-    read-from : (k : ℕ) {x c : ℕ} {t : List ℕ} → room ≤ x + k → State src n room size x 0 c t
-        → On (Read src n room size) (Refuses src n room) (readFrom k src n room x c t)
+    read-from : (k : ℕ) {x c : ℕ} {t : List ℕ} → room ≤ x + k → ReadingState src n room size x 0 c t
+        → On (Read src n room size) (ReadingRefused src n room) (readFrom k src n room x c t)
     unfolding readFrom
     read-from zero {x} {c} {t} h S = absurd (omega (arith, row-known (S .held .known), S .held .within))
     read-from (suc k) {x} {c} {t} h S =
         rw (lt-ltb x c (row-known (S .held .known)))
-        (then-on (State src n room size x n) (Read src n room size) _ (readRow n src n room x 0 c t) _ (read-row n (omega arith) S)
+        (then-on (ReadingState src n room size x n) (Read src n room size) _ (readRow n src n room x 0 c t) _ (read-row n (omega arith) S)
         (λ c′ t′ S′. go c′ t′ S′ (read-from k (omega arith)) (decLt (suc x) c′)))
       where
-        go : (c′ : ℕ) (t′ : List ℕ) → State src n room size x n c′ t′
-            → (State src n room size (suc x) 0 c′ t′ → On (Read src n room size) (Refuses src n room) (readFrom k src n room (suc x) c′ t′))
-            → Dec (suc x < c′) → On (Read src n room size) (Refuses src n room) (readFrom k src n room (x + 1) c′ t′)
+        go : (c′ : ℕ) (t′ : List ℕ) → ReadingState src n room size x n c′ t′
+            → (ReadingState src n room size (suc x) 0 c′ t′ → On (Read src n room size) (ReadingRefused src n room) (readFrom k src n room (suc x) c′ t′))
+            → Dec (suc x < c′) → On (Read src n room size) (ReadingRefused src n room) (readFrom k src n room (x + 1) c′ t′)
         go c′ t′ S′ ih (yes l) = let p : x + 1 ≡ suc x = omega arith in rw p (ih (state-row l S′))
         go c′ t′ S′ ih (no l) = rw (ends-here k (x + 1) c′ t′ (omega arith)) (state-read hn (omega arith) S′)
 
     -- The whole reading.
-    pub read-all : 1 ≤ room → On (Read src n room size) (Refuses src n room) (readAll src n room (replicate size 0))
+    pub read-all : 1 ≤ room → On (Read src n room size) (ReadingRefused src n room) (readAll src n room (replicate size 0))
     read-all h = read-from room (omega arith) (state-start h)

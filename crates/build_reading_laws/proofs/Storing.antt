@@ -12,7 +12,7 @@ use Rattle.theory.proofs.ColumnLaws.{columns-by-back}
 use Rattle.theory.proofs.Counting.{numbered-table}
 use Rattle.theory.proofs.FirstPlaces.{first-parents}
 use Rattle.theory.proofs.Recording.{word-of-recorded}
-use Rattle.build_checks_laws.specs.Stored.{Stored, wordOf}
+use Rattle.build_checks_laws.specs.Stored.{StoredTable, wordOf}
 use Rattle.build_reading_laws.specs.Read.{Read}
 use Rattle.build_reading_laws.proofs.Readings.{read-words, read-letters}
 
@@ -25,7 +25,7 @@ module _ {src back : ℕ → ℕ → ℕ} {n room size N : ℕ} {t : List ℕ} (
       let z : back (src e g) g ≡ e = C .back-step (p .0) hg in
       ap suc (sym (subst (λ (y : ℕ). back y g ≡ e) (p .1) z))
 
-  pub read-stored : Stored t n N src back (parentOf t n) (lastOf t n) (wordOf t n)
+  pub read-stored : StoredTable t n N src back (parentOf t n) (lastOf t n) (wordOf t n)
   read-stored = record {
     successor = R .successor;
     predecessor = λ {e} {g} he hg. stored-back e g _ he hg refl;
@@ -46,7 +46,7 @@ module _ {src : ℕ → ℕ → ℕ} {n room size N : ℕ} {t : List ℕ} (R : R
             ∙ ap (λ (l : List ℕ). l ++ lastOf t n e ∷ []) (read-words R (parentOf t n e) (omega (arith, R .appearance .first pos he .earlier)));
       }
 
-  pub words-stored : {back : ℕ → ℕ → ℕ} → Columns n N src back → Stored t n N src back (parentOf t n) (lastOf t n) (recorded n src)
+  pub words-stored : {back : ℕ → ℕ → ℕ} → Columns n N src back → StoredTable t n N src back (parentOf t n) (lastOf t n) (recorded n src)
   words-stored C =
       let S = read-stored R C in
       record { successor = S .successor; predecessor = S .predecessor; parents = S .parents; letters = S .letters; lengths = λ {e} he. read-letters R e he }

@@ -39,7 +39,7 @@ pub record Readable (src : ℕ → ℕ → ℕ) (n room N : ℕ) : Type 0 where
 
 -- Nothing was to be refused before row x and column g: the numbering rule has held so far, the c elements that are known are within the room, and
 -- their words are within 4,096.
-pub record Held (src : ℕ → ℕ → ℕ) (n room x g c : ℕ) : Type 0 where
+pub record ReadSoFar (src : ℕ → ℕ → ℕ) (n room x g c : ℕ) : Type 0 where
   pub known : Known n src x g c
   pub within : c ≤ room
   pub short : {e : ℕ} → e < c → length (recorded n src e) ≤ 4096
@@ -52,10 +52,10 @@ pub data Stops (src : ℕ → ℕ → ℕ) (n room x g c : ℕ) : Refusal → Ty
   long-word : src x g ≡ c → c < room → length (recorded n src x) ≡ 4096 → Stops src n room x g c (numbered 6 x g 0)
 
 -- A refused reading: the first place that cannot be read, and why.
-pub record Refuses (src : ℕ → ℕ → ℕ) (n room : ℕ) (r : Refusal) : Type 0 where
+pub record ReadingRefused (src : ℕ → ℕ → ℕ) (n room : ℕ) (r : Refusal) : Type 0 where
   pub row : ℕ
   pub column : ℕ
   pub count : ℕ
-  pub before : Held src n room row column count
+  pub before : ReadSoFar src n room row column count
   pub place : column < n
   pub stops : Stops src n room row column count r

@@ -30,7 +30,7 @@ use Rattle.builder_arguments.specs.Places.{placed, placedStep, overLong}
 use Rattle.build_reading.specs.Build.{isNew, setStep, adds}
 use Rattle.build_lending.specs.Finish.{built}
 use Rattle.builder_rereading.specs.Own.{ownIn}
-use Rattle.build_lending.specs.Lending.{tableNeed, workNeed, within, Ends, noFactor, refusedMade, madeOf, making}
+use Rattle.build_lending.specs.Lending.{tableNeed, workNeed, within, StretchEnd, noFactor, refusedMade, madeOf, making}
 use Rattle.builder.specs.Calls.{Leaving, leaving, builderOf, refusedBegun, begins, grown, growsBy, grows, newOr, stores, builds}
 use Rattle.build_lending.proofs.Lending.{part-length, part-back, stretch-lent, build-back}
 
@@ -43,7 +43,7 @@ module _ (table : List ℕ) (start room n : ℕ) where
   unfolding begins
   begin-short q h k = rw (q, k) (simp (le-ltb _ _ h))
 
-  pub begin-done : {e : ℕ} {p : List ℕ} → n ≤ 8 → hasRoom (length table) start room n ≡ true → Ends e start (tableNeed n room) (length table)
+  pub begin-done : {e : ℕ} {p : List ℕ} → n ≤ 8 → hasRoom (length table) start room n ≡ true → StretchEnd e start (tableNeed n room) (length table)
       → p ≡ replicate (length (midOf start (e - start) table)) 0
       → leaving (record { answer = verdict.Fine; builder = builderOf start room n 1 }) (putMid start (e - start) table p) ≡ begins table start room n
   unfolding begins
@@ -77,7 +77,7 @@ module _ (t : List ℕ) (b : Builder) (e : GroupElementId) (g : GeneratorId) {v 
     unfolding grows
     grows-refused h = rw (← q, h)
 
-    pub grows-new : {x : Grown} {s : List ℕ} {d : ℕ} → v ≡ verdict.Fine → Ends d (b .0 .start) (tableNeed (b .0 .generators) (b .0 .room)) (length t)
+    pub grows-new : {x : Grown} {s : List ℕ} {d : ℕ} → v ≡ verdict.Fine → StretchEnd d (b .0 .start) (tableNeed (b .0 .generators) (b .0 .room)) (length t)
         → leaving x s ≡ grown (midOf (b .0 .start) (d - b .0 .start) t) (b .0) e g
         → leaving x (putMid (b .0 .start) (d - b .0 .start) t s) ≡ grows t b e g
     unfolding grows
@@ -92,7 +92,7 @@ module _ (t : List ℕ) (b : Builder) (e : GroupElementId) (g : GeneratorId) {v 
     stores-refused h = rw (← q, h)
 
     pub stores-done : {new : Bool} {s : List ℕ} {d : ℕ} {x : Stored} → v ≡ verdict.Fine
-        → Ends d (b .0 .start) (tableNeed (b .0 .generators) (b .0 .room)) (length t)
+        → StretchEnd d (b .0 .start) (tableNeed (b .0 .generators) (b .0 .room)) (length t)
         → (new ≡ isNew (midOf (b .0 .start) (d - b .0 .start) t) (b .0 .generators) e g)
         × (s ≡ setStep (midOf (b .0 .start) (d - b .0 .start) t) (b .0 .generators) e g r)
         → x ≡ newOr new → leaving x (putMid (b .0 .start) (d - b .0 .start) t s) ≡ stores t b e g r
@@ -122,7 +122,7 @@ module _ (t : List ℕ) (b : Builder) (w : List ℕ) where
     builds-short q h = rw (q, fits, ← k) (simp (lt-leb _ _ h))
 
     pub builds-done : {x : ℕ} {c : Counted} {t₁ w₁ : List ℕ} {m : Made} → d ≤ length w
-        → Ends x (b .0 .start) (tableNeed (b .0 .generators) (b .0 .room)) (length t)
+        → StretchEnd x (b .0 .start) (tableNeed (b .0 .generators) (b .0 .room)) (length t)
         → built c t₁ w₁ ≡ ownIn (midOf (b .0 .start) (x - b .0 .start) t) (take d w) (b .0 .generators) (b .0 .room) (b .0 .elements)
         → m ≡ madeOf (b .0 .start) (b .0 .room) (b .0 .generators) c
         → making m (putMid (b .0 .start) (x - b .0 .start) t t₁) (w₁ ++ drop d w) ≡ builds t b w

@@ -7,7 +7,7 @@ use native.Mathlib.Nat.{mul-le-mul, le-refl, eq-or-lt-of-le}
 use native.Mathlib.Omega.{arith}
 use lib.ListN.{length, getD, set, length-set}
 use lib.Seq.{getD-set-same, getD-set-other}
-use Rattle.builder_rereading.specs.Own.{storedAt, copyAt, copiedRow, copied}
+use Rattle.builder_rereading.specs.Own.{storedAt, copiedStep, copiedRow, copied}
 
 -- A row's places end before the next row's start.
 row-within : (n : ℕ) {e N l : ℕ} → e < N → N * n ≤ l → e * n + n ≤ l
@@ -28,7 +28,7 @@ module _ (t : List ℕ) (n e : ℕ) where
       ∙ getD-set-other w (e * n + g) i (storedAt t n e g) 0 (λ q. omega arith)
 
   row-cell : (k g : ℕ) (w : List ℕ) → g + k ≡ n → e * n + n ≤ length w → (h : ℕ) → g ≤ h → h < n
-      → copyAt (copiedRow k t n e g w) n e h ≡ storedAt t n e h
+      → copiedStep (copiedRow k t n e g w) n e h ≡ storedAt t n e h
   unfolding copiedRow
   row-cell zero g w q long h lo hi = absurd (omega arith)
   row-cell (suc k) g w q long h lo hi =
@@ -52,7 +52,7 @@ module _ (t : List ℕ) (n : ℕ) where
       copied-before k (e + 1) (copiedRow n t n e 0 w) i (omega arith) ∙ row-before t n e n 0 w i (omega arith)
 
   copied-from : (k e : ℕ) (w : List ℕ) → (e + k) * n ≤ length w → (y h : ℕ) → e ≤ y → y < e + k → h < n
-      → copyAt (copied k t n e w) n y h ≡ storedAt t n y h
+      → copiedStep (copied k t n e w) n y h ≡ storedAt t n y h
   unfolding copied
   copied-from zero e w long y h lo hi hh = absurd (omega arith)
   copied-from (suc k) e w long y h lo hi hh =
@@ -65,5 +65,5 @@ module _ (t : List ℕ) (n : ℕ) where
       (eq-or-lt-of-le lo)
 
   -- Every successor of the first N rows.
-  pub copied-at : (N : ℕ) (w : List ℕ) → N * n ≤ length w → (e g : ℕ) → e < N → g < n → copyAt (copied N t n 0 w) n e g ≡ storedAt t n e g
+  pub copied-at : (N : ℕ) (w : List ℕ) → N * n ≤ length w → (e g : ℕ) → e < N → g < n → copiedStep (copied N t n 0 w) n e g ≡ storedAt t n e g
   copied-at N w long e g he hg = copied-from N 0 w (omega arith) e g (omega arith) (omega arith) hg

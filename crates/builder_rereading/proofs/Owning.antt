@@ -18,7 +18,7 @@ use Rattle.egg.specs.Answers.{numbered}
 use Rattle.build_reading.specs.Reading.{Placed, placed, thenPlaced, readPlace}
 use Rattle.build_reading.proofs.Readings.{then-same}
 use Rattle.build_lending.specs.Finish.{built, zeroed, finished, finishedPlaced}
-use Rattle.builder_rereading.specs.Own.{storedAt, copyAt, copied, ownPlace, ownRow, ownFrom, ownAll, allReached, reachesAll, ownIn}
+use Rattle.builder_rereading.specs.Own.{storedAt, copiedStep, copied, ownPlace, ownRow, ownFrom, ownAll, allReached, reachesAll, ownIn}
 use Rattle.builder_rereading.proofs.Copying.{copied-at}
 
 module _ (t : List ℕ) (n room elements count e g x : ℕ) where
@@ -111,11 +111,11 @@ module _ (own own′ : ℕ → ℕ → ℕ) (n room elements : ℕ) where
 
 -- The whole build: what is read from the copy is what stood in the stretch.
 pub own-built : (s w : List ℕ) (n room elements : ℕ) → elements * n ≤ length w → {w₁ t₁ t₂ t₃ w₃ : List ℕ} {read whole c : Counted}
-    → w₁ ≡ copied elements s n 0 w → t₁ ≡ zeroed s → placed read t₂ ≡ ownAll (copyAt w₁ n) n room elements t₁
+    → w₁ ≡ copied elements s n 0 w → t₁ ≡ zeroed s → placed read t₂ ≡ ownAll (copiedStep w₁ n) n room elements t₁
     → placed whole t₂ ≡ reachesAll n elements (placed read t₂) → built c t₃ w₃ ≡ finished whole n t₂ w₁
     → built c t₃ w₃ ≡ ownIn s w n room elements
 unfolding ownIn
 own-built s w n room elements long {w₁} {t₁} {t₂} {read = read} {whole} a b p q f =
-    let same = own-agrees (copyAt (copied elements s n 0 w) n) (storedAt s n) n room elements (copied-at s n elements w long) elements 0 1 (zeroed s) (omega arith) in
+    let same = own-agrees (copiedStep (copied elements s n 0 w) n) (storedAt s n) n room elements (copied-at s n elements w long) elements 0 1 (zeroed s) (omega arith) in
     let r : placed read t₂ ≡ ownAll (storedAt s n) n room elements (zeroed s) = p ∙ rw (a, b) same in
     f ∙ rw a (ap (λ (x : Placed). finishedPlaced x n (copied elements s n 0 w)) (q ∙ ap (λ (x : Placed). reachesAll n elements x) r))

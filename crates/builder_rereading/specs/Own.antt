@@ -62,8 +62,8 @@ reachesAll n elements (placed (Count count) t) = placed (countUnless count (allR
 reachesAll n elements (placed (Refused r) t) = placed (Refused r) t
 
 -- While the table is zeroed and read into, the successors stand in the work: row after row, n numbers each.
-abbrev pub copyAt : List ℕ → ℕ → ℕ → ℕ → ℕ
-copyAt w n e g = getD w (e * n + g) 0
+abbrev pub copiedStep : List ℕ → ℕ → ℕ → ℕ → ℕ
+copiedStep w n e g = getD w (e * n + g) 0
 
 -- The k successors of e from generator g on, copied.
 unfoldable pub copiedRow : (k : ℕ) (t : List ℕ) (n e g : ℕ) (w : List ℕ) → List ℕ

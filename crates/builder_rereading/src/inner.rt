@@ -5,7 +5,7 @@ ghost use Prim.Native.Nat.{_*_, _≤_};
 ghost use lib.ListN.{length, set};
 ghost use Rattle.build_reading.specs.Reading.{Placed};
 ghost use Rattle.build_lending.specs.Finish.{Built};
-ghost use Rattle.builder_rereading.specs.Own.{ownPlace, ownRow, ownAll, reachesAll, ownIn, copyAt, copiedRow, copied};
+ghost use Rattle.builder_rereading.specs.Own.{ownPlace, ownRow, ownAll, reachesAll, ownIn, copiedStep, copiedRow, copied};
 use egg::Counted;
 use egg::GeneratorId;
 use egg::GroupElementId;
@@ -83,7 +83,7 @@ fn own_row(
     e: GroupElementId,
     first: u32,
 ) -> Counted
-    ensures { λ r. ⌜ Placed.placed r (now (t .exit)) ≡ ownRow n (copyAt (now (w .entry)) n) n room elements (e .0) 0 first (now (t .entry)) ⌝ }
+    ensures { λ r. ⌜ Placed.placed r (now (t .exit)) ≡ ownRow n (copiedStep (now (w .entry)) n) n room elements (e .0) 0 first (now (t .entry)) ⌝ }
 {
     let mut g: u8 = 0;
     let mut count = first;
@@ -101,7 +101,7 @@ fn own_row(
 
 // Reads the rows in the order of their elements, as long as there is a next element that is known.
 fn own_rows(t: &mut [u32], w: &[u32], n: u8, room: u32, elements: u32) -> Counted
-    ensures { λ r. ⌜ Placed.placed r (now (t .exit)) ≡ ownAll (copyAt (now (w .entry)) n) n room elements (now (t .entry)) ⌝ }
+    ensures { λ r. ⌜ Placed.placed r (now (t .exit)) ≡ ownAll (copiedStep (now (w .entry)) n) n room elements (now (t .entry)) ⌝ }
 {
     let mut e: u32 = 0;
     let mut count: u32 = 1;

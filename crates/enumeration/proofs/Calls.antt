@@ -19,14 +19,14 @@ use Rattle.egg.specs.Pairs.{ordersRight}
 use Rattle.factor_relations.proofs.Orders.{orders-limits, few-pairs}
 use Rattle.egg.proofs.Rooms.{positive, limited}
 use Rattle.build_lending.specs.Finish.{Built, built, zeroed, finished}
-use Rattle.build_lending.specs.Lending.{tableNeed, workNeed, lentRight, Ends, refusedMade, madeOf, making}
+use Rattle.build_lending.specs.Lending.{tableNeed, workNeed, lentRight, StretchEnd, refusedMade, madeOf, making}
 use Rattle.build_lending.proofs.Finishing.{refused-counted}
 use Rattle.build_lending.proofs.Lending.{lent-table, part-length, build-back}
 use Rattle.factor_relations.specs.Relations.{relationsRow}
 use Rattle.enumeration_rows.specs.Rows.{Orders}
 use Rattle.enumeration_run.specs.declared.inner.Ran.{Ran}
 use Rattle.enumeration_run.specs.declared.inner.Ran.the-variants as ran
-use Rattle.enumeration_run.specs.Run.{Outcome, outcome, enumerated}
+use Rattle.enumeration_run.specs.Run.{RunResult, outcome, enumerated}
 use Rattle.enumeration_run.specs.Limits.{Limits}
 use Rattle.enumeration_quick_run.specs.Sweeps.{sweep, swiftly}
 use Rattle.enumeration_quick_laws.proofs.Swift.{swift}
@@ -53,7 +53,7 @@ enumerated-in lt lw o n room {r = r} {c} {d} {f} {t} {w} {t₁} {w₁} {t₂} x 
     let z : enumerated n o room lt lw ≡ outcome r t w = rw (x, y) at (sym a) in
     let u : finished (ranCount r) n t w ≡ built d t₁ w₁ = rw b at (sym p) in
     let v : finished (ranCount (enumerated n o room lt lw .answer)) n (enumerated n o room lt lw .table) (enumerated n o room lt lw .work) ≡ built d t₁ w₁
-    = ap (λ (s : Outcome). finished (ranCount (s .answer)) n (s .table) (s .work)) z ∙ u in
+    = ap (λ (s : RunResult). finished (ranCount (s .answer)) n (s .table) (s .work)) z ∙ u in
     ap (withWork w₁) q ∙ ap (related n o) (sym v)
 
 -- An accepted end: an accepted build before 13, and 13 passed at the identity.
@@ -110,7 +110,7 @@ module _ (table : List ℕ) (start : ℕ) (work orders : List ℕ) (n room : ℕ
       }
 
   -- Also as the stretches are lent.
-  pub lent-limits : {e d : ℕ} → Ends e start (tableNeed n room) (length table) → d ≡ workNeed n room → d ≤ length work
+  pub lent-limits : {e d : ℕ} → StretchEnd e start (tableNeed n room) (length table) → d ≡ workNeed n room → d ≤ length work
       → Limits n orders room (length (midOf start (e - start) table)) (length (take d work))
   lent-limits {e} {d} q need fits = rw (part-length table start (tableNeed n room) q, length-take-le d work fits, need) limits
 
@@ -131,7 +131,7 @@ module _ (table : List ℕ) (start : ℕ) (work orders : List ℕ) (n room : ℕ
     enumerates-short h l e = rw (← o, h, e, l) (simp (le-ltb _ _ few))
 
     pub enumerates-built : v ≡ verdict.Fine → lentRight (length table) start (length work) room n ≡ true
-        → {e d : ℕ} {c : Counted} {t w : List ℕ} → Ends e start (tableNeed n room) (length table) → d ≡ workNeed n room → d ≤ length work
+        → {e d : ℕ} {c : Counted} {t w : List ℕ} → StretchEnd e start (tableNeed n room) (length table) → d ≡ workNeed n room → d ≤ length work
         → m ≡ madeOf start room n c → built c t w ≡ enumeratedIn (length (midOf start (e - start) table)) (length (take d work)) orders n room
         → making m (putMid start (e - start) table t) (w ++ drop d work) ≡ enumerates table start work orders n room
     unfolding enumerates

@@ -17,7 +17,7 @@ use Rattle.build_lending.specs.Lending.{tableNeed, workNeed, lentRight, noFacto
 use Rattle.factor_relations.specs.Relations.{relationsRow}
 use Rattle.enumeration_run.specs.declared.inner.Ran.{Ran}
 use Rattle.enumeration_run.specs.declared.inner.Ran.the-variants as ran
-use Rattle.enumeration_run.specs.Run.{Outcome, enumerated}
+use Rattle.enumeration_run.specs.Run.{RunResult, enumerated}
 
 -- How a run ended, as a count or a refusal. A run whose allowance is spent would go on with what it has, and 8 would refuse it; with the largest
 -- allowance that never happens.

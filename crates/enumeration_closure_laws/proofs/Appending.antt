@@ -8,24 +8,24 @@ use native.Mathlib.Omega.{arith}
 use lib.ListN.{getD, length, length-append}
 use Rattle.enumeration_rows.specs.declared.inner.RelationTableRow.{RelationTableRow}
 use Rattle.enumeration_rows.specs.declared.inner.SideOfGap.{SideOfGap}
-use Rattle.enumeration_rows.specs.Rows.{workWidth, readRow, listAt, waits}
-use Rattle.enumeration_run_laws.specs.Invariant.{Spot, Copy}
-use Rattle.enumeration_run_laws.specs.Stack.{Absent, Six}
+use Rattle.enumeration_rows.specs.Rows.{workWidth, storedRow, listAt, waits}
+use Rattle.enumeration_run_laws.specs.Invariant.{CellOfKind, Copy}
+use Rattle.enumeration_run_laws.specs.Stack.{Absent, SameStackLinks}
 use Rattle.enumeration_run_laws.proofs.Spots.{spot-once, row-spot, copy-once}
 use Rattle.enumeration_run_laws.proofs.Storing.{read-same}
-use Rattle.enumeration_closure_laws.specs.Queues.{In, here, there, listOf, copyAt, lastLink, Chain, end, next, Waiter, Hand, Queue, Held, Queues, Sized, Beyond, Small, Appended}
+use Rattle.enumeration_closure_laws.specs.Queues.{In, here, there, listOf, copyAt, lastLink, Chain, end, next, Waiter, Hand, Queue, Waiting, Queues, Sized, SameBeyond, RowFits, Appended}
 use Rattle.enumeration_closure_laws.proofs.Lists.{in-left, in-right, in-append, in-one, absent, not-in, once-last, last-link, last-in, once-length}
 use Rattle.enumeration_closure_laws.proofs.Places.{bit-below, list-spot, list-below, cell-once, list-once, copy-apart, copy-is, copy-below, work-small}
 use Rattle.enumeration_closure_laws.proofs.Choosing.{choose, choose-yes, choose-no, same-list}
 use Rattle.enumeration_closure_laws.proofs.Chains.{chain-last, waiter-same, hand-same}
-use Rattle.enumeration_closure_laws.proofs.Joining.{Linked, first, after, linked, Apart, Within, Joined, waits-joined}
+use Rattle.enumeration_closure_laws.proofs.Joining.{LinkToLast, first, after, linked, CellsApart, CellsWithin, CopyJoined, waits-joined}
 use Rattle.enumeration_closure_laws.proofs.Linking.{waiter-copy, waiter-below, waiter-list, last-waits, link-copy, link-list, link-six, link-below}
 
 -- The lists with one copy more.
-abbrev longer : Held → SideOfGap → ℕ → ℕ → ℕ → Held
+abbrev longer : Waiting → SideOfGap → ℕ → ℕ → ℕ → Waiting
 longer held side e g p s x h = choose (same-list s side x e h g) (held s x h ++ p ∷ []) (held s x h)
 
-module _ {n count pairs : ℕ} {w : List ℕ} {held : Held} (S : Sized n count pairs w) (Q : Queues n count pairs w held) (side : SideOfGap) {u k e g : ℕ} (r : RelationTableRow)
+module _ {n count pairs : ℕ} {w : List ℕ} {held : Waiting} (S : Sized n count pairs w) (Q : Queues n count pairs w held) (side : SideOfGap) {u k e g : ℕ} (r : RelationTableRow)
     (hu : u < count) (hk : k < pairs) (he : e < count) (hg : g < n) (fits : listAt n r side ≡ listOf n side e g)
     (fresh : (x h : ℕ) → x < count → h < n → In (copyAt n u k side) (held side x h) → ⊥) where
   own : Queue n count pairs side w (listOf n side e g) (held side e g)
@@ -44,7 +44,7 @@ module _ {n count pairs : ℕ} {w : List ℕ} {held : Held} (S : Sized n count p
   few : length (held side e g) ≤ count * workWidth n
   few = once-length (count * workWidth n) (held side e g) (own .hand .once) (λ p i. omega (arith, waiter-below S (own .hand .mine p i)))
 
-  apart : {link : ℕ} → Linked (listOf n side e g) (held side e g) link → Apart (listOf n side e g) (copyAt n u k side) link
+  apart : {link : ℕ} → LinkToLast (listOf n side e g) (held side e g) link → CellsApart (listOf n side e g) (copyAt n u k side) link
   apart L = record {
     copy-link = λ d hd q. none side e g he hg (last-in _ (held side e g) (link-copy S he hg own L copy d hd q .1));
     copy-tail = λ d hd q. tails d hd 1 (omega arith) q;
@@ -54,11 +54,11 @@ module _ {n count pairs : ℕ} {w : List ℕ} {held : Held} (S : Sized n count p
   } where
     tails : (d : ℕ) → d < 6 → (c : ℕ) → c < 3 → copyAt n u k side + d ≡ listOf n side e g + c → ⊥
     tails d hd c hc q =
-        let kind : Spot n (copyAt n u k side + d) (12 - d) = row-spot copy (12 - d) d hd (omega arith) in
+        let kind : CellOfKind n (copyAt n u k side + d) (12 - d) = row-spot copy (12 - d) d hd (omega arith) in
         let x = spot-once (rw q at kind) (list-spot side e g hg c hc) in
         omega (arith, bit-below side)
 
-  within : {link : ℕ} → Linked (listOf n side e g) (held side e g) link → Within (listOf n side e g) (copyAt n u k side) link (length (held side e g) + 1) (length w)
+  within : {link : ℕ} → LinkToLast (listOf n side e g) (held side e g) link → CellsWithin (listOf n side e g) (copyAt n u k side) link (length (held side e g) + 1) (length w)
   within L = record {
     copy-within = copy .within;
     link-within = omega (arith, S .room, link-below S he hg own L);
@@ -68,17 +68,17 @@ module _ {n count pairs : ℕ} {w : List ℕ} {held : Held} (S : Sized n count p
   }
 
   -- The work after the stores, by its cells.
-  module _ {w′ : List ℕ} {link : ℕ} (L : Linked (listOf n side e g) (held side e g) link)
-      (J : Joined w w′ (listOf n side e g) (copyAt n u k side) link (length (held side e g) + 1) r) where
+  module _ {w′ : List ℕ} {link : ℕ} (L : LinkToLast (listOf n side e g) (held side e g) link)
+      (J : CopyJoined w w′ (listOf n side e g) (copyAt n u k side) link (length (held side e g) + 1) r) where
     copy-cell : {x : ℕ} → Copy n (length w) x → (x ≡ copyAt n u k side → ⊥) → (d : ℕ) → d < 6 → (d ≡ 5 → lastLink (held side e g) ≡ suc x → ⊥) → getD w′ (x + d) 0 ≡ getD w (x + d) 0
     copy-cell {x} c f d hd last = J .other (x + d) (λ d′ hd′ q. f (copy-once c copy hd hd′ q)) (λ q. let l = link-copy S he hg own L c d hd q in last (l .0) (l .1)) (cells 1 (omega arith)) (cells 2 (omega arith)) where
       cells : (a : ℕ) → a < 3 → x + d ≡ listOf n side e g + a → ⊥
       cells a ha q =
-          let kind : Spot n (x + d) (12 - d) = row-spot c (12 - d) d hd (omega arith) in
+          let kind : CellOfKind n (x + d) (12 - d) = row-spot c (12 - d) d hd (omega arith) in
           let y = spot-once (rw q at kind) (list-spot side e g hg a ha) in
           omega (arith, bit-below side)
 
-    copy-row : {x : ℕ} → Copy n (length w) x → (x ≡ copyAt n u k side → ⊥) → readRow w′ x ≡ readRow w x
+    copy-row : {x : ℕ} → Copy n (length w) x → (x ≡ copyAt n u k side → ⊥) → storedRow w′ x ≡ storedRow w x
     copy-row {x} c f = read-same w w′ x (λ d hd. copy-cell c f d (omega arith) (omega arith))
 
     list-cell : (s : SideOfGap) (x h : ℕ) → h < n → (d : ℕ) → d < 3 → (listOf n s x h + d ≡ link → ⊥) → ((s ≡ side) × (x ≡ e) × (h ≡ g) → d ≡ 1 → ⊥)
@@ -111,7 +111,7 @@ module _ {n count pairs : ℕ} {w : List ℕ} {held : Held} (S : Sized n count p
         }
 
     -- The list itself.
-    own-chain : Linked (listOf n side e g) (held side e g) link → Chain w′ (getD w′ (listOf n side e g) 0) (held side e g ++ copyAt n u k side ∷ [])
+    own-chain : LinkToLast (listOf n side e g) (held side e g) link → Chain w′ (getD w′ (listOf n side e g) 0) (held side e g ++ copyAt n u k side ∷ [])
     own-chain (first z at) = rw z (next {ps = []} (rw at at (J .links)) (end (J .ends)))
     own-chain (after q l at) = rw head (chain-last (held side e g) q (copyAt n u k side) l (own .hand .once) same (rw at at (J .links)) (J .ends) (own .hand .chain)) where
       head : getD w′ (listOf n side e g) 0 ≡ getD w (listOf n side e g) 0
@@ -141,15 +141,15 @@ module _ {n count pairs : ℕ} {w : List ℕ} {held : Held} (S : Sized n count p
       by (yes q) = rw (q .0, q .1, q .2) own-queue
       by (no f) = queue-other s x h hx hh f
 
-    longer-six : Six n w w′
+    longer-six : SameStackLinks n w w′
     longer-six = record { same = λ i z. J .other i (copies i z) (λ q. link-six S he hg own L (rw q at z)) (λ q. cells i z 1 (omega arith) q) (λ q. cells i z 2 (omega arith) q) } where
-      copies : (i : ℕ) → Spot n i 6 → (d : ℕ) → d < 6 → i ≡ copyAt n u k side + d → ⊥
+      copies : (i : ℕ) → CellOfKind n i 6 → (d : ℕ) → d < 6 → i ≡ copyAt n u k side + d → ⊥
       copies i z d hd q = let y = spot-once (rw q at z) (row-spot copy (12 - d) d hd (omega arith)) in omega arith
 
-      cells : (i : ℕ) → Spot n i 6 → (a : ℕ) → a < 3 → i ≡ listOf n side e g + a → ⊥
+      cells : (i : ℕ) → CellOfKind n i 6 → (a : ℕ) → a < 3 → i ≡ listOf n side e g + a → ⊥
       cells i z a ha q = let y = spot-once (rw q at z) (list-spot side e g hg a ha) in omega (arith, bit-below side)
 
-    longer-beyond : Beyond n count w w′
+    longer-beyond : SameBeyond n count w w′
     longer-beyond = record {
       long = J .long;
       beyond = λ i hi. J .other i (λ d hd q. omega (arith, copy-below S hu hk side d hd)) (λ q. omega (arith, link-below S he hg own L)) (λ q. omega (arith, list-below side he hg 1 (omega arith))) (λ q. omega (arith, list-below side he hg 2 (omega arith)));
@@ -173,18 +173,18 @@ module _ {n count pairs : ℕ} {w : List ℕ} {held : Held} (S : Sized n count p
       more s x h q i (no f) = i
 
 -- What `Appended` says, and that no other copy has come.
-pub record AppendedOnly (n count pairs : ℕ) (w w′ : List ℕ) (held : Held) (side : SideOfGap) (e g p : ℕ) (r : RelationTableRow) : Type 0 where
+pub record AppendedOnly (n count pairs : ℕ) (w w′ : List ℕ) (held : Waiting) (side : SideOfGap) (e g p : ℕ) (r : RelationTableRow) : Type 0 where
   pub appended : Appended n count pairs w w′ held side e g p r
   pub only : (s : SideOfGap) (x h q : ℕ) → In q (appended .held′ s x h) → In q (held s x h) ⊎ (q ≡ p)
 
-longer-only : (held : Held) (side : SideOfGap) (e g p : ℕ) (s : SideOfGap) (x h q : ℕ) → In q (longer held side e g p s x h) → In q (held s x h) ⊎ (q ≡ p)
+longer-only : (held : Waiting) (side : SideOfGap) (e g p : ℕ) (s : SideOfGap) (x h q : ℕ) → In q (longer held side e g p s x h) → In q (held s x h) ⊎ (q ≡ p)
 longer-only held side e g p s x h q = by (same-list s side x e h g) where
   by : (d : Dec ((s ≡ side) × (x ≡ e) × (h ≡ g))) → In q (choose d (held s x h ++ p ∷ []) (held s x h)) → In q (held s x h) ⊎ (q ≡ p)
   by (yes z) i = ⊎-elim (λ a. inl a) (λ b. inr (in-one b)) (in-append (held s x h) i)
   by (no f) i = inl i
 
-module _ {n count pairs : ℕ} {w : List ℕ} {held : Held} (S : Sized n count pairs w) (Q : Queues n count pairs w held) (side : SideOfGap) (u k e g : ℕ) (r : RelationTableRow)
-    (hu : u < count) (hk : k < pairs) (he : e < count) (hg : g < n) (small : Small r) (fits : listAt n r side ≡ listOf n side e g)
+module _ {n count pairs : ℕ} {w : List ℕ} {held : Waiting} (S : Sized n count pairs w) (Q : Queues n count pairs w held) (side : SideOfGap) (u k e g : ℕ) (r : RelationTableRow)
+    (hu : u < count) (hk : k < pairs) (he : e < count) (hg : g < n) (small : RowFits r) (fits : listAt n r side ≡ listOf n side e g)
     (fresh : (x h : ℕ) → x < count → h < n → In (copyAt n u k side) (held side x h) → ⊥) where
   pub appends-only : AppendedOnly n count pairs w (waits w n (copyAt n u k side) r side) held side e g (copyAt n u k side) r
   unfolding longer-appended

@@ -9,12 +9,12 @@ use Rattle.egg.specs.Table.{startOf}
 use Rattle.enumeration_rows.specs.declared.inner.SideOfGap.{SideOfGap}
 use Rattle.enumeration_rows.specs.Rows.{addedRows}
 use Rattle.enumeration_run.specs.Limits.{Limits}
-use Rattle.enumeration_run_laws.specs.Invariant.{Known}
+use Rattle.enumeration_run_laws.specs.Invariant.{StepKnown}
 use Rattle.enumeration_run_laws.specs.Stack.{bottom}
 use Rattle.enumeration_run_laws.proofs.Running.{zeros}
-use Rattle.enumeration_loop_laws.specs.Rings.{first, second, Looped}
-use Rattle.enumeration_closure_laws.specs.Queues.{Held, Begun}
-use Rattle.enumeration_closure_laws.specs.Closure.{Rowed, Open, none, Closed}
+use Rattle.enumeration_loop_laws.specs.Rings.{firstOfPair, secondOfPair, Looped}
+use Rattle.enumeration_closure_laws.specs.Queues.{Waiting, RowsAdded}
+use Rattle.enumeration_closure_laws.specs.Closure.{Rowed, Open, noneInHand, Closed}
 use Rattle.enumeration_closure_laws.proofs.BeginningLists.{begins}
 use Rattle.enumeration_closure_laws.proofs.Ground.{Ground, ground, sized}
 use Rattle.enumeration_closure_laws.proofs.NewRows.{new-rowed, new-open}
@@ -24,25 +24,25 @@ module _ {n N : ℕ} {o : List ℕ} {room lt lw : ℕ} {step : ℕ → ℕ → �
   G = ground L looped 1 some (L .some)
 
   -- Before there is an element, nothing waits.
-  abbrev nothing : Held
+  abbrev nothing : Waiting
   nothing sd x h = []
 
   abbrev begun : List ℕ
   begun = addedRows (replicate lw 0) o n (record { 0 = 0 })
 
-  B : Begun n 0 (length o) o (replicate lw 0) begun nothing
+  B : RowsAdded n 0 (length o) o (replicate lw 0) begun nothing
   B = begins {count = 0} (sized G (replicate lw 0) (length-replicate lw 0)) (G .full) (G .orders) (record { queue = λ sd x h hx hh. absurd (omega arith) }) (λ i h. zeros lw i)
 
-  unknown : (x h : ℕ) → Known n (replicate lt 0) x h → ⊥
+  unknown : (x h : ℕ) → StepKnown n (replicate lt 0) x h → ⊥
   unknown x h z = z (zeros lt (startOf n x + h))
 
   first-rowed : (u k : ℕ) (sd : SideOfGap) → u < 1 → k < length o → Rowed 1 step o (replicate lt 0) begun n u k sd
   first-rowed u k sd hu hk = let q : u ≡ 0 = omega arith in rw q (new-rowed 0 G k hk sd (B .stored k sd hk))
 
-  first-open : (u k : ℕ) → u < 1 → k < length o → Open n step (replicate lt 0) begun (B .held′) [] none u k
+  first-open : (u k : ℕ) → u < 1 → k < length o → Open n step (replicate lt 0) begun (B .held′) [] noneInHand u k
   first-open u k hu hk =
       let q : u ≡ 0 = omega arith in
-      rw q (new-open 0 G k hk (λ sd. B .stored k sd hk) (B .left k hk) (B .right k hk) (unknown 0 (first k)) (unknown 0 (second k)))
+      rw q (new-open 0 G k hk (λ sd. B .stored k sd hk) (B .left k hk) (B .right k hk) (unknown 0 (firstOfPair k)) (unknown 0 (secondOfPair k)))
 
   pub first-closed : {Live : ℕ → ℕ → Type 0} → Closed n o step Live 1 lt lw (replicate lt 0) (addedRows (replicate lw 0) o n (record { 0 = 0 }))
   first-closed = record {

@@ -1,4 +1,4 @@
--- `Begun` holds after `addedRows`: each copy of the new element waits in one of the element's own lists, and the lists of the others are as they were.
+-- `RowsAdded` holds after `addedRows`: each copy of the new element waits in one of the element's own lists, and the lists of the others are as they were.
 use Prim.Native.Nat.{ℕ, zero, suc, _+_, _*_, _-_, _<_, _≤_}
 use mathlib.Core.Path.{_≡_, refl, sym, _∙_}
 use mathlib.Core.Logic.{⊎-elim}
@@ -11,12 +11,12 @@ use Rattle.egg.specs.Pairs.{pairCode}
 use Rattle.enumeration_rows.specs.declared.inner.RelationTableRow.{RelationTableRow}
 use Rattle.enumeration_rows.specs.declared.inner.SideOfGap.{SideOfGap}
 use Rattle.enumeration_rows.specs.declared.inner.SideOfGap.the-variants.{Left, Right}
-use Rattle.enumeration_rows.specs.Rows.{workWidth, genOf, readRow, listAt, waits, newRow, addedRow, addRowsFrom, addedRows}
+use Rattle.enumeration_rows.specs.Rows.{workWidth, genOf, storedRow, listAt, waits, newRow, addedRow, addRowsFrom, addedRows}
 use Rattle.enumeration_run_laws.specs.Invariant.{RowOk}
-use Rattle.enumeration_run_laws.specs.Stack.{Six}
+use Rattle.enumeration_run_laws.specs.Stack.{SameStackLinks}
 use Rattle.egg.proofs.Cells.{same-row, same-cell}
 use Rattle.enumeration_run_laws.proofs.Rowing.{new-row-ok}
-use Rattle.enumeration_closure_laws.specs.Queues.{In, listOf, copyAt, Queue, Held, Queues, Sized, Beyond, SameRows, Small, Begun}
+use Rattle.enumeration_closure_laws.specs.Queues.{In, listOf, copyAt, Queue, Waiting, Queues, Sized, SameBeyond, SameStoredRows, RowFits, RowsAdded}
 use Rattle.enumeration_closure_laws.proofs.Lists.{in-none}
 use Rattle.enumeration_closure_laws.proofs.Places.{bit, bit-below, bit-once, list-stands, copy-apart}
 use Rattle.enumeration_closure_laws.proofs.Choosing.{choose, choose-yes}
@@ -33,21 +33,21 @@ new-list n count pair order Left = refl
 new-list n count pair order Right = refl
 
 -- So many copies of the new element, left and right in turn, have been put into their lists.
-record Partly (n count : ℕ) (o w : List ℕ) (held : Held) (m : ℕ) (w₁ : List ℕ) : Type 0 where
-  now : Held
+record Partly (n count : ℕ) (o w : List ℕ) (held : Waiting) (m : ℕ) (w₁ : List ℕ) : Type 0 where
+  now : Waiting
   queues : Queues n (count + 1) (length o) w₁ now
   old : (s : SideOfGap) (x h : ℕ) → x < count → now s x h ≡ held s x h
   waiting : (j : ℕ) (s : SideOfGap) → 2 * j + bit s < m → In (copyAt n count j s) (now s count (genOf (pairCode j) (column s (getD o j 0)) .0))
-  stored : (j : ℕ) (s : SideOfGap) → 2 * j + bit s < m → readRow w₁ (copyAt n count j s) ≡ newRow (record { 0 = count }) (pairCode j) (getD o j 0)
-  rows : SameRows n count (length o) w w₁
-  six : Six n w w₁
-  beyond : Beyond n (count + 1) w w₁
+  stored : (j : ℕ) (s : SideOfGap) → 2 * j + bit s < m → storedRow w₁ (copyAt n count j s) ≡ newRow (record { 0 = count }) (pairCode j) (getD o j 0)
+  rows : SameStoredRows n count (length o) w w₁
+  six : SameStackLinks n w w₁
+  beyond : SameBeyond n (count + 1) w w₁
   fresh : (j : ℕ) (s : SideOfGap) → m ≤ 2 * j + bit s → j < length o → (x h : ℕ) → x < count + 1 → h < n → In (copyAt n count j s) (now s x h) → ⊥
 
-sized : {n count pairs : ℕ} {w w₁ : List ℕ} → Sized n count pairs w → Beyond n count w w₁ → Sized n count pairs w₁
+sized : {n count pairs : ℕ} {w w₁ : List ℕ} → Sized n count pairs w → SameBeyond n count w w₁ → Sized n count pairs w₁
 sized S B = record { few = S .few; limit = S .limit; paired = S .paired; room = rw (B .long) (S .room) }
 
-module _ (n count : ℕ) (o w : List ℕ) (held : Held) (S : Sized n (count + 1) (length o) w) (full : length o ≡ pairs-below n)
+module _ (n count : ℕ) (o w : List ℕ) (held : Waiting) (S : Sized n (count + 1) (length o) w) (full : length o ≡ pairs-below n)
     (orders : (k : ℕ) → k < length o → (1 ≤ getD o k 0) × (getD o k 0 < 32768)) where
   module _ (k : ℕ) (hk : k < length o) where
     row : RelationTableRow
@@ -57,7 +57,7 @@ module _ (n count : ℕ) (o w : List ℕ) (held : Held) (S : Sized n (count + 1)
     unfolding row
     row-ok = new-row-ok o (S .few) full orders {word = λ x. []} {count = suc count} (record { 0 = count }) k hk (omega arith)
 
-    row-small : Small row
+    row-small : RowFits row
     unfolding row
     row-small = record {
       pair-small = omega (arith, row-ok .small);
@@ -107,7 +107,7 @@ module _ (n count : ℕ) (o w : List ℕ) (held : Held) (S : Sized n (count + 1)
       waiting j s h (no f) = A .appended .more s count _ (copyAt n count j s) (P .waiting j s (omega arith))
 
       stored : (j : ℕ) (s : SideOfGap) → 2 * j + bit s < suc m → Dec (2 * j + bit s ≡ m)
-          → readRow (waits w₁ n (copyAt n count k side) row side) (copyAt n count j s) ≡ newRow (record { 0 = count }) (pairCode j) (getD o j 0)
+          → storedRow (waits w₁ n (copyAt n count k side) row side) (copyAt n count j s) ≡ newRow (record { 0 = count }) (pairCode j) (getD o j 0)
       stored j s h (yes q) = let y = which j s q in rw (y .0, y .1) (A .appended .stored)
       stored j s h (no f) =
           let hj : j < length o = omega (arith, bit-below s, bit-below side) in
@@ -126,7 +126,7 @@ module _ (n count : ℕ) (o w : List ℕ) (held : Held) (S : Sized n (count + 1)
 
   -- Before the first: the new element's cells are zero.
   module _ (Q : Queues n count (length o) w held) (blank : (i : ℕ) → count * workWidth n ≤ i → getD w i 0 ≡ 0) where
-    start : Held
+    start : Waiting
     start s x h = choose (decLt x count) (held s x h) []
 
     start-queue : (s : SideOfGap) (x h : ℕ) → x < count + 1 → h < n → Queue n (count + 1) (length o) s w (listOf n s x h) (start s x h)
@@ -159,8 +159,8 @@ module _ (n count : ℕ) (o w : List ℕ) (held : Held) (S : Sized n (count + 1)
       fresh = λ j s h hj. start-fresh j s hj;
     }
 
-pub begins : {n count : ℕ} {o w : List ℕ} {held : Held} → Sized n (count + 1) (length o) w → length o ≡ pairs-below n → ((k : ℕ) → k < length o → (1 ≤ getD o k 0) × (getD o k 0 < 32768))
-    → Queues n count (length o) w held → ((i : ℕ) → count * workWidth n ≤ i → getD w i 0 ≡ 0) → Begun n count (length o) o w (addedRows w o n (record { 0 = count })) held
+pub begins : {n count : ℕ} {o w : List ℕ} {held : Waiting} → Sized n (count + 1) (length o) w → length o ≡ pairs-below n → ((k : ℕ) → k < length o → (1 ≤ getD o k 0) × (getD o k 0 < 32768))
+    → Queues n count (length o) w held → ((i : ℕ) → count * workWidth n ≤ i → getD w i 0 ≡ 0) → RowsAdded n count (length o) o w (addedRows w o n (record { 0 = count })) held
 begins {n} {count} {o} {w} {held} S full orders Q blank =
     let e : length o + 0 ≡ length o = omega arith in
     let P = all-more n count o w held S full orders (length o) 0 e (started n count o w held S full orders Q blank) in

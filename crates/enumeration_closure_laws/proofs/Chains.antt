@@ -6,9 +6,9 @@ use native.Mathlib.Nat.{add-zero, le-refl}
 use native.Mathlib.Omega.{arith}
 use lib.ListN.{getD}
 use Rattle.enumeration_rows.specs.declared.inner.SideOfGap.{SideOfGap}
-use Rattle.enumeration_rows.specs.Rows.{readRow}
+use Rattle.enumeration_rows.specs.Rows.{storedRow}
 use Rattle.enumeration_run_laws.proofs.Storing.{read-same}
-use Rattle.enumeration_closure_laws.specs.Queues.{In, here, there, Once, lastLink, copyAt, Chain, end, next, Waiter, Hand, Queue, SameRows}
+use Rattle.enumeration_closure_laws.specs.Queues.{In, here, there, Once, lastLink, copyAt, Chain, end, next, Waiter, Hand, Queue, SameStoredRows}
 use Rattle.enumeration_closure_laws.proofs.Lists.{in-none, not-in, last-in}
 
 chain-next : {w : List ℕ} {at p : ℕ} {ps : List ℕ} → Chain w at (p ∷ ps) → (at ≡ suc p) × Chain w (getD w (p + 5) 0) ps
@@ -35,7 +35,7 @@ chain-last (x ∷ y ∷ ps) q p l o same to ends c =
     next {ps = y ∷ ps ++ p ∷ []} (chain-next c .0)
     (rw (same x (here refl) d) (chain-last (y ∷ ps) q p l (o .1) (λ z i. same z (there i)) to ends (chain-next c .1)))
 
-pub waiter-same : {n count count′ pairs : ℕ} {side : SideOfGap} {w w′ : List ℕ} {list p : ℕ} → count ≤ count′ → readRow w′ p ≡ readRow w p
+pub waiter-same : {n count count′ pairs : ℕ} {side : SideOfGap} {w w′ : List ℕ} {list p : ℕ} → count ≤ count′ → storedRow w′ p ≡ storedRow w p
     → Waiter n count pairs side w list p → Waiter n count′ pairs side w′ list p
 waiter-same {n} {side = side} more same W = record {
   element = W .element;
@@ -48,7 +48,7 @@ waiter-same {n} {side = side} more same W = record {
 
 -- A list in hand is as it was, where the link and the row of each of its copies are.
 pub hand-same : {n count count′ pairs : ℕ} {side : SideOfGap} {w w′ : List ℕ} {list at : ℕ} {ps : List ℕ} → count ≤ count′
-    → ((q : ℕ) → In q ps → getD w′ (q + 5) 0 ≡ getD w (q + 5) 0) → ((q : ℕ) → In q ps → readRow w′ q ≡ readRow w q)
+    → ((q : ℕ) → In q ps → getD w′ (q + 5) 0 ≡ getD w (q + 5) 0) → ((q : ℕ) → In q ps → storedRow w′ q ≡ storedRow w q)
     → Hand n count pairs side w list at ps → Hand n count′ pairs side w′ list at ps
 hand-same more links rows H = record {
   chain = chain-same links (H .chain);
@@ -58,7 +58,7 @@ hand-same more links rows H = record {
 
 -- So is a whole list, where its three cells are too.
 pub queue-same : {n count count′ pairs : ℕ} {side : SideOfGap} {w w′ : List ℕ} {list : ℕ} {ps : List ℕ} → count ≤ count′
-    → ((q : ℕ) → In q ps → getD w′ (q + 5) 0 ≡ getD w (q + 5) 0) → ((q : ℕ) → In q ps → readRow w′ q ≡ readRow w q)
+    → ((q : ℕ) → In q ps → getD w′ (q + 5) 0 ≡ getD w (q + 5) 0) → ((q : ℕ) → In q ps → storedRow w′ q ≡ storedRow w q)
     → ((d : ℕ) → d < 3 → getD w′ (list + d) 0 ≡ getD w (list + d) 0)
     → Queue n count pairs side w list ps → Queue n count′ pairs side w′ list ps
 queue-same {w = w} {w′} {list} more links rows cells Q =
@@ -82,14 +82,14 @@ pub record SameCopies (n count pairs : ℕ) (w w′ : List ℕ) : Type 0 where
   pub same : (u k : ℕ) (side : SideOfGap) → u < count → k < pairs → (d : ℕ) → d < 6 → getD w′ (copyAt n u k side + d) 0 ≡ getD w (copyAt n u k side + d) 0
 
 module _ {n count pairs : ℕ} {w w′ : List ℕ} (C : SameCopies n count pairs w w′) where
-  pub copies-rows : SameRows n count pairs w w′
+  pub copies-rows : SameStoredRows n count pairs w w′
   copies-rows = record { same = λ u k s hu hk. read-same w w′ (copyAt n u k s) (λ d hd. C .same u k s hu hk d (omega arith)) }
 
   module _ {side : SideOfGap} {list q : ℕ} (W : Waiter n count pairs side w list q) where
     waiter-link : getD w′ (q + 5) 0 ≡ getD w (q + 5) 0
     waiter-link = rw (W .stands) (C .same (W .element) (W .number) side (W .element-below) (W .number-below) 5 (omega arith))
 
-    waiter-row : readRow w′ q ≡ readRow w q
+    waiter-row : storedRow w′ q ≡ storedRow w q
     waiter-row = rw (W .stands) (copies-rows .same (W .element) (W .number) side (W .element-below) (W .number-below))
 
   pub copies-hand : {side : SideOfGap} {list at : ℕ} {ps : List ℕ} → Hand n count pairs side w list at ps → Hand n count pairs side w′ list at ps

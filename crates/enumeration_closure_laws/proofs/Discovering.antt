@@ -15,17 +15,17 @@ use Rattle.egg.proofs.Cells.{put-same}
 use Rattle.build_reading.specs.Build.{setStep, setWord}
 use Rattle.enumeration_rows.specs.declared.inner.SideOfGap.{SideOfGap}
 use Rattle.enumeration_rows.specs.declared.inner.SideOfGap.the-variants.{Left, Right}
-use Rattle.enumeration_rows.specs.Rows.{placeAt, readRow, newRow, addedRows}
+use Rattle.enumeration_rows.specs.Rows.{placeAt, storedRow, newRow, addedRows}
 use Rattle.enumeration_wake.specs.Waking.{state, link, belowAt}
 use Rattle.enumeration_run.specs.Run.{discovered}
 use Rattle.enumeration_run.specs.Limits.{Limits}
-use Rattle.enumeration_run_laws.specs.Invariant.{Known}
+use Rattle.enumeration_run_laws.specs.Invariant.{StepKnown}
 use Rattle.enumeration_run_laws.specs.Stack.{Stack, bottom, above}
 use Rattle.enumeration_run_laws.proofs.Spots.{place-link}
 use Rattle.enumeration_run_laws.proofs.Stacking.{place-within}
-use Rattle.enumeration_loop_laws.specs.Rings.{first, second, Looped}
-use Rattle.enumeration_closure_laws.specs.Queues.{In, here, placeOf, copyAt, Pushed, Begun}
-use Rattle.enumeration_closure_laws.specs.Closure.{Rowed, Open, Whole, Machine, none, Closed}
+use Rattle.enumeration_loop_laws.specs.Rings.{firstOfPair, secondOfPair, Looped}
+use Rattle.enumeration_closure_laws.specs.Queues.{In, here, placeOf, copyAt, Pushed, RowsAdded}
+use Rattle.enumeration_closure_laws.specs.Closure.{Rowed, Open, Whole, Machine, noneInHand, Closed}
 use Rattle.enumeration_closure_laws.proofs.BeginningLists.{begins}
 use Rattle.enumeration_closure_laws.proofs.Taking.{pushes}
 use Rattle.enumeration_loop_laws.proofs.Telling.{told-new}
@@ -41,11 +41,11 @@ use Rattle.enumeration_closure_laws.proofs.Settling.{settle-idle, idle-
 module _ {n N : ℕ} {o : List ℕ} {room : ℕ} {step : ℕ → ℕ → ℕ} {count lt lw : ℕ} (L : Limits n o room lt lw) (looped : Looped n N o step)
     {Live : ℕ → ℕ → Type 0} {t w : List ℕ} (C : Closed n o step Live count lt lw t w) (hr : count < room) (hN : count < N)
     (e g : ℕ) (he : e < count) (hg : g < n) (leads : step e g ≡ count)
-    (fresh : (k : ℕ) → k < length o → Live count k → (g ≡ first k → ⊥) × (g ≡ second k → ⊥)) (len : ℕ) where
+    (fresh : (k : ℕ) → k < length o → Live count k → (g ≡ firstOfPair k → ⊥) × (g ≡ secondOfPair k → ⊥)) (len : ℕ) where
   G : Ground n N o step (count + 1) lt lw
   G = ground L looped (count + 1) (omega arith) (omega arith)
 
-  M : Machine n o step Live count lt lw (C .held) [] none (state t w 0)
+  M : Machine n o step Live count lt lw (C .held) [] noneInHand (state t w 0)
   M = C .machine
 
   abbrev begun : List ℕ
@@ -66,7 +66,7 @@ module _ {n N : ℕ} {o : List ℕ} {room : ℕ} {step : ℕ → ℕ → ℕ} {c
   known-more : More n t table
   known-more = record { more = stepped-more t n count old by len }
 
-  B : Begun n count (length o) o w begun (C .held)
+  B : RowsAdded n count (length o) o w begun (C .held)
   B = begins (sized G w (M .work-length)) (G .full) (G .orders) (M .queues) (M .blank)
 
   P : Pushed n (count + 1) (length o) begun linked (B .held′)
@@ -94,10 +94,10 @@ module _ {n N : ℕ} {o : List ℕ} {room : ℕ} {step : ℕ → ℕ → ℕ} {c
       (bottom (put-same begun (placeOf n e g + 6) 0 (rw (B .beyond .long ∙ M .work-length) within) (omega arith)))
 
   -- The rows of the new element are as they begin; those of the others are as they were.
-  new-row : (k : ℕ) (sd : SideOfGap) → k < length o → readRow linked (copyAt n count k sd) ≡ newRow (record { 0 = count }) (pairCode k) (getD o k 0)
+  new-row : (k : ℕ) (sd : SideOfGap) → k < length o → storedRow linked (copyAt n count k sd) ≡ newRow (record { 0 = count }) (pairCode k) (getD o k 0)
   new-row k sd hk = P .rows .same count k sd (omega arith) hk ∙ B .stored k sd hk
 
-  old-row : (u k : ℕ) (sd : SideOfGap) → u < count → k < length o → readRow linked (copyAt n u k sd) ≡ readRow w (copyAt n u k sd)
+  old-row : (u k : ℕ) (sd : SideOfGap) → u < count → k < length o → storedRow linked (copyAt n u k sd) ≡ storedRow w (copyAt n u k sd)
   old-row u k sd hu hk = P .rows .same u k sd (omega arith) hk ∙ B .rows .same u k sd hu hk
 
   all-rowed : (u k : ℕ) (sd : SideOfGap) → u < count + 1 → k < length o → Rowed (count + 1) step o table linked n u k sd
@@ -106,34 +106,34 @@ module _ {n N : ℕ} {o : List ℕ} {room : ℕ} {step : ℕ → ℕ → ℕ} {c
       (λ h. rowed-more step known-more u k (letter-below G k hk) (omega arith) (M .rows u k sd h hk) (old-row u k sd h hk)) (below-suc (omega arith))
 
   -- Of an old element only the step to the new one has become known.
-  old-new : (x h : ℕ) → x < count → h < n → Known n table x h → Known n t x h ⊎ In (placeOf n x h) (placeOf n e g ∷ [])
+  old-new : (x h : ℕ) → x < count → h < n → StepKnown n table x h → StepKnown n t x h ⊎ In (placeOf n x h) (placeOf n e g ∷ [])
   old-new x h hx hh z = go (ℕ-discrete x e) (ℕ-discrete h g) where
-    elsewhere : (x ≡ e → h ≡ g → ⊥) → Known n t x h
+    elsewhere : (x ≡ e → h ≡ g → ⊥) → StepKnown n t x h
     elsewhere d = stepped-only t n count old by len he hg x h hh d (λ a b. omega arith) z
 
-    go : Dec (x ≡ e) → Dec (h ≡ g) → Known n t x h ⊎ In (placeOf n x h) (placeOf n e g ∷ [])
+    go : Dec (x ≡ e) → Dec (h ≡ g) → StepKnown n t x h ⊎ In (placeOf n x h) (placeOf n e g ∷ [])
     go (yes a) (yes b) = let q : placeOf n e g ≡ placeOf n x h = rw (a, b) in inr (here q)
     go (yes a) (no d) = inl (elsewhere (λ a b. d b))
     go (no d) b = inl (elsewhere (λ a b. d a))
 
   -- Of the new one only the step back is known.
-  new-unknown : (h : ℕ) → h < n → (g ≡ h → ⊥) → Known n table count h → ⊥
+  new-unknown : (h : ℕ) → h < n → (g ≡ h → ⊥) → StepKnown n table count h → ⊥
   new-unknown h hh d z =
       let known = stepped-only t n count old by len he hg count h hh (λ a b. omega arith) (λ a b. d (sym b)) z in
       let low = M .told .from-below count h hh known in
       omega arith
 
-  old-live : (u k : ℕ) → u < count → k < length o → Live u k → Whole n step o table u k ⊎ Open n step table linked (B .held′) (placeOf n e g ∷ []) none u k
+  old-live : (u k : ℕ) → u < count → k < length o → Live u k → Whole n step o table u k ⊎ Open n step table linked (B .held′) (placeOf n e g ∷ []) noneInHand u k
   old-live u k hu hk v =
       ⊎-elim (λ whole. inl (λ j hj. column-more step known-more u k (letter-below G k hk) j (whole j hj)))
       (λ O. inr (open-more (letter-below G k hk) (M .rows u k Left hu hk) (M .rows u k Right hu hk) (λ sd. old-row u k sd hu hk)
       (λ sd x h hx hh a. awaits-more a (λ i. rw (B .old sd x h hx) i) (old-new x h hx hh) (λ q i. absurd (in-none i)) (λ i. i)) O))
       (M .live u k hu hk v)
 
-  new-live : (k : ℕ) → k < length o → Live count k → Open n step table linked (B .held′) (placeOf n e g ∷ []) none count k
+  new-live : (k : ℕ) → k < length o → Live count k → Open n step table linked (B .held′) (placeOf n e g ∷ []) noneInHand count k
   new-live k hk v =
-      new-open count G k hk (λ sd. new-row k sd hk) (B .left k hk) (B .right k hk) (new-unknown (first k) (letter-below G k hk 0) (fresh k hk v .0))
-      (new-unknown (second k) (letter-below G k hk 1) (fresh k hk v .1))
+      new-open count G k hk (λ sd. new-row k sd hk) (B .left k hk) (B .right k hk) (new-unknown (firstOfPair k) (letter-below G k hk 0) (fresh k hk v .0))
+      (new-unknown (secondOfPair k) (letter-below G k hk 1) (fresh k hk v .1))
 
   begun-idle : Idle n o step Live (count + 1) lt lw (state table linked (link n old by))
   begun-idle = record {
@@ -153,7 +153,7 @@ module _ {n N : ℕ} {o : List ℕ} {room : ℕ} {step : ℕ → ℕ → ℕ} {c
 
 pub discovers : {n N : ℕ} {o : List ℕ} {room : ℕ} {step : ℕ → ℕ → ℕ} {count lt lw : ℕ} {Live : ℕ → ℕ → Type 0} {t w : List ℕ} → Limits n o room lt lw
     → Looped n N o step → Closed n o step Live count lt lw t w → count < room → count < N → (e g : ℕ) → e < count → g < n → step e g ≡ count
-    → ((k : ℕ) → k < length o → Live count k → (g ≡ first k → ⊥) × (g ≡ second k → ⊥)) → (len : ℕ)
+    → ((k : ℕ) → k < length o → Live count k → (g ≡ firstOfPair k → ⊥) × (g ≡ secondOfPair k → ⊥)) → (len : ℕ)
     → let x : GroupElementId = record { 0 = count } in
     let s = discovered n o (record { 0 = e }) (record { 0 = g }) x (setStep (setWord t n x (record { 0 = e }) (record { 0 = g }) len) n (record { 0 = e }) (record { 0 = g }) x) w in
     s .top ≡ 0 → Closed n o step Live (count + 1) lt lw (s .table) (s .work)

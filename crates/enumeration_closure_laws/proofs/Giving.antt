@@ -14,9 +14,9 @@ use Rattle.enumeration_rows.specs.declared.inner.SideOfGap.{SideOfGap}
 use Rattle.enumeration_rows.specs.declared.inner.SideOfGap.the-variants.{Left, Right}
 use Rattle.enumeration_rows.specs.Rows.{genOf}
 use Rattle.enumeration_wake.specs.Waking.{State, learns, gives}
-use Rattle.enumeration_run_laws.specs.Invariant.{Known}
-use Rattle.enumeration_loop_laws.specs.Rings.{turn, ring, first, second, Told, Column, rowAt}
-use Rattle.enumeration_closure_laws.specs.Queues.{In, copyAt, Held}
+use Rattle.enumeration_run_laws.specs.Invariant.{StepKnown}
+use Rattle.enumeration_loop_laws.specs.Rings.{turn, ring, firstOfPair, secondOfPair, StepsAgree, Column, rowAt}
+use Rattle.enumeration_closure_laws.specs.Queues.{In, copyAt, Waiting}
 use Rattle.enumeration_closure_laws.specs.Closure.{Open, Whole, Machine}
 use Rattle.enumeration_closure_laws.proofs.Places.{copy-apart}
 use Rattle.enumeration_loop_laws.proofs.Letters.{gen-turn}
@@ -30,18 +30,18 @@ pub record Drops (n u k : ℕ) (side : SideOfGap) (hand hand′ : SideOfGap → 
   pub splits : (s : SideOfGap) (q : ℕ) → In q (hand s) → ((s ≡ side) × (q ≡ copyAt n u k side)) ⊎ In q (hand′ s)
 
 -- A filled row: all columns outside of its ends are known, and those at its ends are not, if these are apart.
-pub record Filled (count : ℕ) (step : ℕ → ℕ → ℕ) (o t : List ℕ) (n u k l r : ℕ) : Type 0 where
+pub record RowFilled (count : ℕ) (step : ℕ → ℕ → ℕ) (o t : List ℕ) (n u k l r : ℕ) : Type 0 where
   pub ordered : l ≤ r
   pub within : r < 2 * getD o k 0
-  pub from-below : ring step (first k) (second k) u l < count
-  pub to-below : ring step (first k) (second k) u (suc r) < count
+  pub from-below : ring step (firstOfPair k) (secondOfPair k) u l < count
+  pub to-below : ring step (firstOfPair k) (secondOfPair k) u (suc r) < count
   pub before : (j : ℕ) → j < l → Column n t step u k j
   pub behind : (j : ℕ) → r < j → j < 2 * getD o k 0 → Column n t step u k j
   pub left-open : l < r → Column n t step u k l → ⊥
-  pub right-open : l < r → Known n t (ring step (first k) (second k) u (suc r)) (turn (first k) (second k) r) → ⊥
+  pub right-open : l < r → StepKnown n t (ring step (firstOfPair k) (secondOfPair k) u (suc r)) (turn (firstOfPair k) (secondOfPair k) r) → ⊥
 
 module _ {n N : ℕ} {o : List ℕ} {step : ℕ → ℕ → ℕ} {count lt lw : ℕ} (G : Ground n N o step count lt lw)
-    {Live : ℕ → ℕ → Type 0} {held : Held} {facts : List ℕ} {hand hand′ : SideOfGap → List ℕ} {s : State} (M : Machine n o step Live count lt lw held facts hand s)
+    {Live : ℕ → ℕ → Type 0} {held : Waiting} {facts : List ℕ} {hand hand′ : SideOfGap → List ℕ} {s : State} (M : Machine n o step Live count lt lw held facts hand s)
     {side : SideOfGap} {u k : ℕ} (D : Drops n u k side hand hand′) (hu : u < count) (hk : k < length o) where
   -- Another row's copy that was in hand still is.
   pub still : (x i : ℕ) → i < length o → (x ≡ u → i ≡ k → ⊥) → (s′ : SideOfGap) → In (copyAt n x i s′) (hand s′) → In (copyAt n x i s′) (hand′ s′)
@@ -60,7 +60,7 @@ module _ {n N : ℕ} {o : List ℕ} {step : ℕ → ℕ → ℕ} {count lt lw : 
         (λ sd e g he hg a. awaits-more a (λ z. z) (K .new e g hg) (K .facts-more) (still x i hi d sd)) O))
         (M .live x i hx hi l)
 
-    learnt-machine : Told n count step (s′ .table) → Whole n step o (s′ .table) u k → Machine n o step Live count lt lw held (K .facts′) hand′ s′
+    learnt-machine : StepsAgree n count step (s′ .table) → Whole n step o (s′ .table) u k → Machine n o step Live count lt lw held (K .facts′) hand′ s′
     learnt-machine T whole = record {
       told = T;
       stack = K .stack;
@@ -77,12 +77,12 @@ module _ {n N : ℕ} {o : List ℕ} {step : ℕ → ℕ → ℕ} {count lt lw : 
       by x i hx hi l (yes a) (no d) = other-live x i hx hi (λ a b. d b) l
       by x i hx hi l (no d) b = other-live x i hx hi (λ a b. d a) l
 
-  module _ {l r : ℕ} (F : Filled count step o (s .table) n u k l r) (met : l ≡ r) where
+  module _ {l r : ℕ} (F : RowFilled count step o (s .table) n u k l r) (met : l ≡ r) where
     abbrev from : GroupElementId
-    from = record { 0 = ring step (first k) (second k) u l }
+    from = record { 0 = ring step (firstOfPair k) (secondOfPair k) u l }
 
     abbrev to : GroupElementId
-    to = record { 0 = ring step (first k) (second k) u (suc r) }
+    to = record { 0 = ring step (firstOfPair k) (secondOfPair k) u (suc r) }
 
     abbrev letter : GeneratorId
     letter = genOf (pairCode k) l
@@ -99,17 +99,17 @@ module _ {n N : ℕ} {o : List ℕ} {step : ℕ → ℕ → ℕ} {count lt lw : 
     pub gives-learnt : Learnt n count (length o) held facts s (gives n (rowAt step u k l r) s)
     gives-learnt = learnt-then once twice
 
-    gives-told : Told n count step (gives n (rowAt step u k l r) s .table)
+    gives-told : StepsAgree n count step (gives n (rowAt step u k l r) s .table)
     unfolding learns
     gives-told =
         told-both (M .told) (G .looped) (G .fits) from letter to (F .from-below) letter-low (F .to-below)
-        (ap (λ (x : ℕ). step (ring step (first k) (second k) u l) x) (gen-turn k l) ∙ ap (λ (x : ℕ). ring step (first k) (second k) u (suc x)) met)
+        (ap (λ (x : ℕ). step (ring step (firstOfPair k) (secondOfPair k) u l) x) (gen-turn k l) ∙ ap (λ (x : ℕ). ring step (firstOfPair k) (secondOfPair k) u (suc x)) met)
         (rw (M .table-length) (G .table-room)) (G .limit)
 
     given : Column n (gives n (rowAt step u k l r) s .table) step u k l
     given =
         let first-known = learns-known G (M .stack) (M .queues) (M .table-length) (M .work-length) from letter to (F .from-below) letter-low (F .to-below) in
-        rw (gen-turn k l) at (twice .more (ring step (first k) (second k) u l) (letter .0) letter-low first-known)
+        rw (gen-turn k l) at (twice .more (ring step (firstOfPair k) (secondOfPair k) u l) (letter .0) letter-low first-known)
 
     gives-whole : Whole n step o (gives n (rowAt step u k l r) s .table) u k
     gives-whole j hj = by (decLt j l) (decLt r j) where

@@ -13,8 +13,8 @@ use Rattle.enumeration_run.specs.Limits.{Limits}
 use Rattle.enumeration_run_laws.proofs.Rowing.{new-row-ok}
 use Rattle.enumeration_run_laws.proofs.Waiting.{pairs-twice}
 use Rattle.enumeration_run_laws.proofs.Running.{pairs-full, work-room}
-use Rattle.enumeration_loop_laws.specs.Rings.{turn, ring, first, second, Looped, rowAt}
-use Rattle.enumeration_closure_laws.specs.Queues.{placeOf, listOf, Sized, Small}
+use Rattle.enumeration_loop_laws.specs.Rings.{turn, ring, firstOfPair, secondOfPair, Looped, rowAt}
+use Rattle.enumeration_closure_laws.specs.Queues.{placeOf, listOf, Sized, RowFits}
 use Rattle.enumeration_loop_laws.proofs.Letters.{gen-turn, turn-below}
 use Rattle.enumeration_closure_laws.proofs.Places.{bit}
 
@@ -49,8 +49,8 @@ module _ {n N : ℕ} {o : List ℕ} {step : ℕ → ℕ → ℕ} {count lt lw : 
   sized w q = record { few = G .few; limit = G .limit; paired = paired; room = rw q (G .work-room) }
 
   -- The numbers of a row at columns of its loop have 32 bits.
-  pub small-row : (u k l r : ℕ) → k < length o → l ≤ r → r < 2 * getD o k 0 → ring step (first k) (second k) u l < count → ring step (first k) (second k) u (suc r) < count
-      → Small (rowAt step u k l r)
+  pub small-row : (u k l r : ℕ) → k < length o → l ≤ r → r < 2 * getD o k 0 → ring step (firstOfPair k) (secondOfPair k) u l < count → ring step (firstOfPair k) (secondOfPair k) u (suc r) < count
+      → RowFits (rowAt step u k l r)
   small-row u k l r hk lr hr a b = record {
     pair-small = omega (arith, new-row-ok o (G .few) (G .full) (G .orders) {word = λ e. []} {count = 1} (record { 0 = 0 }) k hk (omega arith) .small);
     left-small = omega (arith, G .orders k hk .1);
@@ -59,21 +59,21 @@ module _ {n N : ℕ} {o : List ℕ} {step : ℕ → ℕ → ℕ} {count lt lw : 
     to-small = omega (arith, G .limit);
   }
 
-  pub letter-below : (k : ℕ) → k < length o → (j : ℕ) → turn (first k) (second k) j < n
+  pub letter-below : (k : ℕ) → k < length o → (j : ℕ) → turn (firstOfPair k) (secondOfPair k) j < n
   letter-below k hk j = turn-below o (G .few) (G .full) hk j
 
 -- The element and the generator for which a side of a row waits.
 abbrev pub waitsFrom : (step : ℕ → ℕ → ℕ) (u k l r : ℕ) → SideOfGap → ℕ
-waitsFrom step u k l r Left = ring step (first k) (second k) u l
-waitsFrom step u k l r Right = ring step (first k) (second k) u (suc r)
+waitsFrom step u k l r Left = ring step (firstOfPair k) (secondOfPair k) u l
+waitsFrom step u k l r Right = ring step (firstOfPair k) (secondOfPair k) u (suc r)
 
 abbrev pub waitsBy : (k l r : ℕ) → SideOfGap → ℕ
-waitsBy k l r Left = turn (first k) (second k) l
-waitsBy k l r Right = turn (first k) (second k) r
+waitsBy k l r Left = turn (firstOfPair k) (secondOfPair k) l
+waitsBy k l r Right = turn (firstOfPair k) (secondOfPair k) r
 
 pub list-at : (n : ℕ) (step : ℕ → ℕ → ℕ) (u k l r : ℕ) (side : SideOfGap) → listAt n (rowAt step u k l r) side ≡ listOf n side (waitsFrom step u k l r side) (waitsBy k l r side)
-list-at n step u k l r Left = ap (λ (x : ℕ). placeOf n (ring step (first k) (second k) u l) x) (gen-turn k l)
-list-at n step u k l r Right = ap (λ (x : ℕ). placeOf n (ring step (first k) (second k) u (suc r)) x + 3) (gen-turn k r)
+list-at n step u k l r Left = ap (λ (x : ℕ). placeOf n (ring step (firstOfPair k) (secondOfPair k) u l) x) (gen-turn k l)
+list-at n step u k l r Right = ap (λ (x : ℕ). placeOf n (ring step (firstOfPair k) (secondOfPair k) u (suc r)) x + 3) (gen-turn k r)
 
 -- The sides are two.
 pub left-right : Left ≡ Right → ⊥

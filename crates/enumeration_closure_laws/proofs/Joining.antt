@@ -8,18 +8,18 @@ use lib.ListN.{getD, length}
 use Rattle.egg.specs.Table.{putAt}
 use Rattle.enumeration_rows.specs.declared.inner.RelationTableRow.{RelationTableRow}
 use Rattle.enumeration_rows.specs.declared.inner.SideOfGap.{SideOfGap}
-use Rattle.enumeration_rows.specs.Rows.{readRow, writeRow, linkAt, appended, listAt, waits}
+use Rattle.enumeration_rows.specs.Rows.{storedRow, writeRow, linkAt, appended, listAt, waits}
 use Rattle.egg.proofs.Cells.{put-same, put-other, put-length}
 use Rattle.enumeration_run_laws.proofs.Storing.{read-same, write-other, write-length, write-read}
-use Rattle.enumeration_closure_laws.specs.Queues.{lastLink, Small}
+use Rattle.enumeration_closure_laws.specs.Queues.{lastLink, RowFits}
 use Rattle.enumeration_closure_laws.proofs.Lists.{last-some}
 
 -- The link to a new last copy: the head of an empty list, or the link of the last copy.
-pub data Linked (list : ℕ) (ps : List ℕ) (link : ℕ) : Type 0 where
-  first : ps ≡ [] → link ≡ list → Linked list ps link
-  after : (q : ℕ) → lastLink ps ≡ suc q → link ≡ q + 5 → Linked list ps link
+pub data LinkToLast (list : ℕ) (ps : List ℕ) (link : ℕ) : Type 0 where
+  first : ps ≡ [] → link ≡ list → LinkToLast list ps link
+  after : (q : ℕ) → lastLink ps ≡ suc q → link ≡ q + 5 → LinkToLast list ps link
 
-pub linked : (list tail : ℕ) (ps : List ℕ) → tail ≡ lastLink ps → Linked list ps (linkAt list tail)
+pub linked : (list tail : ℕ) (ps : List ℕ) → tail ≡ lastLink ps → LinkToLast list ps (linkAt list tail)
 linked list tail [] e = first refl (simp (eq-eqb _ _ e))
 linked list tail (p ∷ ps) e =
     let (q, l) = last-some p ps in
@@ -27,7 +27,7 @@ linked list tail (p ∷ ps) e =
     after q l (simp (ne-eqb _ _ d) (omega arith))
 
 -- The cells in which it stores are apart.
-pub record Apart (list p link : ℕ) : Type 0 where
+pub record CellsApart (list p link : ℕ) : Type 0 where
   pub copy-link : (d : ℕ) → d < 6 → p + d ≡ link → ⊥
   pub copy-tail : (d : ℕ) → d < 6 → p + d ≡ list + 1 → ⊥
   pub copy-count : (d : ℕ) → d < 6 → p + d ≡ list + 2 → ⊥
@@ -35,7 +35,7 @@ pub record Apart (list p link : ℕ) : Type 0 where
   pub link-count : link ≡ list + 2 → ⊥
 
 -- They are inside the work, and what is stored has 32 bits.
-pub record Within (list p link v len : ℕ) : Type 0 where
+pub record CellsWithin (list p link v len : ℕ) : Type 0 where
   pub copy-within : p + 6 ≤ len
   pub link-within : link < len
   pub list-within : list + 2 < len
@@ -43,9 +43,9 @@ pub record Within (list p link v len : ℕ) : Type 0 where
   pub count-small : v < 4294967296
 
 -- What is in each cell then.
-pub record Joined (w w′ : List ℕ) (list p link v : ℕ) (r : RelationTableRow) : Type 0 where
+pub record CopyJoined (w w′ : List ℕ) (list p link v : ℕ) (r : RelationTableRow) : Type 0 where
   pub other : (j : ℕ) → ((d : ℕ) → d < 6 → j ≡ p + d → ⊥) → (j ≡ link → ⊥) → (j ≡ list + 1 → ⊥) → (j ≡ list + 2 → ⊥) → getD w′ j 0 ≡ getD w j 0
-  pub row : readRow w′ p ≡ r
+  pub row : storedRow w′ p ≡ r
   pub ends : getD w′ (p + 5) 0 ≡ 0
   pub links : getD w′ link 0 ≡ suc p
   pub tail : getD w′ (list + 1) 0 ≡ suc p
@@ -68,8 +68,8 @@ module _ (w : List ℕ) (list p link v : ℕ) (r : RelationTableRow) where
   w5 : List ℕ
   w5 = putAt w4 (list + 2) v
 
-  module _ (A : Apart list p link) (W : Within list p link v (length w)) (small : Small r) where
-    stored : Joined w w5 list p link v r
+  module _ (A : CellsApart list p link) (W : CellsWithin list p link v (length w)) (small : RowFits r) where
+    stored : CopyJoined w w5 list p link v r
     unfolding w1 w2 w3 w4 w5
     stored =
         let l1 : length w1 ≡ length w = write-length w p r in
@@ -77,7 +77,7 @@ module _ (w : List ℕ) (list p link v : ℕ) (r : RelationTableRow) where
         let l3 : length w3 ≡ length w = put-length w2 link (p + 1) ∙ l2 in
         let l4 : length w4 ≡ length w = put-length w3 (list + 1) (p + 1) ∙ l3 in
         let s : p + 1 ≡ suc p = omega arith in
-        let row1 : readRow w1 p ≡ r = write-read w p r (W .copy-within) (small .pair-small) (small .left-small) (small .right-small) (small .from-small) (small .to-small) in
+        let row1 : storedRow w1 p ≡ r = write-read w p r (W .copy-within) (small .pair-small) (small .left-small) (small .right-small) (small .from-small) (small .to-small) in
         record {
           other = λ j a b c d.
               put-other w4 (list + 2) v d ∙ put-other w3 (list + 1) (p + 1) c ∙ put-other w2 link (p + 1) b ∙ put-other w1 (p + 5) 0 (a 5 (omega arith)) ∙ write-other w p r (λ x hx. a x (omega arith));
@@ -93,7 +93,7 @@ module _ (w : List ℕ) (list p link v : ℕ) (r : RelationTableRow) where
 
 -- The definition `waits` does these stores.
 pub waits-joined : (w : List ℕ) (n p : ℕ) (r : RelationTableRow) (side : SideOfGap) (list c v : ℕ) → listAt n r side ≡ list → c ≡ getD w (list + 1) 0 → v ≡ getD w (list + 2) 0 + 1
-    → Apart list p (linkAt list c) → Within list p (linkAt list c) v (length w) → Small r → Joined w (waits w n p r side) list p (linkAt list c) v r
+    → CellsApart list p (linkAt list c) → CellsWithin list p (linkAt list c) v (length w) → RowFits r → CopyJoined w (waits w n p r side) list p (linkAt list c) v r
 unfolding waits appended w1 w2 w3 w4 w5
 waits-joined w n p r side list c v at tail count A W small =
     let a : getD (writeRow w p r) (list + 1) 0 ≡ c = write-other w p r (λ d hd q. A .copy-tail d (omega arith) (sym q)) ∙ sym tail in

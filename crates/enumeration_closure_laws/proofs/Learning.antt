@@ -17,32 +17,32 @@ use Rattle.build_reading.specs.Build.{isNew, setStep}
 use Rattle.enumeration_rows.specs.declared.inner.SideOfGap.{SideOfGap}
 use Rattle.enumeration_rows.specs.Rows.{placeAt}
 use Rattle.enumeration_wake.specs.Waking.{State, state, link, belowAt, learns}
-use Rattle.enumeration_run_laws.specs.Invariant.{Known}
+use Rattle.enumeration_run_laws.specs.Invariant.{StepKnown}
 use Rattle.enumeration_run_laws.specs.Stack.{Stack, above}
 use Rattle.enumeration_run_laws.proofs.Spots.{place-link}
 use Rattle.enumeration_run_laws.proofs.Marking.{set-length}
 use Rattle.enumeration_run_laws.proofs.Knowing.{set-more, set-known}
 use Rattle.enumeration_run_laws.proofs.Since.{set-other}
 use Rattle.enumeration_run_laws.proofs.Stacking.{stack-more, stack-put, stack-absent, stack-small, place-within}
-use Rattle.enumeration_closure_laws.specs.Queues.{In, here, there, placeOf, Hand, Held, Queues, SameRows, Beyond}
+use Rattle.enumeration_closure_laws.specs.Queues.{In, here, there, placeOf, Hand, Waiting, Queues, SameStoredRows, SameBeyond}
 use Rattle.enumeration_closure_laws.proofs.Taking.{pushes}
 use Rattle.enumeration_closure_laws.proofs.Ground.{Ground, sized}
 
 -- From the state s to s′: all that was known is known, and what is known anew is on the stack; lists, rows and copies in hand are as they were.
-pub record Learnt (n count pairs : ℕ) (held : Held) (facts : List ℕ) (s s′ : State) : Type 0 where
+pub record Learnt (n count pairs : ℕ) (held : Waiting) (facts : List ℕ) (s s′ : State) : Type 0 where
   pub facts′ : List ℕ
   pub stack : Stack n count (s′ .table) (s′ .work) (s′ .top) facts′
   pub facts-more : (p : ℕ) → In p facts → In p facts′
-  pub more : (x h : ℕ) → h < n → Known n (s .table) x h → Known n (s′ .table) x h
-  pub new : (x h : ℕ) → h < n → Known n (s′ .table) x h → Known n (s .table) x h ⊎ In (placeOf n x h) facts′
+  pub more : (x h : ℕ) → h < n → StepKnown n (s .table) x h → StepKnown n (s′ .table) x h
+  pub new : (x h : ℕ) → h < n → StepKnown n (s′ .table) x h → StepKnown n (s .table) x h ⊎ In (placeOf n x h) facts′
   pub queues : Queues n count pairs (s′ .work) held
-  pub rows : SameRows n count pairs (s .work) (s′ .work)
-  pub beyond : Beyond n count (s .work) (s′ .work)
+  pub rows : SameStoredRows n count pairs (s .work) (s′ .work)
+  pub beyond : SameBeyond n count (s .work) (s′ .work)
   pub hands : (side : SideOfGap) (list at : ℕ) (ps : List ℕ) → Hand n count pairs side (s .work) list at ps → Hand n count pairs side (s′ .work) list at ps
   pub table-length : length (s′ .table) ≡ length (s .table)
 
 -- One after the other.
-pub learnt-then : {n count pairs : ℕ} {held : Held} {facts : List ℕ} {s s′ s″ : State} (A : Learnt n count pairs held facts s s′) → Learnt n count pairs held (A .facts′) s′ s″
+pub learnt-then : {n count pairs : ℕ} {held : Waiting} {facts : List ℕ} {s s′ s″ : State} (A : Learnt n count pairs held facts s s′) → Learnt n count pairs held (A .facts′) s′ s″
     → Learnt n count pairs held facts s s″
 learnt-then A B = record {
   facts′ = B .facts′;
@@ -58,18 +58,18 @@ learnt-then A B = record {
 }
 
 module _ {n N : ℕ} {o : List ℕ} {step : ℕ → ℕ → ℕ} {count lt lw : ℕ} (G : Ground n N o step count lt lw)
-    {held : Held} {facts : List ℕ} {s : State} (st : Stack n count (s .table) (s .work) (s .top) facts) (queues : Queues n count (length o) (s .work) held)
+    {held : Waiting} {facts : List ℕ} {s : State} (st : Stack n count (s .table) (s .work) (s .top) facts) (queues : Queues n count (length o) (s .work) held)
     (tl : length (s .table) ≡ lt) (wl : length (s .work) ≡ lw)
     (e : GroupElementId) (g : GeneratorId) (r : GroupElementId) (he : e .0 < count) (hg : g .0 < n) (hr : r .0 < count) where
   succ-inside : succAt n e g < length (s .table)
   succ-inside = let low : g .0 < 2 * n + 4 = omega arith in rw tl (omega (arith, cell-inside n low he, G .table-room))
 
-  pub learns-known : Known n (learns n e g r s .table) (e .0) (g .0)
+  pub learns-known : StepKnown n (learns n e g r s .table) (e .0) (g .0)
   unfolding learns
   learns-known = set-known n (s .table) e g r succ-inside (omega (arith, G .limit))
 
   -- Only the step itself may have become known.
-  only-here : (x h : ℕ) → h < n → (x ≡ e .0 → h ≡ g .0 → ⊥) → Known n (setStep (s .table) n e g r) x h → Known n (s .table) x h
+  only-here : (x h : ℕ) → h < n → (x ≡ e .0 → h ≡ g .0 → ⊥) → StepKnown n (setStep (s .table) n e g r) x h → StepKnown n (s .table) x h
   only-here x h hh d k = rw (set-other n (s .table) e g r hg x h (omega arith) d (λ a b. omega arith)) at k
 
   pub learns-learnt : Learnt n count (length o) held facts s (learns n e g r s)
@@ -99,12 +99,12 @@ module _ {n N : ℕ} {o : List ℕ} {step : ℕ → ℕ → ℕ} {count lt lw : 
           hands = P .hands;
           table-length = set-length (s .table) n e g r;
         } where
-          pushed : (x h : ℕ) → h < n → Known n (setStep (s .table) n e g r) x h → Dec (x ≡ e .0) → Dec (h ≡ g .0) → Known n (s .table) x h ⊎ In (placeOf n x h) (placeAt n e g ∷ facts)
+          pushed : (x h : ℕ) → h < n → StepKnown n (setStep (s .table) n e g r) x h → Dec (x ≡ e .0) → Dec (h ≡ g .0) → StepKnown n (s .table) x h ⊎ In (placeOf n x h) (placeAt n e g ∷ facts)
           pushed x h hh k (yes a) (yes b) = let z : placeAt n e g ≡ placeOf n x h = rw (a, b) in inr (here z)
           pushed x h hh k (yes a) (no d) = inl (only-here x h hh (λ a b. d b) k)
           pushed x h hh k (no d) b = inl (only-here x h hh (λ a b. d a) k)
     by false q =
-        let known : Known n (s .table) (e .0) (g .0) = eqb-false _ _ q in
+        let known : StepKnown n (s .table) (e .0) (g .0) = eqb-false _ _ q in
         record {
           facts′ = facts;
           stack = stack-more (set-more n (s .table) e g r) (record { same = λ i x. refl }) st;
@@ -117,7 +117,7 @@ module _ {n N : ℕ} {o : List ℕ} {step : ℕ → ℕ → ℕ} {count lt lw : 
           hands = λ side list at ps H. H;
           table-length = set-length (s .table) n e g r;
         } where
-          before : (x h : ℕ) → h < n → Known n (setStep (s .table) n e g r) x h → Dec (x ≡ e .0) → Dec (h ≡ g .0) → Known n (s .table) x h
+          before : (x h : ℕ) → h < n → StepKnown n (setStep (s .table) n e g r) x h → Dec (x ≡ e .0) → Dec (h ≡ g .0) → StepKnown n (s .table) x h
           before x h hh k (yes a) (yes b) = rw (a, b) (eqb-false _ _ q)
           before x h hh k (yes a) (no d) = only-here x h hh (λ a b. d b) k
           before x h hh k (no d) b = only-here x h hh (λ a b. d a) k

@@ -8,7 +8,7 @@ use lib.ListN.{length}
 use Rattle.enumeration_rows.specs.declared.inner.SideOfGap.{SideOfGap}
 use Rattle.enumeration_rows.specs.declared.inner.SideOfGap.the-variants.{Left, Right}
 use Rattle.enumeration_rows.specs.Rows.{workWidth, placeAt, rowsAt}
-use Rattle.enumeration_run_laws.specs.Invariant.{Spot, in-place, Copy}
+use Rattle.enumeration_run_laws.specs.Invariant.{CellOfKind, in-place, Copy}
 use Rattle.egg.proofs.Cells.{inside, same-row, same-cell}
 use Rattle.enumeration_run_laws.proofs.Spots.{place-inside, copy-inside}
 use Rattle.enumeration_run_laws.proofs.Waiting.{copy-at}
@@ -40,7 +40,7 @@ unfolding rowsAt
 copy-stands n u k Left = omega arith
 copy-stands n u k Right = omega arith
 
-pub list-spot : {n : ℕ} (s : SideOfGap) (e g : ℕ) → g < n → (d : ℕ) → d < 3 → Spot n (listOf n s e g + d) (3 * bit s + d)
+pub list-spot : {n : ℕ} (s : SideOfGap) (e g : ℕ) → g < n → (d : ℕ) → d < 3 → CellOfKind n (listOf n s e g + d) (3 * bit s + d)
 list-spot {n} s e g hg d hd = in-place e g hg (omega (arith, bit-below s)) (list-stands n s e g d)
 
 pub list-below : {n count : ℕ} (s : SideOfGap) {e g : ℕ} → e < count → g < n → (d : ℕ) → d < 3 → listOf n s e g + d < count * workWidth n

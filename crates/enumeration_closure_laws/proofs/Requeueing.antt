@@ -9,24 +9,24 @@ use native.Mathlib.Omega.{arith}
 use lib.ListN.{length}
 use Rattle.enumeration_rows.specs.declared.inner.SideOfGap.{SideOfGap}
 use Rattle.enumeration_rows.specs.declared.inner.SideOfGap.the-variants.{Left, Right}
-use Rattle.enumeration_rows.specs.Rows.{readRow, waits}
+use Rattle.enumeration_rows.specs.Rows.{storedRow, waits}
 use Rattle.enumeration_wake.specs.Waking.{State, state}
-use Rattle.enumeration_run_laws.specs.Invariant.{Known}
+use Rattle.enumeration_run_laws.specs.Invariant.{StepKnown}
 use Rattle.enumeration_run_laws.proofs.Stacking.{stack-more}
-use Rattle.enumeration_loop_laws.specs.Rings.{turn, ring, first, second, Told, rowAt}
-use Rattle.enumeration_closure_laws.specs.Queues.{In, copyAt, Held, Appended}
+use Rattle.enumeration_loop_laws.specs.Rings.{turn, ring, firstOfPair, secondOfPair, StepsAgree, rowAt}
+use Rattle.enumeration_closure_laws.specs.Queues.{In, copyAt, Waiting, Appended}
 use Rattle.enumeration_closure_laws.specs.Closure.{Rowed, Awaits, listed, Open, Whole, Machine}
 use Rattle.enumeration_closure_laws.proofs.Appending.{appends}
 use Rattle.enumeration_closure_laws.proofs.Places.{copy-apart}
 use Rattle.enumeration_closure_laws.proofs.Ground.{Ground, paired, sized, small-row, letter-below, waitsFrom, waitsBy, list-at, left-right}
 use Rattle.enumeration_closure_laws.proofs.Columns.{left-end, right-end, column-back}
 use Rattle.enumeration_closure_laws.proofs.Carrying.{awaits-more, rowed-more, open-more}
-use Rattle.enumeration_closure_laws.proofs.Giving.{Drops, Filled, still}
+use Rattle.enumeration_closure_laws.proofs.Giving.{Drops, RowFilled, still}
 
 -- The woken copy's own row: its end on that side moves, and does not pass the other copy's.
-module _ {n N : ℕ} {o : List ℕ} {step : ℕ → ℕ → ℕ} {count lt lw : ℕ} (G : Ground n N o step count lt lw) {t w : List ℕ} (T : Told n count step t)
-    {held : Held} {facts : List ℕ} {hand : SideOfGap → List ℕ} {u k l r : ℕ} (hk : k < length o)
-    (A : Rowed count step o t w n u k Left) (B : Rowed count step o t w n u k Right) (F : Filled count step o t n u k l r) (apart : l < r) (O : Open n step t w held facts hand u k) where
+module _ {n N : ℕ} {o : List ℕ} {step : ℕ → ℕ → ℕ} {count lt lw : ℕ} (G : Ground n N o step count lt lw) {t w : List ℕ} (T : StepsAgree n count step t)
+    {held : Waiting} {facts : List ℕ} {hand : SideOfGap → List ℕ} {u k l r : ℕ} (hk : k < length o)
+    (A : Rowed count step o t w n u k Left) (B : Rowed count step o t w n u k Right) (F : RowFilled count step o t n u k l r) (apart : l < r) (O : Open n step t w held facts hand u k) where
   left-gap : l < O .r
   left-gap = by (decLt (B .right) r) where
     by : Dec (B .right < r) → l < O .r
@@ -39,8 +39,8 @@ module _ {n N : ℕ} {o : List ℕ} {step : ℕ → ℕ → ℕ} {count lt lw : 
     by (yes h) = absurd (F .left-open apart (A .before l h))
     by (no d) = let q : O .l ≡ A .left = sym (O .left-is) ∙ left-end A in omega arith
 
-  own-open : {w′ : List ℕ} {held′ : Held} {hand′ : SideOfGap → List ℕ} (side : SideOfGap) → readRow w′ (copyAt n u k side) ≡ rowAt step u k l r
-      → ((s : SideOfGap) → (s ≡ side → ⊥) → readRow w′ (copyAt n u k s) ≡ readRow w (copyAt n u k s))
+  own-open : {w′ : List ℕ} {held′ : Waiting} {hand′ : SideOfGap → List ℕ} (side : SideOfGap) → storedRow w′ (copyAt n u k side) ≡ rowAt step u k l r
+      → ((s : SideOfGap) → (s ≡ side → ⊥) → storedRow w′ (copyAt n u k s) ≡ storedRow w (copyAt n u k s))
       → Awaits n t held′ facts hand′ side (copyAt n u k side) (waitsFrom step u k l r side) (waitsBy k l r side)
       → ((s : SideOfGap) → (s ≡ side → ⊥) → (e g : ℕ) → Awaits n t held facts hand s (copyAt n u k s) e g → Awaits n t held′ facts hand′ s (copyAt n u k s) e g)
       → Open n step t w′ held′ facts hand′ u k
@@ -51,7 +51,7 @@ module _ {n N : ℕ} {o : List ℕ} {step : ℕ → ℕ → ℕ} {count lt lw : 
     right-is = rw (others Right (λ q. left-right (sym q))) (O .right-is);
     gap = left-gap;
     left-waits = mine;
-    right-waits = keeps Right (λ q. left-right (sym q)) (ring step (first k) (second k) u (suc (O .r))) (turn (first k) (second k) (O .r)) (O .right-waits);
+    right-waits = keeps Right (λ q. left-right (sym q)) (ring step (firstOfPair k) (secondOfPair k) u (suc (O .r))) (turn (firstOfPair k) (secondOfPair k) (O .r)) (O .right-waits);
   }
   own-open Right stored others mine keeps = record {
     l = O .l;
@@ -59,14 +59,14 @@ module _ {n N : ℕ} {o : List ℕ} {step : ℕ → ℕ → ℕ} {count lt lw : 
     left-is = rw (others Left left-right) (O .left-is);
     right-is = rw stored;
     gap = right-gap;
-    left-waits = keeps Left left-right (ring step (first k) (second k) u (O .l)) (turn (first k) (second k) (O .l)) (O .left-waits);
+    left-waits = keeps Left left-right (ring step (firstOfPair k) (secondOfPair k) u (O .l)) (turn (firstOfPair k) (secondOfPair k) (O .l)) (O .left-waits);
     right-waits = mine;
   }
 
 module _ {n N : ℕ} {o : List ℕ} {step : ℕ → ℕ → ℕ} {count lt lw : ℕ} (G : Ground n N o step count lt lw)
-    {Live : ℕ → ℕ → Type 0} {held : Held} {facts : List ℕ} {hand hand′ : SideOfGap → List ℕ} {s : State} (M : Machine n o step Live count lt lw held facts hand s)
+    {Live : ℕ → ℕ → Type 0} {held : Waiting} {facts : List ℕ} {hand hand′ : SideOfGap → List ℕ} {s : State} (M : Machine n o step Live count lt lw held facts hand s)
     {side : SideOfGap} {u k : ℕ} (D : Drops n u k side hand hand′) (hu : u < count) (hk : k < length o)
-    {l r : ℕ} (F : Filled count step o (s .table) n u k l r) (apart : l < r)
+    {l r : ℕ} (F : RowFilled count step o (s .table) n u k l r) (apart : l < r)
     (free : (x h : ℕ) → x < count → h < n → In (copyAt n u k side) (held side x h) → ⊥) where
   from-low : (sd : SideOfGap) → waitsFrom step u k l r sd < count
   from-low Left = F .from-below
@@ -76,7 +76,7 @@ module _ {n N : ℕ} {o : List ℕ} {step : ℕ → ℕ → ℕ} {count lt lw : 
   by-low Left = letter-below G k hk l
   by-low Right = letter-below G k hk r
 
-  pub unknown : (sd : SideOfGap) → Known n (s .table) (waitsFrom step u k l r sd) (waitsBy k l r sd) → ⊥
+  pub unknown : (sd : SideOfGap) → StepKnown n (s .table) (waitsFrom step u k l r sd) (waitsBy k l r sd) → ⊥
   unknown Left = F .left-open apart
   unknown Right = F .right-open apart
 

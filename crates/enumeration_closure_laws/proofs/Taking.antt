@@ -1,4 +1,4 @@
--- `Pushed` holds after a store in the cell of a place that links the stack, and `Taken` after a place has been emptied.
+-- `Pushed` holds after a store in the cell of a place that links the stack, and `Emptied` after a place has been emptied.
 use Prim.Native.Nat.{ℕ, suc, _+_, _*_, _-_, _<_, _≤_}
 use mathlib.Core.Path.{_≡_, refl, sym, _∙_}
 use mathlib.Core.List.{List, []}
@@ -12,11 +12,11 @@ use Rattle.enumeration_rows.specs.declared.inner.SideOfGap.the-variants.{Left, 
 use Rattle.enumeration_rows.specs.Rows.{workWidth, placeAt}
 use Rattle.enumeration_wake.specs.Waking.{belowAt}
 use Rattle.enumeration_facts.specs.Facts.{emptied}
-use Rattle.enumeration_run_laws.specs.Invariant.{Spot}
+use Rattle.enumeration_run_laws.specs.Invariant.{CellOfKind}
 use Rattle.egg.proofs.Cells.{put-same, put-other, put-length, inside}
 use Rattle.enumeration_run_laws.proofs.Spots.{spot-once, row-spot, place-inside}
 use Rattle.enumeration_run_laws.proofs.Waiting.{place-spot}
-use Rattle.enumeration_closure_laws.specs.Queues.{placeOf, listOf, copyAt, Held, Queue, Queues, Sized, Taken, Pushed}
+use Rattle.enumeration_closure_laws.specs.Queues.{placeOf, listOf, copyAt, Waiting, Queue, Queues, Sized, Emptied, Pushed}
 use Rattle.enumeration_closure_laws.proofs.Places.{bit, bit-below, list-stands, place-cell, copy-is}
 use Rattle.enumeration_closure_laws.proofs.Choosing.{choose, choose-yes, choose-no, same-place}
 use Rattle.enumeration_closure_laws.proofs.Chains.{queue-none, SameCopies, copies-rows, copies-hand, copies-queue}
@@ -38,7 +38,7 @@ module _ {n count pairs : ℕ} {w w′ : List ℕ} (S : Sized n count pairs w) {
   place-copies = record { same = λ u k s hu hk d hd. A .other (copyAt n u k s + d) (apart u k s hu hk d hd) } where
     apart : (u k : ℕ) (s : SideOfGap) → u < count → k < pairs → (d : ℕ) → d < 6 → (d′ : ℕ) → d′ < 7 → copyAt n u k s + d ≡ placeOf n e g + d′ → ⊥
     apart u k s hu hk d hd d′ hd′ q =
-        let kind : Spot n (copyAt n u k s + d) (12 - d) = row-spot (copy-is S hu hk s) (12 - d) d hd (omega arith) in
+        let kind : CellOfKind n (copyAt n u k s + d) (12 - d) = row-spot (copy-is S hu hk s) (12 - d) d hd (omega arith) in
         let r = spot-once (rw q at kind) (place-spot (record { 0 = e }) (record { 0 = g }) hg d′ hd′) in
         omega arith
 
@@ -50,7 +50,7 @@ module _ {n count pairs : ℕ} {w w′ : List ℕ} (S : Sized n count pairs w) {
   place-beyond : (i : ℕ) → count * workWidth n ≤ i → getD w′ i 0 ≡ getD w i 0
   place-beyond i hi = A .other i (λ d hd q. omega (arith, place-at n e g d, inside he (place-inside {k = d} hg (omega arith))))
 
-module _ {n count pairs : ℕ} {w : List ℕ} {held : Held} (S : Sized n count pairs w) (Q : Queues n count pairs w held) (e g : ℕ) (he : e < count) (hg : g < n) where
+module _ {n count pairs : ℕ} {w : List ℕ} {held : Waiting} (S : Sized n count pairs w) (Q : Queues n count pairs w held) (e g : ℕ) (he : e < count) (hg : g < n) where
   -- A store in the link of the stack.
   module _ (v : ℕ) where
     push-at : AtPlace n e g w (putAt w (belowAt (placeOf n e g)) v)
@@ -119,9 +119,9 @@ emptied-zero w place within =
     let z5 = zeros-put place 5 w4 (omega arith) z4 in
     zeros-put place 6 w5 (omega arith) z5
 
-module _ {n count pairs : ℕ} {w : List ℕ} {held : Held} (S : Sized n count pairs w) (Q : Queues n count pairs w held) (e g : ℕ) (he : e < count) (hg : g < n) where
+module _ {n count pairs : ℕ} {w : List ℕ} {held : Waiting} (S : Sized n count pairs w) (Q : Queues n count pairs w held) (e g : ℕ) (he : e < count) (hg : g < n) where
   -- The same lists, but none at the place.
-  less : Held
+  less : Waiting
   less s x h = choose (same-place x e h g) [] (held s x h)
 
   empty-at : AtPlace n e g w (emptied w (placeOf n e g))
@@ -140,7 +140,7 @@ module _ {n count pairs : ℕ} {w : List ℕ} {held : Held} (S : Sized n count p
     by (yes q) = queue-none (λ d hd. rw (q .0, q .1) (empty-list s d hd))
     by (no f) = copies-queue (place-copies S he hg empty-at) (place-lists S he hg empty-at s x h hh f) (Q .queue s x h hx hh)
 
-  pub takes : Taken n count pairs w (emptied w (placeOf n e g)) held e g
+  pub takes : Emptied n count pairs w (emptied w (placeOf n e g)) held e g
   unfolding less
   takes =
       let copies = place-copies S he hg empty-at in
@@ -155,7 +155,7 @@ module _ {n count pairs : ℕ} {w : List ℕ} {held : Held} (S : Sized n count p
         six = λ i k f. emptied-other w (placeOf n e g) i (six i k f);
         beyond = record { long = emptied-long w (placeOf n e g); beyond = place-beyond S he hg empty-at };
       } where
-        six : (i : ℕ) → Spot n i 6 → (i ≡ placeOf n e g + 6 → ⊥) → (d : ℕ) → d < 7 → i ≡ placeOf n e g + d → ⊥
+        six : (i : ℕ) → CellOfKind n i 6 → (i ≡ placeOf n e g + 6 → ⊥) → (d : ℕ) → d < 7 → i ≡ placeOf n e g + d → ⊥
         six i k f d hd q =
             let r : 6 ≡ d = spot-once (rw q at k) (place-spot (record { 0 = e }) (record { 0 = g }) hg d hd) in
             f (rw r q)

@@ -12,11 +12,11 @@ use Rattle.enumeration_rows.specs.declared.inner.SideOfGap.the-variants.{Left, 
 use Rattle.enumeration_rows.specs.Rows.{placeAt}
 use Rattle.enumeration_wake.specs.Waking.{State, state}
 use Rattle.enumeration_facts.specs.Facts.{emptied, updated}
-use Rattle.enumeration_run_laws.specs.Invariant.{Known}
+use Rattle.enumeration_run_laws.specs.Invariant.{StepKnown}
 use Rattle.enumeration_run_laws.specs.Stack.{Absent, Stack}
 use Rattle.enumeration_run_laws.proofs.Emptying.{emptied-stack}
-use Rattle.enumeration_closure_laws.specs.Queues.{In, here, there, placeOf, listOf, Held, Taken}
-use Rattle.enumeration_closure_laws.specs.Closure.{Awaits, listed, in-hand, Machine, none}
+use Rattle.enumeration_closure_laws.specs.Queues.{In, here, there, placeOf, listOf, Waiting, Emptied}
+use Rattle.enumeration_closure_laws.specs.Closure.{Awaits, listed, in-hand, Machine, noneInHand}
 use Rattle.enumeration_closure_laws.proofs.Places.{place-once}
 use Rattle.enumeration_closure_laws.proofs.Taking.{takes}
 use Rattle.enumeration_closure_laws.proofs.Lists.{in-none}
@@ -26,9 +26,9 @@ use Rattle.enumeration_closure_laws.proofs.WakingAll.{sided, Rousing, r
 
 -- The machine between two facts: no copy is in hand, whatever waits and whatever is on the stack.
 pub record Idle (n : ℕ) (o : List ℕ) (step : ℕ → ℕ → ℕ) (Live : ℕ → ℕ → Type 0) (count lt lw : ℕ) (s : State) : Type 0 where
-  pub held : Held
+  pub held : Waiting
   pub facts : List ℕ
-  pub machine : Machine n o step Live count lt lw held facts none s
+  pub machine : Machine n o step Live count lt lw held facts noneInHand s
 
 in-sided : (f : SideOfGap → List ℕ) (sd : SideOfGap) {q : ℕ} → In q (f sd) → In q (sided Left (f Left) (f Right) sd)
 in-sided f Left i = i
@@ -39,16 +39,16 @@ in-tail (here z) d = absurd (d z)
 in-tail (there i) d = i
 
 module _ {n N : ℕ} {o : List ℕ} {step : ℕ → ℕ → ℕ} {count lt lw : ℕ} (G : Ground n N o step count lt lw) {Live : ℕ → ℕ → Type 0} where
-  module _ {e g : ℕ} (he : e < count) (hg : g < n) {held : Held} {fs : List ℕ} {s : State} (M : Machine n o step Live count lt lw held (placeOf n e g ∷ fs) none s)
-      (known : Known n (s .table) e g) (out : Absent (placeOf n e g) fs) {under : ℕ} (st : Stack n count (s .table) (s .work) under fs) where
-    taken : Taken n count (length o) (s .work) (emptied (s .work) (placeOf n e g)) held e g
+  module _ {e g : ℕ} (he : e < count) (hg : g < n) {held : Waiting} {fs : List ℕ} {s : State} (M : Machine n o step Live count lt lw held (placeOf n e g ∷ fs) noneInHand s)
+      (known : StepKnown n (s .table) e g) (out : Absent (placeOf n e g) fs) {under : ℕ} (st : Stack n count (s .table) (s .work) under fs) where
+    taken : Emptied n count (length o) (s .work) (emptied (s .work) (placeOf n e g)) held e g
     taken = takes (sized G (s .work) (M .work-length)) (M .queues) e g he hg
 
     abbrev hand : SideOfGap → List ℕ
     hand = sided Left (held Left e g) (held Right e g)
 
     -- What waited for this step is in hand, and what waited for another waits for it still.
-    awaits-taken : (sd : SideOfGap) {p : ℕ} (x h : ℕ) → h < n → Awaits n (s .table) held (placeOf n e g ∷ fs) none sd p x h → Awaits n (s .table) (taken .held′) fs hand sd p x h
+    awaits-taken : (sd : SideOfGap) {p : ℕ} (x h : ℕ) → h < n → Awaits n (s .table) held (placeOf n e g ∷ fs) noneInHand sd p x h → Awaits n (s .table) (taken .held′) fs hand sd p x h
     awaits-taken sd {p} x h hh (in-hand i) = absurd (in-none i)
     awaits-taken sd {p} x h hh (listed i c) = by (ℕ-discrete x e) (ℕ-discrete h g) where
       elsewhere : (x ≡ e → h ≡ g → ⊥) → Awaits n (s .table) (taken .held′) fs hand sd p x h
@@ -110,7 +110,7 @@ module _ {n N : ℕ} {o : List ℕ} {step : ℕ → ℕ → ℕ} {count lt lw : 
       facts = I .facts;
       machine = subst (λ (f : SideOfGap → List ℕ). Machine n o step Live count lt lw (I .held) (I .facts) f s′) (fun-ext same) (I .machine);
     } where
-      same : (sd : SideOfGap) → sided Right [] [] sd ≡ none sd
+      same : (sd : SideOfGap) → sided Right [] [] sd ≡ noneInHand sd
       same Left = refl
       same Right = refl
 

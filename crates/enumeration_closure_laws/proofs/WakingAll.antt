@@ -9,9 +9,9 @@ use lib.ListN.{getD, length}
 use Rattle.enumeration_rows.specs.declared.inner.SideOfGap.{SideOfGap}
 use Rattle.enumeration_rows.specs.declared.inner.SideOfGap.the-variants.{Left, Right}
 use Rattle.enumeration_wake.specs.Waking.{State, wakes, wakesAll}
-use Rattle.enumeration_run_laws.specs.Invariant.{Known}
+use Rattle.enumeration_run_laws.specs.Invariant.{StepKnown}
 use Rattle.enumeration_run_laws.specs.Stack.{Absent}
-use Rattle.enumeration_closure_laws.specs.Queues.{In, here, there, listOf, Chain, end, Waiter, Hand, Held}
+use Rattle.enumeration_closure_laws.specs.Queues.{In, here, there, listOf, Chain, end, Waiter, Hand, Waiting}
 use Rattle.enumeration_closure_laws.specs.Closure.{Machine}
 use Rattle.enumeration_closure_laws.proofs.Chains.{hand-next}
 use Rattle.enumeration_closure_laws.proofs.Places.{copy-apart, list-once}
@@ -34,10 +34,10 @@ sided Right ps qs Right = ps
 -- While the copies are woken that waited for the step from e by g: the ps of that side are still to come, and the qs of the other side.
 pub record Rousing (n : ℕ) (o : List ℕ) (step : ℕ → ℕ → ℕ) (Live : ℕ → ℕ → Type 0) (count lt lw : ℕ) (e g : ℕ) (side : SideOfGap) (at : ℕ) (ps : List ℕ) (from : ℕ) (qs : List ℕ)
     (s : State) : Type 0 where
-  pub held : Held
+  pub held : Waiting
   pub facts : List ℕ
   pub machine : Machine n o step Live count lt lw held facts (sided side ps qs) s
-  pub known : Known n (s .table) e g
+  pub known : StepKnown n (s .table) e g
   pub empty : (sd : SideOfGap) → held sd e g ≡ []
   pub mine : Hand n count (length o) side (s .work) (listOf n side e g) at ps
   pub other : Hand n count (length o) (opposite side) (s .work) (listOf n (opposite side) e g) from qs

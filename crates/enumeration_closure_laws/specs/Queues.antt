@@ -10,9 +10,9 @@ use Rattle.egg.specs.Pairs.{pairCode}
 use Rattle.enumeration_rows.specs.declared.inner.RelationTableRow.{RelationTableRow}
 use Rattle.enumeration_rows.specs.declared.inner.SideOfGap.{SideOfGap}
 use Rattle.enumeration_rows.specs.declared.inner.SideOfGap.the-variants.{Left, Right}
-use Rattle.enumeration_rows.specs.Rows.{workWidth, placeAt, rowsAt, genOf, readRow, listAt, newRow}
-use Rattle.enumeration_run_laws.specs.Invariant.{Spot}
-use Rattle.enumeration_run_laws.specs.Stack.{Absent, Six}
+use Rattle.enumeration_rows.specs.Rows.{workWidth, placeAt, rowsAt, genOf, storedRow, listAt, newRow}
+use Rattle.enumeration_run_laws.specs.Invariant.{CellOfKind}
+use Rattle.enumeration_run_laws.specs.Stack.{Absent, SameStackLinks}
 
 -- The number p is in the list.
 pub data In (p : ℕ) : List ℕ → Type 0 where
@@ -51,7 +51,7 @@ pub record Waiter (n count pairs : ℕ) (side : SideOfGap) (w : List ℕ) (list 
   pub element-below : element < count
   pub number-below : number < pairs
   pub stands : p ≡ copyAt n element number side
-  pub waits-in : listAt n (readRow w p) side ≡ list
+  pub waits-in : listAt n (storedRow w p) side ≡ list
 
 -- The copies ps hang together from the link `at` on, each is one that waits in that list, and none is there twice. This also holds of a list in hand,
 -- that is of one that has been taken from its place to be woken.
@@ -73,11 +73,11 @@ pub record Queue (n count pairs : ℕ) (side : SideOfGap) (w : List ℕ) (list :
   pub counted : getD w (list + 2) 0 ≡ length ps
 
 -- Which copies wait in each list: that of a side, an element and a generator.
-abbrev pub Held : Type 0
-Held = SideOfGap → ℕ → ℕ → List ℕ
+abbrev pub Waiting : Type 0
+Waiting = SideOfGap → ℕ → ℕ → List ℕ
 
 -- Each list of an element below the count has the copies that `held` says.
-pub record Queues (n count pairs : ℕ) (w : List ℕ) (held : Held) : Type 0 where
+pub record Queues (n count pairs : ℕ) (w : List ℕ) (held : Waiting) : Type 0 where
   pub queue : (side : SideOfGap) (e g : ℕ) → e < count → g < n → Queue n count pairs side w (listOf n side e g) (held side e g)
 
 -- The work has room for so many elements, with a row for each pair of the n generators.
@@ -88,16 +88,16 @@ pub record Sized (n count pairs : ℕ) (w : List ℕ) : Type 0 where
   pub room : count * workWidth n ≤ length w
 
 -- The work is as long as it was, and all that is beyond the stretch of the first `count` elements is as it was.
-pub record Beyond (n count : ℕ) (w w′ : List ℕ) : Type 0 where
+pub record SameBeyond (n count : ℕ) (w w′ : List ℕ) : Type 0 where
   pub long : length w′ ≡ length w
   pub beyond : (i : ℕ) → count * workWidth n ≤ i → getD w′ i 0 ≡ getD w i 0
 
 -- The row that is stored in each copy is as it was.
-pub record SameRows (n count pairs : ℕ) (w w′ : List ℕ) : Type 0 where
-  pub same : (u k : ℕ) (side : SideOfGap) → u < count → k < pairs → readRow w′ (copyAt n u k side) ≡ readRow w (copyAt n u k side)
+pub record SameStoredRows (n count pairs : ℕ) (w w′ : List ℕ) : Type 0 where
+  pub same : (u k : ℕ) (side : SideOfGap) → u < count → k < pairs → storedRow w′ (copyAt n u k side) ≡ storedRow w (copyAt n u k side)
 
 -- Each number of a row fits a cell of 32 bits.
-pub record Small (r : RelationTableRow) : Type 0 where
+pub record RowFits (r : RelationTableRow) : Type 0 where
   pub pair-small : r .pair < 4294967296
   pub left-small : r .left < 4294967296
   pub right-small : r .right < 4294967296
@@ -106,48 +106,48 @@ pub record Small (r : RelationTableRow) : Type 0 where
 
 -- After `waits`, by which a copy that was in no list begins to wait: p holds the row r and is in the list of e and g on its side. Every copy that waited waits
 -- still; the other lists, the rows of the other copies, the cells that link the stack, and the lists in hand to which p does not belong are as they were.
-pub record Appended (n count pairs : ℕ) (w w′ : List ℕ) (held : Held) (side : SideOfGap) (e g p : ℕ) (r : RelationTableRow) : Type 0 where
-  pub held′ : Held
+pub record Appended (n count pairs : ℕ) (w w′ : List ℕ) (held : Waiting) (side : SideOfGap) (e g p : ℕ) (r : RelationTableRow) : Type 0 where
+  pub held′ : Waiting
   pub queues : Queues n count pairs w′ held′
   pub there : In p (held′ side e g)
   pub more : (s : SideOfGap) (x h q : ℕ) → In q (held s x h) → In q (held′ s x h)
   pub others : (s : SideOfGap) (x h : ℕ) → ((s ≡ side) × (x ≡ e) × (h ≡ g) → ⊥) → held′ s x h ≡ held s x h
-  pub stored : readRow w′ p ≡ r
-  pub rows : (u k : ℕ) (s : SideOfGap) → u < count → k < pairs → (copyAt n u k s ≡ p → ⊥) → readRow w′ (copyAt n u k s) ≡ readRow w (copyAt n u k s)
-  pub six : Six n w w′
-  pub beyond : Beyond n count w w′
+  pub stored : storedRow w′ p ≡ r
+  pub rows : (u k : ℕ) (s : SideOfGap) → u < count → k < pairs → (copyAt n u k s ≡ p → ⊥) → storedRow w′ (copyAt n u k s) ≡ storedRow w (copyAt n u k s)
+  pub six : SameStackLinks n w w′
+  pub beyond : SameBeyond n count w w′
   pub hands : (s : SideOfGap) (list at : ℕ) (ps : List ℕ) → Hand n count pairs s w list at ps → Absent p ps → (list ≡ listOf n side e g → ⊥)
       → Hand n count pairs s w′ list at ps
 
 -- After `emptied`, by which a fact takes both lists from the place of e and g: the copies that waited there hang together as before, from the heads as they
 -- were; the place has none now. The other lists and all rows are as they were, and so are the cells that link the stack, but for the place's own.
-pub record Taken (n count pairs : ℕ) (w w′ : List ℕ) (held : Held) (e g : ℕ) : Type 0 where
-  pub held′ : Held
+pub record Emptied (n count pairs : ℕ) (w w′ : List ℕ) (held : Waiting) (e g : ℕ) : Type 0 where
+  pub held′ : Waiting
   pub queues : Queues n count pairs w′ held′
   pub empty : (s : SideOfGap) → held′ s e g ≡ []
   pub others : (s : SideOfGap) (x h : ℕ) → ((x ≡ e) × (h ≡ g) → ⊥) → held′ s x h ≡ held s x h
   pub hands : (s : SideOfGap) → Hand n count pairs s w′ (listOf n s e g) (getD w (listOf n s e g) 0) (held s e g)
   pub counts : (s : SideOfGap) → getD w (listOf n s e g + 2) 0 ≡ length (held s e g)
-  pub rows : SameRows n count pairs w w′
-  pub six : (i : ℕ) → Spot n i 6 → (i ≡ placeOf n e g + 6 → ⊥) → getD w′ i 0 ≡ getD w i 0
-  pub beyond : Beyond n count w w′
+  pub rows : SameStoredRows n count pairs w w′
+  pub six : (i : ℕ) → CellOfKind n i 6 → (i ≡ placeOf n e g + 6 → ⊥) → getD w′ i 0 ≡ getD w i 0
+  pub beyond : SameBeyond n count w w′
 
 -- After a store in the cell of a place that links the stack of facts: every list and every row is as it was, and so is every list in hand.
-pub record Pushed (n count pairs : ℕ) (w w′ : List ℕ) (held : Held) : Type 0 where
+pub record Pushed (n count pairs : ℕ) (w w′ : List ℕ) (held : Waiting) : Type 0 where
   pub queues : Queues n count pairs w′ held
-  pub rows : SameRows n count pairs w w′
-  pub beyond : Beyond n count w w′
+  pub rows : SameStoredRows n count pairs w w′
+  pub beyond : SameBeyond n count w w′
   pub hands : (s : SideOfGap) (list at : ℕ) (ps : List ℕ) → Hand n count pairs s w list at ps → Hand n count pairs s w′ list at ps
 
 -- After `addedRows`, by which a new element "starts a row per pair, waiting twice: on the left under (element, first generator), on the right under (element,
 -- second)". The element's number is the count as it was; the lists and rows of the elements before it are as they were.
-pub record Begun (n count pairs : ℕ) (o w w′ : List ℕ) (held : Held) : Type 0 where
-  pub held′ : Held
+pub record RowsAdded (n count pairs : ℕ) (o w w′ : List ℕ) (held : Waiting) : Type 0 where
+  pub held′ : Waiting
   pub queues : Queues n (count + 1) pairs w′ held′
   pub old : (s : SideOfGap) (x h : ℕ) → x < count → held′ s x h ≡ held s x h
   pub left : (k : ℕ) → k < pairs → In (copyAt n count k Left) (held′ Left count (genOf (pairCode k) 0 .0))
   pub right : (k : ℕ) → k < pairs → In (copyAt n count k Right) (held′ Right count (genOf (pairCode k) (getD o k 0 * 2 - 1) .0))
-  pub stored : (k : ℕ) (s : SideOfGap) → k < pairs → readRow w′ (copyAt n count k s) ≡ newRow (record { 0 = count }) (pairCode k) (getD o k 0)
-  pub rows : SameRows n count pairs w w′
-  pub six : Six n w w′
-  pub beyond : Beyond n (count + 1) w w′
+  pub stored : (k : ℕ) (s : SideOfGap) → k < pairs → storedRow w′ (copyAt n count k s) ≡ newRow (record { 0 = count }) (pairCode k) (getD o k 0)
+  pub rows : SameStoredRows n count pairs w w′
+  pub six : SameStackLinks n w w′
+  pub beyond : SameBeyond n (count + 1) w w′

@@ -15,8 +15,8 @@ use Rattle.egg.specs.Table.{pick, startOf}
 use Rattle.enumeration_rows.specs.declared.inner.RelationTableRow.{RelationTableRow}
 use Rattle.enumeration_rows.specs.Rows.{genOf, rowOf}
 use Rattle.enumeration_fill.specs.Fill.{rightCell, leftCell, backFrom, forwardFrom, filled}
-use Rattle.enumeration_run_laws.specs.Invariant.{Known}
-use Rattle.enumeration_loop_laws.specs.Rings.{turn, ring, first, second, Looped, Told, Column, rowAt, Fills}
+use Rattle.enumeration_run_laws.specs.Invariant.{StepKnown}
+use Rattle.enumeration_loop_laws.specs.Rings.{turn, ring, firstOfPair, secondOfPair, Looped, StepsAgree, Column, rowAt, Fills}
 use Rattle.enumeration_loop_laws.proofs.Letters.{letters-below, turn-below, gen-turn, ring-back}
 
 -- What a row comes to when its right end goes back.
@@ -26,8 +26,8 @@ record Back (n count : ℕ) (t : List ℕ) (step : ℕ → ℕ → ℕ) (u k l r
   ordered : l ≤ right
   backward : right ≤ r
   behind : (j : ℕ) → right < j → j ≤ r → Column n t step u k j
-  right-end : l < right → Known n t (ring step (first k) (second k) u (suc right)) (turn (first k) (second k) right) → ⊥
-  to-below : ring step (first k) (second k) u (suc right) < count
+  right-end : l < right → StepKnown n t (ring step (firstOfPair k) (secondOfPair k) u (suc right)) (turn (firstOfPair k) (secondOfPair k) right) → ⊥
+  to-below : ring step (firstOfPair k) (secondOfPair k) u (suc right) < count
 
 -- And when its left end goes forward.
 record Forth (n count : ℕ) (t : List ℕ) (step : ℕ → ℕ → ℕ) (u k l r : ℕ) (row : RelationTableRow) : Type 0 where
@@ -37,16 +37,16 @@ record Forth (n count : ℕ) (t : List ℕ) (step : ℕ → ℕ → ℕ) (u k l 
   ordered : left ≤ r
   before : (j : ℕ) → l ≤ j → j < left → Column n t step u k j
   left-end : left < r → Column n t step u k left → ⊥
-  from-below : ring step (first k) (second k) u left < count
+  from-below : ring step (firstOfPair k) (secondOfPair k) u left < count
 
 module _ {n count N : ℕ} {o : List ℕ} {step : ℕ → ℕ → ℕ} {t : List ℕ} (few : n ≤ 8) (full : length o ≡ pairs-below n) (L : Looped n N o step)
-    (T : Told n count step t) (u k : ℕ) (hu : u < N) (hk : k < length o) where
+    (T : StepsAgree n count step t) (u k : ℕ) (hu : u < N) (hk : k < length o) where
   -- The elements along the row, and its letters.
   abbrev y : ℕ → ℕ
-  y = ring step (first k) (second k) u
+  y = ring step (firstOfPair k) (secondOfPair k) u
 
   abbrev z : ℕ → ℕ
-  z = turn (first k) (second k)
+  z = turn (firstOfPair k) (secondOfPair k)
 
   z-below : (j : ℕ) → z j < n
   z-below = turn-below o few full hk
@@ -65,7 +65,7 @@ module _ {n count N : ℕ} {o : List ℕ} {step : ℕ → ℕ → ℕ} {t : List
   left-cell l r = ap (λ (x : ℕ). getD t (startOf n (y l) + x) 0) (gen-turn k l)
 
   -- The right end goes over a column: what it reads leads back, and the column is known.
-  module _ (r : ℕ) (h : Known n t (y (suc r)) (z r)) where
+  module _ (r : ℕ) (h : StepKnown n t (y (suc r)) (z r)) where
     over-column : Column n t step u k r
     over-column = rw (back-over r) at (T .both (y (suc r)) (z r) (z-below r) h)
 
@@ -102,7 +102,7 @@ module _ {n count N : ℕ} {o : List ℕ} {step : ℕ → ℕ → ℕ} {t : List
       to-below = below;
     }
     by false q ih =
-        let h : Known n t (y (suc (suc r))) (z (suc r)) = λ c. eqb-false _ _ q (right-cell l (suc r) ∙ c) in
+        let h : StepKnown n t (y (suc (suc r))) (z (suc r)) = λ c. eqb-false _ _ q (right-cell l (suc r) ∙ c) in
         let p : suc r - 1 ≡ r = omega arith in
         let b = ih (over-below (suc r) h) in
         rw (p, over-cell (suc r) h l) (record {
@@ -183,7 +183,7 @@ module _ {n count N : ℕ} {o : List ℕ} {step : ℕ → ℕ → ℕ} {t : List
       })
 
 -- `filled` of a row at columns of its loop.
-pub fills : {n count N : ℕ} {o : List ℕ} {step : ℕ → ℕ → ℕ} {t : List ℕ} → n ≤ 8 → length o ≡ pairs-below n → Looped n N o step → Told n count step t
-    → (u k l r : ℕ) → u < N → k < length o → l ≤ r → ring step (first k) (second k) u l < count → ring step (first k) (second k) u (suc r) < count
+pub fills : {n count N : ℕ} {o : List ℕ} {step : ℕ → ℕ → ℕ} {t : List ℕ} → n ≤ 8 → length o ≡ pairs-below n → Looped n N o step → StepsAgree n count step t
+    → (u k l r : ℕ) → u < N → k < length o → l ≤ r → ring step (firstOfPair k) (secondOfPair k) u l < count → ring step (firstOfPair k) (secondOfPair k) u (suc r) < count
     → Fills n count t step u k l r (filled t n (rowAt step u k l r))
 fills few full L T u k l r hu hk = filled-to few full L T u k hu hk l r

@@ -84,14 +84,14 @@ module _ {n count : ℕ} (t : List ℕ) (e : GroupElementId) (g : GeneratorId) (
         ∙ set-pred n t e g r hg (within (r .0) (n + g .0) hr (omega arith)) (omega arith)
 
 -- The place of x and h is that of the step, that of its step back, or another.
-pub data Side (e g r x h : ℕ) : Type 0 where
-  here : x ≡ e → h ≡ g → Side e g r x h
-  there : x ≡ r → h ≡ g → Side e g r x h
-  elsewhere : ((x ≡ e) ⊎ (x ≡ r) → h ≡ g → ⊥) → Side e g r x h
+pub data WhichPlace (e g r x h : ℕ) : Type 0 where
+  here : x ≡ e → h ≡ g → WhichPlace e g r x h
+  there : x ≡ r → h ≡ g → WhichPlace e g r x h
+  elsewhere : ((x ≡ e) ⊎ (x ≡ r) → h ≡ g → ⊥) → WhichPlace e g r x h
 
-pub side : (e g r x h : ℕ) → Side e g r x h
+pub side : (e g r x h : ℕ) → WhichPlace e g r x h
 side e g r x h = by (ℕ-discrete h g) (ℕ-discrete x e) (ℕ-discrete x r) where
-  by : Dec (h ≡ g) → Dec (x ≡ e) → Dec (x ≡ r) → Side e g r x h
+  by : Dec (h ≡ g) → Dec (x ≡ e) → Dec (x ≡ r) → WhichPlace e g r x h
   by (no d) a b = elsewhere (λ _ q. d q)
   by (yes q) (yes p) b = here p q
   by (yes q) (no a) (yes p) = there p q

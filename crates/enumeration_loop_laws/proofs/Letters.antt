@@ -13,34 +13,34 @@ use Rattle.egg.specs.declared.GeneratorId.{GeneratorId}
 use Rattle.egg.specs.Pairs.{pairCode}
 use Rattle.egg.specs.Table.{pick}
 use Rattle.enumeration_rows.specs.Rows.{genOf, rowOf, newRow}
-use Rattle.enumeration_loop_laws.specs.Rings.{turn, ring, first, second, Looped, rowAt}
+use Rattle.enumeration_loop_laws.specs.Rings.{turn, ring, firstOfPair, secondOfPair, Looped, rowAt}
 use Rattle.enumeration_loop_laws.proofs.Turns.{turn-in}
 
 -- That the letters are in order is computed for all pairs of up to 8 generators.
 abbrev in-order : ℕ → ℕ → Bool
-in-order n k = ltb (first k) (second k) && ltb (second k) n
+in-order n k = ltb (firstOfPair k) (secondOfPair k) && ltb (secondOfPair k) n
 
 codes-in-order : T (all 9 (λ n. all (pairs-below n) (in-order n)))
 unfolding pairCode
 codes-in-order = tt
 
-pub letters-below : {n : ℕ} (o : List ℕ) → n ≤ 8 → length o ≡ pairs-below n → {k : ℕ} → k < length o → (first k < second k) × (second k < n)
+pub letters-below : {n : ℕ} (o : List ℕ) → n ≤ 8 → length o ≡ pairs-below n → {k : ℕ} → k < length o → (firstOfPair k < secondOfPair k) × (secondOfPair k < n)
 letters-below {n} o few full {k} h =
     let tested = all-holds (pairs-below n) (in-order n) .0 (all-holds 9 (λ n. all (pairs-below n) (in-order n)) .0 codes-in-order n (omega arith)) k (omega arith) in
-    let both = and-holds (ltb (first k) (second k)) (ltb (second k) n) .0 tested in
+    let both = and-holds (ltb (firstOfPair k) (secondOfPair k)) (ltb (secondOfPair k) n) .0 tested in
     (ltb→lt _ _ (both .0), ltb→lt _ _ (both .1))
 
 -- Both letters are generators, so each is.
 pub turn-low : {n a b : ℕ} → a < n → b < n → (j : ℕ) → turn a b j < n
 turn-low {n} ha hb = turn-in (λ x. x < n) ha hb
 
-pub turn-below : {n : ℕ} (o : List ℕ) → n ≤ 8 → length o ≡ pairs-below n → {k : ℕ} → k < length o → (j : ℕ) → turn (first k) (second k) j < n
+pub turn-below : {n : ℕ} (o : List ℕ) → n ≤ 8 → length o ≡ pairs-below n → {k : ℕ} → k < length o → (j : ℕ) → turn (firstOfPair k) (secondOfPair k) j < n
 turn-below o few full h = let b = letters-below o few full h in turn-low (omega arith) (b .1)
 
 -- The generator of a row's column is the letter there.
-pub gen-turn : (k j : ℕ) → genOf (pairCode k) j .0 ≡ turn (first k) (second k) j
+pub gen-turn : (k j : ℕ) → genOf (pairCode k) j .0 ≡ turn (firstOfPair k) (secondOfPair k) j
 gen-turn k j = by (eqb (j % 2) 0) where
-  by : (s : Bool) → (pick {A = GeneratorId} s (record { 0 = first k }) (record { 0 = second k })) .0 ≡ pick s (first k) (second k)
+  by : (s : Bool) → (pick {A = GeneratorId} s (record { 0 = firstOfPair k }) (record { 0 = secondOfPair k })) .0 ≡ pick s (firstOfPair k) (secondOfPair k)
   by true = refl
   by false = refl
 
@@ -58,5 +58,5 @@ module _ {n N : ℕ} {o : List ℕ} {step : ℕ → ℕ → ℕ} (L : Looped n N
   new-row-at {e} {k} he hk low =
       let q : getD o k 0 * 2 - 1 ≡ 2 * getD o k 0 - 1 = omega arith in
       let p : suc (2 * getD o k 0 - 1) ≡ 2 * getD o k 0 = omega arith in
-      let c : e ≡ ring step (first k) (second k) e (suc (2 * getD o k 0 - 1)) = sym (ap (ring step (first k) (second k) e) p ∙ L .closed he hk) in
+      let c : e ≡ ring step (firstOfPair k) (secondOfPair k) e (suc (2 * getD o k 0 - 1)) = sym (ap (ring step (firstOfPair k) (secondOfPair k) e) p ∙ L .closed he hk) in
       rw q (ap (λ (x : ℕ). rowOf (pairCode k) 0 (2 * getD o k 0 - 1) (record { 0 = e }) (record { 0 = x })) c)

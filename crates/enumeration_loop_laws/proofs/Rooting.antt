@@ -7,33 +7,33 @@ use native.Mathlib.Decide.{decLt}
 use native.Mathlib.Omega.{arith}
 use lib.ListN.{getD, length}
 use Rattle.theory.specs.Presentation.{pairs-below}
-use Rattle.enumeration_run_laws.specs.Invariant.{Known}
-use Rattle.enumeration_loop_laws.specs.Rings.{turn, ring, first, second, Looped, Told, Rooted}
+use Rattle.enumeration_run_laws.specs.Invariant.{StepKnown}
+use Rattle.enumeration_loop_laws.specs.Rings.{turn, ring, firstOfPair, secondOfPair, Looped, StepsAgree, Rooted}
 use Rattle.enumeration_loop_laws.proofs.Turns.{turn-odd, turn-same, turn-begins, turn-shift, turn-back, ring-is}
 use Rattle.enumeration_loop_laws.proofs.Letters.{letters-below, turn-low, ring-back}
 use Rattle.enumeration_loop_laws.proofs.Least.{least-of}
 use Rattle.enumeration_loop_laws.proofs.Reversing.{ring-reverse, ring-swapped, ring-again}
 
 -- The loop h g h .. of l letters through x: its steps are known but for the last.
-module _ {n count N : ℕ} {o t : List ℕ} {step : ℕ → ℕ → ℕ} (G : Looped n N o step) (T : Told n count step t) {h g x l : ℕ} (hh : h < n) (hg : g < n) (hx : x < N)
+module _ {n count N : ℕ} {o t : List ℕ} {step : ℕ → ℕ → ℕ} (G : Looped n N o step) (T : StepsAgree n count step t) {h g x l : ℕ} (hh : h < n) (hg : g < n) (hx : x < N)
     (even : l % 2 ≡ 0) (some : 0 < l) (round : ring step h g x l ≡ x)
-    (given : (i : ℕ) → suc i < l → Known n t (ring step h g x i) (turn h g i)) where
+    (given : (i : ℕ) → suc i < l → StepKnown n t (ring step h g x i) (turn h g i)) where
   abbrev at : ℕ → ℕ
   at i = ring step h g x i
 
   -- A place before the last step, in the first round or the second; forth and back.
-  forth-known : (p i : ℕ) → (p ≡ i) ⊎ (p ≡ l + i) → suc i < l → Known n t (at p) (turn h g p)
+  forth-known : (p i : ℕ) → (p ≡ i) ⊎ (p ≡ l + i) → suc i < l → StepKnown n t (at p) (turn h g p)
   forth-known p i (inl q) b = rw q (given i b)
   forth-known p i (inr q) b = rw (q, ring-again G hh hg hx l even round i, turn-same h g (l + i) i (omega arith)) (given i b)
 
-  back-known : (p i : ℕ) → (p ≡ i) ⊎ (p ≡ l + i) → suc i < l → Known n t (at (suc p)) (turn h g p)
+  back-known : (p i : ℕ) → (p ≡ i) ⊎ (p ≡ l + i) → suc i < l → StepKnown n t (at (suc p)) (turn h g p)
   back-known p i w b = T .both (at p) (turn h g p) (turn-low hh hg p) (forth-known p i w b)
 
   -- The last step has the letter g.
   last-letter : (p : ℕ) → suc p ≡ l → turn h g p ≡ g
   last-letter p q = turn-odd h g p (omega arith)
 
-  last-known : (p : ℕ) → suc p ≡ l → Known n t (at (suc p)) (turn h g p) → Known n t x g
+  last-known : (p : ℕ) → suc p ≡ l → StepKnown n t (at (suc p)) (turn h g p) → StepKnown n t x g
   last-known p q k = let e : at (suc p) ≡ x = ap at q ∙ round in rw (e, last-letter p q) at k
 
   -- From the least element on.
@@ -65,14 +65,14 @@ module _ {n count N : ℕ} {o t : List ℕ} {step : ℕ → ℕ → ℕ} (G : Lo
       next i b = let q : s + suc i ≡ suc (s + i) = omega arith in rw (q, turn-shift h g s i)
 
     forward-known : (j : ℕ) → j < l → (j ≡ l - suc s → ⊥)
-        → Known n t (ring step (turn h g s) (turn h g (suc s)) (at s) j) (turn (turn h g s) (turn h g (suc s)) j)
+        → StepKnown n t (ring step (turn h g s) (turn h g (suc s)) (at s) j) (turn (turn h g s) (turn h g (suc s)) j)
     forward-known j b d = rw (forward j, turn-shift h g s j) (by (decLt (s + j) l)) where
-      by : Dec (s + j < l) → Known n t (at (s + j)) (turn h g (s + j))
+      by : Dec (s + j < l) → StepKnown n t (at (s + j)) (turn h g (s + j))
       by (yes c) = forth-known (s + j) (s + j) (inl refl) (omega arith)
       by (no c) = forth-known (s + j) (s + j - l) (inr (omega arith)) (omega arith)
 
     forward-tells : let j = l - suc s in
-        Known n t (ring step (turn h g s) (turn h g (suc s)) (at s) j) (turn (turn h g s) (turn h g (suc s)) j) → Known n t x g
+        StepKnown n t (ring step (turn h g s) (turn h g (suc s)) (at s) j) (turn (turn h g s) (turn h g (suc s)) j) → StepKnown n t x g
     forward-tells k =
         let p : s + (l - suc s) ≡ l - 1 = omega arith in
         last-known (l - 1) (omega arith) (T .both (at (l - 1)) (turn h g (l - 1)) (turn-low hh hg (l - 1))
@@ -94,7 +94,7 @@ module _ {n count N : ℕ} {o t : List ℕ} {step : ℕ → ℕ → ℕ} (G : Lo
     back-letter j p b q = let e : l + s - suc j ≡ p = omega arith in swapped j (omega arith) ∙ ap (turn h g) e
 
     backward-known : (j : ℕ) → j < l → (j ≡ s → ⊥)
-        → Known n t (ring step (turn h g (suc s)) (turn h g s) (at s) j) (turn (turn h g (suc s)) (turn h g s) j)
+        → StepKnown n t (ring step (turn h g (suc s)) (turn h g s) (at s) j) (turn (turn h g (suc s)) (turn h g s) j)
     backward-known j b d = rw (back-place j p b q, back-letter j p b q) (by (decLt p l)) where
       p : ℕ
       p = l + s - suc j
@@ -102,11 +102,11 @@ module _ {n count N : ℕ} {o t : List ℕ} {step : ℕ → ℕ → ℕ} (G : Lo
       q : suc p + j ≡ l + s
       q = omega arith
 
-      by : Dec (p < l) → Known n t (at (suc p)) (turn h g p)
+      by : Dec (p < l) → StepKnown n t (at (suc p)) (turn h g p)
       by (yes c) = back-known p p (inl refl) (omega arith)
       by (no c) = back-known p (p - l) (inr (omega arith)) (omega arith)
 
-    backward-tells : Known n t (ring step (turn h g (suc s)) (turn h g s) (at s) s) (turn (turn h g (suc s)) (turn h g s) s) → Known n t x g
+    backward-tells : StepKnown n t (ring step (turn h g (suc s)) (turn h g s) (at s) s) (turn (turn h g (suc s)) (turn h g s) s) → StepKnown n t x g
     backward-tells k =
         let q : suc (l - 1) + s ≡ l + s = omega arith in
         last-known (l - 1) (omega arith) (rw (back-place s (l - 1) hs q, back-letter s (l - 1) hs q) at k)
@@ -116,7 +116,7 @@ module _ {n count N : ℕ} {o t : List ℕ} {step : ℕ → ℕ → ℕ} (G : Lo
       root-low : at s < count
       root-low = omega (arith, least 0 some)
 
-      root-forward : first k ≡ turn h g s → second k ≡ turn h g (suc s) → Rooted n count t step k m x g
+      root-forward : firstOfPair k ≡ turn h g s → secondOfPair k ≡ turn h g (suc s) → Rooted n count t step k m x g
       root-forward a b = record {
         root = at s;
         root-below = root-low;
@@ -128,7 +128,7 @@ module _ {n count N : ℕ} {o t : List ℕ} {step : ℕ → ℕ → ℕ} (G : Lo
         tells = rw (a, b) forward-tells;
       }
 
-      root-backward : first k ≡ turn h g (suc s) → second k ≡ turn h g s → Rooted n count t step k m x g
+      root-backward : firstOfPair k ≡ turn h g (suc s) → secondOfPair k ≡ turn h g s → Rooted n count t step k m x g
       root-backward a b = record {
         root = at s;
         root-below = root-low;
@@ -140,23 +140,23 @@ module _ {n count N : ℕ} {o t : List ℕ} {step : ℕ → ℕ → ℕ} (G : Lo
         tells = rw (a, b) backward-tells;
       }
 
-      root-any : ((h ≡ first k) × (g ≡ second k)) ⊎ ((h ≡ second k) × (g ≡ first k)) → Rooted n count t step k m x g
+      root-any : ((h ≡ firstOfPair k) × (g ≡ secondOfPair k)) ⊎ ((h ≡ secondOfPair k) × (g ≡ firstOfPair k)) → Rooted n count t step k m x g
       root-any w = by w (turn-begins h g s) where
-        by : ((h ≡ first k) × (g ≡ second k)) ⊎ ((h ≡ second k) × (g ≡ first k))
+        by : ((h ≡ firstOfPair k) × (g ≡ secondOfPair k)) ⊎ ((h ≡ secondOfPair k) × (g ≡ firstOfPair k))
             → ((turn h g s ≡ h) × (turn h g (suc s) ≡ g)) ⊎ ((turn h g s ≡ g) × (turn h g (suc s) ≡ h)) → Rooted n count t step k m x g
         by (inl a) (inl b) = root-forward (sym (b .0 ∙ a .0)) (sym (b .1 ∙ a .1))
         by (inl a) (inr b) = root-backward (sym (b .1 ∙ a .0)) (sym (b .0 ∙ a .1))
         by (inr a) (inl b) = root-backward (sym (b .1 ∙ a .1)) (sym (b .0 ∙ a .0))
         by (inr a) (inr b) = root-forward (sym (b .0 ∙ a .1)) (sym (b .1 ∙ a .0))
 
-pub rooted : {n count N : ℕ} {o t : List ℕ} {step : ℕ → ℕ → ℕ} → n ≤ 8 → length o ≡ pairs-below n → Looped n N o step → count ≤ N → Told n count step t
-    → (k : ℕ) → k < length o → 1 ≤ getD o k 0 → (g h : ℕ) → ((h ≡ first k) × (g ≡ second k)) ⊎ ((h ≡ second k) × (g ≡ first k)) → (x : ℕ) → x < count
-    → ((i : ℕ) → suc i < 2 * getD o k 0 → Known n t (ring step h g x i) (turn h g i)) → Rooted n count t step k (getD o k 0) x g
+pub rooted : {n count N : ℕ} {o t : List ℕ} {step : ℕ → ℕ → ℕ} → n ≤ 8 → length o ≡ pairs-below n → Looped n N o step → count ≤ N → StepsAgree n count step t
+    → (k : ℕ) → k < length o → 1 ≤ getD o k 0 → (g h : ℕ) → ((h ≡ firstOfPair k) × (g ≡ secondOfPair k)) ⊎ ((h ≡ secondOfPair k) × (g ≡ firstOfPair k)) → (x : ℕ) → x < count
+    → ((i : ℕ) → suc i < 2 * getD o k 0 → StepKnown n t (ring step h g x i) (turn h g i)) → Rooted n count t step k (getD o k 0) x g
 rooted {n} {count} {N} {o} {t} {step} few full G more T k hk some g h w x low given = by w where
   m : ℕ
   m = getD o k 0
 
-  letters : (first k < second k) × (second k < n)
+  letters : (firstOfPair k < secondOfPair k) × (secondOfPair k < n)
   letters = letters-below o few full hk
 
   from : h < n → g < n → ring step h g x (2 * m) ≡ x → Rooted n count t step k m x g
@@ -165,10 +165,10 @@ rooted {n} {count} {N} {o} {t} {step} few full G more T k hk some g h w x low gi
       let q : suc (2 * m - 1) ≡ 2 * m = omega arith in
       root-any G T hh hg (omega arith) (omega arith) (omega arith) round given (l .place) (omega (arith, l .inside)) (λ i b. l .least i (omega arith)) k m refl low w
 
-  closed : ring step (first k) (second k) x (2 * m) ≡ x
+  closed : ring step (firstOfPair k) (secondOfPair k) x (2 * m) ≡ x
   closed = G .closed (omega arith) hk
 
-  by : ((h ≡ first k) × (g ≡ second k)) ⊎ ((h ≡ second k) × (g ≡ first k)) → Rooted n count t step k m x g
+  by : ((h ≡ firstOfPair k) × (g ≡ secondOfPair k)) ⊎ ((h ≡ secondOfPair k) × (g ≡ firstOfPair k)) → Rooted n count t step k m x g
   by (inl (a, b)) = from (rw a (omega (arith, letters))) (rw b (letters .1)) (rw (a, b) closed)
   by (inr (a, b)) =
       from (rw a (letters .1)) (rw b (omega (arith, letters)))

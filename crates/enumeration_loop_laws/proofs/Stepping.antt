@@ -9,7 +9,7 @@ use Rattle.egg.specs.declared.GeneratorId.{GeneratorId}
 use Rattle.egg.specs.Table.{startOf}
 use Rattle.egg.proofs.Cells.{cell-inside}
 use Rattle.build_reading.specs.Build.{setStep, setWord}
-use Rattle.enumeration_run_laws.specs.Invariant.{Known}
+use Rattle.enumeration_run_laws.specs.Invariant.{StepKnown}
 use Rattle.enumeration_run_laws.proofs.Marking.{set-length}
 use Rattle.enumeration_run_laws.proofs.Growing.{word-length}
 use Rattle.enumeration_run_laws.proofs.Knowing.{set-more, set-known}
@@ -36,11 +36,11 @@ module _ (t : List ℕ) (n c : ℕ) (e : GroupElementId) (g : GeneratorId) (len 
   pub stepped-length : length (stepped t n c e g len) ≡ length t
   stepped-length = set-length once n new g e ∙ set-length word n e g new ∙ word-long
 
-  pub stepped-more : (x h : ℕ) → h < n → Known n t x h → Known n (stepped t n c e g len) x h
+  pub stepped-more : (x h : ℕ) → h < n → StepKnown n t x h → StepKnown n (stepped t n c e g len) x h
   stepped-more x h hh k = set-more n once new g e x h hh (set-more n word e g new x h hh (rw (word-step n t c e g len x h (omega arith)) k))
 
   module _ (he : e .0 < c) (hg : g .0 < n) where
-    pub stepped-only : (x h : ℕ) → h < n → (x ≡ e .0 → h ≡ g .0 → ⊥) → (x ≡ c → h ≡ g .0 → ⊥) → Known n (stepped t n c e g len) x h → Known n t x h
+    pub stepped-only : (x h : ℕ) → h < n → (x ≡ e .0 → h ≡ g .0 → ⊥) → (x ≡ c → h ≡ g .0 → ⊥) → StepKnown n (stepped t n c e g len) x h → StepKnown n t x h
     stepped-only x h hh d d′ k =
         rw (
           set-other n once new g e hg x h (omega arith) d′ (λ a b. omega arith),
@@ -52,8 +52,8 @@ module _ (t : List ℕ) (n c : ℕ) (e : GroupElementId) (g : GeneratorId) (len 
       inside : (x : ℕ) → x < c + 1 → startOf n x + g .0 < length t
       inside x hx = let low : g .0 < 2 * n + 4 = omega arith in omega (arith, cell-inside n low hx)
 
-      pub stepped-here : Known n (stepped t n c e g len) (e .0) (g .0)
+      pub stepped-here : StepKnown n (stepped t n c e g len) (e .0) (g .0)
       stepped-here = set-more n once new g e (e .0) (g .0) hg (set-known n word e g new (rw word-long (inside (e .0) (omega arith))) (omega arith))
 
-      pub stepped-new : Known n (stepped t n c e g len) c (g .0)
+      pub stepped-new : StepKnown n (stepped t n c e g len) c (g .0)
       stepped-new = set-known n once new g e (rw (set-length word n e g new, word-long) (inside c (omega arith))) (omega arith)

@@ -1,4 +1,4 @@
--- `Told` stays true of a table in which a step is set both ways, and of one that gets a new element and the step to it.
+-- `StepsAgree` stays true of a table in which a step is set both ways, and of one that gets a new element and the step to it.
 use Prim.Native.Nat.{ℕ, suc, _+_, _*_, _<_, _≤_}
 use mathlib.Core.Path.{_≡_, sym, ap, _∙_}
 use mathlib.Core.List.{List}
@@ -8,15 +8,15 @@ use Rattle.egg.specs.declared.GroupElementId.{GroupElementId}
 use Rattle.egg.specs.declared.GeneratorId.{GeneratorId}
 use Rattle.egg.specs.Table.{startOf}
 use Rattle.build_reading.specs.Build.{setStep, setWord}
-use Rattle.enumeration_run_laws.specs.Invariant.{Known}
+use Rattle.enumeration_run_laws.specs.Invariant.{StepKnown}
 use Rattle.enumeration_run_laws.proofs.Knowing.{set-keeps}
 use Rattle.enumeration_run_laws.proofs.Since.{word-step}
 use Rattle.enumeration_run_laws.proofs.Growing.{word-length}
-use Rattle.enumeration_loop_laws.specs.Rings.{Looped, Told}
+use Rattle.enumeration_loop_laws.specs.Rings.{Looped, StepsAgree}
 use Rattle.enumeration_loop_laws.proofs.Stepping.{stepped}
-use Rattle.enumeration_loop_laws.proofs.Joining.{Joined, joined, Side, here, there, elsewhere, side, step-other, back-other}
+use Rattle.enumeration_loop_laws.proofs.Joining.{Joined, joined, WhichPlace, here, there, elsewhere, side, step-other, back-other}
 
-module _ {n count N : ℕ} {o : List ℕ} {step : ℕ → ℕ → ℕ} {t : List ℕ} (T : Told n count step t) (L : Looped n N o step) (known : count ≤ N)
+module _ {n count N : ℕ} {o : List ℕ} {step : ℕ → ℕ → ℕ} {t : List ℕ} (T : StepsAgree n count step t) (L : Looped n N o step) (known : count ≤ N)
     (e : GroupElementId) (g : GeneratorId) (r : GroupElementId) (he : e .0 < count) (hg : g .0 < n) (hr : r .0 < count) (leads : step (e .0) (g .0) ≡ r .0)
     (fits : count * (2 * n + 4) ≤ length t) (limit : count ≤ 65535) where
   abbrev once : List ℕ
@@ -32,9 +32,9 @@ module _ {n count N : ℕ} {o : List ℕ} {step : ℕ → ℕ → ℕ} {t : List
   cells = joined t e g r hg he hr limit fits
 
   abbrev Place : ℕ → ℕ → Type 0
-  Place x h = Side (e .0) (g .0) (r .0) x h
+  Place x h = WhichPlace (e .0) (g .0) (r .0) x h
 
-  module _ {x h : ℕ} (hh : h < n) (k : Known n both-ways x h) where
+  module _ {x h : ℕ} (hh : h < n) (k : StepKnown n both-ways x h) where
     succ-at : Place x h → getD both-ways (startOf n x + h) 0 ≡ suc (step x h)
     succ-at (here p q) = rw (p, q, leads) (cells .from-succ)
     succ-at (there p q) = rw (p, q, leads-back) (cells .to-succ)
@@ -45,7 +45,7 @@ module _ {n count N : ℕ} {o : List ℕ} {step : ℕ → ℕ → ℕ} {t : List
     below-at (there p q) = rw (p, q, leads-back) (hr, he)
     below-at (elsewhere d) = let s = step-other cells hg x h hh d in (T .from-below x h hh (rw s at k), T .to-below x h hh (rw s at k))
 
-    both-at : Place x h → Known n both-ways (step x h) h
+    both-at : Place x h → StepKnown n both-ways (step x h) h
     both-at (here p q) = rw (p, q, leads, (cells .to-succ)) (λ z. omega arith)
     both-at (there p q) = rw (p, q, leads-back, (cells .from-succ)) (λ z. omega arith)
     both-at (elsewhere d) = let s = step-other cells hg x h hh d in set-keeps n once r g e (startOf n (step x h) + h) (set-keeps n t e g r (startOf n (step x h) + h) (T .both x h hh (rw s at k)))
@@ -58,7 +58,7 @@ module _ {n count N : ℕ} {o : List ℕ} {step : ℕ → ℕ → ℕ} {t : List
   at : (x h : ℕ) → Place x h
   at x h = side (e .0) (g .0) (r .0) x h
 
-  pub told-both : Told n count step (setStep (setStep t n e g r) n r g e)
+  pub told-both : StepsAgree n count step (setStep (setStep t n e g r) n r g e)
   told-both = record {
     succ = λ x h hh k. succ-at hh k (at x h);
     from-below = λ x h hh k. below-at hh k (at x h) .0;
@@ -68,8 +68,8 @@ module _ {n count N : ℕ} {o : List ℕ} {step : ℕ → ℕ → ℕ} {t : List
   }
 
 -- A new element's word is no step, and the element counts.
-told-word : {n count : ℕ} {step : ℕ → ℕ → ℕ} {t : List ℕ} → Told n count step t → (e : GroupElementId) (g : GeneratorId) (len : ℕ)
-    → Told n (count + 1) step (setWord t n (record { 0 = count }) e g len)
+told-word : {n count : ℕ} {step : ℕ → ℕ → ℕ} {t : List ℕ} → StepsAgree n count step t → (e : GroupElementId) (g : GeneratorId) (len : ℕ)
+    → StepsAgree n (count + 1) step (setWord t n (record { 0 = count }) e g len)
 told-word {n} {count} {step} {t} T e g len = record {
   succ = λ x h hh k. let s = same x h hh in s ∙ T .succ x h hh (rw s at k);
   from-below = λ x h hh k. let s = same x h hh in omega (arith, T .from-below x h hh (rw s at k));
@@ -80,8 +80,8 @@ told-word {n} {count} {step} {t} T e g len = record {
   same : (x h : ℕ) → h < n → getD (setWord t n (record { 0 = count }) e g len) (startOf n x + h) 0 ≡ getD t (startOf n x + h) 0
   same x h hh = word-step n t count e g len x h (omega arith)
 
-pub told-new : {n count N : ℕ} {o : List ℕ} {step : ℕ → ℕ → ℕ} {t : List ℕ} → Told n count step t → Looped n N o step → count < N → (e : GroupElementId) (g : GeneratorId)
+pub told-new : {n count N : ℕ} {o : List ℕ} {step : ℕ → ℕ → ℕ} {t : List ℕ} → StepsAgree n count step t → Looped n N o step → count < N → (e : GroupElementId) (g : GeneratorId)
     → e .0 < count → g .0 < n → step (e .0) (g .0) ≡ count → (len : ℕ) → (count + 1) * (2 * n + 4) ≤ length t → count < 65535
-    → Told n (count + 1) step (stepped t n count e g len)
+    → StepsAgree n (count + 1) step (stepped t n count e g len)
 told-new {n} {count} {t = t} T L known e g he hg leads len fits limit =
     told-both (told-word T e g len) L (omega arith) e g (record { 0 = count }) (omega arith) hg (omega arith) leads (rw (word-length t n count e g len) fits) (omega arith)

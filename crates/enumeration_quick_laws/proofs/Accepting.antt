@@ -20,7 +20,7 @@ use Rattle.factor_relations_laws.proofs.Relators.{relations-exact, relations-fi
 use Rattle.build_laws.proofs.Settled.{by-count, settled-kept, settled-sound}
 use Rattle.enumeration_run_laws.proofs.Running.{pairs-full}
 use Rattle.enumeration_run.specs.Limits.{Limits}
-use Rattle.enumeration_loop_laws.specs.Rings.{turn, ring, first, second, Looped}
+use Rattle.enumeration_loop_laws.specs.Rings.{turn, ring, firstOfPair, secondOfPair, Looped}
 use Rattle.enumeration_loop_laws.proofs.Letters.{turn-low}
 use Rattle.enumeration_loop_laws.proofs.Walking.{ring-suc}
 
@@ -43,17 +43,17 @@ module _ (o : List ℕ) {n N : ℕ} {t F : List ℕ} (few : n ≤ 8) (long : len
   same e g h = sym (K .step-same e h)
 
   round-pair : {e i j : ℕ} → e < N → i < j → j < n
-      → ring (stepOf F n) (first (pair-place i j)) (second (pair-place i j)) e (2 * getD o (pair-place i j) 0) ≡ e
+      → ring (stepOf F n) (firstOfPair (pair-place i j)) (secondOfPair (pair-place i j)) e (2 * getD o (pair-place i j) 0) ≡ e
   round-pair {e} {i} {j} he hi hj =
       let small : j < 8 = omega arith in
       let low : i % 8 ≡ i = omega arith in
       rw (code-first hi small, code-second hi small, low)
       (ring-agree i j same (turn-low (omega arith) hj) e (2 * order-of o i j) ∙ ring-walk (stepOf t n) i j (order-of o i j) e ∙ H .holds he (pair hi hj))
 
-  round : {e k : ℕ} → e < N → k < length o → ring (stepOf F n) (first k) (second k) e (2 * getD o k 0) ≡ e
+  round : {e k : ℕ} → e < N → k < length o → ring (stepOf F n) (firstOfPair k) (secondOfPair k) e (2 * getD o k 0) ≡ e
   round {e} {k} he hk =
       let (i, j, hi, hj, q) = pair-at n k (rw long at hk) in
-      subst (λ (x : ℕ). ring (stepOf F n) (first x) (second x) e (2 * getD o x 0) ≡ e) q (round-pair he hi hj)
+      subst (λ (x : ℕ). ring (stepOf F n) (firstOfPair x) (secondOfPair x) e (2 * getD o x 0) ≡ e) q (round-pair he hi hj)
 
   looped : Looped n N o (stepOf F n)
   looped = record {

@@ -22,8 +22,8 @@ use Rattle.enumeration_run_laws.proofs.Growing.{word-length, last-new}
 use Rattle.enumeration_run_laws.proofs.Marking.{set-length}
 use Rattle.enumeration_run_laws.proofs.Settled.{discovered-empty}
 use Rattle.enumeration_run_laws.proofs.Since.{word-step}
-use Rattle.enumeration_loop_laws.specs.Rings.{first, second, Looped}
-use Rattle.enumeration_quick_laws.specs.Sweeping.{Live, Fair, Grows}
+use Rattle.enumeration_loop_laws.specs.Rings.{firstOfPair, secondOfPair, Looped}
+use Rattle.enumeration_quick_laws.specs.Sweeping.{Live, TwoWay, Grows}
 use Rattle.enumeration_loop_laws.proofs.Stepping.{stepped, stepped-more, stepped-here, stepped-new}
 use Rattle.enumeration_closure_laws.proofs.Discovering.{discovers}
 use Rattle.enumeration_quick_laws.proofs.Alike.{word-alike, set-rest, set-splits}
@@ -64,7 +64,7 @@ module _ {n N : ℕ} {o : List ℕ} (F : List ℕ) (looped : Looped n N o (stepO
   once = setStep (setWord q n new e γ len) n e γ new
 
   long : length t ≡ length q
-  long = I .table-length ∙ sym (B .fair .size)
+  long = I .table-length ∙ sym (B .two-way .size)
 
   small : c < 65535
   small = omega (arith, L .limit)
@@ -77,10 +77,10 @@ module _ {n N : ℕ} {o : List ℕ} (F : List ℕ) (looped : Looped n N o (stepO
       let i : startOf n x + (2 * n + 2) ≡ startOf n x + 2 * n + 2 = omega arith in
       rw i at (sym (B .rest x (2 * n + 2) (omega arith) (omega arith)))
 
-  module _ (fair : Fair n (c + 1) lt q′) (grows : Grows n (c + 1) N q′ F) where
+  module _ (two-way : TwoWay n (c + 1) lt q′) (grows : Grows n (c + 1) N q′ F) where
     link : Linked n q′ F x g c
     link =
-        linked once F (L .limit) (L .table-room) (set-length _ n e γ new ∙ word-length q n c e γ len ∙ B .fair .size) (omega arith) hg h fair grows
+        linked once F (L .limit) (L .table-room) (set-length _ n e γ new ∙ word-length q n c e γ len ∙ B .two-way .size) (omega arith) hg h two-way grows
 
     -- The other run does not know the step either: it would lead below c.
     unknown : getD t (startOf n x + g) 0 ≡ 0
@@ -91,7 +91,7 @@ module _ {n N : ℕ} {o : List ℕ} (F : List ℕ) (looped : Looped n N o (stepO
 
     row-fits : startOf n c + (2 * n + 4) ≤ length q
     unfolding startOf
-    row-fits = rw (B .fair .size) (omega (arith, L .table-room, mul-le-mul-right (2 * n + 4) h))
+    row-fits = rw (B .two-way .size) (omega (arith, L .table-room, mul-le-mul-right (2 * n + 4) h))
 
     -- The new element's last letter is g.
     last-is : lastOf F n c ≡ g
@@ -101,7 +101,7 @@ module _ {n N : ℕ} {o : List ℕ} (F : List ℕ) (looped : Looped n N o (stepO
         ∙ set-rest n (setWord q n new e γ len) e γ new hg c (2 * n + 1) (omega arith) (omega arith) in
         ap (λ (v : ℕ). v % 8) (rw i at a) ∙ last-new q n c e γ len row-fits (omega (arith, L .few))
 
-    dead : (k : ℕ) → k < length o → Live n F c k → (g ≡ first k → ⊥) × (g ≡ second k → ⊥)
+    dead : (k : ℕ) → k < length o → Live n F c k → (g ≡ firstOfPair k → ⊥) × (g ≡ secondOfPair k → ⊥)
     dead k hk live = let l = live (omega arith) in (λ z. l .0 (last-is ∙ z), λ z. l .1 (last-is ∙ z))
 
     pub came-new : Came n o room lt lw F x g c t w (c + 1) q′
@@ -113,7 +113,7 @@ module _ {n N : ℕ} {o : List ℕ} (F : List ℕ) (looped : Looped n N o (stepO
           work = s .work;
           is = makes n o room c e γ t w len unknown h (omega (arith, lengths)) (omega (arith, lengths));
           beside = record {
-            fair = fair;
+            two-way = two-way;
             closed = discovers L looped (B .closed) h (omega (arith, grows .more)) x g hx hg (link .leads) dead len
                 (discovered-empty L I e γ hx hg h len);
             known = λ y k hk d. K .more y k hk

@@ -11,7 +11,7 @@ use Rattle.egg.specs.declared.GeneratorId.{GeneratorId}
 use Rattle.egg.specs.Table.{startOf}
 use Rattle.build_reading.specs.Build.{setStep, setWord}
 use Rattle.build_checks_laws.proofs.AnyWork.{AlikeAt, put-alike}
-use Rattle.enumeration_run_laws.specs.Invariant.{Known}
+use Rattle.enumeration_run_laws.specs.Invariant.{StepKnown}
 use Rattle.enumeration_run_laws.proofs.Since.{set-other}
 
 -- A word that is written into two tables of a length that agree in a cell leaves them so.
@@ -28,12 +28,12 @@ module _ (n : ℕ) (t : List ℕ) (e : GroupElementId) (g : GeneratorId) (r : Gr
   set-rest x k low high = set-other n t e g r hg x k high (λ a b. omega arith) (λ a b. omega arith)
 
   -- The step that is set is known, and no other that was not known.
-  pub set-splits : (x h : ℕ) → h < n → Known n (setStep t n e g r) x h → ((x ≡ e .0) × (h ≡ g .0)) ⊎ Known n t x h
+  pub set-splits : (x h : ℕ) → h < n → StepKnown n (setStep t n e g r) x h → ((x ≡ e .0) × (h ≡ g .0)) ⊎ StepKnown n t x h
   set-splits x h hh k = by (ℕ-discrete x (e .0)) (ℕ-discrete h (g .0)) where
-    other : (x ≡ e .0 → h ≡ g .0 → ⊥) → Known n t x h
+    other : (x ≡ e .0 → h ≡ g .0 → ⊥) → StepKnown n t x h
     other d = let same = set-other n t e g r hg x h (omega arith) d (λ a b. omega arith) in rw same at k
 
-    by : Dec (x ≡ e .0) → Dec (h ≡ g .0) → ((x ≡ e .0) × (h ≡ g .0)) ⊎ Known n t x h
+    by : Dec (x ≡ e .0) → Dec (h ≡ g .0) → ((x ≡ e .0) × (h ≡ g .0)) ⊎ StepKnown n t x h
     by (yes a) (yes b) = inl (a, b)
     by (yes a) (no d) = inr (other (λ _ b. d b))
     by (no d) b = inr (other (λ a _. d a))

@@ -22,7 +22,7 @@ use Rattle.enumeration_run.specs.Limits.{Limits}
 use Rattle.enumeration_loop_laws.specs.Rings.{Looped}
 use Rattle.enumeration_quick_loops.specs.Loops.{loopFrom}
 use Rattle.enumeration_quick_run.specs.Sweeps.{Swept, swept, settles, sweeps}
-use Rattle.enumeration_quick_laws.specs.Sweeping.{Fair, Grows}
+use Rattle.enumeration_quick_laws.specs.Sweeping.{TwoWay, Grows}
 use Rattle.enumeration_quick_laws.proofs.Beside.{Beside}
 use Rattle.enumeration_quick_laws.proofs.Placing.{Came, came-known, came-loop}
 use Rattle.enumeration_quick_laws.proofs.Adding.{came-new}
@@ -40,7 +40,7 @@ module _ {n N : ℕ} {o : List ℕ} (F : List ℕ) (looped : Looped n N o (stepO
   new = record { 0 = c }
 
   abbrev pub Comes : Counted → List ℕ → Type 0
-  Comes (counted.Count c′) q′ = Fair n c′ lt q′ → Grows n c′ N q′ F → Came n o room lt lw F x g c t w c′ q′
+  Comes (counted.Count c′) q′ = TwoWay n c′ lt q′ → Grows n c′ N q′ F → Came n o room lt lw F x g c t w c′ q′
   Comes (counted.Refused r) q′ = Unit {0}
 
   abbrev ComesBy : Swept → Type 0
@@ -54,7 +54,7 @@ module _ {n N : ℕ} {o : List ℕ} (F : List ℕ) (looped : Looped n N o (stepO
       (λ new q₁. swept (counted.Count (c + 1)) (setStep q₁ n new γ e)) (λ why q₁. swept (counted.Refused why) q₁))
   adding true long p k = tt
   adding false true p k = tt
-  adding false false p k = λ fair grows. came-new F looped L B I hx hg (leb-false room c p) (leb-false 4096 (lengthOf q n x) k) fair grows
+  adding false false p k = λ two-way grows. came-new F looped L B I hx hg (leb-false room c p) (leb-false 4096 (lengthOf q n x) k) two-way grows
 
   settling : (v : ℕ) → loopFrom n q o n x g 0 ≡ v → ComesBy (settles n room c e γ v q)
   unfolding settles adds
@@ -62,11 +62,11 @@ module _ {n N : ℕ} {o : List ℕ} (F : List ℕ) (looped : Looped n N o (stepO
   settling (suc r) p =
       let i : suc r - 1 ≡ r = omega arith in
       let d : suc r ≡ 0 → ⊥ = omega arith in
-      simp (ne-eqb _ _ d, i) (λ fair grows. came-loop F looped parents L within B G hx hg p fair grows)
+      simp (ne-eqb _ _ d, i) (λ two-way grows. came-loop F looped parents L within B G hx hg p two-way grows)
 
   pub comes : let v = sweeps n o room c e γ q in Comes (v .answer) (v .table)
   unfolding sweeps
   comes = by (isNew q n e γ) refl where
     by : (b : Bool) → isNew q n e γ ≡ b → ComesBy (pick b (settles n room c e γ (loopFrom n q o n x g 0) q) (swept (counted.Count c) q))
     by true p = settling (loopFrom n q o n x g 0) refl
-    by false p = λ fair grows. came-known room x g hg B (eqb-false _ _ p)
+    by false p = λ two-way grows. came-known room x g hg B (eqb-false _ _ p)

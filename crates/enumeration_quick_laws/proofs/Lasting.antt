@@ -10,7 +10,7 @@ use Rattle.egg.specs.declared.GeneratorId.{GeneratorId}
 use Rattle.egg.specs.Table.{startOf}
 use Rattle.build_reading.specs.Build.{setStep, setWord}
 use Rattle.enumeration_run.specs.Run.{discovered}
-use Rattle.enumeration_run_laws.specs.Invariant.{Known, RunOk}
+use Rattle.enumeration_run_laws.specs.Invariant.{StepKnown, RunOk}
 use Rattle.enumeration_run.specs.Limits.{Limits}
 use Rattle.enumeration_run_laws.proofs.Keeping.{Both, settle-keeps}
 use Rattle.enumeration_run_laws.proofs.Knowing.{set-more}
@@ -20,7 +20,7 @@ use Rattle.enumeration_quick_laws.proofs.Alike.{set-rest}
 
 -- From the table t₀ to t: all that was known is known, and the words are as they were.
 pub record Lasting (n : ℕ) (t₀ t : List ℕ) : Type 0 where
-  pub more : (x h : ℕ) → h < n → Known n t₀ x h → Known n t x h
+  pub more : (x h : ℕ) → h < n → StepKnown n t₀ x h → StepKnown n t x h
   pub rest : (x k : ℕ) → 2 * n ≤ k → k < 2 * n + 4 → getD t (startOf n x + k) 0 ≡ getD t₀ (startOf n x + k) 0
 
 lasts-both : {n count lt : ℕ} (t₀ : List ℕ) → Both n count lt (Lasting n t₀)

@@ -14,10 +14,10 @@ use Rattle.egg.specs.declared.Counted.{Counted}
 use Rattle.egg.specs.declared.Counted.the-variants as counted
 use Rattle.egg.specs.Table.{pick, startOf, stepOf, parentOf, lastOf}
 use Rattle.enumeration_rows.specs.Rows.{addedRows}
-use Rattle.enumeration_run.specs.Run.{Visit, visits, advanced, Outcome, outcome, after, runs, first, enumerated}
+use Rattle.enumeration_run.specs.Run.{Visit, visits, advanced, RunResult, outcome, after, runs, startOfRun, enumerated}
 use Rattle.enumeration_run.specs.declared.inner.Run.{Run}
 use Rattle.enumeration_run.specs.declared.inner.Ran.the-variants as ran
-use Rattle.enumeration_run_laws.specs.Invariant.{Known}
+use Rattle.enumeration_run_laws.specs.Invariant.{StepKnown}
 use Rattle.enumeration_run.specs.Limits.{Limits}
 use Rattle.enumeration_run_laws.proofs.Visiting.{next}
 use Rattle.enumeration_run_laws.specs.Paused.{IsDone, doneOf}
@@ -25,17 +25,17 @@ use Rattle.enumeration_run_laws.proofs.Running.{zeros}
 use Rattle.enumeration_run_laws.proofs.Going.{VisitedBy, visited, goes-on, first-going}
 use Rattle.enumeration_loop_laws.specs.Rings.{Looped}
 use Rattle.enumeration_quick_run.specs.Sweeps.{Swept, swept, sweeps, Sweep, sweep, onSwept, sweepFrom, swiftly}
-use Rattle.enumeration_quick_laws.specs.Sweeping.{Fair, Grows}
+use Rattle.enumeration_quick_laws.specs.Sweeping.{TwoWay, Grows}
 use Rattle.enumeration_closure_laws.proofs.Beginning.{first-closed}
-use Rattle.enumeration_quick_laws.proofs.Sweeping.{sweeps-fair, sweep-fair}
+use Rattle.enumeration_quick_laws.proofs.Sweeping.{sweeps-two-way, sweep-two-way}
 use Rattle.enumeration_quick_laws.proofs.Ahead.{before-next}
 use Rattle.enumeration_quick_laws.proofs.Beside.{Beside, Abreast}
 use Rattle.enumeration_quick_laws.proofs.Placing.{Came}
 use Rattle.enumeration_quick_laws.proofs.Coming.{Comes, comes}
 use Rattle.enumeration_quick_laws.proofs.Matching.{tables-match}
 
-pub blank-fair : (n lt : ℕ) → Fair n 1 lt (replicate lt 0)
-blank-fair n lt = record {
+pub blank-two-way : (n lt : ℕ) → TwoWay n 1 lt (replicate lt 0)
+blank-two-way n lt = record {
   back = λ e g hg. zeros lt (startOf n e + (n + g)) ∙ sym (zeros lt (startOf n e + g));
   turned = λ e g r hg q. absurd (omega (arith, zeros lt (startOf n e + g)));
   blank = λ e k he hk. zeros lt (startOf n e + k);
@@ -45,20 +45,20 @@ blank-fair n lt = record {
 module _ {n : ℕ} {o : List ℕ} {room lt lw : ℕ} (L : Limits n o room lt lw) {N : ℕ} (F : List ℕ)
     (looped : Looped n N o (stepOf F n)) (parents : Parents n N (stepOf F n) (parentOf F n) (lastOf F n)) where
   -- The other run has that end.
-  abbrev Same : Outcome → Type 0
+  abbrev Same : RunResult → Type 0
   Same x = (x .answer ≡ ran.Done N) × (x .table ≡ F)
 
   ends : {x g c : ℕ} {q t w : List ℕ} → c ≤ x → Abreast n o room lt lw F x g c q t w → sweep (ran.Done c) q ≡ sweep (ran.Done N) F → Same (outcome (ran.Done c) t w)
   ends {x} {g} {c} {q} {t} {w} h A p =
       let count : c ≡ N = ap (λ (s : Sweep). doneOf (s .answer)) p in
       let same : q ≡ F = ap (λ (s : Sweep). s .table) p in
-      let all : (e g : ℕ) → e < c → g < n → Known n q e g = λ e g he hg. A .seen .all e g hg (row (omega arith)) in
+      let all : (e g : ℕ) → e < c → g < n → StepKnown n q e g = λ e g he hg. A .seen .all e g hg (row (omega arith)) in
       let B = subst (λ (c : ℕ). Beside n o lt lw F c F t w) count (subst (λ (q : List ℕ). Beside n o lt lw F c q t w) same (A .beside)) in
       (ap (λ (s : Sweep). s .answer) p, tables-match B (λ e g he hg. rw (← same) (all e g (omega arith) hg)))
 
   -- After a place that both have visited they are abreast at the next.
   module _ (at : Run) {q t w : List ℕ} (hg : at .generator < n) (A : Abreast n o room lt lw F (at .element) (at .generator) (at .count) q t w) (hx : at .element < at .count) where
-    passes : (c : ℕ) {q′ : List ℕ} (K : Came n o room lt lw F (at .element) (at .generator) (at .count) t w c q′) → ((e h : ℕ) → h < n → Known n q e h → Known n q′ e h)
+    passes : (c : ℕ) {q′ : List ℕ} (K : Came n o room lt lw F (at .element) (at .generator) (at .count) t w c q′) → ((e h : ℕ) → h < n → StepKnown n q e h → StepKnown n q′ e h)
         → let a = advanced n at c in Abreast n o room lt lw F (a .element) (a .generator) (a .count) q′ (K .table) (K .work)
     passes c {q′} K more =
         let v = subst (VisitedBy L (at .element) (at .generator)) (K .is) (visited L (A .going) hx hg) in
@@ -66,7 +66,7 @@ module _ {n : ℕ} {o : List ℕ} {room lt lw : ℕ} (L : Limits n o room lt lw)
         record {
           beside = rw (f .1) (K .beside);
           going = goes-on L at c hg (v .0) (v .1);
-          seen = before-next (Known n q′) at c hg (record { all = λ y h hh a. more y h hh (A .seen .all y h hh a) }) (K .here);
+          seen = before-next (StepKnown n q′) at c hg (record { all = λ y h hh a. more y h hh (A .seen .all y h hh a) }) (K .here);
         }
 
   lock : (k : ℕ) (at : Run) {q t w : List ℕ} → at .generator < n → Abreast n o room lt lw F (at .element) (at .generator) (at .count) q t w
@@ -88,10 +88,10 @@ module _ {n : ℕ} {o : List ℕ} {room lt lw : ℕ} (L : Limits n o room lt lw)
     slow : Visit
     slow = visits n o room (at .count) (record { 0 = at .element }) (record { 0 = at .generator }) t w
 
-    whole : Fair n N lt F × Grows n (at .count) N q F × (N ≤ room)
-    whole = sweep-fair o (L .limit) (L .table-room) (suc k) at hg (A .going .run .fits) (A .beside .fair) p
+    whole : TwoWay n N lt F × Grows n (at .count) N q F × (N ≤ room)
+    whole = sweep-two-way o (L .limit) (L .table-room) (suc k) at hg (A .going .run .fits) (A .beside .two-way) p
 
-    later : Visit → Outcome
+    later : Visit → RunResult
     later v = after v (λ c t₁ w₁. runs k n o room (advanced n at c) t₁ w₁) (λ why t₁ w₁. outcome (ran.Refused why) t₁ w₁)
 
     carry : Rest → at .element < at .count → (c : ℕ) (q₁ : List ℕ) → Came n o room lt lw F (at .element) (at .generator) (at .count) t w c q₁ → Grows n (at .count) c q q₁
@@ -103,10 +103,10 @@ module _ {n : ℕ} {o : List ℕ} {room lt lw : ℕ} (L : Limits n o room lt lw)
         → Comes F looped parents L (whole .2) (A .beside) (whole .1) (A .going .run) hx hg a q₁
         → onSwept a q₁ (λ c q₂. sweepFrom k n o room (advanced n at c) q₂) (λ why q₂. sweep (ran.Refused why) q₂) ≡ sweep (ran.Done N) F → Same (later slow)
     go rest hx (counted.Count c) q₁ e come p =
-        let f = sweeps-fair o (L .limit) (L .table-room) (A .going .run .fits) (record { 0 = at .element }) (record { 0 = at .generator }) hx hg (A .beside .fair) e in
+        let f = sweeps-two-way o (L .limit) (L .table-room) (A .going .run .fits) (record { 0 = at .element }) (record { 0 = at .generator }) hx hg (A .beside .two-way) e in
         let y = next n at c hg in
-        let fair : Fair n (advanced n at c .count) lt q₁ = rw (y .1) (f .0) in
-        let z = sweep-fair o (L .limit) (L .table-room) k (advanced n at c) (y .0) (omega (arith, y .1, f .2)) fair p in
+        let two-way : TwoWay n (advanced n at c .count) lt q₁ = rw (y .1) (f .0) in
+        let z = sweep-two-way o (L .limit) (L .table-room) k (advanced n at c) (y .0) (omega (arith, y .1, f .2)) two-way p in
         carry rest hx c q₁ (come (f .0) (rw (y .1) at (z .1))) (f .1) p
     go rest hx (counted.Refused r) q₁ e come p = absurd (subst (λ (s : Sweep). IsDone (s .answer)) (sym p) tt)
 
@@ -121,7 +121,7 @@ module _ {n : ℕ} {o : List ℕ} {room lt lw : ℕ} (L : Limits n o room lt lw)
   first-abreast : 1 ≤ N → Abreast n o room lt lw F 0 0 1 (replicate lt 0) (replicate lt 0) (addedRows (replicate lw 0) o n (record { 0 = 0 }))
   first-abreast some = record {
     beside = record {
-      fair = blank-fair n lt;
+      two-way = blank-two-way n lt;
       closed = first-closed L looped some;
       known = λ e h hh k. k;
       rest = λ e k low high. refl;
@@ -137,11 +137,11 @@ module _ {n : ℕ} {o : List ℕ} {room lt lw : ℕ} (L : Limits n o room lt lw)
     work = addedRows (replicate lw 0) o n (record { 0 = 0 })
 
     by : (b : Bool) → eqb n 0 ≡ b
-        → pick b (sweep (ran.Done 1) (replicate lt 0)) (sweepFrom 18446744073709551615 n o room first (replicate lt 0)) ≡ sweep (ran.Done N) F
-        → Same (pick b (outcome (ran.Done 1) (replicate lt 0) work) (runs 18446744073709551615 n o room first (replicate lt 0) work))
+        → pick b (sweep (ran.Done 1) (replicate lt 0)) (sweepFrom 18446744073709551615 n o room startOfRun (replicate lt 0)) ≡ sweep (ran.Done N) F
+        → Same (pick b (outcome (ran.Done 1) (replicate lt 0) work) (runs 18446744073709551615 n o room startOfRun (replicate lt 0) work))
     by true b p = (ap (λ (s : Sweep). s .answer) p, ap (λ (s : Sweep). s .table) p)
     by false b p =
         let d : n ≡ 0 → ⊥ = eqb-false _ _ b in
         let hg : 0 < n = omega arith in
-        let f = sweep-fair o (L .limit) (L .table-room) 18446744073709551615 first hg (L .some) (blank-fair n lt) p in
-        lock 18446744073709551615 first hg (first-abreast (f .1 .more)) p
+        let f = sweep-two-way o (L .limit) (L .table-room) 18446744073709551615 startOfRun hg (L .some) (blank-two-way n lt) p in
+        lock 18446744073709551615 startOfRun hg (first-abreast (f .1 .more)) p

@@ -7,8 +7,8 @@ use lib.ListN.{getD, length}
 use Rattle.theory.specs.Presentation.{pairs-below}
 use Rattle.theory.specs.Words.{Parents}
 use Rattle.egg.specs.Table.{startOf, stepOf, parentOf, lastOf}
-use Rattle.enumeration_run_laws.specs.Invariant.{Known}
-use Rattle.enumeration_loop_laws.specs.Rings.{turn, ring, first, second, Looped, Rooted}
+use Rattle.enumeration_run_laws.specs.Invariant.{StepKnown}
+use Rattle.enumeration_loop_laws.specs.Rings.{turn, ring, firstOfPair, secondOfPair, Looped, Rooted}
 use Rattle.enumeration_quick_loops.specs.Loops.{orderFor}
 use Rattle.enumeration_quick_laws.specs.Sweeping.{Live, Grows}
 use Rattle.enumeration_loop_laws.proofs.Letters.{turn-low, ring-below}
@@ -31,8 +31,8 @@ module _ {n N : ℕ} {o : List ℕ} (F : List ℕ) (looped : Looped n N o (stepO
       omega arith
 
   -- So the least element of a loop has a live row.
-  pub least-live : {u : ℕ} (k : ℕ) → u < N → u ≤ stepOf F n u (first k) → u ≤ stepOf F n u (second k) → Live n F u k
-  least-live {u} k hu a b pos = (λ q. goes-down pos hu (first k) q a, λ q. goes-down pos hu (second k) q b)
+  pub least-live : {u : ℕ} (k : ℕ) → u < N → u ≤ stepOf F n u (firstOfPair k) → u ≤ stepOf F n u (secondOfPair k) → Live n F u k
+  least-live {u} k hu a b pos = (λ q. goes-down pos hu (firstOfPair k) q a, λ q. goes-down pos hu (secondOfPair k) q b)
 
   module _ (few : n ≤ 8) (full : length o ≡ pairs-below n) (orders : (k : ℕ) → k < length o → 1 ≤ getD o k 0)
       {lt lw c : ℕ} {q t w : List ℕ} (B : Beside n o lt lw F c q t w) (G : Grows n c N q F) {x g : ℕ} (hx : x < c) (hg : g < n) {r : ℕ} (found : Found q o n x g r) where
@@ -42,16 +42,16 @@ module _ {n N : ℕ} {o : List ℕ} (F : List ℕ) (looped : Looped n N o (stepO
     pair : PairOf o g h
     pair = pair-of few full hg (found .below) (found .other)
 
-    around : (i : ℕ) → suc i < 2 * getD o (pair .place) 0 → Known n t (ring (stepOf F n) h g x i) (turn h g i)
+    around : (i : ℕ) → suc i < 2 * getD o (pair .place) 0 → StepKnown n t (ring (stepOf F n) h g x i) (turn h g i)
     around i hi =
-        let steps : (e g : ℕ) → g < n → Known n q e g → getD q (startOf n e + g) 0 ≡ suc (stepOf F n e g) = grown-step G in
+        let steps : (e g : ℕ) → g < n → StepKnown n q e g → getD q (startOf n e + g) 0 ≡ suc (stepOf F n e g) = grown-step G in
         let walk = walk-ring q steps (2 * orderFor o g h - 1) x h g (found .below) hg (found .whole) in
         B .known _ _ (turn-low (found .below) hg i) (walk .1 i (omega (arith, pair .order)))
 
     root : Rooted n c t (stepOf F n) (pair .place) (getD o (pair .place) 0) x g
     root = rooted few full looped (G .more) (B .closed .machine .told) (pair .place) (pair .below) (orders _ (pair .below)) g h (pair .letters) x hx around
 
-    pub loop-known : Known n t x g
+    pub loop-known : StepKnown n t x g
     loop-known =
         let y = root in
         y .tells
@@ -61,7 +61,7 @@ module _ {n N : ℕ} {o : List ℕ} (F : List ℕ) (looped : Looped n N o (stepO
     -- Where it leads is an element.
     pub loop-below : r < N
     loop-below =
-        let steps : (e g : ℕ) → g < n → Known n q e g → getD q (startOf n e + g) 0 ≡ suc (stepOf F n e g) = grown-step G in
+        let steps : (e g : ℕ) → g < n → StepKnown n q e g → getD q (startOf n e + g) 0 ≡ suc (stepOf F n e g) = grown-step G in
         let walk = walk-ring q steps (2 * orderFor o g h - 1) x h g (found .below) hg (found .whole) in
         let hu : x < N = omega (arith, G .more) in
         let low = ring-below looped (found .below) hg hu (2 * orderFor o g h - 1) in

@@ -11,21 +11,21 @@ use Rattle.egg.specs.Pairs.{pairCount}
 use Rattle.theory.specs.Presentation.{pairs-below, pair-place}
 use Rattle.theory.proofs.Pairs.{pairs-length, pair-inside}
 use Rattle.factor_relations_laws.proofs.Codes.{code-first, code-second}
-use Rattle.enumeration_loop_laws.specs.Rings.{first, second}
+use Rattle.enumeration_loop_laws.specs.Rings.{firstOfPair, secondOfPair}
 use Rattle.enumeration_quick_loops.specs.Loops.{orderFor}
 
 -- The pair of g and h stands at that place, and its order is there.
 pub record PairOf (o : List ℕ) (g h : ℕ) : Type 0 where
   pub place : ℕ
   pub below : place < length o
-  pub letters : ((h ≡ first place) × (g ≡ second place)) ⊎ ((h ≡ second place) × (g ≡ first place))
+  pub letters : ((h ≡ firstOfPair place) × (g ≡ secondOfPair place)) ⊎ ((h ≡ secondOfPair place) × (g ≡ firstOfPair place))
   pub order : orderFor o g h ≡ getD o place 0
 
 module _ {i j : ℕ} (hi : i < j) (hj : j < 8) where
-  first-is : first (pair-place i j) ≡ i
+  first-is : firstOfPair (pair-place i j) ≡ i
   first-is = omega (arith, code-first hi hj)
 
-  second-is : second (pair-place i j) ≡ j
+  second-is : secondOfPair (pair-place i j) ≡ j
   second-is = code-second hi hj
 
 module _ {n : ℕ} {o : List ℕ} (few : n ≤ 8) (full : length o ≡ pairs-below n) where

@@ -12,14 +12,14 @@ use Rattle.egg.specs.declared.Counted.the-variants as counted
 use Rattle.egg.specs.Table.{stepOf, parentOf, lastOf}
 use Rattle.build_reading.specs.Build.{setStep}
 use Rattle.enumeration_run.specs.Run.{visit, visits}
-use Rattle.enumeration_run_laws.specs.Invariant.{Known}
+use Rattle.enumeration_run_laws.specs.Invariant.{StepKnown}
 use Rattle.enumeration_run.specs.Limits.{Limits}
 use Rattle.enumeration_run_laws.proofs.Marking.{set-length}
 use Rattle.enumeration_run_laws.proofs.Running.{pairs-full}
 use Rattle.enumeration_loop_laws.specs.Rings.{Looped}
 use Rattle.enumeration_quick_loops.specs.Loops.{loopFrom}
 use Rattle.enumeration_quick_run.specs.Sweeps.{setBoth}
-use Rattle.enumeration_quick_laws.specs.Sweeping.{Fair, Grows}
+use Rattle.enumeration_quick_laws.specs.Sweeping.{TwoWay, Grows}
 use Rattle.enumeration_quick_laws.proofs.Alike.{set-rest, set-splits}
 use Rattle.enumeration_quick_laws.proofs.Beside.{Beside}
 use Rattle.enumeration_quick_laws.proofs.Finding.{Found, found}
@@ -32,14 +32,14 @@ pub record Came (n : ℕ) (o : List ℕ) (room lt lw : ℕ) (F : List ℕ) (x g 
   pub work : List ℕ
   pub is : visits n o room c (record { 0 = x }) (record { 0 = g }) t w ≡ visit (counted.Count c′) table work
   pub beside : Beside n o lt lw F c′ q′ table work
-  pub here : Known n q′ x g
+  pub here : StepKnown n q′ x g
 
 -- A known step is skipped.
-skips : (n : ℕ) (o : List ℕ) (room c x g : ℕ) (t w : List ℕ) → Known n t x g → visits n o room c (record { 0 = x }) (record { 0 = g }) t w ≡ visit (counted.Count c) t w
+skips : (n : ℕ) (o : List ℕ) (room c x g : ℕ) (t w : List ℕ) → StepKnown n t x g → visits n o room c (record { 0 = x }) (record { 0 = g }) t w ≡ visit (counted.Count c) t w
 unfolding visits
 skips n o room c x g t w d = simp (ne-eqb _ _ d)
 
-pub came-known : {n : ℕ} {o : List ℕ} (room : ℕ) {lt lw : ℕ} {F : List ℕ} {c : ℕ} {q t w : List ℕ} (x g : ℕ) → g < n → Beside n o lt lw F c q t w → Known n q x g
+pub came-known : {n : ℕ} {o : List ℕ} (room : ℕ) {lt lw : ℕ} {F : List ℕ} {c : ℕ} {q t w : List ℕ} (x g : ℕ) → g < n → Beside n o lt lw F c q t w → StepKnown n q x g
     → Came n o room lt lw F x g c t w c q
 came-known {n} {o} room {c = c} {t = t} {w = w} x g hg B d = record {
   table = t;
@@ -65,23 +65,23 @@ module _ {n N : ℕ} {o : List ℕ} (F : List ℕ) (looped : Looped n N o (stepO
   around : Found q o n x g r
   around = found q o n x g n 0 r (omega arith) loop
 
-  knows : Known n t x g
+  knows : StepKnown n t x g
   knows = loop-known F looped parents (L .few) (pairs-full L) (λ k hk. L .orders k hk .0) B G hx hg around
 
   below : r < N
   below = loop-below F looped parents (L .few) (pairs-full L) (λ k hk. L .orders k hk .0) B G hx hg around
 
-  pub came-loop : Fair n c lt (setBoth q n e γ to) → Grows n c N (setBoth q n e γ to) F → Came n o room lt lw F x g c t w c (setBoth q n e γ to)
-  came-loop fair grows =
+  pub came-loop : TwoWay n c lt (setBoth q n e γ to) → Grows n c N (setBoth q n e γ to) F → Came n o room lt lw F x g c t w c (setBoth q n e γ to)
+  came-loop two-way grows =
       let once = setStep q n e γ to in
-      let l = linked once F (L .limit) (L .table-room) (set-length q n e γ to ∙ B .fair .size) (omega (arith, grows .more)) hg (omega (arith, below)) fair grows in
-      let back : Known n t r g = rw (l .leads) at (B .closed .machine .told .both x g hg knows) in
+      let l = linked once F (L .limit) (L .table-room) (set-length q n e γ to ∙ B .two-way .size) (omega (arith, grows .more)) hg (omega (arith, below)) two-way grows in
+      let back : StepKnown n t r g = rw (l .leads) at (B .closed .machine .told .both x g hg knows) in
       record {
         table = t;
         work = w;
         is = skips n o room c x g t w knows;
         beside = record {
-          fair = fair;
+          two-way = two-way;
           closed = B .closed;
           known = λ y h hh k. ⊎-elim (λ p. rw (p .0, p .1) back)
               (λ k. ⊎-elim (λ p. rw (p .0, p .1) knows) (B .known y h hh) (set-splits n q e γ to hg y h hh k))

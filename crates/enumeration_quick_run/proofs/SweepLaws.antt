@@ -17,7 +17,7 @@ use Rattle.build_reading.specs.Build.{setStep, adds}
 use Rattle.enumeration_run.specs.declared.inner.Run.{Run}
 use Rattle.enumeration_run.specs.declared.inner.Ran.{Ran}
 use Rattle.enumeration_run.specs.declared.inner.Ran.the-variants as ran
-use Rattle.enumeration_run.specs.Run.{advanced, first}
+use Rattle.enumeration_run.specs.Run.{advanced, startOfRun}
 use Rattle.enumeration_quick_loops.specs.Loops.{loopFrom}
 use Rattle.enumeration_quick_run.specs.Sweeps.{Swept, swept, settles, sweeps, sweep, sweepFrom, swiftly}
 
@@ -83,7 +83,7 @@ module _ (n : ℕ) (o : List ℕ) (room lt : ℕ) {t₁ : List ℕ} (a : t₁ �
   unfolding swiftly
   swiftly-none h = simp (eq-eqb _ _ h) (rw a)
 
-  pub swiftly-some : (n ≡ 0 → ⊥) → {r : Ran} {t₂ : List ℕ} → sweep r t₂ ≡ sweepFrom 18446744073709551615 n o room first t₁
+  pub swiftly-some : (n ≡ 0 → ⊥) → {r : Ran} {t₂ : List ℕ} → sweep r t₂ ≡ sweepFrom 18446744073709551615 n o room startOfRun t₁
       → sweep r t₂ ≡ swiftly n o room lt
   unfolding swiftly
   swiftly-some h q = simp (ne-eqb _ _ h) (q ∙ rw a)

@@ -16,7 +16,7 @@ use Rattle.build_reading.specs.Build.{isNew, setStep, adds}
 use Rattle.enumeration_run.specs.declared.inner.Run.{Run}
 use Rattle.enumeration_run.specs.declared.inner.Ran.{Ran}
 use Rattle.enumeration_run.specs.declared.inner.Ran.the-variants as ran
-use Rattle.enumeration_run.specs.Run.{onAdds, advanced, first}
+use Rattle.enumeration_run.specs.Run.{onAdds, advanced, startOfRun}
 use Rattle.enumeration_quick_loops.specs.Loops.{loopFrom}
 
 -- What a visit leaves: the element count or a refusal, and the table.
@@ -78,4 +78,4 @@ sweepFrom (suc k) n o room at t =
 -- A whole run, in a stretch of lt numbers that is cleared. With no generators there is no place.
 unfoldable pub swiftly : (n : ℕ) (o : List ℕ) (room lt : ℕ) → Sweep
 swiftly n o room lt =
-    pick (eqb n 0) (sweep (ran.Done 1) (replicate lt 0)) (sweepFrom 18446744073709551615 n o room first (replicate lt 0))
+    pick (eqb n 0) (sweep (ran.Done 1) (replicate lt 0)) (sweepFrom 18446744073709551615 n o room startOfRun (replicate lt 0))

@@ -35,8 +35,8 @@ abbrev pub rowOf : (pair left right : ℕ) (from to : GroupElementId) → Relati
 rowOf pair left right from to = record { pair = pair; left = left; right = right; from = from; to = to }
 
 -- The row that is stored at `at`: these five numbers. The link to the copy that waits after it stands behind them.
-unfoldable pub readRow : List ℕ → ℕ → RelationTableRow
-readRow w at =
+unfoldable pub storedRow : List ℕ → ℕ → RelationTableRow
+storedRow w at =
     rowOf (getD w at 0) (getD w (at + 1) 0) (getD w (at + 2) 0) (record { 0 = getD w (at + 3) 0 })
     (record { 0 = getD w (at + 4) 0 })
 

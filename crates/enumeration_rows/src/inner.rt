@@ -10,7 +10,7 @@
 ghost use mathlib.Core.Path.{_≡_};
 ghost use Prim.Native.Nat.{_+_, _*_, _<_, _≤_};
 ghost use Rattle.egg.specs.Table.{Place};
-ghost use Rattle.enumeration_rows.specs.Rows.{placeAt, rowsAt, genOf, readRow, writeRow, linkAt, appended, listAt, waits, addedRow, addedRows, Orders};
+ghost use Rattle.enumeration_rows.specs.Rows.{placeAt, rowsAt, genOf, storedRow, writeRow, linkAt, appended, listAt, waits, addedRow, addedRows, Orders};
 use egg::GeneratorId;
 use egg::GroupElementId;
 
@@ -61,7 +61,7 @@ pub fn generator(pair: u32, index: u32) -> GeneratorId
 // Reads a row. One test serves for the whole row, on the way that every run of 000 takes.
 pub fn read_row(w: &[u32], at: usize) -> RelationTableRow
     requires { ⌜ at < 36028797018963968 ⌝ }
-    ensures { λ r. ⌜ r ≡ readRow (now (w .entry)) at ⌝ }
+    ensures { λ r. ⌜ r ≡ storedRow (now (w .entry)) at ⌝ }
 {
     if at + 5 < w.len() {
         let from = GroupElementId(w[at + 3]);

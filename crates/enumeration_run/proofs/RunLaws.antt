@@ -23,7 +23,7 @@ use Rattle.enumeration_run.specs.declared.inner.Ran.{Ran}
 use Rattle.enumeration_run.specs.declared.inner.Ran.the-variants as ran
 use Rattle.enumeration_wake.specs.Waking.{State, state, link, belowAt}
 use Rattle.enumeration_facts.specs.Facts.{settled}
-use Rattle.enumeration_run.specs.Run.{discovered, Visit, visit, visits, advanced, Outcome, outcome, runs, first, enumerated}
+use Rattle.enumeration_run.specs.Run.{discovered, Visit, visit, visits, advanced, RunResult, outcome, runs, startOfRun, enumerated}
 
 module _ (n : ℕ) (o : List ℕ) (e : GroupElementId) (g : GeneratorId) (new : GroupElementId) (t w : List ℕ) where
   pub discovered-by : {t₁ t₂ w₁ w₂ w₃ : List ℕ} {x : ℕ} → t₁ ≡ setStep t n new g e → w₁ ≡ addedRows w o n new
@@ -110,6 +110,6 @@ module _ (n : ℕ) (o : List ℕ) (room lt lw : ℕ) {t₁ w₁ w₂ : List ℕ}
   enumerated-none h = simp (eq-eqb _ _ h) (cc)
 
   pub enumerated-some : {r : Ran} {t₂ w₃ : List ℕ} → (n ≡ 0 → ⊥)
-      → outcome r t₂ w₃ ≡ runs 18446744073709551615 n o room first t₁ w₂ → outcome r t₂ w₃ ≡ enumerated n o room lt lw
+      → outcome r t₂ w₃ ≡ runs 18446744073709551615 n o room startOfRun t₁ w₂ → outcome r t₂ w₃ ≡ enumerated n o room lt lw
   unfolding enumerated
   enumerated-some h q = simp (ne-eqb _ _ h) (cc)

@@ -61,13 +61,13 @@ advanced n at count =
     (record { element = at .element + 1; generator = 0; count = count })
 
 -- What a run leaves: how it ended, and both stretches.
-pub record Outcome : Type 0 where
+pub record RunResult : Type 0 where
   pub answer : Ran
   pub table : List ℕ
   pub work : List ℕ
 
 -- The outcome with this answer, table and work.
-abbrev pub outcome : Ran → List ℕ → List ℕ → Outcome
+abbrev pub outcome : Ran → List ℕ → List ℕ → RunResult
 outcome a t w = record { answer = a; table = t; work = w }
 
 -- What comes after a visit, by its answer: f goes on from a count, h from a refusal; both stretches go with either.
@@ -81,7 +81,7 @@ after v f h = onVisit (v .answer) (v .table) (v .work) f h
 
 -- The places in order, at most k of them: the run is done when no element is left (000, `while element_id < g.element_count()`), paused where the
 -- allowance k is spent before that, refused at the first place that refuses.
-unfoldable pub runs : (k n : ℕ) (o : List ℕ) (room : ℕ) (at : Run) (t w : List ℕ) → Outcome
+unfoldable pub runs : (k n : ℕ) (o : List ℕ) (room : ℕ) (at : Run) (t w : List ℕ) → RunResult
 runs zero n o room at t w =
     pick (ltb (at .element) (at .count)) (outcome (ran.Paused at) t w) (outcome (ran.Done (at .count)) t w)
 runs (suc k) n o room at t w =
@@ -92,12 +92,12 @@ runs (suc k) n o room at t w =
     (outcome (ran.Done (at .count)) t w)
 
 -- Where a run starts: the identity is the one element, and its place of generator 0 is next.
-abbrev pub first : Run
-first = record { element = 0; generator = 0; count = 1 }
+abbrev pub startOfRun : Run
+startOfRun = record { element = 0; generator = 0; count = 1 }
 
 -- A whole run, in stretches of lt and lw numbers: both are cleared, the identity's rows are begun, and the places are visited in order. With no
 -- generators there is no place.
-unfoldable pub enumerated : (n : ℕ) (o : List ℕ) (room lt lw : ℕ) → Outcome
+unfoldable pub enumerated : (n : ℕ) (o : List ℕ) (room lt lw : ℕ) → RunResult
 enumerated n o room lt lw =
     pick (eqb n 0) (outcome (ran.Done 1) (replicate lt 0) (addedRows (replicate lw 0) o n (record { 0 = 0 })))
-    (runs 18446744073709551615 n o room first (replicate lt 0) (addedRows (replicate lw 0) o n (record { 0 = 0 })))
+    (runs 18446744073709551615 n o room startOfRun (replicate lt 0) (addedRows (replicate lw 0) o n (record { 0 = 0 })))

@@ -13,7 +13,7 @@ use Rattle.egg.specs.declared.Counted.{Counted}
 use Rattle.egg.specs.declared.Counted.the-variants as counted
 use Rattle.egg.specs.Table.{pick}
 use Rattle.enumeration_rows.specs.Rows.{addedRows}
-use Rattle.enumeration_run.specs.Run.{Visit, visits, advanced, Outcome, outcome, onVisit, after, runs, first, enumerated}
+use Rattle.enumeration_run.specs.Run.{Visit, visits, advanced, RunResult, outcome, onVisit, after, runs, startOfRun, enumerated}
 use Rattle.enumeration_run.specs.declared.inner.Run.{Run}
 use Rattle.enumeration_run.specs.declared.inner.Ran.{Ran}
 use Rattle.enumeration_run.specs.declared.inner.Ran.the-variants as ran
@@ -33,7 +33,7 @@ module _ {n : ℕ} {o : List ℕ} {room lt lw : ℕ} (L : Limits n o room lt lw)
       → Ended (runs k n o room at t w .answer)
   unfolding runs
   runs-end zero at {t} {w} hg I h = by (ltb (at .element) (at .count)) refl where
-    by : (b : Bool) → ltb (at .element) (at .count) ≡ b → Ended (pick {A = Outcome} b (outcome (ran.Paused at) t w) (outcome (ran.Done (at .count)) t w) .answer)
+    by : (b : Bool) → ltb (at .element) (at .count) ≡ b → Ended (pick {A = RunResult} b (outcome (ran.Paused at) t w) (outcome (ran.Done (at .count)) t w) .answer)
     by true q = let e : at .element < room = omega (arith, ltb-true (at .element) (at .count) q, I .fits) in omega (arith, inside e hg)
     by false q = tt
   runs-end (suc k) at {t} {w} hg I h = by (ltb (at .element) (at .count)) refl
@@ -43,7 +43,7 @@ module _ {n : ℕ} {o : List ℕ} {room lt lw : ℕ} (L : Limits n o room lt lw)
         Rest = (c : ℕ) (t₁ w₁ : List ℕ) → RunOk n (order-of o) room lt lw c t₁ w₁ → Ended (runs k n o room (advanced n at c) t₁ w₁ .answer)
 
         go : Rest → (a : Counted) (t₁ w₁ : List ℕ) → Counts L a t₁ w₁
-            → Ended (onVisit {A = Outcome} a t₁ w₁ (λ c t₂ w₂. runs k n o room (advanced n at c) t₂ w₂) (λ why t₂ w₂. outcome (ran.Refused why) t₂ w₂) .answer)
+            → Ended (onVisit {A = RunResult} a t₁ w₁ (λ c t₂ w₂. runs k n o room (advanced n at c) t₂ w₂) (λ why t₂ w₂. outcome (ran.Refused why) t₂ w₂) .answer)
         go rest (counted.Count c) t₁ w₁ K = rest c t₁ w₁ K
         go rest (counted.Refused r) t₁ w₁ K = tt
 
@@ -51,7 +51,7 @@ module _ {n : ℕ} {o : List ℕ} {room lt lw : ℕ} (L : Limits n o room lt lw)
         here = visits n o room (at .count) (record { 0 = at .element }) (record { 0 = at .generator }) t w
 
         by : (b : Bool) → ltb (at .element) (at .count) ≡ b → Rest
-            → Ended (pick {A = Outcome} b (after here (λ c t₁ w₁. runs k n o room (advanced n at c) t₁ w₁) (λ why t₁ w₁. outcome (ran.Refused why) t₁ w₁)) (outcome (ran.Done (at .count)) t w) .answer)
+            → Ended (pick {A = RunResult} b (after here (λ c t₁ w₁. runs k n o room (advanced n at c) t₁ w₁) (λ why t₁ w₁. outcome (ran.Refused why) t₁ w₁)) (outcome (ran.Done (at .count)) t w) .answer)
         by true q rest = go rest (here .answer) (here .table) (here .work)
             (visits-ok L I (record { 0 = at .element }) (record { 0 = at .generator }) (ltb-true _ _ q) hg)
         by false q rest = tt
@@ -60,11 +60,11 @@ module _ {n : ℕ} {o : List ℕ} {room lt lw : ℕ} (L : Limits n o room lt lw)
   unfolding enumerated
   enumerated-ends = by (eqb n 0) refl where
     by : (b : Bool) → eqb n 0 ≡ b
-        → Ended (pick {A = Outcome} b (outcome (ran.Done 1) (replicate lt 0) (addedRows (replicate lw 0) o n (record { 0 = 0 })))
-        (runs 18446744073709551615 n o room first (replicate lt 0) (addedRows (replicate lw 0) o n (record { 0 = 0 }))) .answer)
+        → Ended (pick {A = RunResult} b (outcome (ran.Done 1) (replicate lt 0) (addedRows (replicate lw 0) o n (record { 0 = 0 })))
+        (runs 18446744073709551615 n o room startOfRun (replicate lt 0) (addedRows (replicate lw 0) o n (record { 0 = 0 }))) .answer)
     by true q = tt
     by false q = let d : n ≡ 0 → ⊥ = eqb-false _ _ q in
-        runs-end 18446744073709551615 first (omega arith) (first-ok L) (omega (arith, mul-le-mul (L .limit) (L .few)))
+        runs-end 18446744073709551615 startOfRun (omega arith) (first-ok L) (omega (arith, mul-le-mul (L .limit) (L .few)))
 
   pub never-paused : {at : Run} → enumerated n o room lt lw .answer ≡ ran.Paused at → ⊥
   never-paused q = subst Ended q enumerated-ends

@@ -25,15 +25,15 @@ use Rattle.egg.specs.Answers.{numbered}
 use Rattle.enumeration_rows.specs.Rows.{placeAt, addedRows}
 use Rattle.enumeration_wake.specs.Waking.{State, state, link, belowAt}
 use Rattle.enumeration_facts.specs.Facts.{settleFrom}
-use Rattle.enumeration_run.specs.Run.{discovered, Visit, visit, onAdds, visits, advanced, Outcome, outcome, onVisit, after, runs, first, enumerated}
+use Rattle.enumeration_run.specs.Run.{discovered, Visit, visit, onAdds, visits, advanced, RunResult, outcome, onVisit, after, runs, startOfRun, enumerated}
 use Rattle.enumeration_run.specs.declared.inner.Run.{Run}
 use Rattle.enumeration_run.specs.declared.inner.Ran.{Ran}
 use Rattle.enumeration_run.specs.declared.inner.Ran.the-variants as ran
 use Rattle.enumeration_run.specs.Limits.{Limits}
-use Rattle.enumeration_run_laws.specs.Invariant.{Known}
+use Rattle.enumeration_run_laws.specs.Invariant.{StepKnown}
 use Rattle.enumeration_run_laws.proofs.Visiting.{next}
 use Rattle.enumeration_run_laws.proofs.Knowing.{set-more, set-known}
-use Rattle.enumeration_run_laws.proofs.Growing.{written, word-length, extended-old, extended-new, grown}
+use Rattle.enumeration_run_laws.proofs.Growing.{written, word-length, extended-old, extended-new, grownWords}
 use Rattle.enumeration_run_laws.proofs.Settling.{settle-ok}
 use Rattle.enumeration_run_laws.proofs.Running.{zeros, new-work, new-state, first-ok}
 use Rattle.egg.proofs.Cells.{inside}
@@ -73,8 +73,8 @@ module _ {n : ℕ} {o : List ℕ} {room lt lw : ℕ} (L : Limits n o room lt lw)
     word = G .run .word
 
     -- What was visited, with the place itself.
-    and-here : (t′ : List ℕ) → ((y h : ℕ) → h < n → Known n t y h → Known n t′ y h) → Known n t′ x g
-        → (y h : ℕ) → h < n → Ahead y h x (g + 1) → Known n t′ y h
+    and-here : (t′ : List ℕ) → ((y h : ℕ) → h < n → StepKnown n t y h → StepKnown n t′ y h) → StepKnown n t′ x g
+        → (y h : ℕ) → h < n → Ahead y h x (g + 1) → StepKnown n t′ y h
     and-here t′ kept here y h hh a =
         let i : g + 1 ≡ suc g = omega arith in
         let b : Ahead y h x (suc g) = rw i at a in
@@ -125,7 +125,7 @@ module _ {n : ℕ} {o : List ℕ} {room lt lw : ℕ} (L : Limits n o room lt lw)
           since-twice (omega (arith, L .limit)) rows-fit (written t n c e γ len) (written t n c e γ len) e γ made
           (word-length t n c e γ len ∙ G .run .table-length) (omega arith) hg (omega arith) since-written
 
-      new-known : Known n stepped x g
+      new-known : StepKnown n stepped x g
       new-known =
           set-more n (setStep (written t n c e γ len) n e γ made) made γ e x g hg
           (set-known n (written t n c e γ len) e γ made place-fits (omega (arith, L .limit)))
@@ -140,7 +140,7 @@ module _ {n : ℕ} {o : List ℕ} {room lt lw : ℕ} (L : Limits n o room lt lw)
           (λ b. let d : y ≡ c → ⊥ = omega arith in rw (word-old n t c e γ len y d) (G .short y b))
           (below-suc (omega arith))
 
-      written-letters : len ≡ lengthOf t n x + 1 → len < 4294967296 → (y : ℕ) → y < c + 1 → lengthOf (written t n c e γ len) n y ≡ length (grown word c e γ y)
+      written-letters : len ≡ lengthOf t n x + 1 → len < 4294967296 → (y : ℕ) → y < c + 1 → lengthOf (written t n c e γ len) n y ≡ length (grownWords word c e γ y)
       written-letters is small y hy = ⊎-elim
           (λ q. rw q (word-new n t c e γ len (rw (G .run .table-length) row-fits) small ∙ is ∙ new-letters ∙ ap length (sym (extended-new word c (word x ++ g ∷ [])))))
           (λ b. let d : y ≡ c → ⊥ = omega arith in word-old n t c e γ len y d ∙ G .letters y b ∙ ap length (sym (extended-old word c (word x ++ g ∷ []) y b)))
@@ -157,7 +157,7 @@ module _ {n : ℕ} {o : List ℕ} {room lt lw : ℕ} (L : Limits n o room lt lw)
           let agree = extended-old word c (word x ++ g ∷ []) in
           record {
             run = record {
-              word = grown word c e γ;
+              word = grownWords word c e γ;
               table = s .table;
               made = s .made;
               work = record { begun = new-work L (G .run) e γ hx hg h .begun; right = s .work };
@@ -243,7 +243,7 @@ module _ {n : ℕ} {o : List ℕ} {room lt lw : ℕ} (L : Limits n o room lt lw)
   Ended (ran.Paused at) t w = Unit {1}
   Ended (ran.Refused r) t w = Broken n o room lt lw t w r
 
-  abbrev pub EndedBy : Outcome → Type 1
+  abbrev pub EndedBy : RunResult → Type 1
   EndedBy x = Ended (x .answer) (x .table) (x .work)
 
   pub runs-end : (k : ℕ) (at : Run) {t w : List ℕ} → at .generator < n → Going n o room lt lw (at .element) (at .generator) (at .count) t w → EndedBy (runs k n o room at t w)
@@ -293,7 +293,7 @@ module _ {n : ℕ} {o : List ℕ} {room lt lw : ℕ} (L : Limits n o room lt lw)
   enumerated-end = by (eqb n 0) refl where
     by : (b : Bool) → eqb n 0 ≡ b
         → EndedBy (pick b (outcome (ran.Done 1) (replicate lt 0) (addedRows (replicate lw 0) o n (record { 0 = 0 })))
-        (runs 18446744073709551615 n o room first (replicate lt 0) (addedRows (replicate lw 0) o n (record { 0 = 0 }))))
+        (runs 18446744073709551615 n o room startOfRun (replicate lt 0) (addedRows (replicate lw 0) o n (record { 0 = 0 }))))
     by true q =
         let z : n ≡ 0 = eqb-true n 0 q in
         record {
@@ -306,7 +306,7 @@ module _ {n : ℕ} {o : List ℕ} {room lt lw : ℕ} (L : Limits n o room lt lw)
           letters = first-letters;
           short = first-short;
         }
-    by false q = let d : n ≡ 0 → ⊥ = eqb-false _ _ q in runs-end 18446744073709551615 first (omega arith) first-going
+    by false q = let d : n ≡ 0 → ⊥ = eqb-false _ _ q in runs-end 18446744073709551615 startOfRun (omega arith) first-going
 
   -- A run that is done has visited every place of every element; one that is refused has met 5 or 6 and keeps both lengths.
   pub done-finished : {N : ℕ} → enumerated n o room lt lw .answer ≡ ran.Done N → Finished n o room lt lw N (enumerated n o room lt lw .table) (enumerated n o room lt lw .work)

@@ -14,7 +14,7 @@ use Rattle.egg.specs.declared.GeneratorId.{GeneratorId}
 use Rattle.egg.specs.Table.{pick, putAt, startOf, parentOf, lastOf}
 use Rattle.build_reading.specs.Build.{setStep, setWord}
 use Rattle.enumeration_rows.specs.declared.inner.RelationTableRow.{RelationTableRow}
-use Rattle.enumeration_run_laws.specs.Invariant.{Step, Marked, Worded, TableOk, RowOk, WorkOk}
+use Rattle.enumeration_run_laws.specs.Invariant.{Step, Marked, RecordsWords, TableOk, RowOk, WorkOk}
 use Rattle.egg.proofs.Cells.{inside, put-same, put-other, put-length}
 use Rattle.enumeration_run_laws.proofs.Cells.{put-keeps}
 use Rattle.enumeration_run_laws.proofs.Rowing.{step-back}
@@ -64,8 +64,8 @@ module _ (word : ℕ → List ℕ) (count : ℕ) (last : List ℕ) where
   extended-new = simp (eq-eqb count count refl)
 
 -- The new element's word is that of e with the letter g.
-abbrev pub grown : (ℕ → List ℕ) → ℕ → GroupElementId → GeneratorId → ℕ → List ℕ
-grown word count e g = extended word count (word (e .0) ++ g .0 ∷ [])
+abbrev pub grownWords : (ℕ → List ℕ) → ℕ → GroupElementId → GeneratorId → ℕ → List ℕ
+grownWords word count e g = extended word count (word (e .0) ++ g .0 ∷ [])
 
 -- What is recorded in the row of a new element, and what is left.
 module _ (t : List ℕ) (n count : ℕ) (e : GroupElementId) (g : GeneratorId) (len : ℕ) where
@@ -113,14 +113,14 @@ module _ (t : List ℕ) (n count : ℕ) (e : GroupElementId) (g : GeneratorId) (
 
 module _ {n : ℕ} {m : ℕ → ℕ → ℕ} {word : ℕ → List ℕ} {count : ℕ} {t : List ℕ} (T : TableOk n m word count t) (some : 1 ≤ count) (small : count ≤ 65535)
     (enough : startOf n count + (2 * n + 4) ≤ length t) (e : GroupElementId) (g : GeneratorId) (he : e .0 < count) (hg : g .0 < n) (few : n ≤ 8) where
-  agrees : (x : ℕ) → x < count → grown word count e g x ≡ word x
+  agrees : (x : ℕ) → x < count → grownWords word count e g x ≡ word x
   agrees = extended-old word count (word (e .0) ++ g .0 ∷ [])
 
-  new-word : grown word count e g count ≡ grown word count e g (e .0) ++ g .0 ∷ []
+  new-word : grownWords word count e g count ≡ grownWords word count e g (e .0) ++ g .0 ∷ []
   new-word = extended-new word count (word (e .0) ++ g .0 ∷ []) ∙ rw (agrees (e .0) he)
 
   -- The cells of a row that are no step.
-  word-mark : (k v : ℕ) → 2 * n ≤ k → k < 2 * n + 4 → Marked n m (grown word count e g) (count + 1) (startOf n count + k) v
+  word-mark : (k v : ℕ) → 2 * n ≤ k → k < 2 * n + 4 → Marked n m (grownWords word count e g) (count + 1) (startOf n count + k) v
   word-mark k v low high = record {
     inside = λ e′ k′ h q z. let a = row-is n count e′ k k′ high h q in omega arith;
     succ = λ e′ g′ r′ h q x. let a = cell-is n count e′ k g′ high (omega arith) q in absurd (omega arith);
@@ -131,7 +131,7 @@ module _ {n : ℕ} {m : ℕ → ℕ → ℕ} {word : ℕ → List ℕ} {count : 
     split : {x : ℕ} → x < count + 1 → (x ≡ count) ⊎ (x < count)
     split h = below-suc (omega arith)
 
-    written-words : Worded n (grown word count e g) (count + 1) (written t n count e g len)
+    written-words : RecordsWords n (grownWords word count e g) (count + 1) (written t n count e g len)
     written-words =
         let p = parent-new t n count e g len enough (omega arith) in
         let l = last-new t n count e g len enough (omega arith) in
@@ -148,21 +148,21 @@ module _ {n : ℕ} {m : ℕ → ℕ → ℕ} {word : ℕ → List ℕ} {count : 
           );
         }
 
-    written-ok : TableOk n m (grown word count e g) (count + 1) (written t n count e g len)
+    written-ok : TableOk n m (grownWords word count e g) (count + 1) (written t n count e g len)
     unfolding setWord
     written-ok =
         let t1 = putAt t (startOf n count + 2 * n) (e .0) in
         let t2 = putAt t1 (startOf n count + 2 * n + 1) (g .0) in
         let q1 : startOf n count + (2 * n + 1) ≡ startOf n count + 2 * n + 1 = omega arith in
         let q2 : startOf n count + (2 * n + 2) ≡ startOf n count + 2 * n + 2 = omega arith in
-        let m1 = put-keeps t (startOf n count + 2 * n) (e .0) (Marked n m (grown word count e g) (count + 1)) (word-mark (2 * n) (e .0) (omega arith) (omega arith)) (λ i. marked-more (omega arith) agrees (T .marks i)) in
-        let m2 = put-keeps t1 (startOf n count + 2 * n + 1) (g .0) (Marked n m (grown word count e g) (count + 1)) (rw q1 at (word-mark (2 * n + 1) (g .0) (omega arith) (omega arith))) m1 in
-        let m3 = put-keeps t2 (startOf n count + 2 * n + 2) len (Marked n m (grown word count e g) (count + 1)) (rw q2 at (word-mark (2 * n + 2) len (omega arith) (omega arith))) m2 in
+        let m1 = put-keeps t (startOf n count + 2 * n) (e .0) (Marked n m (grownWords word count e g) (count + 1)) (word-mark (2 * n) (e .0) (omega arith) (omega arith)) (λ i. marked-more (omega arith) agrees (T .marks i)) in
+        let m2 = put-keeps t1 (startOf n count + 2 * n + 1) (g .0) (Marked n m (grownWords word count e g) (count + 1)) (rw q1 at (word-mark (2 * n + 1) (g .0) (omega arith) (omega arith))) m1 in
+        let m3 = put-keeps t2 (startOf n count + 2 * n + 2) len (Marked n m (grownWords word count e g) (count + 1)) (rw q2 at (word-mark (2 * n + 2) len (omega arith) (omega arith))) m2 in
         record { marks = m3; words = written-words }
 
-    new-step : Step n m (grown word count e g) (count + 1) (e .0) (g .0) count
+    new-step : Step n m (grownWords word count e g) (count + 1) (e .0) (g .0) count
     new-step = record { from-below = omega arith; to-below = omega arith; leads = rw new-word same }
 
     -- The table with the new element, and with its step back.
-    pub grown-ok : TableOk n m (grown word count e g) (count + 1) (setStep (setStep (written t n count e g len) n e g (record { 0 = count })) n (record { 0 = count }) g e)
+    pub grown-ok : TableOk n m (grownWords word count e g) (count + 1) (setStep (setStep (written t n count e g len) n e g (record { 0 = count })) n (record { 0 = count }) g e)
     grown-ok = set-ok (set-ok written-ok e g (record { 0 = count }) hg new-step) (record { 0 = count }) g e hg (step-back hg new-step)

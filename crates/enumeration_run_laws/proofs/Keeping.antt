@@ -14,7 +14,7 @@ use Rattle.build_reading.specs.Build.{setStep}
 use Rattle.enumeration_rows.specs.declared.inner.RelationTableRow.{RelationTableRow}
 use Rattle.enumeration_rows.specs.declared.inner.SideOfGap.{SideOfGap}
 use Rattle.enumeration_rows.specs.declared.inner.SideOfGap.the-variants.{Left, Right}
-use Rattle.enumeration_rows.specs.Rows.{workWidth, genOf, readRow, waits}
+use Rattle.enumeration_rows.specs.Rows.{workWidth, genOf, storedRow, waits}
 use Rattle.enumeration_fill.specs.Fill.{filled}
 use Rattle.enumeration_wake.specs.Waking.{State, state, belowAt, learns, gives, woken, wakes, wakesAll}
 use Rattle.enumeration_facts.specs.Facts.{updated, settleFrom}
@@ -38,10 +38,10 @@ module _ {n : ℕ} {m : ℕ → ℕ → ℕ} {word : ℕ → List ℕ} {count lt
   unfolding wakes woken
   wakes-keeps {s} I at side in-S p = by (eqb (r .left) (r .right)) where
     r : RelationTableRow
-    r = filled (s .table) n (readRow (s .work) at)
+    r = filled (s .table) n (storedRow (s .work) at)
 
     by : (b : Bool) → P (pick {A = State} b (gives n r s) (state (s .table) (waits (s .work) n at r side) (s .top)) .table)
-    by true = gives-keeps I (filled-ok (I .table) (readRow (s .work) at) (I .work .rows at in-S)) p
+    by true = gives-keeps I (filled-ok (I .table) (storedRow (s .work) at) (I .work .rows at in-S)) p
     by false = p
 
   wakes-all-keeps : (k : ℕ) {s : State} → StateOk n m word count lt lw S s → (at : ℕ) (side : SideOfGap) → Link S at → P (s .table) → P (wakesAll k n at side s .table)

@@ -14,7 +14,7 @@ use Rattle.build_reading.specs.Build.{isNew, setStep}
 use Rattle.enumeration_rows.specs.declared.inner.RelationTableRow.{RelationTableRow}
 use Rattle.enumeration_rows.specs.declared.inner.SideOfGap.{SideOfGap}
 use Rattle.enumeration_rows.specs.declared.inner.SideOfGap.the-variants.{Left, Right}
-use Rattle.enumeration_rows.specs.Rows.{workWidth, placeAt, genOf, readRow, waits}
+use Rattle.enumeration_rows.specs.Rows.{workWidth, placeAt, genOf, storedRow, waits}
 use Rattle.enumeration_fill.specs.Fill.{filled}
 use Rattle.enumeration_wake.specs.Waking.{State, state, link, belowAt, learns, gives, woken, wakes, wakesAll}
 use Rattle.enumeration_facts.specs.Facts.{emptied, updated, settleFrom}
@@ -69,10 +69,10 @@ module _ {n : ℕ} {m : ℕ → ℕ → ℕ} {word : ℕ → List ℕ} {count lt
   unfolding wakes woken
   wakes-longer {s} I at side in-S = simp (read-longer, filled-longer) (by (eqb (r .left) (r .right)) refl) where
     r : RelationTableRow
-    r = filled (s .table) n (readRow (s .work) at)
+    r = filled (s .table) n (storedRow (s .work) at)
 
     ok : RowOk n m word count r
-    ok = filled-ok (I .table) (readRow (s .work) at) (I .work .rows at in-S)
+    ok = filled-ok (I .table) (storedRow (s .work) at) (I .work .rows at in-S)
 
     by : (c : Bool) → eqb (r .left) (r .right) ≡ c
         → pick c (gives n r (longerState a b s)) (state (longer a (s .table)) (waits (longer b (s .work)) n at r side) (s .top))

@@ -8,7 +8,7 @@ use lib.ListN.{getD, length}
 use Rattle.enumeration_rows.specs.declared.inner.RelationTableRow.{RelationTableRow}
 use Rattle.enumeration_rows.specs.declared.inner.SideOfGap.{SideOfGap}
 use Rattle.enumeration_rows.specs.declared.inner.SideOfGap.the-variants.{Left, Right}
-use Rattle.enumeration_rows.specs.Rows.{workWidth, placeAt, readRow, writeRow, linkAt, appended, listAt, waits}
+use Rattle.enumeration_rows.specs.Rows.{workWidth, placeAt, storedRow, writeRow, linkAt, appended, listAt, waits}
 use Rattle.enumeration_fill.specs.Fill.{backFrom, forwardFrom, filled}
 use Rattle.enumeration_run_laws.specs.Invariant.{RowOk, Copy, Link, WorkOk}
 use Rattle.egg.proofs.Cells.{inside}
@@ -18,8 +18,8 @@ use Rattle.enumeration_run_laws.proofs.Waiting.{Threads, list-of}
 use Rattle.enumeration_run_laws.specs.Longer.{longer, Long}
 use Rattle.enumeration_run_laws.proofs.LongerStores.{longer-get, long-get, long-put, long-zero}
 
-pub read-longer : (b : ℕ) (w : List ℕ) (at : ℕ) → readRow (longer b w) at ≡ readRow w at
-unfolding readRow
+pub read-longer : (b : ℕ) (w : List ℕ) (at : ℕ) → storedRow (longer b w) at ≡ storedRow w at
+unfolding storedRow
 read-longer b w at = simp longer-get
 
 module _ (a : ℕ) (t : List ℕ) (n : ℕ) where

@@ -19,7 +19,7 @@ use Rattle.build_reading.specs.Build.{isNew, setStep, setWord, Adds, adds}
 use Rattle.egg.specs.Answers.{numbered}
 use Rattle.enumeration_rows.specs.Rows.{workWidth, placeAt, addedRows}
 use Rattle.enumeration_wake.specs.Waking.{State, state, link, belowAt}
-use Rattle.enumeration_run.specs.Run.{discovered, Visit, visit, onAdds, visits, advanced, Outcome, outcome, after, runs}
+use Rattle.enumeration_run.specs.Run.{discovered, Visit, visit, onAdds, visits, advanced, RunResult, outcome, after, runs}
 use Rattle.enumeration_run.specs.declared.inner.Run.{Run}
 use Rattle.enumeration_run.specs.declared.inner.Ran.the-variants as ran
 use Rattle.enumeration_run.specs.Limits.{Limits}
@@ -110,14 +110,14 @@ module _ {n : ℕ} {o : List ℕ} {room lt lw : ℕ} (L : Limits n o room lt lw)
       by false d = refl
 
   -- What comes after a visit.
-  abbrev then : ℕ → ℕ → Run → Visit → Outcome
+  abbrev then : ℕ → ℕ → Run → Visit → RunResult
   then k room₀ at v = after v (λ c t₁ w₁. runs k n o room₀ (advanced n at c) t₁ w₁) (λ why t₁ w₁. outcome (ran.Refused why) t₁ w₁)
 
   pub runs-longer : (k : ℕ) (at : Run) (t w : List ℕ) → at .generator < n → RunOk n (order-of o) room lt lw (at .count) t w → IsDone (runs k n o room at t w .answer)
       → runs k n o room′ at (longer a t) (longer b w) ≡ longerOutcome a b (runs k n o room at t w)
   unfolding runs
   runs-longer zero at t w hg I d = by (ltb (at .element) (at .count)) where
-    by : (c : Bool) → pick {A = Outcome} c (outcome (ran.Paused at) (longer a t) (longer b w)) (outcome (ran.Done (at .count)) (longer a t) (longer b w))
+    by : (c : Bool) → pick {A = RunResult} c (outcome (ran.Paused at) (longer a t) (longer b w)) (outcome (ran.Done (at .count)) (longer a t) (longer b w))
         ≡ longerOutcome a b (pick c (outcome (ran.Paused at) t w) (outcome (ran.Done (at .count)) t w))
     by true = refl
     by false = refl
@@ -136,7 +136,7 @@ module _ {n : ℕ} {o : List ℕ} {room lt lw : ℕ} (L : Limits n o room lt lw)
       here : ℕ → List ℕ → List ℕ → Visit
       here room₀ t₀ w₀ = visits n o room₀ (at .count) (record { 0 = at .element }) (record { 0 = at .generator }) t₀ w₀
 
-      by : (c : Bool) → ltb (at .element) (at .count) ≡ c → IsDone (pick {A = Outcome} c (then k room at (here room t w)) (outcome (ran.Done (at .count)) t w) .answer) → Rest
+      by : (c : Bool) → ltb (at .element) (at .count) ≡ c → IsDone (pick {A = RunResult} c (then k room at (here room t w)) (outcome (ran.Done (at .count)) t w) .answer) → Rest
           → pick c (then k room′ at (here room′ (longer a t) (longer b w))) (outcome (ran.Done (at .count)) (longer a t) (longer b w))
           ≡ longerOutcome a b (pick c (then k room at (here room t w)) (outcome (ran.Done (at .count)) t w))
       by true q d rest =

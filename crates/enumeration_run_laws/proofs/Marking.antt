@@ -8,7 +8,7 @@ use Rattle.egg.specs.declared.GroupElementId.{GroupElementId}
 use Rattle.egg.specs.declared.GeneratorId.{GeneratorId}
 use Rattle.egg.specs.Table.{putAt, startOf, succAt, predAt, parentOf, lastOf}
 use Rattle.build_reading.specs.Build.{setStep}
-use Rattle.enumeration_run_laws.specs.Invariant.{Step, Marked, Worded, TableOk}
+use Rattle.enumeration_run_laws.specs.Invariant.{Step, Marked, RecordsWords, TableOk}
 use Rattle.egg.proofs.Cells.{same-row, same-cell, put-other, put-length}
 use Rattle.enumeration_run_laws.proofs.Cells.{put-keeps}
 
@@ -24,7 +24,7 @@ module _ (n e e′ k k′ : ℕ) (hk : k < 2 * n + 4) (hk′ : k′ < 2 * n + 4)
 
 -- The words that another table records, where it has the same parents and last generators.
 pub words-same : {n : ℕ} {word : ℕ → List ℕ} {count : ℕ} {t : List ℕ} (t′ : List ℕ) → ((e : ℕ) → e < count → parentOf t′ n e ≡ parentOf t n e)
-    → ((e : ℕ) → e < count → lastOf t′ n e ≡ lastOf t n e) → Worded n word count t → Worded n word count t′
+    → ((e : ℕ) → e < count → lastOf t′ n e ≡ lastOf t n e) → RecordsWords n word count t → RecordsWords n word count t′
 words-same t′ p l W = record {
   start = W .start;
   earlier = λ e h k. rw (p e k) (W .earlier e h k);

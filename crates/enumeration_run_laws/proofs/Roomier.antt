@@ -10,7 +10,7 @@ use lib.ListN.{length, replicate, length-replicate}
 use lib.Dec.{eqb}
 use Rattle.egg.specs.Table.{pick}
 use Rattle.enumeration_rows.specs.Rows.{workWidth, addedRows}
-use Rattle.enumeration_run.specs.Run.{Outcome, outcome, runs, first, enumerated}
+use Rattle.enumeration_run.specs.Run.{RunResult, outcome, runs, startOfRun, enumerated}
 use Rattle.enumeration_run.specs.declared.inner.Ran.the-variants as ran
 use Rattle.enumeration_run.specs.Limits.{Limits}
 use Rattle.enumeration_run_laws.specs.Paused.{IsDone}
@@ -35,11 +35,11 @@ module _ {n : ℕ} {o : List ℕ} {room lt lw : ℕ} (L : Limits n o room lt lw)
   pub enumerated-longer : (a b : ℕ) {room′ : ℕ} → room ≤ room′ → IsDone (enumerated n o room lt lw .answer) → enumerated n o room′ (lt + a) (lw + b) ≡ longerOutcome a b (enumerated n o room lt lw)
   unfolding enumerated
   enumerated-longer a b {room′} more d = rw (← longer-zeros a lt, begun-longer b) (by (eqb n 0) refl d) where
-    by : (c : Bool) → eqb n 0 ≡ c → IsDone (pick {A = Outcome} c (outcome (ran.Done 1) (replicate lt 0) (begun lw)) (runs 18446744073709551615 n o room first (replicate lt 0) (begun lw)) .answer)
-        → pick c (outcome (ran.Done 1) (longer a (replicate lt 0)) (longer b (begun lw))) (runs 18446744073709551615 n o room′ first (longer a (replicate lt 0)) (longer b (begun lw)))
-        ≡ longerOutcome a b (pick c (outcome (ran.Done 1) (replicate lt 0) (begun lw)) (runs 18446744073709551615 n o room first (replicate lt 0) (begun lw)))
+    by : (c : Bool) → eqb n 0 ≡ c → IsDone (pick {A = RunResult} c (outcome (ran.Done 1) (replicate lt 0) (begun lw)) (runs 18446744073709551615 n o room startOfRun (replicate lt 0) (begun lw)) .answer)
+        → pick c (outcome (ran.Done 1) (longer a (replicate lt 0)) (longer b (begun lw))) (runs 18446744073709551615 n o room′ startOfRun (longer a (replicate lt 0)) (longer b (begun lw)))
+        ≡ longerOutcome a b (pick c (outcome (ran.Done 1) (replicate lt 0) (begun lw)) (runs 18446744073709551615 n o room startOfRun (replicate lt 0) (begun lw)))
     by true q d = refl
-    by false q d = let some : n ≡ 0 → ⊥ = eqb-false _ _ q in runs-longer L a b room′ more 18446744073709551615 first (replicate lt 0) (begun lw) (omega arith) (first-ok L) d
+    by false q d = let some : n ≡ 0 → ⊥ = eqb-false _ _ q in runs-longer L a b room′ more 18446744073709551615 startOfRun (replicate lt 0) (begun lw) (omega arith) (first-ok L) d
 
   pub more-room : {N : ℕ} → enumerated n o room lt lw .answer ≡ ran.Done N → {room′ lt′ lw′ : ℕ} → room ≤ room′ → lt ≤ lt′ → lw ≤ lw′ → SameRun n o room lt lw room′ lt′ lw′ N
   unfolding longer
@@ -49,7 +49,7 @@ module _ {n : ℕ} {o : List ℕ} {room lt lw : ℕ} (L : Limits n o room lt lw)
       let whole : enumerated n o room′ lt′ lw′ ≡ longerOutcome (lt′ - lt) (lw′ - lw) (enumerated n o room lt lw) =
       rw (p, q) at (enumerated-longer (lt′ - lt) (lw′ - lw) {room′ = room′} hr (rw done tt)) in
       record {
-        answer = ap (λ (x : Outcome). x .answer) whole ∙ done;
-        table = ap (λ (x : Outcome). x .table) whole;
-        work = ap (λ (x : Outcome). x .work) whole;
+        answer = ap (λ (x : RunResult). x .answer) whole ∙ done;
+        table = ap (λ (x : RunResult). x .table) whole;
+        work = ap (λ (x : RunResult). x .work) whole;
       }

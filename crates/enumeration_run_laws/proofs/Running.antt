@@ -21,12 +21,12 @@ use Rattle.build_reading.specs.Build.{isNew, setStep, adds}
 use Rattle.egg.specs.Answers.{numbered}
 use Rattle.enumeration_rows.specs.Rows.{workWidth, placeAt, addedRows}
 use Rattle.enumeration_wake.specs.Waking.{state, link, belowAt}
-use Rattle.enumeration_run.specs.Run.{discovered, Visit, visit, onAdds, visits, advanced, Outcome, outcome, onVisit, after, runs, first, enumerated}
+use Rattle.enumeration_run.specs.Run.{discovered, Visit, visit, onAdds, visits, advanced, RunResult, outcome, onVisit, after, runs, startOfRun, enumerated}
 use Rattle.enumeration_run.specs.declared.inner.Run.{Run}
 use Rattle.enumeration_run.specs.declared.inner.Ran.{Ran}
 use Rattle.enumeration_run.specs.declared.inner.Ran.the-variants as ran
 use Rattle.enumeration_run.specs.Limits.{Limits}
-use Rattle.enumeration_run_laws.specs.Invariant.{TableOk, Working, Link, FactLink, Holds, StateOk, RunOk}
+use Rattle.enumeration_run_laws.specs.Invariant.{TableOk, Working, Link, FactLink, MayHold, StateOk, RunOk}
 use Rattle.egg.proofs.Cells.{inside, put-length}
 use Rattle.enumeration_run_laws.proofs.Visiting.{next}
 use Rattle.enumeration_run_laws.proofs.Storing.{work-put}
@@ -34,7 +34,7 @@ use Rattle.enumeration_run_laws.proofs.Waiting.{place-spot, added-rows-
 use Rattle.enumeration_run_laws.proofs.Marking.{set-length}
 use Rattle.enumeration_run_laws.proofs.Knowing.{grown-made}
 use Rattle.enumeration_run_laws.proofs.Settling.{link-ok, settle-ok}
-use Rattle.enumeration_run_laws.proofs.Growing.{work-more, written, word-length, extended-old, grown, grown-ok}
+use Rattle.enumeration_run_laws.proofs.Growing.{work-more, written, word-length, extended-old, grownWords, grown-ok}
 
 pub zeros : (k i : ℕ) → getD {A = ℕ} (replicate k 0) i 0 ≡ 0
 zeros k i = by (decLt i k) where
@@ -43,7 +43,7 @@ zeros k i = by (decLt i k) where
   by (no h) = List·getD-eq-default (replicate k 0) 0 (rw (length-replicate {A = ℕ} k 0) (omega arith))
 
 -- Any cell may hold 0.
-holds-zero : (n : ℕ) (S : ℕ → Type 0) (k : ℕ) → Holds n S k 0
+holds-zero : (n : ℕ) (S : ℕ → Type 0) (k : ℕ) → MayHold n S k 0
 holds-zero n S zero = Link.none refl
 holds-zero n S (suc zero) = Link.none refl
 holds-zero n S (suc (suc zero)) = tt
@@ -71,13 +71,13 @@ module _ {n : ℕ} {o : List ℕ} {room lt lw : ℕ} (L : Limits n o room lt lw)
   abbrev pub VisitOk : Visit → Type 1
   VisitOk v = Counts (v .answer) (v .table) (v .work)
 
-  abbrev pub Ends : Ran → List ℕ → List ℕ → Type 1
-  Ends (ran.Done c) t w = RunOk n (order-of o) room lt lw c t w
-  Ends (ran.Paused at) t w = RunOk n (order-of o) room lt lw (at .count) t w
-  Ends (ran.Refused r) t w = Unit {1}
+  abbrev pub EndsOk : Ran → List ℕ → List ℕ → Type 1
+  EndsOk (ran.Done c) t w = RunOk n (order-of o) room lt lw c t w
+  EndsOk (ran.Paused at) t w = RunOk n (order-of o) room lt lw (at .count) t w
+  EndsOk (ran.Refused r) t w = Unit {1}
 
-  abbrev pub OutcomeOk : Outcome → Type 1
-  OutcomeOk x = Ends (x .answer) (x .table) (x .work)
+  abbrev pub OutcomeOk : RunResult → Type 1
+  OutcomeOk x = EndsOk (x .answer) (x .table) (x .work)
 
   module _ {count : ℕ} {t w : List ℕ} (I : RunOk n (order-of o) room lt lw count t w) (e : GroupElementId) (g : GeneratorId) (he : e .0 < count) (hg : g .0 < n) where
     abbrev pub new : GroupElementId
@@ -91,15 +91,15 @@ module _ {n : ℕ} {o : List ℕ} {room lt lw : ℕ} (L : Limits n o room lt lw)
     unfolding startOf
     row-inside h = rw (I .table-length) (omega (arith, mul-le-mul-right (2 * n + 4) h))
 
-    pub new-work : count < room → Working n (order-of o) (grown word count e g) (count + 1) (addedRows w o n new)
+    pub new-work : count < room → Working n (order-of o) (grownWords word count e g) (count + 1) (addedRows w o n new)
     new-work h =
         added-rows-ok {room = room} o (L .few) pairs-full (L .orders) (omega arith) new h (omega arith) (length o) w 0 (rw (I .work-length) work-room) (omega arith)
         (record { begun = I .work .begun; right = work-more (omega arith) (extended-old word count (word (e .0) ++ g .0 ∷ [])) (I .work .right) })
 
-    new-table : count < room → (len : ℕ) → TableOk n (order-of o) (grown word count e g) (count + 1) (setStep (setStep (written t n count e g len) n e g new) n new g e)
+    new-table : count < room → (len : ℕ) → TableOk n (order-of o) (grownWords word count e g) (count + 1) (setStep (setStep (written t n count e g len) n e g new) n new g e)
     new-table h len = grown-ok (I .table) (I .some) (omega (arith, I .fits)) (row-inside h) e g he hg (L .few) len
 
-    pub new-state : (h : count < room) (len : ℕ) → StateOk n (order-of o) (grown word count e g) (count + 1) lt lw (new-work h .begun)
+    pub new-state : (h : count < room) (len : ℕ) → StateOk n (order-of o) (grownWords word count e g) (count + 1) lt lw (new-work h .begun)
         (state (setStep (setStep (written t n count e g len) n e g new) n new g e) (putAt (addedRows w o n new) (belowAt (placeAt n e g)) 0) (link n e g))
     new-state h len = record {
       table = new-table h len;
@@ -116,7 +116,7 @@ module _ {n : ℕ} {o : List ℕ} {room lt lw : ℕ} (L : Limits n o room lt lw)
     discovered-ok h len =
         let s = settle-ok (L .few) (omega arith) _ (new-state h len) in
         record {
-          word = grown word count e g;
+          word = grownWords word count e g;
           table = s .table;
           made = s .made;
           work = record { begun = new-work h .begun; right = s .work };
@@ -214,6 +214,6 @@ module _ {n : ℕ} {o : List ℕ} {room lt lw : ℕ} (L : Limits n o room lt lw)
   enumerated-ok = by (eqb n 0) refl where
     by : (b : Bool) → eqb n 0 ≡ b
         → OutcomeOk (pick b (outcome (ran.Done 1) (replicate lt 0) (addedRows (replicate lw 0) o n (record { 0 = 0 })))
-        (runs 18446744073709551615 n o room first (replicate lt 0) (addedRows (replicate lw 0) o n (record { 0 = 0 }))))
+        (runs 18446744073709551615 n o room startOfRun (replicate lt 0) (addedRows (replicate lw 0) o n (record { 0 = 0 }))))
     by true q = first-ok
-    by false q = let d : n ≡ 0 → ⊥ = eqb-false _ _ q in runs-ok 18446744073709551615 first (omega arith) (first-ok)
+    by false q = let d : n ≡ 0 → ⊥ = eqb-false _ _ q in runs-ok 18446744073709551615 startOfRun (omega arith) (first-ok)

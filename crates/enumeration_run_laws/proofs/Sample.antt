@@ -13,7 +13,7 @@ use Rattle.enumeration_wake.specs.Waking
 use Rattle.enumeration_facts.specs.Facts
 use Rattle.enumeration_run.specs.Run.{enumerated, runs, visits, discovered, advanced}
 use Rattle.enumeration_run.specs.declared.inner.Ran.the-variants as ran
-use Rattle.enumeration_run_laws.specs.Recorded.{Sound}
+use Rattle.enumeration_run_laws.specs.Recorded.{FromOrders}
 use Rattle.enumeration_run.specs.Limits.{Limits}
 use Rattle.enumeration_run_laws.proofs.Derivation.{done-sound}
 
@@ -32,8 +32,8 @@ limits = record {
   first (suc k) h = absurd (omega arith)
 
 six : enumerated 2 (3 ∷ []) 6 48 192 .answer ≡ ran.Done 6
-unfolding enumerated runs visits discovered advanced putAt startOf setStep setWord adds Rows.workWidth Rows.placeAt Rows.rowsAt Rows.readRow Rows.writeRow Fill.backFrom Fill.forwardFrom Fill.filled Rows.appended Rows.waits Rows.addedRow Pairs.pairCode Rows.addRowsFrom Waking.learns Waking.woken Waking.wakes Waking.wakesAll Facts.emptied Facts.updated Facts.settleFrom
+unfolding enumerated runs visits discovered advanced putAt startOf setStep setWord adds Rows.workWidth Rows.placeAt Rows.rowsAt Rows.storedRow Rows.writeRow Fill.backFrom Fill.forwardFrom Fill.filled Rows.appended Rows.waits Rows.addedRow Pairs.pairCode Rows.addRowsFrom Waking.learns Waking.woken Waking.wakes Waking.wakesAll Facts.emptied Facts.updated Facts.settleFrom
 six = refl
 
-sample : Sound 2 (3 ∷ []) 6 48 6 (enumerated 2 (3 ∷ []) 6 48 192 .table)
+sample : FromOrders 2 (3 ∷ []) 6 48 6 (enumerated 2 (3 ∷ []) 6 48 192 .table)
 sample = done-sound limits six

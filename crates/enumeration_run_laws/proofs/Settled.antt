@@ -19,7 +19,7 @@ use Rattle.enumeration_facts.specs.Facts.{updated, settleFrom}
 use Rattle.enumeration_run.specs.Run.{discovered}
 use Rattle.enumeration_run.specs.Limits.{Limits}
 use Rattle.enumeration_run_laws.specs.Invariant.{RunOk}
-use Rattle.enumeration_run_laws.specs.Stack.{Fact, bottom, above, Piled}
+use Rattle.enumeration_run_laws.specs.Stack.{Fact, bottom, above, FactsWithin}
 use Rattle.egg.proofs.Cells.{inside, put-same}
 use Rattle.enumeration_run_laws.proofs.Spots.{place-link, width-parts}
 use Rattle.enumeration_run_laws.proofs.Waiting.{added-rows-length}
@@ -75,7 +75,7 @@ module _ {n : ℕ} {o : List ℕ} {room lt lw : ℕ} (L : Limits n o room lt lw)
   few-places : 1 + (count + 1) * n ≤ lw
   few-places = let wide : 10 * n ≤ workWidth n = omega (arith, width-parts n) in omega (arith, work-fits, mul-le-mul (le-refl (count + 1)) wide)
 
-  piled : Piled n (count + 1) lw made
+  piled : FactsWithin n (count + 1) lw made
   unfolding placeAt
   piled =
       let x : GroupElementId = record { 0 = count } in

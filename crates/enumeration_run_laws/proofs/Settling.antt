@@ -15,11 +15,11 @@ use Rattle.build_reading.specs.Build.{isNew, setStep}
 use Rattle.enumeration_rows.specs.declared.inner.RelationTableRow.{RelationTableRow}
 use Rattle.enumeration_rows.specs.declared.inner.SideOfGap.{SideOfGap}
 use Rattle.enumeration_rows.specs.declared.inner.SideOfGap.the-variants.{Left, Right}
-use Rattle.enumeration_rows.specs.Rows.{workWidth, placeAt, genOf, readRow, waits}
+use Rattle.enumeration_rows.specs.Rows.{workWidth, placeAt, genOf, storedRow, waits}
 use Rattle.enumeration_fill.specs.Fill.{filled}
 use Rattle.enumeration_wake.specs.Waking.{State, state, link, belowAt, learns, gives, woken, wakes, wakesAll}
 use Rattle.enumeration_facts.specs.Facts.{emptied, updated, settleFrom}
-use Rattle.enumeration_run_laws.specs.Invariant.{Step, RowOk, Spot, in-place, Link, FactLink, WorkOk, StateOk}
+use Rattle.enumeration_run_laws.specs.Invariant.{Step, RowOk, CellOfKind, in-place, Link, FactLink, WorkOk, StateOk}
 use Rattle.egg.proofs.Cells.{put-length}
 use Rattle.enumeration_run_laws.proofs.Spots.{place-link, row-spot}
 use Rattle.enumeration_run_laws.proofs.Rowing.{step-back, filled-ok, met}
@@ -64,10 +64,10 @@ module _ {n : ℕ} {m : ℕ → ℕ → ℕ} {word : ℕ → List ℕ} {count lt
   unfolding wakes woken
   wakes-ok {s} I at side in-S = by (eqb (r .left) (r .right)) refl where
     r : RelationTableRow
-    r = filled (s .table) n (readRow (s .work) at)
+    r = filled (s .table) n (storedRow (s .work) at)
 
     ok : RowOk n m word count r
-    ok = filled-ok (I .table) (readRow (s .work) at) (I .work .rows at in-S)
+    ok = filled-ok (I .table) (storedRow (s .work) at) (I .work .rows at in-S)
 
     by : (b : Bool) → eqb (r .left) (r .right) ≡ b → StateOk n m word count lt lw S (pick b (gives n r s) (state (s .table) (waits (s .work) n at r side) (s .top)))
     by true q = gives-ok I ok (eqb-true _ _ q)
@@ -91,10 +91,10 @@ module _ {n : ℕ} {m : ℕ → ℕ → ℕ} {word : ℕ → List ℕ} {count lt
 
 -- A place that a fact may have.
 module _ {n place : ℕ} (e g : ℕ) (hg : g < n) (stands : place ≡ e * workWidth n + 10 * g) where
-  pub spot : (k : ℕ) → k < 7 → Spot n (place + k) k
+  pub spot : (k : ℕ) → k < 7 → CellOfKind n (place + k) k
   spot k low = in-place e g hg low (omega arith)
 
-  pub first-spot : Spot n place 0
+  pub first-spot : CellOfKind n place 0
   first-spot = rw add-zero at (spot 0 (omega arith))
 
 module _ {n : ℕ} {m : ℕ → ℕ → ℕ} {word : ℕ → List ℕ} {count : ℕ} {S : ℕ → Type 0} where

@@ -10,14 +10,14 @@ use Rattle.egg.specs.declared.GeneratorId.{GeneratorId}
 use Rattle.egg.specs.Table.{putAt, startOf, succAt, predAt, lengthOf}
 use Rattle.egg.proofs.Cells.{cell-inside, put-same, put-other, put-length}
 use Rattle.build_reading.specs.Build.{setStep, setWord}
-use Rattle.enumeration_run_laws.specs.Invariant.{Known}
+use Rattle.enumeration_run_laws.specs.Invariant.{StepKnown}
 use Rattle.enumeration_run_laws.proofs.Marking.{row-is, cell-is, set-length}
 use Rattle.enumeration_run_laws.proofs.Knowing.{set-keeps}
 use Rattle.enumeration_run_laws.proofs.Keeping.{Both}
 
 pub record Since (n : ℕ) (t₀ t : List ℕ) : Type 0 where
-  pub more : (x h : ℕ) → h < n → Known n t₀ x h → Known n t x h
-  pub backs : (x h : ℕ) → h < n → Known n t x h → getD t (startOf n x + (n + h)) 0 ≡ 0 → ⊥
+  pub more : (x h : ℕ) → h < n → StepKnown n t₀ x h → StepKnown n t x h
+  pub backs : (x h : ℕ) → h < n → StepKnown n t x h → getD t (startOf n x + (n + h)) 0 ≡ 0 → ⊥
   pub lengths : (x : ℕ) → lengthOf t n x ≡ lengthOf t₀ n x
 
 module _ (n : ℕ) (t : List ℕ) (e : GroupElementId) (g : GeneratorId) (r : GroupElementId) (hg : g .0 < n) where
@@ -67,7 +67,7 @@ module _ {n count lt : ℕ} (limit : count ≤ 65535) (fits : count * (2 * n + 4
   elsewhere x h hh d d′ =
       set-other n once r g e hg x h (omega arith) d′ (λ a b. omega arith) ∙ set-other n t e g r hg x h (omega arith) d (λ a b. omega arith)
 
-  backs-kept : Since n t₀ t → (x h : ℕ) → h < n → Known n twice x h → getD twice (startOf n x + (n + h)) 0 ≡ 0 → ⊥
+  backs-kept : Since n t₀ t → (x h : ℕ) → h < n → StepKnown n twice x h → getD twice (startOf n x + (n + h)) 0 ≡ 0 → ⊥
   backs-kept s x h hh k = by (ℕ-discrete h (g .0)) (ℕ-discrete x (e .0)) (ℕ-discrete x (r .0)) where
     other : (x ≡ e .0 → h ≡ g .0 → ⊥) → (x ≡ r .0 → h ≡ g .0 → ⊥) → getD twice (startOf n x + (n + h)) 0 ≡ 0 → ⊥
     other d d′ =

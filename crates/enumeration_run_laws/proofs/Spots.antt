@@ -7,7 +7,7 @@ use Rattle.egg.specs.declared.GroupElementId.{GroupElementId}
 use Rattle.egg.specs.declared.GeneratorId.{GeneratorId}
 use Rattle.enumeration_rows.specs.Rows.{workWidth, placeAt}
 use Rattle.enumeration_wake.specs.Waking.{link}
-use Rattle.enumeration_run_laws.specs.Invariant.{Spot, in-place, in-copy, Copy}
+use Rattle.enumeration_run_laws.specs.Invariant.{CellOfKind, in-place, in-copy, Copy}
 use Rattle.egg.proofs.Cells.{same-cell}
 
 pub width-parts : (n : ℕ) → 10 * n + 6 * (n * (n - 1)) ≡ workWidth n
@@ -38,7 +38,7 @@ place-link few e g he hg = mod-eq-of-lt (place-small few he hg) ∙ omega arith
 pub link-small : {n e g : ℕ} → n ≤ 8 → e < 65535 → g < n → suc (e * workWidth n + 10 * g) < 4294967296
 link-small few he hg = omega (arith, place-small few he hg)
 
-pub spot-once : {n i k k′ : ℕ} → Spot n i k → Spot n i k′ → k ≡ k′
+pub spot-once : {n i k k′ : ℕ} → CellOfKind n i k → CellOfKind n i k′ → k ≡ k′
 spot-once {n} {k = k} {k′} (in-place e g hg hk q) (in-place e′ g′ hg′ hk′ q′) =
     let s : 10 * g + k ≡ 10 * g′ + k′ = same-cell e e′ (place-inside hg (omega arith)) (place-inside hg′ (omega arith)) (sym q ∙ q′) in
     omega arith
@@ -54,7 +54,7 @@ spot-once {n} (in-copy e j d hj hd q s) (in-copy e′ j′ d′ hj′ hd′ q′
 
 -- The cells of a copy: its five numbers and its link.
 module _ {n len p : ℕ} (c : Copy n len p) where
-  pub row-spot : (k d : ℕ) → d < 6 → k + d ≡ 12 → Spot n (p + d) k
+  pub row-spot : (k d : ℕ) → d < 6 → k + d ≡ 12 → CellOfKind n (p + d) k
   row-spot k d hd s = in-copy (c .element) (c .number) d (c .number-below) hd (rw (c .stands) (omega arith)) s
 
   pub cell-within : {d : ℕ} → d < 6 → p + d < len

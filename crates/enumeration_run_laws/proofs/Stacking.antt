@@ -18,8 +18,8 @@ use Rattle.egg.specs.Table.{pick, putAt, startOf, succAt}
 use Rattle.build_reading.specs.Build.{isNew, setStep}
 use Rattle.enumeration_rows.specs.Rows.{workWidth, placeAt}
 use Rattle.enumeration_wake.specs.Waking.{State, state, link, belowAt, learns}
-use Rattle.enumeration_run_laws.specs.Invariant.{Known, Spot, in-place}
-use Rattle.enumeration_run_laws.specs.Stack.{free, Fact, Absent, Stack, bottom, above, Six, Piled}
+use Rattle.enumeration_run_laws.specs.Invariant.{StepKnown, CellOfKind, in-place}
+use Rattle.enumeration_run_laws.specs.Stack.{free, Fact, Absent, Stack, bottom, above, SameStackLinks, FactsWithin}
 use Rattle.egg.proofs.Cells.{inside, same-row, same-cell, put-same, put-other}
 use Rattle.enumeration_run_laws.proofs.Spots.{place-inside, place-link, link-small}
 use Rattle.enumeration_run_laws.proofs.Knowing.{set-more, set-known}
@@ -55,21 +55,21 @@ one-le x y h = by (ℕ-discrete y 0) where
   by (no d) = rw (one-more x (h d)) (omega arith)
 
 -- A table in which more steps are known has fewer that are not.
-module _ (n count : ℕ) (t t′ : List ℕ) (more : (e g : ℕ) → g < n → Known n t e g → Known n t′ e g) where
+module _ (n count : ℕ) (t t′ : List ℕ) (more : (e g : ℕ) → g < n → StepKnown n t e g → StepKnown n t′ e g) where
   row-le : (e : ℕ) → sum n (λ g. one (eqb (getD t′ (startOf n e + g) 0) 0)) ≤ sum n (λ g. one (eqb (getD t (startOf n e + g) 0) 0))
   row-le e = sum-le n _ _ (λ g hg. one-le (getD t′ (startOf n e + g) 0) (getD t (startOf n e + g) 0) (more e g hg))
 
   free-le : free n count t′ ≤ free n count t
   free-le = sum-le count _ _ (λ e he. row-le e)
 
-  free-lt : (e g : ℕ) → e < count → g < n → getD t (startOf n e + g) 0 ≡ 0 → Known n t′ e g → free n count t′ + 1 ≤ free n count t
+  free-lt : (e g : ℕ) → e < count → g < n → getD t (startOf n e + g) 0 ≡ 0 → StepKnown n t′ e g → free n count t′ + 1 ≤ free n count t
   free-lt e g he hg z d = sum-lt count _ _ (λ x hx. row-le x) e he
       (sum-lt n _ _ (λ h hh. one-le (getD t′ (startOf n e + h) 0) (getD t (startOf n e + h) 0) (more e h hh)) g hg (rw (one-zero (getD t (startOf n e + g) 0) z, one-more (getD t′ (startOf n e + g) 0) d) (omega arith)))
 
 pub free-bound : (n count : ℕ) (t : List ℕ) → free n count t ≤ count * n
 free-bound n count t = sum-bound count n _ (λ e he. rw (mul-one n) at (sum-bound n 1 _ (λ g hg. one-bound (eqb (getD t (startOf n e + g) 0) 0))))
 
-fact-spot : {n count p : ℕ} {t : List ℕ} → Fact n count t p → Spot n (p + 6) 6
+fact-spot : {n count p : ℕ} {t : List ℕ} → Fact n count t p → CellOfKind n (p + 6) 6
 fact-spot f = in-place (f .element) (f .generator) (f .generator-below) (omega arith) (omega (arith, f .stands))
 
 -- A place whose step is not known is not on the stack.
@@ -88,7 +88,7 @@ module _ {n count : ℕ} {t : List ℕ} (e g : ℕ) (hg : g < n) (z : getD t (st
 
 module _ {n count : ℕ} {t w : List ℕ} where
   -- The stack stays when more is known and its links are as they were.
-  pub stack-more : {t′ w′ : List ℕ} → ((e g : ℕ) → g < n → Known n t e g → Known n t′ e g) → Six n w w′ → {top : ℕ} {fs : List ℕ} → Stack n count t w top fs → Stack n count t′ w′ top fs
+  pub stack-more : {t′ w′ : List ℕ} → ((e g : ℕ) → g < n → StepKnown n t e g → StepKnown n t′ e g) → SameStackLinks n w w′ → {top : ℕ} {fs : List ℕ} → Stack n count t w top fs → Stack n count t′ w′ top fs
   stack-more more six (bottom z) = bottom z
   stack-more {t′} {w′} more six (above {p = p} {fs} q f a st) =
       above {fs = fs} q
@@ -116,7 +116,7 @@ module _ {n count lt lw : ℕ} (few : n ≤ 8) (limit : count ≤ 65535) (table-
   stack-small (bottom z) = omega arith
   stack-small (above q f a st) = omega (arith, f .stands, link-small few (lt-of-lt-of-le (f .element-below) limit) (f .generator-below))
 
-  module _ {s : State} {budget : ℕ} (tl : length (s .table) ≡ lt) (wl : length (s .work) ≡ lw) (P : Piled n count budget s)
+  module _ {s : State} {budget : ℕ} (tl : length (s .table) ≡ lt) (wl : length (s .work) ≡ lw) (P : FactsWithin n count budget s)
       (e : GroupElementId) (g : GeneratorId) (r : GroupElementId) (he : e .0 < count) (hg : g .0 < n) (hr : r .0 < count) where
     succ-inside : succAt n e g < length (s .table)
     unfolding startOf
@@ -124,11 +124,11 @@ module _ {n count lt lw : ℕ} (few : n ≤ 8) (limit : count ≤ 65535) (table-
       cell-low : {x : ℕ} → x < n → x < 2 * n + 4
       cell-low h = omega arith
 
-    pub learns-piled : Piled n count budget (learns n e g r s)
+    pub learns-piled : FactsWithin n count budget (learns n e g r s)
     unfolding learns placeAt
     learns-piled = by (isNew (s .table) n e g) refl where
       by : (b : Bool) → isNew (s .table) n e g ≡ b
-          → Piled n count budget (state (setStep (s .table) n e g r) (pick b (putAt (s .work) (belowAt (placeAt n e g)) (s .top)) (s .work)) (pick b (link n e g) (s .top)))
+          → FactsWithin n count budget (state (setStep (s .table) n e g r) (pick b (putAt (s .work) (belowAt (placeAt n e g)) (s .top)) (s .work)) (pick b (link n e g) (s .top)))
       by true q =
           let unknown : getD (s .table) (startOf n (e .0) + g .0) 0 ≡ 0 = eqb-true _ _ q in
           let known = set-known n (s .table) e g r succ-inside (omega arith) in

@@ -8,19 +8,19 @@ use native.Mathlib.Omega.{arith}
 use lib.ListN.{getD, length}
 use Rattle.egg.specs.Table.{putAt}
 use Rattle.enumeration_rows.specs.declared.inner.RelationTableRow.{RelationTableRow}
-use Rattle.enumeration_rows.specs.Rows.{readRow, writeRow}
-use Rattle.enumeration_run_laws.specs.Invariant.{RowOk, Spot, Copy, Link, Holds, CellsOk, WorkOk}
+use Rattle.enumeration_rows.specs.Rows.{storedRow, writeRow}
+use Rattle.enumeration_run_laws.specs.Invariant.{RowOk, CellOfKind, Copy, Link, MayHold, CellsOk, WorkOk}
 use Rattle.egg.proofs.Cells.{put-same, put-other, put-length}
 use Rattle.enumeration_run_laws.proofs.Cells.{put-keeps}
 use Rattle.enumeration_run_laws.proofs.Spots.{spot-once, row-spot, copy-once}
 
 -- A store of what a cell of that kind may hold.
-pub cells-put : {n : ℕ} {S : ℕ → Type 0} {w : List ℕ} → CellsOk n S w → {i k : ℕ} (v : ℕ) → Spot n i k → Holds n S k v → CellsOk n S (putAt w i v)
-cells-put {n} {S} {w} C {i} {k} v s h = record { holds = put-keeps w i v (λ j x. (k′ : ℕ) → Spot n j k′ → Holds n S k′ x) (λ k′ s′. subst (λ (x : ℕ). Holds n S x v) (spot-once s s′) h) (C .holds) }
+pub cells-put : {n : ℕ} {S : ℕ → Type 0} {w : List ℕ} → CellsOk n S w → {i k : ℕ} (v : ℕ) → CellOfKind n i k → MayHold n S k v → CellsOk n S (putAt w i v)
+cells-put {n} {S} {w} C {i} {k} v s h = record { holds = put-keeps w i v (λ j x. (k′ : ℕ) → CellOfKind n j k′ → MayHold n S k′ x) (λ k′ s′. subst (λ (x : ℕ). MayHold n S x v) (spot-once s s′) h) (C .holds) }
 
 -- A row is read as before, where its five numbers are as before.
-pub read-same : (w w′ : List ℕ) (p : ℕ) → ((d : ℕ) → d < 5 → getD w′ (p + d) 0 ≡ getD w (p + d) 0) → readRow w′ p ≡ readRow w p
-unfolding readRow
+pub read-same : (w w′ : List ℕ) (p : ℕ) → ((d : ℕ) → d < 5 → getD w′ (p + d) 0 ≡ getD w (p + d) 0) → storedRow w′ p ≡ storedRow w p
+unfolding storedRow
 read-same w w′ p h =
     let z : getD w′ p 0 ≡ getD w p 0 = rw add-zero at (h 0 (omega arith)) in
     cc (z, h 1 (omega arith), h 2 (omega arith), h 3 (omega arith), h 4 (omega arith))
@@ -37,8 +37,8 @@ unfolding writeRow
 write-length w p r = simp put-length
 
 pub write-read : (w : List ℕ) (p : ℕ) (r : RelationTableRow) → p + 6 ≤ length w → r .pair < 4294967296 → r .left < 4294967296 → r .right < 4294967296
-    → r .from .0 < 4294967296 → r .to .0 < 4294967296 → readRow (writeRow w p r) p ≡ r
-unfolding writeRow readRow
+    → r .from .0 < 4294967296 → r .to .0 < 4294967296 → storedRow (writeRow w p r) p ≡ r
+unfolding writeRow storedRow
 write-read w p r within a b c d e =
     let w1 = putAt w p (r .pair) in
     let w2 = putAt w1 (p + 1) (r .left) in
@@ -66,7 +66,7 @@ write-read w p r within a b c d e =
 
 module _ {n : ℕ} {m : ℕ → ℕ → ℕ} {word : ℕ → List ℕ} {count : ℕ} {S : ℕ → Type 0} {w : List ℕ} (W : WorkOk n m word count S w) where
   -- A store in a cell that is no row's.
-  pub work-put : {i k : ℕ} (v : ℕ) → Spot n i k → k < 8 → Holds n S k v → WorkOk n m word count S (putAt w i v)
+  pub work-put : {i k : ℕ} (v : ℕ) → CellOfKind n i k → k < 8 → MayHold n S k v → WorkOk n m word count S (putAt w i v)
   work-put {i} {k} v s low h = record {
     cells = cells-put (W .cells) v s h;
     place = λ p in-S. rw (put-length w i v) (W .place p in-S);
@@ -74,7 +74,7 @@ module _ {n : ℕ} {m : ℕ → ℕ → ℕ} {word : ℕ → List ℕ} {count : 
   } where
     apart : (p : ℕ) → S p → (d : ℕ) → d < 5 → p + d ≡ i → ⊥
     apart p in-S d hd q =
-        let kind : Spot n (p + d) (12 - d) = row-spot (W .place p in-S) (12 - d) d (omega arith) (omega arith) in
+        let kind : CellOfKind n (p + d) (12 - d) = row-spot (W .place p in-S) (12 - d) d (omega arith) (omega arith) in
         let e : k ≡ 12 - d = spot-once s (rw q at kind) in
         omega arith
 
@@ -84,7 +84,7 @@ module _ {S S′ : ℕ → Type 0} (grow : (q : ℕ) → S q → S′ q) where
   link-grow (Link.none z) = Link.none z
   link-grow (Link.to q in-S e) = Link.to q (grow q in-S) e
 
-  holds-grow : (n k v : ℕ) → Holds n S k v → Holds n S′ k v
+  holds-grow : (n k v : ℕ) → MayHold n S k v → MayHold n S′ k v
   holds-grow n zero v h = link-grow h
   holds-grow n (suc zero) v h = link-grow h
   holds-grow n (suc (suc zero)) v h = h
@@ -102,7 +102,7 @@ module _ {S S′ : ℕ → Type 0} (grow : (q : ℕ) → S q → S′ q) where
 cells-write : {n len : ℕ} {S : ℕ → Type 0} {w : List ℕ} {p : ℕ} → CellsOk n S w → Copy n len p → (r : RelationTableRow) → CellsOk n S (writeRow w p r)
 unfolding writeRow
 cells-write {n} {p = p} C c r =
-    let first : Spot n p 12 = rw add-zero at (row-spot c 12 0 (omega arith) refl) in
+    let first : CellOfKind n p 12 = rw add-zero at (row-spot c 12 0 (omega arith) refl) in
     let c1 = cells-put C (r .pair) first tt in
     let c2 = cells-put c1 (r .left) (row-spot c 11 1 (omega arith) refl) tt in
     let c3 = cells-put c2 (r .right) (row-spot c 10 2 (omega arith) refl) tt in
@@ -119,9 +119,9 @@ module _ {n : ℕ} {m : ℕ → ℕ → ℕ} {word : ℕ → List ℕ} {count : 
     by (yes e) = rw e c
     by (no d) = W .place q (only q in-S d)
 
-  rows-write : (q : ℕ) → S′ q → RowOk n m word count (readRow (writeRow w p r) q)
+  rows-write : (q : ℕ) → S′ q → RowOk n m word count (storedRow (writeRow w p r) q)
   rows-write q in-S = by (ℕ-discrete q p) where
-    by : Dec (q ≡ p) → RowOk n m word count (readRow (writeRow w p r) q)
+    by : Dec (q ≡ p) → RowOk n m word count (storedRow (writeRow w p r) q)
     by (yes e) = rw (e, write-read w p r (c .within) (omega (arith, ok .small)) (omega (arith, ok .wide, ok .order)) (omega (arith, ok .wide)) (omega (arith, ok .from-below)) (omega (arith, ok .to-below))) ok
     by (no d) =
         let other = W .place q (only q in-S d) in

@@ -17,7 +17,7 @@ use Rattle.egg.specs.declared.Counted.the-variants as counted
 use Rattle.egg.specs.Table.{pick}
 use Rattle.build_reading.specs.Build.{isNew, adds}
 use Rattle.enumeration_rows.specs.Rows.{addedRows}
-use Rattle.enumeration_run.specs.Run.{discovered, Visit, visit, onReached, visits, advanced, Outcome, outcome, onVisit, runs, first, enumerated}
+use Rattle.enumeration_run.specs.Run.{discovered, Visit, visit, onReached, visits, advanced, RunResult, outcome, onVisit, runs, startOfRun, enumerated}
 use Rattle.enumeration_run.specs.declared.inner.Run.{Run}
 use Rattle.enumeration_run.specs.declared.inner.Ran.the-variants as ran
 use Rattle.enumeration_run_laws.specs.Paused.{IsDone, IsPaused, doneOf}
@@ -59,15 +59,15 @@ module _ (n : ℕ) (o : List ℕ) (room : ℕ) where
   here at t w = visits n o room (at .count) (record { 0 = at .element }) (record { 0 = at .generator }) t w
 
   -- What comes after a visit, by its answer.
-  abbrev then : ℕ → Run → Counted → List ℕ → List ℕ → Outcome
-  then k at a t w = onVisit {A = Outcome} a t w (λ c t₁ w₁. runs k n o room (advanced n at c) t₁ w₁) (λ why t₁ w₁. outcome (ran.Refused why) t₁ w₁)
+  abbrev then : ℕ → Run → Counted → List ℕ → List ℕ → RunResult
+  then k at a t w = onVisit {A = RunResult} a t w (λ c t₁ w₁. runs k n o room (advanced n at c) t₁ w₁) (λ why t₁ w₁. outcome (ran.Refused why) t₁ w₁)
 
   -- The count at the end is no less than at any place.
   grows : (k : ℕ) (at : Run) (t w : List ℕ) → at .generator < n → IsDone (runs k n o room at t w .answer) → at .count ≤ doneOf (runs k n o room at t w .answer)
   unfolding runs
   grows zero at t w hg d = by (ltb (at .element) (at .count)) d where
-    by : (b : Bool) → IsDone (pick {A = Outcome} b (outcome (ran.Paused at) t w) (outcome (ran.Done (at .count)) t w) .answer)
-        → at .count ≤ doneOf (pick {A = Outcome} b (outcome (ran.Paused at) t w) (outcome (ran.Done (at .count)) t w) .answer)
+    by : (b : Bool) → IsDone (pick {A = RunResult} b (outcome (ran.Paused at) t w) (outcome (ran.Done (at .count)) t w) .answer)
+        → at .count ≤ doneOf (pick {A = RunResult} b (outcome (ran.Paused at) t w) (outcome (ran.Done (at .count)) t w) .answer)
     by true d = absurd d
     by false d = le-refl (at .count)
   grows (suc k) at t w hg d = by (ltb (at .element) (at .count)) d (λ c t₁ w₁ h e. let f = next n at c hg in let i = grows k (advanced n at c) t₁ w₁ (f .0) e in omega (arith, f .1)) where
@@ -78,8 +78,8 @@ module _ (n : ℕ) (o : List ℕ) (room : ℕ) where
     go rest (counted.Count c) t₁ w₁ h d = rest c t₁ w₁ h d
     go rest (counted.Refused r) t₁ w₁ h d = absurd d
 
-    by : (b : Bool) → IsDone (pick {A = Outcome} b (then k at (here at t w .answer) (here at t w .table) (here at t w .work)) (outcome (ran.Done (at .count)) t w) .answer) → Rest
-        → at .count ≤ doneOf (pick {A = Outcome} b (then k at (here at t w .answer) (here at t w .table) (here at t w .work)) (outcome (ran.Done (at .count)) t w) .answer)
+    by : (b : Bool) → IsDone (pick {A = RunResult} b (then k at (here at t w .answer) (here at t w .table) (here at t w .work)) (outcome (ran.Done (at .count)) t w) .answer) → Rest
+        → at .count ≤ doneOf (pick {A = RunResult} b (then k at (here at t w .answer) (here at t w .table) (here at t w .work)) (outcome (ran.Done (at .count)) t w) .answer)
     by true d rest = go rest (here at t w .answer) (here at t w .table) (here at t w .work) (visits-grow (at .count) (record { 0 = at .element }) (record { 0 = at .generator }) t w) d
     by false d rest = le-refl (at .count)
 
@@ -123,7 +123,7 @@ module _ (n : ℕ) (o : List ℕ) (room : ℕ) where
   exact : (k j : ℕ) (at : Run) (t w : List ℕ) → at .generator < n → IsDone (runs k n o room at t w .answer) → Exact k j at t w
   exact zero j at t w hg d = by (ltb (at .element) (at .count)) refl where
     by : (b : Bool) → ltb (at .element) (at .count) ≡ b → Exact zero j at t w
-    by true q = absurd (subst (λ (x : Outcome). IsDone (x .answer)) (runs-spent at t w q) d)
+    by true q = absurd (subst (λ (x : RunResult). IsDone (x .answer)) (runs-spent at t w q) d)
     by false q = exact-stop zero j at t w q
   exact (suc k) zero at t w hg d = by (ltb (at .element) (at .count)) refl where
     by : (b : Bool) → ltb (at .element) (at .count) ≡ b → Exact (suc k) zero at t w
@@ -143,15 +143,15 @@ module _ (n : ℕ) (o : List ℕ) (room : ℕ) where
     by : (b : Bool) → ltb (at .element) (at .count) ≡ b → Rest → Exact (suc k) (suc j) at t w
     by true q rest =
         let v = here at t w in
-        let r = go rest (v .answer) (v .table) (v .work) (subst (λ (x : Outcome). IsDone (x .answer)) (runs-visit at t w k q) d) in
+        let r = go rest (v .answer) (v .table) (v .work) (subst (λ (x : RunResult). IsDone (x .answer)) (runs-visit at t w k q) d) in
         record {
           enough = λ h. runs-visit at t w j q ∙ r .0 (rw (runs-visit at t w k q) at h) ∙ sym (runs-visit at t w k q);
           short = λ h. rw (runs-visit at t w j q) (r .1 (rw (runs-visit at t w k q) at h));
         }
     by false q rest = exact-stop (suc k) (suc j) at t w q
 
-  abbrev pub begun : ℕ → ℕ → ℕ → Outcome
-  begun k lt lw = runs k n o room first (replicate lt 0) (addedRows (replicate lw 0) o n (record { 0 = 0 }))
+  abbrev pub begun : ℕ → ℕ → ℕ → RunResult
+  begun k lt lw = runs k n o room startOfRun (replicate lt 0) (addedRows (replicate lw 0) o n (record { 0 = 0 }))
 
   enumerated-runs : (n ≡ 0 → ⊥) → (lt lw : ℕ) → enumerated n o room lt lw ≡ begun 18446744073709551615 lt lw
   unfolding enumerated
@@ -159,13 +159,13 @@ module _ (n : ℕ) (o : List ℕ) (room : ℕ) where
 
   -- A whole run that is done with N elements has visited N · n places.
   module _ (lt lw : ℕ) {N : ℕ} (some : n ≡ 0 → ⊥) (q : enumerated n o room lt lw .answer ≡ ran.Done N) where
-    all-places : (j : ℕ) → Exact 18446744073709551615 j first (replicate lt 0) (addedRows (replicate lw 0) o n (record { 0 = 0 }))
+    all-places : (j : ℕ) → Exact 18446744073709551615 j startOfRun (replicate lt 0) (addedRows (replicate lw 0) o n (record { 0 = 0 }))
     all-places j =
-        let z = ap (λ (x : Outcome). x .answer) (sym (enumerated-runs some lt lw)) ∙ q in
-        exact 18446744073709551615 j first _ _ (omega arith) (subst IsDone (sym z) tt)
+        let z = ap (λ (x : RunResult). x .answer) (sym (enumerated-runs some lt lw)) ∙ q in
+        exact 18446744073709551615 j startOfRun _ _ (omega arith) (subst IsDone (sym z) tt)
 
     count-is : doneOf (begun 18446744073709551615 lt lw .answer) ≡ N
-    count-is = ap (λ (x : Outcome). doneOf (x .answer)) (sym (enumerated-runs some lt lw)) ∙ ap doneOf q
+    count-is = ap (λ (x : RunResult). doneOf (x .answer)) (sym (enumerated-runs some lt lw)) ∙ ap doneOf q
 
     pub places-enough : (j : ℕ) → N * n ≤ j → begun j lt lw ≡ enumerated n o room lt lw
     places-enough j h = all-places j .enough (rw count-is (omega arith)) ∙ sym (enumerated-runs some lt lw)

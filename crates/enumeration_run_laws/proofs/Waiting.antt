@@ -16,7 +16,7 @@ use Rattle.enumeration_rows.specs.declared.inner.SideOfGap.{SideOfGap}
 use Rattle.enumeration_rows.specs.declared.inner.SideOfGap.the-variants.{Left, Right}
 use Rattle.egg.specs.Pairs.{pairCode}
 use Rattle.enumeration_rows.specs.Rows.{workWidth, placeAt, rowsAt, genOf, linkAt, appended, listAt, waits, addedRow, addRowsFrom}
-use Rattle.enumeration_run_laws.specs.Invariant.{RowOk, Spot, in-place, Copy, Link, Holds, WorkOk, Working}
+use Rattle.enumeration_run_laws.specs.Invariant.{RowOk, CellOfKind, in-place, Copy, Link, MayHold, WorkOk, Working}
 use Rattle.egg.proofs.Cells.{put-length, inside}
 use Rattle.enumeration_run_laws.proofs.Spots.{row-spot, copy-inside}
 use Rattle.enumeration_run_laws.proofs.Rowing.{new-row-ok}
@@ -27,16 +27,16 @@ pub record Threads (n : ℕ) (S : ℕ → Type 0) (list : ℕ) : Type 0 where
   pub k0 : ℕ
   pub k1 : ℕ
   pub k2 : ℕ
-  pub head : Spot n list k0
-  pub tail : Spot n (list + 1) k1
-  pub count : Spot n (list + 2) k2
+  pub head : CellOfKind n list k0
+  pub tail : CellOfKind n (list + 1) k1
+  pub count : CellOfKind n (list + 2) k2
   pub low : (k0 < 6) × (k1 < 6) × (k2 < 6)
-  pub to-head : (v : ℕ) → Link S v → Holds n S k0 v
-  pub to-tail : (v : ℕ) → Link S v → Holds n S k1 v
-  pub from-tail : (v : ℕ) → Holds n S k1 v → Link S v
-  pub to-count : (v : ℕ) → Holds n S k2 v
+  pub to-head : (v : ℕ) → Link S v → MayHold n S k0 v
+  pub to-tail : (v : ℕ) → Link S v → MayHold n S k1 v
+  pub from-tail : (v : ℕ) → MayHold n S k1 v → Link S v
+  pub to-count : (v : ℕ) → MayHold n S k2 v
 
-pub place-spot : {n : ℕ} (e : GroupElementId) (g : GeneratorId) → g .0 < n → (k : ℕ) → k < 7 → Spot n (placeAt n e g + k) k
+pub place-spot : {n : ℕ} (e : GroupElementId) (g : GeneratorId) → g .0 < n → (k : ℕ) → k < 7 → CellOfKind n (placeAt n e g + k) k
 unfolding placeAt
 place-spot e g h k low = in-place (e .0) (g .0) h low (omega arith)
 

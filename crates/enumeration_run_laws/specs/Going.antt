@@ -9,15 +9,15 @@ use Rattle.theory.specs.Presentation.{order-of}
 use Rattle.theory.specs.Appearance.{Ahead}
 use Rattle.theory.specs.Past.{Past}
 use Rattle.egg.specs.Answers.{numbered}
-use Rattle.enumeration_run_laws.specs.Invariant.{RunOk, Known}
+use Rattle.enumeration_run_laws.specs.Invariant.{RunOk, StepKnown}
 
 -- Between two places, with c elements and the place of x and g next: both stretches are right (`run`), the places before have been visited (`past`),
 -- every step that was visited is known, a known step is known the other way too, and no word is over 4,096.
 pub record Going (n : ℕ) (o : List ℕ) (room lt lw x g c : ℕ) (t w : List ℕ) : Type 1 where
   pub run : RunOk n (order-of o) room lt lw c t w
   pub past : Past n (order-of o) (run .word) x g c
-  pub seen : (y h : ℕ) → h < n → Ahead y h x g → Known n t y h
-  pub backs : (y h : ℕ) → h < n → Known n t y h → getD t (startOf n y + (n + h)) 0 ≡ 0 → ⊥
+  pub seen : (y h : ℕ) → h < n → Ahead y h x g → StepKnown n t y h
+  pub backs : (y h : ℕ) → h < n → StepKnown n t y h → getD t (startOf n y + (n + h)) 0 ≡ 0 → ⊥
   pub letters : (e : ℕ) → e < c → lengthOf t n e ≡ length (run .word e)
   pub short : (e : ℕ) → e < c → lengthOf t n e ≤ 4096
 
@@ -27,7 +27,7 @@ pub record Finished (n : ℕ) (o : List ℕ) (room lt lw N : ℕ) (t w : List �
   pub end : ℕ
   pub last-row : end + 1 ≡ N
   pub past : Past n (order-of o) (run .word) end n N
-  pub seen : (e g : ℕ) → e < N → g < n → Known n t e g
+  pub seen : (e g : ℕ) → e < N → g < n → StepKnown n t e g
   pub backs : (e g : ℕ) → e < N → g < n → getD t (startOf n e + (n + g)) 0 ≡ 0 → ⊥
   pub letters : (e : ℕ) → e < N → lengthOf t n e ≡ length (run .word e)
   pub short : (e : ℕ) → e < N → lengthOf t n e ≤ 4096

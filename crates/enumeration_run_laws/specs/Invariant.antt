@@ -6,7 +6,7 @@ use lib.ListN.{getD, length}
 use Rattle.theory.specs.Presentation.{Equiv}
 use Rattle.egg.specs.Table.{startOf, parentOf, lastOf}
 use Rattle.enumeration_rows.specs.declared.inner.RelationTableRow.{RelationTableRow}
-use Rattle.enumeration_rows.specs.Rows.{workWidth, genOf, readRow}
+use Rattle.enumeration_rows.specs.Rows.{workWidth, genOf, storedRow}
 use Rattle.enumeration_wake.specs.Waking.{State}
 
 -- The step from e by g to r, between elements below the count, follows from the relations.
@@ -16,8 +16,8 @@ pub record Step (n : ℕ) (m : ℕ → ℕ → ℕ) (word : ℕ → List ℕ) (c
   pub leads : Equiv n m (word e ++ g ∷ []) (word r)
 
 -- The step from e by g is known.
-abbrev pub Known : ℕ → List ℕ → ℕ → ℕ → Type 0
-Known n t e g = getD t (startOf n e + g) 0 ≡ 0 → ⊥
+abbrev pub StepKnown : ℕ → List ℕ → ℕ → ℕ → Type 0
+StepKnown n t e g = getD t (startOf n e + g) 0 ≡ 0 → ⊥
 
 -- What the number v in cell i of the table may be: it is 0 in rows beyond the count, and a step or a step back that it holds follows from the
 -- relations.
@@ -27,7 +27,7 @@ pub record Marked (n : ℕ) (m : ℕ → ℕ → ℕ) (word : ℕ → List ℕ) 
   pub back : (e g r : ℕ) → g < n → i ≡ startOf n e + n + g → v ≡ suc r → Step n m word count r g e
 
 -- The words of the elements below the count are those that the table records; the identity's row has neither parent nor letter.
-pub record Worded (n : ℕ) (word : ℕ → List ℕ) (count : ℕ) (t : List ℕ) : Type 0 where
+pub record RecordsWords (n : ℕ) (word : ℕ → List ℕ) (count : ℕ) (t : List ℕ) : Type 0 where
   pub start : word 0 ≡ []
   pub earlier : (e : ℕ) → 0 < e → e < count → parentOf t n e < e
   pub generator : (e : ℕ) → 0 < e → e < count → lastOf t n e < n
@@ -35,13 +35,13 @@ pub record Worded (n : ℕ) (word : ℕ → List ℕ) (count : ℕ) (t : List �
   pub identity : 0 < count → (parentOf t n 0 ≡ 0) × (lastOf t n 0 ≡ 0)
 
 -- The step by which each element was made is known. (It led to the element when that was made; a step that is set anew may lead elsewhere.)
-pub record Made (n count : ℕ) (t : List ℕ) : Type 0 where
-  pub made : (e : ℕ) → 0 < e → e < count → Known n t (parentOf t n e) (lastOf t n e)
+pub record MakersKnown (n count : ℕ) (t : List ℕ) : Type 0 where
+  pub made : (e : ℕ) → 0 < e → e < count → StepKnown n t (parentOf t n e) (lastOf t n e)
 
 -- The table is right: every number in it is (`Marked`), and its words are those of the elements.
 pub record TableOk (n : ℕ) (m : ℕ → ℕ → ℕ) (word : ℕ → List ℕ) (count : ℕ) (t : List ℕ) : Type 0 where
   pub marks : (i : ℕ) → Marked n m word count i (getD t i 0)
-  pub words : Worded n word count t
+  pub words : RecordsWords n word count t
 
 -- The letters of a pair's row from column l on, k of them.
 unfoldable pub letters : ℕ → ℕ → ℕ → List ℕ
@@ -60,9 +60,9 @@ pub record RowOk (n : ℕ) (m : ℕ → ℕ → ℕ) (word : ℕ → List ℕ) (
 
 -- Cell i of the work is of kind k. The first seven cells of a place have the kinds 0 to 6; the link to the next copy has 7, and the five numbers of a
 -- row have 12 down to 8.
-pub data Spot (n i k : ℕ) : Type 0 where
-  in-place : (e g : ℕ) → g < n → k < 7 → i ≡ e * workWidth n + (10 * g + k) → Spot n i k
-  in-copy : (e j d : ℕ) → j < n * (n - 1) → d < 6 → i ≡ e * workWidth n + (10 * n + (6 * j + d)) → k + d ≡ 12 → Spot n i k
+pub data CellOfKind (n i k : ℕ) : Type 0 where
+  in-place : (e g : ℕ) → g < n → k < 7 → i ≡ e * workWidth n + (10 * g + k) → CellOfKind n i k
+  in-copy : (e j d : ℕ) → j < n * (n - 1) → d < 6 → i ≡ e * workWidth n + (10 * n + (6 * j + d)) → k + d ≡ 12 → CellOfKind n i k
 
 -- A copy of a row stands at p, within the first `len` numbers of the work.
 pub record Copy (n len p : ℕ) : Type 0 where
@@ -84,26 +84,26 @@ pub data FactLink (n v : ℕ) : Type 0 where
 
 -- What a cell of each kind may hold: heads, tails and nexts are links to copies, and the cell of a place that links the stack is a link to the place
 -- of the fact below; counts and rows are not limited here.
-abbrev pub Holds : ℕ → (ℕ → Type 0) → ℕ → ℕ → Type 0
-Holds n S zero v = Link S v
-Holds n S (suc zero) v = Link S v
-Holds n S (suc (suc zero)) v = Unit {0}
-Holds n S (suc (suc (suc zero))) v = Link S v
-Holds n S (suc (suc (suc (suc zero)))) v = Link S v
-Holds n S (suc (suc (suc (suc (suc zero))))) v = Unit {0}
-Holds n S (suc (suc (suc (suc (suc (suc zero)))))) v = FactLink n v
-Holds n S (suc (suc (suc (suc (suc (suc (suc zero))))))) v = Link S v
-Holds n S (suc (suc (suc (suc (suc (suc (suc (suc k)))))))) v = Unit {0}
+abbrev pub MayHold : ℕ → (ℕ → Type 0) → ℕ → ℕ → Type 0
+MayHold n S zero v = Link S v
+MayHold n S (suc zero) v = Link S v
+MayHold n S (suc (suc zero)) v = Unit {0}
+MayHold n S (suc (suc (suc zero))) v = Link S v
+MayHold n S (suc (suc (suc (suc zero)))) v = Link S v
+MayHold n S (suc (suc (suc (suc (suc zero))))) v = Unit {0}
+MayHold n S (suc (suc (suc (suc (suc (suc zero)))))) v = FactLink n v
+MayHold n S (suc (suc (suc (suc (suc (suc (suc zero))))))) v = Link S v
+MayHold n S (suc (suc (suc (suc (suc (suc (suc (suc k)))))))) v = Unit {0}
 
 -- Every cell of the work holds what its kind may.
 pub record CellsOk (n : ℕ) (S : ℕ → Type 0) (w : List ℕ) : Type 0 where
-  pub holds : (i k : ℕ) → Spot n i k → Holds n S k (getD w i 0)
+  pub holds : (i k : ℕ) → CellOfKind n i k → MayHold n S k (getD w i 0)
 
 -- The work is right, where S says which copies have begun to be used: each stands where a copy stands, and the row that is stored there is right.
 pub record WorkOk (n : ℕ) (m : ℕ → ℕ → ℕ) (word : ℕ → List ℕ) (count : ℕ) (S : ℕ → Type 0) (w : List ℕ) : Type 0 where
   pub cells : CellsOk n S w
   pub place : (p : ℕ) → S p → Copy n (length w) p
-  pub rows : (p : ℕ) → S p → RowOk n m word count (readRow w p)
+  pub rows : (p : ℕ) → S p → RowOk n m word count (storedRow w p)
 
 -- The work is right for the copies that have begun to be used.
 pub record Working (n : ℕ) (m : ℕ → ℕ → ℕ) (word : ℕ → List ℕ) (count : ℕ) (w : List ℕ) : Type 1 where
@@ -113,7 +113,7 @@ pub record Working (n : ℕ) (m : ℕ → ℕ → ℕ) (word : ℕ → List ℕ)
 -- The table, the work and the top of the stack are right.
 pub record StateOk (n : ℕ) (m : ℕ → ℕ → ℕ) (word : ℕ → List ℕ) (count lt lw : ℕ) (S : ℕ → Type 0) (s : State) : Type 0 where
   pub table : TableOk n m word count (s .table)
-  pub made : Made n count (s .table)
+  pub made : MakersKnown n count (s .table)
   pub work : WorkOk n m word count S (s .work)
   pub top : FactLink n (s .top)
   pub table-length : length (s .table) ≡ lt
@@ -123,7 +123,7 @@ pub record StateOk (n : ℕ) (m : ℕ → ℕ → ℕ) (word : ℕ → List ℕ)
 pub record RunOk (n : ℕ) (m : ℕ → ℕ → ℕ) (room lt lw count : ℕ) (t w : List ℕ) : Type 1 where
   pub word : ℕ → List ℕ
   pub table : TableOk n m word count t
-  pub made : Made n count t
+  pub made : MakersKnown n count t
   pub work : Working n m word count w
   pub some : 1 ≤ count
   pub fits : count ≤ room

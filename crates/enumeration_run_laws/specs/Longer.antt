@@ -4,7 +4,7 @@ use mathlib.Core.Path.{_≡_}
 use mathlib.Core.List.{List, _++_}
 use lib.ListN.{length, replicate}
 use Rattle.enumeration_wake.specs.Waking.{State, state}
-use Rattle.enumeration_run.specs.Run.{Visit, visit, Outcome, outcome, enumerated}
+use Rattle.enumeration_run.specs.Run.{Visit, visit, RunResult, outcome, enumerated}
 use Rattle.enumeration_run.specs.declared.inner.Ran.the-variants as ran
 
 -- The list with k zeros behind.
@@ -25,7 +25,7 @@ abbrev pub longerVisit : ℕ → ℕ → Visit → Visit
 longerVisit a b v = visit (v .answer) (longer a (v .table)) (longer b (v .work))
 
 -- The same of what a run leaves.
-abbrev pub longerOutcome : ℕ → ℕ → Outcome → Outcome
+abbrev pub longerOutcome : ℕ → ℕ → RunResult → RunResult
 longerOutcome a b x = outcome (x .answer) (longer a (x .table)) (longer b (x .work))
 
 -- A run that is done with N elements gives, with more room and in longer stretches, the same answer and the same numbers; what is behind them is

@@ -9,7 +9,7 @@ use Rattle.theory.specs.Bounded.{sum, one}
 use Rattle.egg.specs.Table.{startOf}
 use Rattle.enumeration_rows.specs.Rows.{workWidth}
 use Rattle.enumeration_wake.specs.Waking.{State}
-use Rattle.enumeration_run_laws.specs.Invariant.{Known, Spot}
+use Rattle.enumeration_run_laws.specs.Invariant.{StepKnown, CellOfKind}
 
 -- How many steps of the elements below the count are not known.
 abbrev pub free : ℕ → ℕ → List ℕ → ℕ
@@ -22,7 +22,7 @@ pub record Fact (n count : ℕ) (t : List ℕ) (p : ℕ) : Type 0 where
   pub element-below : element < count
   pub generator-below : generator < n
   pub stands : p ≡ element * workWidth n + 10 * generator
-  pub known : Known n t element generator
+  pub known : StepKnown n t element generator
 
 -- The number p is not in the list.
 abbrev pub Absent : ℕ → List ℕ → Type 0
@@ -35,11 +35,11 @@ pub data Stack (n count : ℕ) (t w : List ℕ) : ℕ → List ℕ → Type 0 wh
   above : {top p : ℕ} {fs : List ℕ} → top ≡ suc p → Fact n count t p → Absent p fs → Stack n count t w (getD w (p + 6) 0) fs → Stack n count t w top (p ∷ fs)
 
 -- The cells that link the stack, at position 6 of each place, hold in w′ what they hold in w.
-pub record Six (n : ℕ) (w w′ : List ℕ) : Type 0 where
-  pub same : (i : ℕ) → Spot n i 6 → getD w′ i 0 ≡ getD w i 0
+pub record SameStackLinks (n : ℕ) (w w′ : List ℕ) : Type 0 where
+  pub same : (i : ℕ) → CellOfKind n i 6 → getD w′ i 0 ≡ getD w i 0
 
 -- The facts that are on the stack, and the steps that can still become facts, are at most `limit` together.
-pub record Piled (n count limit : ℕ) (s : State) : Type 0 where
+pub record FactsWithin (n count limit : ℕ) (s : State) : Type 0 where
   pub facts : List ℕ
   pub stack : Stack n count (s .table) (s .work) (s .top) facts
   pub within : length facts + free n count (s .table) ≤ limit

@@ -6,7 +6,7 @@ use native.Mathlib.Omega.{arith}
 use lib.ListN.{getD}
 use Rattle.enumeration_rows.specs.declared.inner.RelationTableRow.{RelationTableRow}
 use Rattle.enumeration_rows.specs.declared.inner.SideOfGap.{SideOfGap}
-use Rattle.enumeration_rows.specs.Rows.{readRow, writeRow, listAt, appended, waits}
+use Rattle.enumeration_rows.specs.Rows.{storedRow, writeRow, listAt, appended, waits}
 use Rattle.enumeration_fill.specs.Fill.{filled}
 use Rattle.enumeration_fill.specs.Alike.{Moves, Alike, forth, backward, movedAlike}
 use Rattle.enumeration_fill.proofs.Alike.{moves-forth, moves-back, moves-alike, moved-list}
@@ -19,14 +19,14 @@ module _ (t w : List ℕ) (n top : ℕ) (side : SideOfGap) (b a : RelationTableR
   apart r A h = omega (arith, A .wide)
 
   -- One copy moved on.
-  carried : (at : ℕ) {r : RelationTableRow} → r ≡ readRow w at → Alike r b (forth b a + backward b a)
+  carried : (at : ℕ) {r : RelationTableRow} → r ≡ storedRow w at → Alike r b (forth b a + backward b a)
       → wakes n at side (state t w top) ≡ state t (appended (writeRow w at (movedAlike r b a)) (listAt n a side) at) top
   unfolding wakes waits
   carried at {r} q A =
       rw (← q, moves-alike t n M A)
       (woken-waits n at side (state t w top) (movedAlike r b a) (apart r A) ∙ rw (moved-list t n side M A))
 
-  pub carry-turn : (at k : ℕ) {r : RelationTableRow} {next list : ℕ} {w₁ w₂ : List ℕ} → list ≡ listAt n a side → (k ≡ 0 → ⊥) → (at ≡ 0 → ⊥) → r ≡ readRow w (at - 1)
+  pub carry-turn : (at k : ℕ) {r : RelationTableRow} {next list : ℕ} {w₁ w₂ : List ℕ} → list ≡ listAt n a side → (k ≡ 0 → ⊥) → (at ≡ 0 → ⊥) → r ≡ storedRow w (at - 1)
       → Alike r b (forth b a + backward b a) → next ≡ getD w (at - 1 + 5) 0 → w₁ ≡ writeRow w (at - 1) (movedAlike r b a)
       → w₂ ≡ appended w₁ list (at - 1) → wakesAll (k - 1) n next side (state t w₂ top) ≡ wakesAll k n at side (state t w top)
   carry-turn at k {r} {next} {list} {w₁} {w₂} l p h q A d e f =

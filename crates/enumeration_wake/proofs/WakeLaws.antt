@@ -12,7 +12,7 @@ use Rattle.egg.specs.Table.{putAt}
 use Rattle.build_reading.specs.Build.{isNew, setStep}
 use Rattle.enumeration_rows.specs.declared.inner.RelationTableRow.{RelationTableRow}
 use Rattle.enumeration_rows.specs.declared.inner.SideOfGap.{SideOfGap}
-use Rattle.enumeration_rows.specs.Rows.{placeAt, genOf, readRow, waits}
+use Rattle.enumeration_rows.specs.Rows.{placeAt, genOf, storedRow, waits}
 use Rattle.enumeration_fill.specs.Fill.{filled}
 use Rattle.enumeration_wake.specs.Waking.{State, state, link, belowAt, learns, gives, woken, wakes, wakesAll}
 
@@ -51,7 +51,7 @@ module _ (n at : ℕ) (side : SideOfGap) (s : State) where
     pub wake-waits : {w₁ : List ℕ} → (r .left ≡ r .right → ⊥) → w₁ ≡ waits (s .work) n at r side → state (s .table) w₁ (s .top) ≡ woken n at side r s
     wake-waits h c = cc (woken-waits h)
 
-    pub wakes-by : {row : RelationTableRow} {s₁ : State} → row ≡ readRow (s .work) at → r ≡ filled (s .table) n row → s₁ ≡ woken n at side r s
+    pub wakes-by : {row : RelationTableRow} {s₁ : State} → row ≡ storedRow (s .work) at → r ≡ filled (s .table) n row → s₁ ≡ woken n at side r s
         → s₁ ≡ wakes n at side s
     unfolding wakes
     wakes-by a b c = cc

@@ -10,7 +10,7 @@ use Rattle.egg.specs.Table.{pick, putAt}
 use Rattle.build_reading.specs.Build.{isNew, setStep}
 use Rattle.enumeration_rows.specs.declared.inner.RelationTableRow.{RelationTableRow}
 use Rattle.enumeration_rows.specs.declared.inner.SideOfGap.{SideOfGap}
-use Rattle.enumeration_rows.specs.Rows.{placeAt, genOf, readRow, waits}
+use Rattle.enumeration_rows.specs.Rows.{placeAt, genOf, storedRow, waits}
 use Rattle.enumeration_fill.specs.Fill.{filled}
 
 -- What the machine works on: the table, the work, and the top of the stack of facts, which is the link of a place, or 0 for an empty stack.
@@ -52,7 +52,7 @@ woken n at side r s =
 
 -- What waking the copy at `at` comes to: its row is filled, and gives a step or waits again.
 unfoldable pub wakes : ℕ → ℕ → SideOfGap → State → State
-wakes n at side s = woken n at side (filled (s .table) n (readRow (s .work) at)) s
+wakes n at side s = woken n at side (filled (s .table) n (storedRow (s .work) at)) s
 
 -- What waking a list comes to: its copies from a link on, at most k of them, "in waiting order". The link to the next is read before a copy is woken;
 -- 0 ends a list.

@@ -11,7 +11,7 @@ use lib.ListN.{length, take, drop}
 use Rattle.egg.specs.declared.Made.{Made}
 use Rattle.egg.specs.declared.Counted.{Counted}
 use Rattle.build_lending.specs.Finish.{built}
-use Rattle.build_lending.specs.Lending.{tableNeed, workNeed, lentRight, Ends, refusedMade, madeOf, making}
+use Rattle.build_lending.specs.Lending.{tableNeed, workNeed, lentRight, StretchEnd, refusedMade, madeOf, making}
 use Rattle.build_lending.proofs.Lending.{part-length, build-back}
 use Rattle.factor_composed_rows.specs.Rows.{composedIn}
 use Rattle.factor.specs.Composed.{composed}
@@ -36,7 +36,7 @@ module _ (table : List ℕ) (start : ℕ) (work rows : List ℕ) (n room : ℕ) 
   composed-unlisted h l k e = simp (le-ltb _ _ h, l, lt-leb _ _ k) (rw e)
 
   pub composed-built : n ≤ 8 → lentRight (length table) start (length work) room n ≡ true → room * n ≤ length rows
-      → {e d : ℕ} {c : Counted} {t w : List ℕ} → Ends e start (tableNeed n room) (length table) → d ≡ workNeed n room → m ≡ madeOf start room n c
+      → {e d : ℕ} {c : Counted} {t w : List ℕ} → StretchEnd e start (tableNeed n room) (length table) → d ≡ workNeed n room → m ≡ madeOf start room n c
       → built c t w ≡ composedIn (length (midOf start (e - start) table)) (take d work) rows n room
       → making m (putMid start (e - start) table t) (w ++ drop d work) ≡ composed table start work rows n room
   unfolding composed

@@ -14,7 +14,7 @@ use Rattle.egg.specs.declared.Counted.the-variants as counted
 use Rattle.egg.specs.Factor.{Paper, refusalPaper, verdictPaper, reachedPaper, countedPaper}
 use Rattle.egg.proofs.Rooms.{false-true}
 use Rattle.factor.specs.Relations.{checkAnswer}
-use Rattle.build_checks_laws.specs.Numbers.{member, In}
+use Rattle.build_checks_laws.specs.Numbers.{member, RefusalIn}
 use Rattle.factor_laws.specs.Accepted.{Accepted}
 use Rattle.factor_laws.specs.Refuses.{VerdictIn, ReachedIn, CountedIn}
 use Rattle.factor_laws.specs.Papers.{valuePaper, PapersOf}
@@ -23,7 +23,7 @@ use Rattle.factor_laws.proofs.Refuses.{questions-refuse}
 
 -- Two answers with one paper are one answer, where no refusal of theirs has the number 0.
 module _ (l : List ℕ) (none : member 0 l ≡ false) where
-  no-value : (k : ℕ) (r : Refusal) → In l r → valuePaper k ≡ refusalPaper r → ⊥
+  no-value : (k : ℕ) (r : Refusal) → RefusalIn l r → valuePaper k ≡ refusalPaper r → ⊥
   no-value k r m q = let z : 0 ≡ r .number = ap (λ (p : Paper). p .number) q in false-true (sym none ∙ rw (← z) at m)
 
   same-refusal : (r s : Refusal) → refusalPaper r ≡ refusalPaper s → r ≡ s

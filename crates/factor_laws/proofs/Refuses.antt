@@ -31,7 +31,7 @@ use Rattle.factor_questions.specs.Walks.{along, readBack, ahead, backBy, compos
 use Rattle.factor_words.specs.Words.{lengthIn, readable, writeIn}
 use Rattle.factor_relations.specs.Relations.{turned, returnsTo, relationAt, doubledRow, pairsRow, relations}
 use Rattle.factor.specs.Relations.{checkAnswer}
-use Rattle.build_checks_laws.specs.Numbers.{member, every, In}
+use Rattle.build_checks_laws.specs.Numbers.{member, every, RefusalIn}
 use Rattle.build_checks_laws.proofs.Numbers.{each-in, orders-number}
 use Rattle.factor_laws.specs.Refuses.{VerdictIn, ReachedIn, CountedIn, Refuses}
 
@@ -42,7 +42,7 @@ module _ {l : List ℕ} where
     never : (r : Refusal) → Element e ≡ reached.Refused r → ⊥
     never r h = let z : _≡_ {A = ℕ} 0 1 = cc in omega arith
 
-  pub reached-refused : (s : Refusal) → In l s → ReachedIn l (reached.Refused s)
+  pub reached-refused : (s : Refusal) → RefusalIn l s → ReachedIn l (reached.Refused s)
   reached-refused s m = record { of = λ r h. let e : s ≡ r = cc in rw e at m }
 
   pub reached-pick : (b : Bool) (x y : Reached) → ReachedIn l x → ReachedIn l y → ReachedIn l (pick b x y)
@@ -62,7 +62,7 @@ module _ {l : List ℕ} where
     never : (r : Refusal) → counted.Count k ≡ counted.Refused r → ⊥
     never r h = let z : _≡_ {A = ℕ} 0 1 = cc in omega arith
 
-  pub counted-refused : (s : Refusal) → In l s → CountedIn l (counted.Refused s)
+  pub counted-refused : (s : Refusal) → RefusalIn l s → CountedIn l (counted.Refused s)
   counted-refused s m = record { of = λ r h. let e : s ≡ r = cc in rw e at m }
 
   pub counted-pick : (b : Bool) (x y : Counted) → CountedIn l x → CountedIn l y → CountedIn l (pick b x y)
@@ -76,7 +76,7 @@ module _ {l : List ℕ} where
   pub verdict-fine : VerdictIn l verdict.Fine
   verdict-fine = record { of = λ r h. absurd (refused-fine (sym h)) }
 
-  pub verdict-refused : (s : Refusal) → In l s → VerdictIn l (verdict.Refused s)
+  pub verdict-refused : (s : Refusal) → RefusalIn l s → VerdictIn l (verdict.Refused s)
   verdict-refused s m = record { of = λ r h. let e : s ≡ r = cc in rw e at m }
 
   pub verdict-pick : (b : Bool) (u v : Verdict) → VerdictIn l u → VerdictIn l v → VerdictIn l (pick b u v)

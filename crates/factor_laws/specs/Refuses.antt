@@ -18,19 +18,19 @@ use Rattle.egg.specs.Factor.{stepAnswer}
 use Rattle.factor.specs.Questions.{composeAnswer, inverseAnswer, conjugateAnswer, countAnswer, generatorAnswer, lengthAnswer}
 use Rattle.factor.specs.Questions.{writeAnswer, written, wordPart}
 use Rattle.factor.specs.Relations.{checkAnswer}
-use Rattle.build_checks_laws.specs.Numbers.{In}
+use Rattle.build_checks_laws.specs.Numbers.{RefusalIn}
 
 -- If the check is refused, then by one of the numbers of l.
 pub record VerdictIn (l : List ℕ) (v : Verdict) : Type 0 where
-  pub of : (r : Refusal) → v ≡ verdict.Refused r → In l r
+  pub of : (r : Refusal) → v ≡ verdict.Refused r → RefusalIn l r
 
 -- The same of an answer that is an element.
 pub record ReachedIn (l : List ℕ) (x : Reached) : Type 0 where
-  pub of : (r : Refusal) → x ≡ reached.Refused r → In l r
+  pub of : (r : Refusal) → x ≡ reached.Refused r → RefusalIn l r
 
 -- The same of an answer that is a count.
 pub record CountedIn (l : List ℕ) (x : Counted) : Type 0 where
-  pub of : (r : Refusal) → x ≡ counted.Refused r → In l r
+  pub of : (r : Refusal) → x ≡ counted.Refused r → RefusalIn l r
 
 -- Each question is answered, or refused by one of the numbers that stand here.
 pub record Refuses (t : List ℕ) (f : Factor) : Type 0 where

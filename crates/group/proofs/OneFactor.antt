@@ -34,7 +34,7 @@ use Rattle.group_digits.specs.declared.inner.Asked.{Asked}
 use Rattle.group_digits.specs.declared.inner.Asked.the-variants.{Compose, Inverse, Conjugate}
 use Rattle.group_handles.specs.Handles.{handles, elementsOf, generatorsOf, limited, admits}
 use Rattle.group_digits.specs.Digits.{above, digitOf, digitwise, stepIn, composes, inverts}
-use Rattle.group_powers.specs.Powers.{oddToo, halves, negated, powers, powiAlone}
+use Rattle.group_powers.specs.Powers.{oddToo, byHalving, negated, powers, powiAlone}
 use Rattle.group_handles.specs.Counts.{onCounted}
 use Rattle.group_words.specs.Words.{lengths, readables, spells, writesBy, writes, leaves}
 use Rattle.group.specs.Questions.{stepAnswer, generatorAnswer, composeAnswer, inverseAnswer, conjugateAnswer, powiAnswer, lengthAnswer, writeAnswer, written}
@@ -74,32 +74,32 @@ module _ {N : ℕ} (op op′ : ℕ → ℕ → Reached) (some-N : 0 < N) (alike 
   odd-below a x zero h = element h
   odd-below a x (suc r) h = stays x a h
 
-  halves-below : (fuel a k : ℕ) → Below N (halves fuel op′ a k)
-  unfolding halves
+  halves-below : (fuel a k : ℕ) → Below N (byHalving fuel op′ a k)
+  unfolding byHalving
   halves-below zero a k = element some-N
   halves-below (suc fuel) a zero = element some-N
   halves-below (suc fuel) a (suc k) =
-      below-on (halves fuel op′ a (suc k / 2)) (halves-below fuel a (suc k / 2))
+      below-on (byHalving fuel op′ a (suc k / 2)) (halves-below fuel a (suc k / 2))
       (λ x p. below-on (op′ x x) (stays x x p) (λ y q. odd-below a y (suc k % 2) q))
 
   odd-alike : (a x r : ℕ) → a < N → x < N → oddToo op a x r ≡ oddToo op′ a x r
   odd-alike a x zero p q = refl
   odd-alike a x (suc r) p q = alike x a q p
 
-  halves-alike : (fuel a k : ℕ) → a < N → halves fuel op a k ≡ halves fuel op′ a k
-  unfolding halves
+  halves-alike : (fuel a k : ℕ) → a < N → byHalving fuel op a k ≡ byHalving fuel op′ a k
+  unfolding byHalving
   halves-alike zero a k h = refl
   halves-alike (suc fuel) a zero h = refl
   halves-alike (suc fuel) a (suc k) h =
       ap (λ (r : Reached). onReached r (λ x. onReached (op x x) (λ y. oddToo op a y (suc k % 2)))) (halves-alike fuel a (suc k / 2) h)
-      ∙ on-alike (halves fuel op′ a (suc k / 2)) (halves-below fuel a (suc k / 2))
+      ∙ on-alike (byHalving fuel op′ a (suc k / 2)) (halves-below fuel a (suc k / 2))
       (λ x p. ap (λ (r : Reached). onReached r (λ y. oddToo op a y (suc k % 2))) (alike x x p p)
       ∙ on-alike (op′ x x) (stays x x p) (λ y q. odd-alike a y (suc k % 2) h q))
 
   negated-alike : (b : Bool) (half i k : ℕ) → i < N → negated b half op i k ≡ negated b half op′ i k
   negated-alike true half i k h =
       ap (λ (r : Reached). onReached r (λ x. op x x)) (halves-alike half i half h)
-      ∙ on-alike (halves half op′ i half) (halves-below half i half) (λ x p. alike x x p p)
+      ∙ on-alike (byHalving half op′ i half) (halves-below half i half) (λ x p. alike x x p p)
   negated-alike false half i k h = halves-alike k i k h
 
   powers-alike : (half : ℕ) (inv inv′ : ℕ → Reached) (a : ℕ) (i : ℤ) → a < N → inv a ≡ inv′ a → Below N (inv′ a)

@@ -21,7 +21,7 @@ use Rattle.egg.specs.declared.Counted.the-variants.{Count, Refused}
 use Rattle.egg.specs.Table.{pick}
 use Rattle.build_reading.specs.Build.{adds}
 use Rattle.build_lending.specs.Finish.{Built, built, finished, finishedPlaced}
-use Rattle.build_lending.specs.Lending.{tableNeed, workNeed, lentRight, Ends, refusedMade, madeOf, Making, making, noFactor}
+use Rattle.build_lending.specs.Lending.{tableNeed, workNeed, lentRight, StretchEnd, refusedMade, madeOf, Making, making, noFactor}
 use Rattle.build_lending.proofs.Lending.{part-length, build-back}
 use Rattle.build_reading.specs.Reading.{Placed, placed, thenPlaced, onAdds, readPlace}
 use Rattle.group_handles.specs.Handles.{generatorsOf}
@@ -129,7 +129,7 @@ module _ (from : List ℕ) (hs : List Factor) (table : List ℕ) (start : ℕ) (
     flat-short z p = let y : n ≡ generatorsOf hs = e ∙ q in let x : generatorsOf hs ≤ 8 = rw (← q) h in rw (le-ltb 8 (generatorsOf hs) x, ← y, z, p)
 
     pub flat-built : {x d : ℕ} {c : Counted} {t w : List ℕ} {m : Made} → lentRight (length table) start (length work) room n ≡ true
-        → Ends x start (tableNeed n room) (length table) → d ≡ workNeed n room → m ≡ madeOf start room n c
+        → StretchEnd x start (tableNeed n room) (length table) → d ≡ workNeed n room → m ≡ madeOf start room n c
         → built c t w ≡ flatIn (length (midOf start (x - start) table)) (take d work) from hs n room
         → making m (putMid start (x - start) table t) (w ++ drop d work) ≡ flatInto from hs table start work room
     unfolding flatInto

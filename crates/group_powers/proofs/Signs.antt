@@ -15,7 +15,7 @@ use Rattle.egg.specs.declared.GroupElementId.{GroupElementId}
 use Rattle.egg.specs.declared.Reached.{Reached}
 use Rattle.egg.specs.declared.Reached.the-variants.{Element, Refused}
 use Rattle.egg.specs.Answers.{onReached}
-use Rattle.group_powers.specs.Powers.{halves, negated, powers}
+use Rattle.group_powers.specs.Powers.{byHalving, negated, powers}
 
 abbrev pub read : ℤ → ℤ
 read z = toZ w32 (ofZ w32 z)
@@ -37,13 +37,13 @@ pub positive-cast : (z : ℤ) → SFits w32 z → leZ (pos 0) (read z) ≡ true 
 positive-cast z f q = subst (λ (v : ℤ). T (nonNeg v) × Fits w32 (natAbs v)) (sym (read-is z f)) (size-of-positive z f (sign z f q))
 
 module _ (half : ℕ) (op : ℕ → ℕ → Reached) (inv : ℕ → Reached) (a : ℕ) where
-  powers-pos : (z : ℤ) → leZ (pos 0) z ≡ true → halves (natAbs z) op a (natAbs z) ≡ powers half op inv a z
+  powers-pos : (z : ℤ) → leZ (pos 0) z ≡ true → byHalving (natAbs z) op a (natAbs z) ≡ powers half op inv a z
   unfolding powers
   powers-pos (pos k) q = refl
   powers-pos (negsuc k) q = no q
 
-  pub powers-positive : (z : ℤ) → SFits w32 z → leZ (pos 0) (read z) ≡ true → {r : Reached} → r ≡ halves (natAbs (read z)) op a (natAbs (read z)) → r ≡ powers half op inv a z
-  powers-positive z f q p = p ∙ ap (λ (v : ℤ). halves (natAbs v) op a (natAbs v)) (read-is z f) ∙ powers-pos z (sign z f q)
+  pub powers-positive : (z : ℤ) → SFits w32 z → leZ (pos 0) (read z) ≡ true → {r : Reached} → r ≡ byHalving (natAbs (read z)) op a (natAbs (read z)) → r ≡ powers half op inv a z
+  powers-positive z f q p = p ∙ ap (λ (v : ℤ). byHalving (natAbs v) op a (natAbs v)) (read-is z f) ∙ powers-pos z (sign z f q)
 
   module _ {b : Reached} (w : b ≡ inv a) where
     powers-ref : (z : ℤ) → leZ (pos 0) z ≡ false → {why : Refusal} → b ≡ Refused why → b ≡ powers half op inv a z
@@ -61,14 +61,14 @@ module _ (half : ℕ) (op : ℕ → ℕ → Reached) (inv : ℕ → Reached) (a 
 
       -- The least, which has no negation.
       powers-low : (z : ℤ) → SFits w32 z → leZ (pos 0) z ≡ false → ofZ w32 z ≡ 2147483648 → half + half ≡ 2147483648
-          → onReached (halves half op (i .0) half) (λ x. op x x) ≡ powers half op inv a z
+          → onReached (byHalving half op (i .0) half) (λ x. op x x) ≡ powers half op inv a z
       powers-low (pos k) f q s d = no (sym q ∙ le-leb 0 k (omega arith))
       powers-low (negsuc k) f q s d =
           let h : suc k ≡ half + half = omega (arith, s, d, f .sfits) in
           ap (λ (t : Bool). negated t half op (i .0) (suc k)) (sym (eq-eqb (suc k) (half + half) h)) ∙ powers-neg k
 
       module _ (z : ℤ) (f : SFits w32 z) (q : leZ (pos 0) (read z) ≡ false) (s : ofZ w32 z ≡ 2147483648) (d : half + half ≡ 2147483648)
-          {r : Reached} (p : r ≡ halves half op (i .0) half)
+          {r : Reached} (p : r ≡ byHalving half op (i .0) half)
         where
           least : onReached r (λ x. op x x) ≡ powers half op inv a z
           least = ap (λ (v : Reached). onReached v (λ x. op x x)) p ∙ powers-low z f (sign z f q) s d
@@ -81,7 +81,7 @@ module _ (half : ℕ) (op : ℕ → ℕ → Reached) (inv : ℕ → Reached) (a 
 
       -- All the others.
       powers-other : (z : ℤ) → SFits w32 z → leZ (pos 0) z ≡ false → (ofZ w32 z ≡ 2147483648 → ⊥) → half + half ≡ 2147483648
-          → halves (natAbs z) op (i .0) (natAbs z) ≡ powers half op inv a z
+          → byHalving (natAbs z) op (i .0) (natAbs z) ≡ powers half op inv a z
       powers-other (pos k) f q s d = no (sym q ∙ le-leb 0 k (omega arith))
       powers-other (negsuc k) f q s d =
           let h : suc k ≡ half + half → ⊥ = λ y. s (omega (arith, y, d)) in
@@ -130,7 +130,7 @@ module _ (z : ℤ) (f : SFits w32 z) (q : leZ (pos 0) (read z) ≡ false) (s : o
       small (negsuc k) t g = absurd t
 
   pub powers-negative : (half : ℕ) (op : ℕ → ℕ → Reached) (inv : ℕ → Reached) (a : ℕ) → half + half ≡ 2147483648 → {b : Reached} → b ≡ inv a → {i : GroupElementId} → b ≡ Element i
-      → {r : Reached} → r ≡ halves (natAbs (read (pos 0 -ℤ read z))) op (i .0) (natAbs (read (pos 0 -ℤ read z))) → r ≡ powers half op inv a z
+      → {r : Reached} → r ≡ byHalving (natAbs (read (pos 0 -ℤ read z))) op (i .0) (natAbs (read (pos 0 -ℤ read z))) → r ≡ powers half op inv a z
   powers-negative half op inv a d {b} w {i} e {r} p =
       let g : natAbs (read (pos 0 -ℤ read z)) ≡ natAbs z = ap natAbs back ∙ n .size in
-      p ∙ ap (λ (k : ℕ). halves k op (i .0) k) g ∙ powers-other half op inv a w e z f (sign z f q) s d
+      p ∙ ap (λ (k : ℕ). byHalving k op (i .0) k) g ∙ powers-other half op inv a w e z f (sign z f q) s d

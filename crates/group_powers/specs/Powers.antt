@@ -21,21 +21,21 @@ oddToo op a x zero = Element (record { 0 = x })
 oddToo op a x (suc r) = op x a
 
 -- The k-th power: the square of the power by k / 2, and once more a if k is odd. `fuel` bounds how often it halves; k times is enough.
-unfoldable pub halves : ℕ → (ℕ → ℕ → Reached) → ℕ → ℕ → Reached
-halves zero op a k = Element (record { 0 = 0 })
-halves (suc fuel) op a zero = Element (record { 0 = 0 })
-halves (suc fuel) op a (suc k) =
-    onReached (halves fuel op a (suc k / 2)) (λ x. onReached (op x x) (λ y. oddToo op a y (suc k % 2)))
+unfoldable pub byHalving : ℕ → (ℕ → ℕ → Reached) → ℕ → ℕ → Reached
+byHalving zero op a k = Element (record { 0 = 0 })
+byHalving (suc fuel) op a zero = Element (record { 0 = 0 })
+byHalving (suc fuel) op a (suc k) =
+    onReached (byHalving fuel op a (suc k / 2)) (λ x. onReached (op x x) (λ y. oddToo op a y (suc k % 2)))
 
 -- A power by the negative exponent -k, where i is the inverse. "`powi` as the source, i32::MIN included: it squares the 2^30 power of the inverse."
 -- `half` is 2^30, and the test says that k is twice that.
 abbrev pub negated : Bool → ℕ → (ℕ → ℕ → Reached) → ℕ → ℕ → Reached
-negated true half op i k = onReached (halves half op i half) (λ x. op x x)
-negated false half op i k = halves k op i k
+negated true half op i k = onReached (byHalving half op i half) (λ x. op x x)
+negated false half op i k = byHalving k op i k
 
 -- The power by any exponent; `op` composes and `inv` inverts.
 unfoldable pub powers : ℕ → (ℕ → ℕ → Reached) → (ℕ → Reached) → ℕ → ℤ → Reached
-powers half op inv a (pos k) = halves k op a k
+powers half op inv a (pos k) = byHalving k op a k
 powers half op inv a (negsuc k) = onReached (inv a) (λ i. negated (eqb (suc k) (half + half)) half op i (suc k))
 
 -- `powi` in one factor: the crate `factor` has no such call.

@@ -5,7 +5,7 @@ ghost use Prim.Native.Nat.{_≤_};
 ghost use lib.ListN.{length};
 ghost use Rattle.group_handles.specs.Handles.{handles, elementsOf, allFit};
 ghost use Rattle.group_digits.specs.Digits.{composes, inverts};
-ghost use Rattle.group_powers.specs.Powers.{halves, powers};
+ghost use Rattle.group_powers.specs.Powers.{byHalving, powers};
 use egg::GroupElementId;
 use egg::Reached;
 use group_handles::Group;
@@ -15,7 +15,7 @@ pub mod one;
 // The k-th power: the square of the power by half of k, and once more the element where k is odd.
 pub fn power(table: &[u32], g: Group, a: GroupElementId, k: u32) -> Reached
     requires { ⌜ (allFit (length (now table)) (handles g) ≡ true) × (elementsOf (handles g) ≤ 4294967295) ⌝ }
-    ensures { λ r. ⌜ r ≡ halves k (composes (now (table .entry)) (handles g)) (a .0) k ⌝ }
+    ensures { λ r. ⌜ r ≡ byHalving k (composes (now (table .entry)) (handles g)) (a .0) k ⌝ }
 {
     if k == 0 {
         return Reached::Element(GroupElementId(0));

@@ -14,8 +14,8 @@ use Rattle.image_cells.proofs.Laws.{cells-length}
 use Rattle.image_check.specs.Short.{SomeWork, judged}
 use Rattle.image_check.proofs.Parts.{rest-lent, front-drop, front-count}
 use Rattle.image_check_laws.proofs.Short.{judged-is-built}
-use Rattle.image.specs.Image.{generatorsOf, elementsOf, headNumber, bytesNeed, imageNumber, imageWork}
-use Rattle.image.proofs.Heads.{Right, right-head}
+use Rattle.image.specs.Image.{headGenerators, headElements, headNumber, bytesNeed, imageNumber, imageWork}
+use Rattle.image.proofs.Heads.{HeadRight, right-head}
 
 -- A number is at most its square; so the bytes are enough for the table and a cell for each element.
 self-square : (n : ℕ) → n ≤ n * n
@@ -38,18 +38,18 @@ module _ (l w : List ℕ) {h : ℕ} (qh : h ≡ headNumber l) where
   unfolding imageNumber imageWork
   bad-head d = let e : headNumber l ≡ 0 → ⊥ = λ z. d (qh ∙ z) in (simp (ne-eqb _ _ e) qh, simp (ne-eqb _ _ e))
 
-  module _ (z : h ≡ 0) {n count need : ℕ} (qn : n ≡ generatorsOf l) (qc : count ≡ elementsOf l) (qd : need ≡ bytesNeed n count) where
-    abbrev right : Right l
+  module _ (z : h ≡ 0) {n count need : ℕ} (qn : n ≡ headGenerators l) (qc : count ≡ headElements l) (qd : need ≡ bytesNeed n count) where
+    abbrev right : HeadRight l
     right = right-head l (sym qh ∙ z)
 
-    same-need : need ≡ bytesNeed (generatorsOf l) (elementsOf l)
+    same-need : need ≡ bytesNeed (headGenerators l) (headElements l)
     same-need = qd ∙ rw (qn, qc)
 
     pub short-work : length w < need → (4 ≡ imageNumber l (length w)) × (w ≡ imageWork l w)
     unfolding imageNumber imageWork
     short-work d =
         let e : headNumber l ≡ 0 = sym qh ∙ z in
-        let f : length w < bytesNeed (generatorsOf l) (elementsOf l) = rw same-need at d in
+        let f : length w < bytesNeed (headGenerators l) (headElements l) = rw same-need at d in
         (simp (eq-eqb _ _ e, lt-ltb _ _ f), simp (eq-eqb _ _ e, lt-ltb _ _ f))
 
     pub image-whole : 8 ≤ length l
@@ -76,7 +76,7 @@ module _ (l w : List ℕ) {h : ℕ} (qh : h ≡ headNumber l) where
       unfolding imageNumber
       whole-number small j =
           let e : headNumber l ≡ 0 = sym qh ∙ z in
-          let f : bytesNeed (generatorsOf l) (elementsOf l) ≤ length w = rw same-need at lent in
+          let f : bytesNeed (headGenerators l) (headElements l) ≤ length w = rw same-need at lent in
           let few : n ≤ 8 = rw qn (right .few) in
           let some : 1 ≤ count = rw qc (right .some) in
           let b = judged-is-built (halves (midOf 8 (length l - 8) l)) n count (at / 4) (j .work) (replicate (workNeed n count) 0)
@@ -88,6 +88,6 @@ module _ (l w : List ℕ) {h : ℕ} (qh : h ≡ headNumber l) where
       unfolding imageWork
       whole-work p q k c =
           let e : headNumber l ≡ 0 = sym qh ∙ z in
-          let f : bytesNeed (generatorsOf l) (elementsOf l) ≤ length w = rw same-need at lent in
+          let f : bytesNeed (headGenerators l) (headElements l) ≤ length w = rw same-need at lent in
           let d : q ≡ replicate need 0 = c ∙ ap (λ (i : ℕ). replicate i 0) (sym (front-count w need lent p k)) in
           simp (eq-eqb _ _ e, le-ltb _ _ f) (rw (front-drop w need lent p k, d, same-need))

@@ -7,19 +7,19 @@ use lib.Dec.{eqb}
 use Rattle.egg.specs.Table.{pick}
 use Rattle.build_lending.specs.Lending.{tableNeed, workNeed, lentRight, refusedMade, Making, making, lentBack}
 use Rattle.image_cells.specs.Cells.{halves}
-use Rattle.image.specs.Image.{generatorsOf, elementsOf, headNumber}
+use Rattle.image.specs.Image.{headGenerators, headElements, headNumber}
 use Rattle.image_reading.specs.Read.{imageIn}
 
 -- The place of a bad head's refusal: for 1, "more than 8 generators", it is "the count"; for 16 there is none.
 abbrev pub headPlace : List ℕ → ℕ
-headPlace l = pick (eqb (headNumber l) 1) (generatorsOf l) 0
+headPlace l = pick (eqb (headNumber l) 1) (headGenerators l) 0
 
 -- What `read` answers and leaves in its buffers. Refuses, with these as they were, the head's 16 or 1, then 4; else builds with room N.
 unfoldable pub readImage : List ℕ → List ℕ → ℕ → List ℕ → Making
 readImage l table start work =
     pick (eqb (headNumber l) 0)
-    (pick (lentRight (length table) start (length work) (elementsOf l) (generatorsOf l))
-    (lentBack table start work (generatorsOf l) (elementsOf l)
-    (imageIn (tableNeed (generatorsOf l) (elementsOf l)) (take (workNeed (generatorsOf l) (elementsOf l)) work) (halves (drop 8 l)) (generatorsOf l) (elementsOf l)))
+    (pick (lentRight (length table) start (length work) (headElements l) (headGenerators l))
+    (lentBack table start work (headGenerators l) (headElements l)
+    (imageIn (tableNeed (headGenerators l) (headElements l)) (take (workNeed (headGenerators l) (headElements l)) work) (halves (drop 8 l)) (headGenerators l) (headElements l)))
     (making (refusedMade 4 0) table work))
     (making (refusedMade (headNumber l) (headPlace l)) table work)

@@ -8,7 +8,7 @@ ghost use Rattle.image_writing.specs.Written.{imageSize};
 ghost use Rattle.image.specs.Written.{writeCount, writtenImage};
 ghost use Rattle.image.specs.Read.{headPlace, readImage};
 ghost use Rattle.image.specs.Walked.{walkNumber};
-ghost use Rattle.image.specs.Image.{lengthOf, generatorsOf, elementsOf, headNumber, bytesNeed, imageNumber, imageWork, Said};
+ghost use Rattle.image.specs.Image.{headLength, headGenerators, headElements, headNumber, bytesNeed, imageNumber, imageWork, ReadBelow};
 use egg::Counted;
 use egg::Factor;
 use egg::GroupElementId;
@@ -17,7 +17,7 @@ use egg::Verdict;
 
 // The length of what follows, as the head says it.
 fn said_length(image: &[u8]) -> u32
-    ensures { λ r. ⌜ r ≡ lengthOf (now (image .entry)) ⌝ }
+    ensures { λ r. ⌜ r ≡ headLength (now (image .entry)) ⌝ }
 {
     image_cells::inner::spell(
         egg::inner::byte(image, 3),
@@ -29,14 +29,14 @@ fn said_length(image: &[u8]) -> u32
 
 // Answers how many generators the head says, and 0 where the image is too short to say it.
 pub fn generators(image: &[u8]) -> u8
-    ensures { λ r. ⌜ r ≡ generatorsOf (now (image .entry)) ⌝ }
+    ensures { λ r. ⌜ r ≡ headGenerators (now (image .entry)) ⌝ }
 {
     egg::inner::byte(image, 5)
 }
 
 // Answers how many elements the head says, a byte that is missing being 0.
 pub fn elements(image: &[u8]) -> u32
-    ensures { λ r. ⌜ Said r (elementsOf (now (image .entry))) 65536 ⌝ }
+    ensures { λ r. ⌜ ReadBelow r (headElements (now (image .entry))) 65536 ⌝ }
 {
     let a = egg::inner::byte(image, 6);
     let b = egg::inner::byte(image, 7);

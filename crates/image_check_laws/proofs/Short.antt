@@ -23,7 +23,7 @@ use Rattle.theory.specs.Words.{Parents, Recorded}
 use Rattle.theory.specs.Regular.{Check}
 use Rattle.theory.proofs.Counting.{numbered-table}
 use Rattle.theory.proofs.FirstPlaces.{first-parents}
-use Rattle.build_checks_laws.specs.Stored.{Stored}
+use Rattle.build_checks_laws.specs.Stored.{StoredTable}
 use Rattle.build_checks_laws.proofs.Tests.{missing-fine, counts-fine}
 use Rattle.build_checks_laws.proofs.Inverses.{fill-kept, stored-kept}
 use Rattle.build_checks_laws.proofs.Lefts.{lefts-sound, lefts-complete}
@@ -40,7 +40,7 @@ fine-left : (l : Lefts) → leftVerdict l ≡ Fine → (w : List ℕ) × (l ≡ 
 fine-left (left v w) e = (w, ap (λ (x : Verdict). left x w) e)
 
 module _ {n N : ℕ} {step back : ℕ → ℕ → ℕ} {parent last : ℕ → ℕ} {word : ℕ → List ℕ} {t : List ℕ} (small : N ≤ 65535)
-    (S : Stored t n N step back parent last word) (T : Table n N step) (P : Parents n N step parent last) (R : Recorded N parent last word) where
+    (S : StoredTable t n N step back parent last word) (T : Table n N step) (P : Parents n N step parent last) (R : Recorded N parent last word) where
   lefts-check : (w : List ℕ) → (0 < n → N ≤ length w) → leftVerdict (lefts n t n N w 0) ≡ Fine → Check n N step word
   lefts-check w room e =
       let q = fine-left (lefts n t n N w 0) e in

@@ -11,19 +11,19 @@ use Rattle.egg.specs.Scan.{scan}
 use Rattle.egg.specs.Factor.{readStep}
 
 -- k numbers of row e, from generator g on; `src` gives the number at each place.
-unfoldable pub rowOf : ℕ → (ℕ → ℕ → ℕ) → ℕ → ℕ → List ℕ
-rowOf zero src e g = []
-rowOf (suc k) src e g = src e g ∷ rowOf k src e (g + 1)
+unfoldable pub rowNumbers : ℕ → (ℕ → ℕ → ℕ) → ℕ → ℕ → List ℕ
+rowNumbers zero src e g = []
+rowNumbers (suc k) src e g = src e g ∷ rowNumbers k src e (g + 1)
 
 -- The numbers of k rows from e on.
 unfoldable pub rowsOf : ℕ → (ℕ → ℕ → ℕ) → ℕ → ℕ → List ℕ
 rowsOf zero src n e = []
-rowsOf (suc k) src n e = rowOf n src e 0 ++ rowsOf k src n (e + 1)
+rowsOf (suc k) src n e = rowNumbers n src e 0 ++ rowsOf k src n (e + 1)
 
 -- The bytes that spell the numbers: two each, the highest first.
-unfoldable pub spelled : List ℕ → List ℕ
-spelled [] = []
-spelled (v ∷ r) = v / 256 % 256 ∷ v % 256 ∷ spelled r
+unfoldable pub spelledBytes : List ℕ → List ℕ
+spelledBytes [] = []
+spelledBytes (v ∷ r) = v / 256 % 256 ∷ v % 256 ∷ spelledBytes r
 
 -- How many bytes an image has: a head of eight, and two for each successor.
 abbrev pub imageSize : ℕ → ℕ → ℕ
@@ -36,7 +36,7 @@ headBytes len n N =
 
 -- The whole image; "Length is 4 + 2nN".
 unfoldable pub imageOf : (ℕ → ℕ → ℕ) → ℕ → ℕ → List ℕ
-imageOf src n N = headBytes (4 + 2 * n * N) n N ++ spelled (rowsOf N src n 0)
+imageOf src n N = headBytes (4 + 2 * n * N) n N ++ spelledBytes (rowsOf N src n 0)
 
 -- The list with v stored in two bytes from place `at` on. This and what follows gives the same image as the stores come.
 abbrev pub putHalf : List ℕ → ℕ → ℕ → List ℕ

@@ -7,7 +7,7 @@ use native.Mathlib.Omega.{arith}
 use lib.ListN.{length, length-append}
 use lib.Dec.{ltb}
 use Rattle.egg.specs.Table.{pick, lengthOf, inverseOf, stepOf}
-use Rattle.listing_lines.specs.Text.{Ends, digits, stepsText, lineText, linesText, groupText, refusedText}
+use Rattle.listing_lines.specs.Text.{EndFits, digits, stepsText, lineText, linesText, groupText, refusedText}
 
 digits-length : (k x : ℕ) → length (digits k x) ≤ k
 unfolding digits
@@ -37,7 +37,7 @@ module _ (t : List ℕ) (n : ℕ) where
   pub group-length : (count : ℕ) → length (groupText t n count) ≤ 28 + count * (33 + 11 * n)
   group-length count = simp length-append (omega (arith, digits-length 10 n, digits-length 10 count, lines-length count 0))
 
-  pub group-ends : {count : ℕ} → n < 256 → count < 4294967296 → Ends 0 (groupText t n count)
+  pub group-ends : {count : ℕ} → n < 256 → count < 4294967296 → EndFits 0 (groupText t n count)
   group-ends {count} h k =
       let a : count ≤ 4294967295 = omega arith in
       let b : 33 + 11 * n ≤ 2838 = omega arith in
@@ -46,5 +46,5 @@ module _ (t : List ℕ) (n : ℕ) where
 pub refused-length : (number : ℕ) → length (refusedText number) ≤ 19
 refused-length number = simp length-append (omega (arith, digits-length 10 number))
 
-pub refused-ends : (number : ℕ) → Ends 0 (refusedText number)
+pub refused-ends : (number : ℕ) → EndFits 0 (refusedText number)
 refused-ends number = record { fits = omega (arith, refused-length number) }

@@ -9,7 +9,7 @@ use borrow.Author.Tests.{lt-ltb, le-ltb}
 use lib.ListN.{length, set, getD, drop, length-append, drop-of-length-le}
 use lib.Seq.{sets, set-out, length-sets, drop-cons}
 use Rattle.egg.specs.Table.{stepOf, inverseOf, lengthOf}
-use Rattle.listing_lines.specs.Text.{Writes, Ends, digits, decimal, spaced, stepsText, lineText, linesText, groupText, refusedText}
+use Rattle.listing_lines.specs.Text.{Writes, EndFits, digits, decimal, spaced, stepsText, lineText, linesText, groupText, refusedText}
 
 pub sets-append : (a b l : List ℕ) (i : ℕ) → sets l i (a ++ b) ≡ sets (sets l i a) (i + length a) b
 sets-append [] b l i = rw add-zero
@@ -25,10 +25,10 @@ module _ {l m : List ℕ} {i j : ℕ} {a : List ℕ} (w : Writes l i a m j) wher
   pub kept : length m ≡ length l
   kept = ap length (w .holds) ∙ length-sets l i a
 
-  pub then-ends : (b : List ℕ) → Ends i (a ++ b) → Ends j b
+  pub then-ends : (b : List ℕ) → EndFits i (a ++ b) → EndFits j b
   then-ends b h = record { fits = omega (arith, h .fits, w .moves, length-append a b) }
 
-pub first-ends : {a : List ℕ} {i : ℕ} (b : List ℕ) → Ends i (a ++ b) → Ends i a
+pub first-ends : {a : List ℕ} {i : ℕ} (b : List ℕ) → EndFits i (a ++ b) → EndFits i a
 first-ends {a} b h = record { fits = omega (arith, h .fits, length-append a b) }
 
 pub nothing : (l : List ℕ) (i : ℕ) → Writes l i [] l i
@@ -45,36 +45,36 @@ dropped l i b h = record { holds = sym (set-out l i b h); moves = refl }
 pub record Pieces (text a b c d e : List ℕ) : Type 0 where
   pub is : text ≡ a ++ (b ++ (c ++ (d ++ e)))
 
-module _ {text a b c d e : List ℕ} (p : Pieces text a b c d e) {i : ℕ} (h : Ends i text) where
-  all : Ends i (a ++ (b ++ (c ++ (d ++ e))))
+module _ {text a b c d e : List ℕ} (p : Pieces text a b c d e) {i : ℕ} (h : EndFits i text) where
+  all : EndFits i (a ++ (b ++ (c ++ (d ++ e))))
   all = rw (← p .is) h
 
-  pub ends-1 : Ends i a
+  pub ends-1 : EndFits i a
   ends-1 = first-ends (b ++ (c ++ (d ++ e))) all
 
   module _ {l m₁ : List ℕ} {i₁ : ℕ} (w₁ : Writes l i a m₁ i₁) where
-    after-1 : Ends i₁ (b ++ (c ++ (d ++ e)))
+    after-1 : EndFits i₁ (b ++ (c ++ (d ++ e)))
     after-1 = then-ends w₁ (b ++ (c ++ (d ++ e))) all
 
-    pub ends-2 : Ends i₁ b
+    pub ends-2 : EndFits i₁ b
     ends-2 = first-ends (c ++ (d ++ e)) after-1
 
     module _ {m₂ : List ℕ} {i₂ : ℕ} (w₂ : Writes m₁ i₁ b m₂ i₂) where
-      after-2 : Ends i₂ (c ++ (d ++ e))
+      after-2 : EndFits i₂ (c ++ (d ++ e))
       after-2 = then-ends w₂ (c ++ (d ++ e)) after-1
 
-      pub ends-3 : Ends i₂ c
+      pub ends-3 : EndFits i₂ c
       ends-3 = first-ends (d ++ e) after-2
 
       module _ {m₃ : List ℕ} {i₃ : ℕ} (w₃ : Writes m₂ i₂ c m₃ i₃) where
-        after-3 : Ends i₃ (d ++ e)
+        after-3 : EndFits i₃ (d ++ e)
         after-3 = then-ends w₃ (d ++ e) after-2
 
-        pub ends-4 : Ends i₃ d
+        pub ends-4 : EndFits i₃ d
         ends-4 = first-ends e after-3
 
         module _ {m₄ : List ℕ} {i₄ : ℕ} (w₄ : Writes m₃ i₃ d m₄ i₄) where
-          pub ends-5 : Ends i₄ e
+          pub ends-5 : EndFits i₄ e
           ends-5 = then-ends w₄ e after-3
 
           pub whole : {r : List ℕ} {k : ℕ} → Writes m₄ i₄ e r k → Writes l i text r k
@@ -95,14 +95,14 @@ refused-pieces number = record { is = refl }
 
 -- A loop that writes a text piece by piece: whatever writes the rest from here on has written the whole.
 pub record Rest (l : List ℕ) (at : ℕ) (all m : List ℕ) (next : ℕ) (rest : List ℕ) : Type 0 where
-  pub ends : Ends next rest
+  pub ends : EndFits next rest
   pub writes : (r : List ℕ) (k : ℕ) → Writes m next rest r k → Writes l at all r k
 
-pub begin : {l all : List ℕ} {at : ℕ} → Ends at all → Rest l at all l at all
+pub begin : {l all : List ℕ} {at : ℕ} → EndFits at all → Rest l at all l at all
 begin h = record { ends = h; writes = λ r k w. w }
 
 module _ {l all m rest : List ℕ} {at next : ℕ} (s : Rest l at all m next rest) where
-  pub piece-ends : {a : List ℕ} (b : List ℕ) → rest ≡ a ++ b → Ends next a
+  pub piece-ends : {a : List ℕ} (b : List ℕ) → rest ≡ a ++ b → EndFits next a
   piece-ends b e = first-ends b (rw (← e) (s .ends))
 
   pub advance : {a b r : List ℕ} {k : ℕ} → rest ≡ a ++ b → Writes m next a r k → Rest l at all r k b

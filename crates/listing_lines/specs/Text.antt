@@ -14,7 +14,7 @@ pub record Writes (before : List ℕ) (at : ℕ) (text after : List ℕ) (next :
   pub moves : next ≡ at + length text
 
 -- The place behind the text is a number that a usize can hold.
-pub record Ends (at : ℕ) (text : List ℕ) : Type 0 where
+pub record EndFits (at : ℕ) (text : List ℕ) : Type 0 where
   pub fits : at + length text < 18446744073709551616
 
 -- A number in decimal digits, 48 being '0'; k digits at most.

@@ -6,7 +6,7 @@ ghost use mathlib.Core.List.{[], _∷_};
 ghost use Rattle.egg.specs.Table.{inverseOf, lengthOf};
 ghost use Rattle.listing_lines.specs.Text.{
   Writes,
-  Ends,
+  EndFits,
   digits,
   decimal,
   spaced,
@@ -21,7 +21,7 @@ use egg::GroupElementId;
 
 // Stores the byte at `at`, where the buffer has that place.
 fn put_byte(out: &mut [u8], at: usize, b: u8) -> usize
-    requires { ⌜ Ends at (b ∷ []) ⌝ }
+    requires { ⌜ EndFits at (b ∷ []) ⌝ }
     ensures { λ r. ⌜ Writes (now (out .entry)) at (b ∷ []) (now (out .exit)) r ⌝ }
 {
     if at < out.len() {
@@ -32,7 +32,7 @@ fn put_byte(out: &mut [u8], at: usize, b: u8) -> usize
 
 // Stores the bytes of a word.
 fn write_word(out: &mut [u8], at: usize, word: &[u8]) -> usize
-    requires { ⌜ Ends at (now word) ⌝ }
+    requires { ⌜ EndFits at (now word) ⌝ }
     ensures { λ r. ⌜ Writes (now (out .entry)) at (now (word .entry)) (now (out .exit)) r ⌝ }
 {
     let mut next = at;
@@ -54,7 +54,7 @@ fn digit(x: u32) -> u8
 
 // Stores the last k digits of x; no zero leads where k are enough.
 fn write_digits(out: &mut [u8], at: usize, k: u8, x: u32) -> usize
-    requires { ⌜ Ends at (digits k x) ⌝ }
+    requires { ⌜ EndFits at (digits k x) ⌝ }
     ensures { λ r. ⌜ Writes (now (out .entry)) at (digits k x) (now (out .exit)) r ⌝ }
 {
     if k == 0 {
@@ -69,7 +69,7 @@ fn write_digits(out: &mut [u8], at: usize, k: u8, x: u32) -> usize
 
 // Stores a number in decimal: ten digits are enough for 32 bits.
 fn write_decimal(out: &mut [u8], at: usize, x: u32) -> usize
-    requires { ⌜ Ends at (decimal x) ⌝ }
+    requires { ⌜ EndFits at (decimal x) ⌝ }
     ensures { λ r. ⌜ Writes (now (out .entry)) at (decimal x) (now (out .exit)) r ⌝ }
 {
     write_digits(out, at, 10, x)
@@ -77,7 +77,7 @@ fn write_decimal(out: &mut [u8], at: usize, x: u32) -> usize
 
 // Stores a space and a number.
 fn write_spaced(out: &mut [u8], at: usize, x: u32) -> usize
-    requires { ⌜ Ends at (spaced x) ⌝ }
+    requires { ⌜ EndFits at (spaced x) ⌝ }
     ensures { λ r. ⌜ Writes (now (out .entry)) at (spaced x) (now (out .exit)) r ⌝ }
 {
     let next = put_byte(out, at, b' ');
@@ -86,7 +86,7 @@ fn write_spaced(out: &mut [u8], at: usize, x: u32) -> usize
 
 // Stores the successors of e.
 fn write_steps(out: &mut [u8], at: usize, t: &[u32], n: u8, e: GroupElementId) -> usize
-    requires { ⌜ Ends at (stepsText n (now t) n (e .0) 0) ⌝ }
+    requires { ⌜ EndFits at (stepsText n (now t) n (e .0) 0) ⌝ }
     ensures { λ r. ⌜ Writes (now (out .entry)) at (stepsText n (now (t .entry)) n (e .0) 0) (now (out .exit)) r ⌝ }
 {
     let mut next = at;
@@ -114,7 +114,7 @@ fn word_length(t: &[u32], n: u8, e: GroupElementId) -> u32
 
 // Stores one line: "element, inverse, word length, successors".
 fn write_line(out: &mut [u8], at: usize, t: &[u32], n: u8, e: GroupElementId) -> usize
-    requires { ⌜ Ends at (lineText (now t) n (e .0)) ⌝ }
+    requires { ⌜ EndFits at (lineText (now t) n (e .0)) ⌝ }
     ensures { λ r. ⌜ Writes (now (out .entry)) at (lineText (now (t .entry)) n (e .0)) (now (out .exit)) r ⌝ }
 {
     let a = write_decimal(out, at, e.0);
@@ -126,7 +126,7 @@ fn write_line(out: &mut [u8], at: usize, t: &[u32], n: u8, e: GroupElementId) ->
 
 // Stores the lines of all elements.
 fn write_lines(out: &mut [u8], at: usize, t: &[u32], n: u8, count: u32) -> usize
-    requires { ⌜ Ends at (linesText count (now t) n 0) ⌝ }
+    requires { ⌜ EndFits at (linesText count (now t) n 0) ⌝ }
     ensures { λ r. ⌜ Writes (now (out .entry)) at (linesText count (now (t .entry)) n 0) (now (out .exit)) r ⌝ }
 {
     let mut next = at;
@@ -140,7 +140,7 @@ fn write_lines(out: &mut [u8], at: usize, t: &[u32], n: u8, count: u32) -> usize
 
 // Stores the head, "generators, elements", and the lines.
 pub fn write_group(out: &mut [u8], at: usize, t: &[u32], n: u8, count: u32) -> usize
-    requires { ⌜ Ends at (groupText (now t) n count) ⌝ }
+    requires { ⌜ EndFits at (groupText (now t) n count) ⌝ }
     ensures { λ r. ⌜ Writes (now (out .entry)) at (groupText (now (t .entry)) n count) (now (out .exit)) r ⌝ }
 {
     let a = write_word(out, at, b"group");
@@ -152,7 +152,7 @@ pub fn write_group(out: &mut [u8], at: usize, t: &[u32], n: u8, count: u32) -> u
 
 // Stores "`refused` and its number".
 pub fn write_refused(out: &mut [u8], at: usize, number: u32) -> usize
-    requires { ⌜ Ends at (refusedText number) ⌝ }
+    requires { ⌜ EndFits at (refusedText number) ⌝ }
     ensures { λ r. ⌜ Writes (now (out .entry)) at (refusedText number) (now (out .exit)) r ⌝ }
 {
     let a = write_word(out, at, b"refused");

@@ -5,7 +5,7 @@ use mathlib.Core.List.{List, [], _∷_, _++_}
 use native.Mathlib.Omega.{arith}
 use lib.ListN.{length, take, drop}
 use lib.Seq.{sets-eq, take-at}
-use Rattle.listing_lines.specs.Text.{Writes, Ends}
+use Rattle.listing_lines.specs.Text.{Writes, EndFits}
 use Rattle.listing_page.specs.Listing.{orderIn, ordersIn}
 
 pub orders-count : (k : ℕ) (input : List ℕ) (i : ℕ) → length (ordersIn k input i) ≡ k
@@ -14,7 +14,7 @@ orders-count zero input i = refl
 orders-count (suc k) input i = ap suc (orders-count k input (i + 1))
 
 module _ (k : ℕ) (input : List ℕ) where
-  pub orders-ends : k ≤ 28 → Ends 0 (ordersIn k input 0)
+  pub orders-ends : k ≤ 28 → EndFits 0 (ordersIn k input 0)
   orders-ends h = record { fits = omega (arith, orders-count k input 0) }
 
   module _ {i : ℕ} where

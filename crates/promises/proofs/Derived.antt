@@ -24,7 +24,7 @@ use Rattle.build_checks_laws.specs.Sound.{Sound, Ruled}
 use Rattle.build_checks_laws.proofs.Inverses.{kept-cell}
 use Rattle.build_checks_laws.proofs.Ruling.{ruled}
 use Rattle.factor_relations_laws.proofs.Relators.{orders-long, relations-exact, relations-first}
-use Rattle.enumeration_run_laws.specs.Invariant.{Worded}
+use Rattle.enumeration_run_laws.specs.Invariant.{RecordsWords}
 use Rattle.enumeration_run.specs.Limits.{Limits}
 use Rattle.enumeration_run_laws.specs.Recorded as run
 use Rattle.enumeration_run_laws.proofs.Derivation.{words-traced, work-long, done-sound, sound-derived}
@@ -41,12 +41,12 @@ trace-same a b (suc k) zero = refl
 trace-same {p′ = p′} a b (suc k) (suc e) = rw (a (suc e), b (suc e), trace-same a b k (p′ (suc e)))
 
 -- The words of a run are those that its table records, before and after the checks.
-pub word-same : {n : ℕ} {word : ℕ → List ℕ} {count : ℕ} {t t′ : List ℕ} {N : ℕ} → Worded n word count t → Kept t t′ n N → (x : ℕ) → x < count → wordOf t′ n x ≡ word x
+pub word-same : {n : ℕ} {word : ℕ → List ℕ} {count : ℕ} {t t′ : List ℕ} {N : ℕ} → RecordsWords n word count t → Kept t t′ n N → (x : ℕ) → x < count → wordOf t′ n x ≡ word x
 word-same W K x h = trace-same (K .parent-same) (K .last-same) x x ∙ words-traced W x h
 
 module _ (o : List ℕ) (n room lt lw : ℕ) (L : Limits n o room lt lw) (right : ordersRight o n ≡ verdict.Fine) where
   -- Rows from N on are zero, so every number from there on is.
-  blank-beyond : {N : ℕ} {t : List ℕ} → run.Sound n o room lt N t → (i : ℕ) → N * (2 * n + 4) ≤ i → getD t i 0 ≡ 0
+  blank-beyond : {N : ℕ} {t : List ℕ} → run.FromOrders n o room lt N t → (i : ℕ) → N * (2 * n + 4) ≤ i → getD t i 0 ≡ 0
   unfolding startOf
   blank-beyond {N} {t} D i h =
       let pos : 0 < 2 * n + 4 = omega arith in

@@ -19,7 +19,7 @@ use Rattle.enumeration_run.specs.Limits.{Limits}
 use Rattle.enumeration_run_laws.specs.Recorded as run
 use Rattle.enumeration.proofs.Calls.{limits}
 use Rattle.enumeration.proofs.Handle.{enumerates-is-build, passed}
-use Rattle.promises.specs.Enumerated.{OrdersRight, Enumerated, Demand3}
+use Rattle.promises.specs.Enumerated.{EnumerationRight, Enumerated, Demand3}
 use Rattle.build_laws.proofs.Lent.{handle, lentTable, by-build, stretch-part, fits-still}
 use Rattle.promises.proofs.Derived.{Related, enumerated-related}
 
@@ -28,10 +28,10 @@ module _ (table : List ℕ) (start : ℕ) (work orders : List ℕ) (n room : ℕ
   accepted = making (record { answer = verdict.Fine; factor = f }) t w
 
   -- Where the call is accepted, 1 to 4 have passed.
-  pub begun : enumerates table start work orders n room ≡ accepted → OrdersRight table start work orders n room
+  pub begun : enumerates table start work orders n room ≡ accepted → EnumerationRight table start work orders n room
   begun h = let (g, o, l) = passed table start work orders n room f t w h in record { generators = g; right = o; lent = l }
 
-  module _ (B : OrdersRight table start work orders n room) where
+  module _ (B : EnumerationRight table start work orders n room) where
     has-room : hasRoom (length table) start room n ≡ true
     has-room = lent-table (length table) start (length work) room n (B .lent)
 

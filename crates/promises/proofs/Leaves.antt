@@ -26,10 +26,10 @@ use Rattle.build_lending.proofs.Lending.{lent-table, lent-enough}
 use Rattle.factor.specs.Composed.{composedIn, composed}
 use Rattle.build_reading.specs.Reading.{composedAt}
 use Rattle.enumeration.specs.Calls.{enumeratedIn, refusedMaking, enumerates}
-use Rattle.build_checks_laws.specs.Numbers.{member, In}
+use Rattle.build_checks_laws.specs.Numbers.{member, RefusalIn}
 use Rattle.build_checks_laws.proofs.Numbers.{each-in, orders-number}
 use Rattle.promises.specs.Composed.{RowsRight}
-use Rattle.promises.specs.Enumerated.{OrdersRight}
+use Rattle.promises.specs.Enumerated.{EnumerationRight}
 use Rattle.promises.specs.Leaves.{Leaves, untouched, zeros, lentFor, composedNumbers, enumerationNumbers}
 use Rattle.build_laws.proofs.Lent.{refused-making, work-taken}
 use Rattle.enumeration.proofs.Calls.{limits}
@@ -47,7 +47,7 @@ same-refusal {s} {r} {f} {f′} h =
 -- A refused call: refused for its arguments, with both buffers as they were, or a refused build that was put back into its stretches.
 pub record Early (right : Type 0) (l : List ℕ) (table work : List ℕ) (r : Refusal) (f : Factor) (t w : List ℕ) : Type 0 where
   pub wrong : ¬ right
-  pub number : In l r
+  pub number : RefusalIn l r
   pub no-handle : f ≡ noFactor
   pub table-same : t ≡ table
   pub work-same : w ≡ work
@@ -61,7 +61,7 @@ pub record Late (table : List ℕ) (start : ℕ) (work : List ℕ) (n room : ℕ
   pub work-put : w ≡ within work 0 (workNeed n room) stretch-work
 
 module _ (table : List ℕ) (start : ℕ) (work : List ℕ) (n room : ℕ) where
-  pub early : {right : Type 0} (l : List ℕ) {s r : Refusal} {f : Factor} {t w : List ℕ} → ¬ right → In l s
+  pub early : {right : Type 0} (l : List ℕ) {s r : Refusal} {f : Factor} {t w : List ℕ} → ¬ right → RefusalIn l s
       → making (record { answer = verdict.Refused s; factor = noFactor }) table work ≡ making (record { answer = verdict.Refused r; factor = f }) t w
       → Early right l table work r f t w
   early l not-right m q = let a = same-refusal q in record { wrong = not-right; number = rw (a .0) at m; no-handle = a .1; table-same = a .2; work-same = a .3 }
@@ -162,13 +162,13 @@ module _ (table : List ℕ) (start : ℕ) (work orders : List ℕ) (n room : ℕ
   refusal = making (record { answer = verdict.Refused r; factor = f }) t w
 
   pub enumeration-refused : enumerates table start work orders n room ≡ making (record { answer = verdict.Refused r; factor = f }) t w
-      → Early (OrdersRight table start work orders n room) (1 ∷ 2 ∷ 3 ∷ 4 ∷ []) table work r f t w
-      ⊎ (OrdersRight table start work orders n room × Late table start work n room (enumeratedIn (tableNeed n room) (workNeed n room) orders n room) r f t w)
+      → Early (EnumerationRight table start work orders n room) (1 ∷ 2 ∷ 3 ∷ 4 ∷ []) table work r f t w
+      ⊎ (EnumerationRight table start work orders n room × Late table start work n room (enumeratedIn (tableNeed n room) (workNeed n room) orders n room) r f t w)
   unfolding enumerates
   enumeration-refused h = first (ltb 8 n) refl h where
     Told : Type 0
-    Told = Early (OrdersRight table start work orders n room) (1 ∷ 2 ∷ 3 ∷ 4 ∷ []) table work r f t w
-        ⊎ (OrdersRight table start work orders n room × Late table start work n room ordersBuild r f t w)
+    Told = Early (EnumerationRight table start work orders n room) (1 ∷ 2 ∷ 3 ∷ 4 ∷ []) table work r f t w
+        ⊎ (EnumerationRight table start work orders n room × Late table start work n room ordersBuild r f t w)
 
     third : (v : Verdict) → ordersRight orders n ≡ v → ltb 8 n ≡ false → (b : Bool) → lentRight (length table) start (length work) room n ≡ b
         → refusedMaking v table work (pick b (lentBack table start work n room ordersBuild) (making (refusedMade 4 0) table work)) ≡ refusal → Told
@@ -187,13 +187,13 @@ module _ (table : List ℕ) (start : ℕ) (work orders : List ℕ) (n room : ℕ
         inl (early table start work n room (1 ∷ 2 ∷ 3 ∷ 4 ∷ []) {s = record { number = 1; a = n; b = 0; c = 0 }} (λ R. omega (arith, R .generators, ltb-true 8 n g)) refl e)
     first false g e = third (ordersRight orders n) refl g (lentRight (length table) start (length work) room n) refl e
 
-  orders-zeros : OrdersRight table start work orders n room → (B : Late table start work n room ordersBuild r f t w)
+  orders-zeros : EnumerationRight table start work orders n room → (B : Late table start work n room ordersBuild r f t w)
       → Zeros r enumerationNumbers (tableNeed n room) (workNeed n room) (B .stretch-table) (B .stretch-work)
   orders-zeros R B =
       enumerated-zeros orders n room (tableNeed n room) (workNeed n room) (limits table start work orders n room (R .generators) (R .right) (R .lent)) (R .right) (B .is)
 
   pub enumeration-leaves : enumerates table start work orders n room ≡ making (record { answer = verdict.Refused r; factor = f }) t w
-      → Leaves (OrdersRight table start work orders n room) (1 ∷ 2 ∷ 3 ∷ 4 ∷ []) enumerationNumbers (lentFor table start work n room t w) r
+      → Leaves (EnumerationRight table start work orders n room) (1 ∷ 2 ∷ 3 ∷ 4 ∷ []) enumerationNumbers (lentFor table start work n room t w) r
   enumeration-leaves h = ⊎-elim (λ E. leaves-early table start work n room enumerationNumbers E)
       (λ B. leaves-late table start work n room (1 ∷ 2 ∷ 3 ∷ 4 ∷ []) (B .0) (B .0 .lent) (B .1) (orders-zeros (B .0) (B .1))) (enumeration-refused h)
 

@@ -11,7 +11,7 @@ use Rattle.egg.specs.declared.Verdict.the-variants as verdict
 use Rattle.build_lending.specs.Lending.{making}
 use Rattle.factor.specs.Composed.{composed}
 use Rattle.enumeration.specs.Calls.{enumerates}
-use Rattle.build_checks_laws.specs.Numbers.{member, every, In}
+use Rattle.build_checks_laws.specs.Numbers.{member, every, RefusalIn}
 use Rattle.build_checks_laws.proofs.Numbers.{each-in, none-of}
 use Rattle.promises.specs.Leaves.{Lent, Cleared, Cells, Leaves, untouched, zeros, composedNumbers, enumerationNumbers}
 use Rattle.build_laws.proofs.Lent.{within-long, within-cell, within-before, within-after}
@@ -19,26 +19,26 @@ use Rattle.promises.proofs.Leaves.{composed-leaves, enumeration-leaves}
 
 -- A refusal has a number of those that its call may give.
 pub leaves-number : {right : Type 0} {before after : List ℕ} {buffers : List Lent} {r : Refusal} (l : List ℕ) → every (λ x. member x l) before ≡ true
-    → every (λ x. member x l) after ≡ true → Leaves right before after buffers r → In l r
+    → every (λ x. member x l) after ≡ true → Leaves right before after buffers r → RefusalIn l r
 leaves-number {before = before} {r = r} l a b (untouched wrong m s) = each-in (λ x. member x l) (r .number) before a m
 leaves-number {after = after} {r = r} l a b (zeros ok m z) = each-in (λ x. member x l) (r .number) after b m
 
 -- Composed rows are refused by 1, 4, or 5 to 12, so never by 2, 3, or 13 to 17.
 module _ (table : List ℕ) (start : ℕ) (work rows : List ℕ) (n room : ℕ) (r : Refusal) (f : Factor) (t w : List ℕ)
     (h : composed table start work rows n room ≡ making (record { answer = verdict.Refused r; factor = f }) t w) where
-  pub composed-number : In (1 ∷ 4 ∷ composedNumbers) r
+  pub composed-number : RefusalIn (1 ∷ 4 ∷ composedNumbers) r
   composed-number = leaves-number (1 ∷ 4 ∷ composedNumbers) refl refl (composed-leaves table start work rows n room r f t w h)
 
-  pub composed-never : ¬ (In (2 ∷ 3 ∷ 13 ∷ 14 ∷ 15 ∷ 16 ∷ 17 ∷ []) r)
+  pub composed-never : ¬ (RefusalIn (2 ∷ 3 ∷ 13 ∷ 14 ∷ 15 ∷ 16 ∷ 17 ∷ []) r)
   composed-never m = none-of (r .number) (2 ∷ 3 ∷ 13 ∷ 14 ∷ 15 ∷ 16 ∷ 17 ∷ []) (1 ∷ 4 ∷ composedNumbers) refl m composed-number
 
 -- Pair orders are refused by 1 to 6, or 9 to 13, so never by 7, 8, or 14 to 17.
 module _ (table : List ℕ) (start : ℕ) (work orders : List ℕ) (n room : ℕ) (r : Refusal) (f : Factor) (t w : List ℕ)
     (h : enumerates table start work orders n room ≡ making (record { answer = verdict.Refused r; factor = f }) t w) where
-  pub enumeration-number : In (1 ∷ 2 ∷ 3 ∷ 4 ∷ enumerationNumbers) r
+  pub enumeration-number : RefusalIn (1 ∷ 2 ∷ 3 ∷ 4 ∷ enumerationNumbers) r
   enumeration-number = leaves-number (1 ∷ 2 ∷ 3 ∷ 4 ∷ enumerationNumbers) refl refl (enumeration-leaves table start work orders n room r f t w h)
 
-  pub enumeration-never : ¬ (In (7 ∷ 8 ∷ 14 ∷ 15 ∷ 16 ∷ 17 ∷ []) r)
+  pub enumeration-never : ¬ (RefusalIn (7 ∷ 8 ∷ 14 ∷ 15 ∷ 16 ∷ 17 ∷ []) r)
   enumeration-never m = none-of (r .number) (7 ∷ 8 ∷ 14 ∷ 15 ∷ 16 ∷ 17 ∷ []) (1 ∷ 2 ∷ 3 ∷ 4 ∷ enumerationNumbers) refl m enumeration-number
 
 -- A cleared buffer, number by number.

@@ -31,7 +31,7 @@ use Rattle.build_lending.specs.Lending.{tableNeed, workNeed, lentRight, within,
 use Rattle.enumeration_run.specs.Run.{enumerated}
 use Rattle.enumeration_run.specs.declared.inner.Ran.the-variants as ran
 use Rattle.enumeration.specs.Calls.{enumeratedIn, enumerates}
-use Rattle.build_checks_laws.specs.Stored.{Stored}
+use Rattle.build_checks_laws.specs.Stored.{StoredTable}
 use Rattle.build_checks_laws.proofs.Inverses.{kept-same}
 use Rattle.build_checks_laws.proofs.Complete.{checks-complete}
 use Rattle.factor_relations_laws.proofs.Relators.{orders-long, relations-exact, relations-identity}
@@ -146,7 +146,7 @@ module _ {n : ℕ} {o : List ℕ} {room lt lw N : ℕ} {t w : List ℕ} (F : Fin
     around : (e : ℕ) (r : List ℕ) → Relator n m r → Equiv n m (word e) (word e ++ r)
     around e r R = simp append-nil at (insert (word e) [] R)
 
-  kept : Stored t n N (stepOf t n) (backOf t n) (parentOf t n) (lastOf t n) word
+  kept : StoredTable t n N (stepOf t n) (backOf t n) (parentOf t n) (lastOf t n) word
   kept = record { successor = stored; predecessor = stored-back; parents = λ pos he. refl; letters = λ pos he. refl; lengths = λ {e} he. F .letters e he }
 
   identity-row : (g : ℕ) → g < n → stepOf t n 0 g ≡ suc g

@@ -16,12 +16,12 @@ use Rattle.enumeration_run.specs.declared.inner.Ran.the-variants as ran
 use Rattle.enumeration.specs.Calls.{enumerates}
 use Rattle.theory.specs.Presentation.{order-of}
 use Rattle.enumeration_run_laws.specs.Recorded.{words}
-use Rattle.build_checks_laws.specs.Numbers.{member, In}
+use Rattle.build_checks_laws.specs.Numbers.{member, RefusalIn}
 use Rattle.factor_laws.specs.Papers.{valuePaper}
 use Rattle.factor_laws.proofs.Papers.{paper-fine}
 use Rattle.promises.specs.Composed.{RowsRight, Given}
 use Rattle.build_laws.specs.Taken.{Taken}
-use Rattle.promises.specs.Enumerated.{OrdersRight, Enumerated}
+use Rattle.promises.specs.Enumerated.{EnumerationRight, Enumerated}
 use Rattle.promises.specs.Leaves.{composedNumbers, enumerationNumbers}
 use Rattle.promises.specs.NoneTwice.{NoneTwice}
 use Rattle.promises.specs.Papers.{madePaper}
@@ -32,7 +32,7 @@ use Rattle.promises.proofs.NoneTwice.{enumeration-exactly}
 
 -- A call none of whose refusals has the number 0, and whose paper has it, is accepted.
 pub made-fine : (l : List ℕ) → member 0 l ≡ false → (m : Making)
-    → ((r : Refusal) (f : Factor) (t w : List ℕ) → m ≡ making (record { answer = verdict.Refused r; factor = f }) t w → In l r)
+    → ((r : Refusal) (f : Factor) (t w : List ℕ) → m ≡ making (record { answer = verdict.Refused r; factor = f }) t w → RefusalIn l r)
     → madePaper m ≡ valuePaper 0 → (f : Factor) × (t : List ℕ) × (w : List ℕ) × (m ≡ making (record { answer = verdict.Fine; factor = f }) t w)
 made-fine l none (making m t w) numbers q =
     let with : (v : Verdict) → m .answer ≡ v → making m t w ≡ making (record { answer = v; factor = m .factor }) t w =
@@ -72,7 +72,7 @@ module _ (table : List ℕ) (start : ℕ) (work orders : List ℕ) (n room : ℕ
 
   -- Pair orders are accepted exactly when, with right arguments, the run is done and no two of its words and no two generators are equal under the relations.
   pub enumeration-paper : madePaper (enumerates table start work orders n room) ≡ valuePaper 0
-      ↔ OrdersRight table start work orders n room × ((N : ℕ) × (enumerated n orders room (tableNeed n room) (workNeed n room) .answer ≡ ran.Done N)
+      ↔ EnumerationRight table start work orders n room × ((N : ℕ) × (enumerated n orders room (tableNeed n room) (workNeed n room) .answer ≡ ran.Done N)
       × NoneTwice n N (order-of orders) (words n (enumerated n orders room (tableNeed n room) (workNeed n room) .table)))
   enumeration-paper = (
     λ q.

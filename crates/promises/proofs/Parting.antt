@@ -13,11 +13,11 @@ use Rattle.build_reading.specs.Reading.{composedAt}
 use Rattle.theory.proofs.Counting.{numbered-table}
 use Rattle.theory.proofs.FirstPlaces.{numbered-spelled}
 use Rattle.theory.proofs.Parting.{groupless-parting}
-use Rattle.promises.specs.Composed.{Parted}
+use Rattle.promises.specs.Composed.{ViewersPart}
 use Rattle.build_laws.specs.Taken.{Groupless}
 use Rattle.promises.proofs.Composed.{composed-12}
 
-pub groupless-parted : {src : ℕ → ℕ → ℕ} {n room N : ℕ} → Groupless src n room N ↔ Parted src n room N
+pub groupless-parted : {src : ℕ → ℕ → ℕ} {n room N : ℕ} → Groupless src n room N ↔ ViewersPart src n room N
 groupless-parted = (
   λ G.
       let R = G .readable .by-rule in
@@ -41,7 +41,7 @@ module _ (table : List ℕ) (start : ℕ) (work rows : List ℕ) (n room : ℕ) 
     (lent : lentRight (length table) start (length work) room n ≡ true) (listed : room * n ≤ length rows) where
   pub composed-12-parted : ((f : Factor) × (t : List ℕ) × (w : List ℕ)
       × (composed table start work rows n room ≡ making (record { answer = refusedOf 12 0 0 0; factor = f }) t w))
-      ↔ ((N : ℕ) × Parted (composedAt rows n) n room N)
+      ↔ ((N : ℕ) × ViewersPart (composedAt rows n) n room N)
   composed-12-parted =
       let both = composed-12 table start work rows n room hn lent listed in (
         λ a. let g = both .0 a in (g .0, groupless-parted .0 (g .1)),

@@ -36,7 +36,7 @@ use Rattle.theory.specs.Table.{Columns}
 use Rattle.theory.proofs.AnyCarrier.{any-carrier}
 use Rattle.theory.proofs.Complete.{columns}
 use Rattle.theory.proofs.FirstPlaces.{parent-unique, last-unique}
-use Rattle.build_checks_laws.specs.Stored.{Stored, wordOf}
+use Rattle.build_checks_laws.specs.Stored.{StoredTable, wordOf}
 use Rattle.build_checks_laws.proofs.Inverses.{kept-turned, stored-kept}
 use Rattle.build_checks_laws.proofs.Accepted.{checks-kept, accepted-filled, sound-regular}
 use Rattle.build_checks_laws.proofs.Complete.{checks-complete}
@@ -118,7 +118,7 @@ module _ {n N : ℕ} (few : n ≤ 8) (some : 0 < N) (small : N ≤ 65535) where
       let S = settled-sound t₀ w₀ E fits some small in
       let Q = stored-kept (kept-turned (settled-kept t₀ w₀ E)) (S .stored) in
       let fits₁ : N * (2 * n + 4) ≤ length (longer k t₀) = omega (arith, longer-length k t₀) in
-      let stored : Stored (longer k t₀) n N (stepOf t n) (backOf t n) (parentOf t n) (lastOf t n) (wordOf t n) = record {
+      let stored : StoredTable (longer k t₀) n N (stepOf t n) (backOf t n) (parentOf t n) (lastOf t n) (wordOf t n) = record {
         successor = λ he hg. longer-get k t₀ _ ∙ Q .successor he hg;
         predecessor = λ he hg. longer-get k t₀ _ ∙ Q .predecessor he hg;
         parents = λ pos he. longer-get k t₀ _ ∙ Q .parents pos he;

@@ -20,11 +20,11 @@ use Rattle.build_lending.specs.Lending.{tableNeed, workNeed, lentRight, within,
 use Rattle.build_lending.proofs.Lending.{lent-table}
 use Rattle.build_reading.specs.Reading.{Placed, placed, readAll, composedAt}
 use Rattle.factor.specs.Composed.{composedIn, composed}
-use Rattle.enumeration_run.specs.Run.{Outcome, enumerated}
+use Rattle.enumeration_run.specs.Run.{RunResult, enumerated}
 use Rattle.enumeration_run.specs.declared.inner.Ran.the-variants as ran
 use Rattle.enumeration.specs.Calls.{enumerates}
 use Rattle.enumeration_run.specs.Limits.{Limits}
-use Rattle.build_reading_laws.specs.Read.{Refuses}
+use Rattle.build_reading_laws.specs.Read.{ReadingRefused}
 use Rattle.build_reading_laws.proofs.Readings.{accepted-read, refused-read, refuses-refused, refused-number}
 use Rattle.promises.proofs.Composed.{composed-is-build}
 use Rattle.enumeration.proofs.Handle.{enumerates-is-build}
@@ -39,7 +39,7 @@ use Rattle.promises.proofs.Leaves.{composed-refused, enumeration-refuse
 
 module _ (table : List ℕ) (start : ℕ) (work orders : List ℕ) (n room : ℕ) (hn : n ≤ 8) (right : ordersRight orders n ≡ verdict.Fine)
     (lent : lentRight (length table) start (length work) room n ≡ true) where
-  abbrev run : Outcome
+  abbrev run : RunResult
   run = enumerated n orders room (tableNeed n room) (workNeed n room)
 
   abbrev L : Limits n orders room (tableNeed n room) (workNeed n room)
@@ -73,7 +73,7 @@ module _ (table : List ℕ) (start : ℕ) (work orders : List ℕ) (n room : ℕ
 -- A build from the numbers of any source.
 module _ (src : ℕ → ℕ → ℕ) (n room size : ℕ) (w₀ : List ℕ) (few : n ≤ 8) (lo : 1 ≤ room) (hi : room ≤ 65535) (fits : room * (2 * n + 4) ≤ size) where
   stops-by : (p : Placed) → readAll src n room (replicate size 0) ≡ p → {r : Refusal} {t w : List ℕ} → finishedPlaced p n w₀ ≡ built (Refused r) t w
-      → member (r .number) (5 ∷ 6 ∷ 7 ∷ []) ≡ true → Refuses src n room r
+      → member (r .number) (5 ∷ 6 ∷ 7 ∷ []) ≡ true → ReadingRefused src n room r
   unfolding finished
   stops-by (placed (Count c) t₀) e {r} q five =
       let Z = check-zeros (8 ∷ lateNumbers) refl t₀ w₀ n c (ranged-numbers t₀ n c (read-ranges (accepted-read src n room size few lo hi fits e)))
@@ -84,10 +84,10 @@ module _ (src : ℕ → ℕ → ℕ) (n room size : ℕ) (w₀ : List ℕ) (few 
       refused-read src n room size few lo hi fits (e ∙ ap (λ (x : Refusal). placed (Refused x) t₀) i)
 
   pub built-stops : {r : Refusal} {t w : List ℕ} → finishedPlaced (readAll src n room (replicate size 0)) n w₀ ≡ built (Refused r) t w → member (r .number) (5 ∷ 6 ∷ 7 ∷ []) ≡ true
-      → Refuses src n room r
+      → ReadingRefused src n room r
   built-stops q = stops-by (readAll src n room (replicate size 0)) refl q
 
-  pub stops-built : {r : Refusal} → Refuses src n room r → (t : List ℕ) × (finishedPlaced (readAll src n room (replicate size 0)) n w₀ ≡ built (Refused r) t (zeroed w₀))
+  pub stops-built : {r : Refusal} → ReadingRefused src n room r → (t : List ℕ) × (finishedPlaced (readAll src n room (replicate size 0)) n w₀ ≡ built (Refused r) t (zeroed w₀))
   unfolding finished
   stops-built S = let a = refuses-refused src n room size few lo hi fits S in (zeroed (a .0), rw (a .1))
 
@@ -104,7 +104,7 @@ module _ (table : List ℕ) (start : ℕ) (work rows : List ℕ) (n room : ℕ) 
   -- 5, 6 and 7 exactly where reading first cannot go on.
   pub composed-stops : (r : Refusal)
       → ((f : Factor) × (t : List ℕ) × (w : List ℕ) × (composed table start work rows n room ≡ making (record { answer = verdict.Refused r; factor = f }) t w)
-      × (member (r .number) (5 ∷ 6 ∷ 7 ∷ []) ≡ true)) ↔ Refuses (composedAt rows n) n room r
+      × (member (r .number) (5 ∷ 6 ∷ 7 ∷ []) ≡ true)) ↔ ReadingRefused (composedAt rows n) n room r
   unfolding composedIn
   composed-stops r = (
     λ a. ⊎-elim

@@ -25,7 +25,7 @@ use Rattle.enumeration_run.specs.declared.inner.Ran.{Ran}
 use Rattle.enumeration_run.specs.declared.inner.Ran.the-variants as ran
 use Rattle.enumeration_run.specs.Run.{enumerated}
 use Rattle.enumeration.specs.Calls.{ranCount, relatingBy, withWork, related, enumeratedIn}
-use Rattle.build_checks_laws.specs.Numbers.{member, every, In, lateNumbers}
+use Rattle.build_checks_laws.specs.Numbers.{member, every, RefusalIn, lateNumbers}
 use Rattle.build_checks_laws.proofs.Accepted.{checks-sound, checks-kept}
 use Rattle.build_checks_laws.proofs.Hopping.{hopping-sound}
 use Rattle.build_checks_laws.proofs.Lengths.{checks-work}
@@ -64,7 +64,7 @@ unfolding finished
 finished-zeros (Count c) n t₀ w₀ q = settled-zeros c (check-group t₀ w₀ n c) t₀ w₀ n refl q
 finished-zeros (Refused s) n t₀ w₀ {r} {t} {w} q = (cc, cc)
 
-pub check-zeros : (l : List ℕ) → every (λ x. member x l) lateNumbers ≡ true → (t₀ w₀ : List ℕ) (n c : ℕ) → Says (In l) (check-table t₀ n c)
+pub check-zeros : (l : List ℕ) → every (λ x. member x l) lateNumbers ≡ true → (t₀ w₀ : List ℕ) (n c : ℕ) → Says (RefusalIn l) (check-table t₀ n c)
     → (k : Checked) → check-group t₀ w₀ n c ≡ k → {r : Refusal} {t w : List ℕ} → settledBy n c k ≡ built (Refused r) t w
     → Zeros r l (length t₀) (length w₀) t w
 check-zeros l late t₀ w₀ n c says (checked verdict.Fine t₁ w₂) h q = absurd (refused-counted (sym q))

@@ -18,7 +18,7 @@ use Rattle.factor_laws.specs.Accepted.{Accepted, factorStep, reach}
 
 -- The arguments of an enumeration are right, so that its build starts: 1, "more than 8 generators", 2 and 3, an order for each pair and within 2..32,767, and 4,
 -- "room 0 or above 65,535, or a lent buffer short", have passed.
-pub record OrdersRight (table : List ℕ) (start : ℕ) (work orders : List ℕ) (n room : ℕ) : Type 0 where
+pub record EnumerationRight (table : List ℕ) (start : ℕ) (work orders : List ℕ) (n room : ℕ) : Type 0 where
   pub generators : n ≤ 8
   pub right : ordersRight orders n ≡ verdict.Fine
   pub lent : lentRight (length table) start (length work) room n ≡ true

@@ -7,7 +7,7 @@ use mathlib.Core.List.{List, [], _∷_}
 use lib.ListN.{length, getD, replicate}
 use Rattle.egg.specs.declared.Refusal.{Refusal}
 use Rattle.build_lending.specs.Lending.{tableNeed, workNeed, within}
-use Rattle.build_checks_laws.specs.Numbers.{In, lateNumbers}
+use Rattle.build_checks_laws.specs.Numbers.{RefusalIn, lateNumbers}
 
 -- A lent buffer at entry and at exit, and the stretch of it that the call needs.
 pub record Lent : Type 0 where
@@ -41,8 +41,8 @@ AllCleared (b ∷ l) = Cleared b × AllCleared l
 -- A call refuses by r. `right` says that its arguments are right, so that its build starts. If they are not, the number is one of those that may be given
 -- before, and nothing is changed; if they are, it is one of those that may be given afterwards, and exactly the needed stretches are zero.
 pub data Leaves (right : Type 0) (before after : List ℕ) (buffers : List Lent) (r : Refusal) : Type 0 where
-  untouched : ¬ right → In before r → AsBefore buffers → Leaves right before after buffers r
-  zeros : right → In after r → AllCleared buffers → Leaves right before after buffers r
+  untouched : ¬ right → RefusalIn before r → AsBefore buffers → Leaves right before after buffers r
+  zeros : right → RefusalIn after r → AllCleared buffers → Leaves right before after buffers r
 
 -- The table's buffer for a build that is lent the stretch from `start` on.
 abbrev pub tableFor : (table : List ℕ) (start n room : ℕ) (t : List ℕ) → Lent

@@ -17,7 +17,7 @@ use Rattle.build_lending.specs.Lending.{workNeed, refusedMade, Making, making}
 use Rattle.builder.specs.Calls.{builds}
 use Rattle.promises.specs.Papers.{madePaper}
 use Rattle.promises_builder.specs.Own.{ownRefusal}
-use Rattle.promises_builder.specs.Builds.{Right, RefusedBy}
+use Rattle.promises_builder.specs.Builds.{BuildRight, RefusedBy}
 use Rattle.promises_builder.specs.Answers.{BuildPaper, no-handle, short, stops, nowhere, lacks, late, taken}
 use Rattle.promises_builder.proofs.Ways.{ways}
 use Rattle.promises_builder.proofs.Builds.{build-exactly}
@@ -25,7 +25,7 @@ use Rattle.promises_builder.proofs.Refused.{build-stops, build-8}
 use Rattle.promises_builder.proofs.Faults.{build-faults}
 
 module _ (t : List ℕ) (b : Builder) (w : List ℕ) where
-  started : Right t b w → (m : Making) → builds t b w ≡ m → BuildPaper t b w (madePaper m)
+  started : BuildRight t b w → (m : Making) → builds t b w ≡ m → BuildPaper t b w (madePaper m)
   started R (making m t′ w′) q = by (m .answer) refl where
     with : (v : Verdict) → m .answer ≡ v → builds t b w ≡ making (record { answer = v; factor = m .factor }) t′ w′
     with v h = q ∙ ap (λ (x : Verdict). making (record { answer = x; factor = m .factor }) t′ w′) h

@@ -25,7 +25,7 @@ use Rattle.build_laws.proofs.Lent.{refused-making}
 use Rattle.promises.proofs.Composed.{composed-exactly, composed-given}
 use Rattle.promises_builder.specs.Own.{ownAt, ownRows, Filled}
 use Rattle.promises_builder.proofs.Composed.{least, lent, listed-long, own-rows-at, build-own-rows}
-use Rattle.promises_builder.specs.Builds.{Right}
+use Rattle.promises_builder.specs.Builds.{BuildRight}
 use Rattle.promises_builder.proofs.Ways.{accepted-composed}
 
 -- A handle that fits, and a work that is long enough.
@@ -59,11 +59,11 @@ module _ (t : List ℕ) (b : Builder) (w : List ℕ) (fits : fitsIn (length t) (
 
 -- What an accepted build gives, whatever the arguments: it has passed 17 in the handle and 4.
 module _ (t : List ℕ) (b : Builder) (w : List ℕ) (x : Factor) (t′ w′ : List ℕ) where
-  pub begun : builds t b w ≡ making (record { answer = verdict.Fine; factor = x }) t′ w′ → Right t b w
+  pub begun : builds t b w ≡ making (record { answer = verdict.Fine; factor = x }) t′ w′ → BuildRight t b w
   unfolding builds
   begun h = by (fitsIn (length t) (b .0)) refl (leb (workNeed (b .0 .generators) (b .0 .room)) (length w)) refl _ h where
     by : (c : Bool) → fitsIn (length t) (b .0) ≡ c → (d : Bool) → leb (workNeed (b .0 .generators) (b .0 .room)) (length w) ≡ d → (m : Making)
-        → pick c (pick d m (making (refusedMade 4 0) t w)) (making (refusedMade 17 0) t w) ≡ making (record { answer = verdict.Fine; factor = x }) t′ w′ → Right t b w
+        → pick c (pick d m (making (refusedMade 4 0) t w)) (making (refusedMade 17 0) t w) ≡ making (record { answer = verdict.Fine; factor = x }) t′ w′ → BuildRight t b w
     by true p true q m e = record { fits = p; enough = leb-true _ _ q }
     by true p false q m e = absurd (refused-making e)
     by false p d q m e = absurd (refused-making e)

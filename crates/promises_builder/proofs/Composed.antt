@@ -28,7 +28,7 @@ use Rattle.promises.proofs.Composed.{composed-is-build}
 use Rattle.promises_builder.specs.Own.{ownAt, ownRows, Filled}
 use Rattle.build_laws.proofs.AnyWork.{any-work}
 use Rattle.promises_builder.proofs.AnyWork.{own-in-zeros}
-use Rattle.promises_builder.proofs.Alike.{Alike, all-alike, read-alike}
+use Rattle.promises_builder.proofs.EndAlike.{EndAlike, all-alike, read-alike}
 
 abbrev Same : Refusal → Refusal → List ℕ → List ℕ → Type 0
 Same s r t t′ = (s ≡ r) × (t ≡ t′)
@@ -36,7 +36,7 @@ Same s r t t′ = (s ≡ r) × (t ≡ t′)
 abbrev Equal : ℕ → List ℕ → List ℕ → Type 0
 Equal c t t′ = t ≡ t′
 
-alike-equal : (lo N : ℕ) (p p′ : Placed) → Alike lo N Same Equal p p′ → p ≡ p′
+alike-equal : (lo N : ℕ) (p p′ : Placed) → EndAlike lo N Same Equal p p′ → p ≡ p′
 alike-equal lo N (placed (Count c) t) (placed (Count c′) t′) a = let z : c′ ≡ c = a .0 in let y : t ≡ t′ = a .3 in cc
 alike-equal lo N (placed (Count c) t) (placed (Refused r) t′) a = absurd a
 alike-equal lo N (placed (Refused s) t) (placed (Count c) t′) a = absurd a
@@ -46,12 +46,12 @@ alike-equal lo N (placed (Refused s) t) (placed (Refused r) t′) a = let z : s 
 module _ (own src : ℕ → ℕ → ℕ) (n room N : ℕ) (lo : 1 ≤ N) (hi : N ≤ room)
     (same : (e g : ℕ) → e < N → g < n → own e g ≡ suc (src e g)) (inside : (e g : ℕ) → e < N → g < n → src e g < N) where
   place : (x g c : ℕ) (t t′ : List ℕ) → x < N → x < c → g < n → c ≤ N → t ≡ t′
-      → Alike (suc x) N Same Equal (ownPlace t n room N c x g (own x g)) (readPlace t′ n room c x g (src x g))
+      → EndAlike (suc x) N Same Equal (ownPlace t n room N c x g (own x g)) (readPlace t′ n room c x g (src x g))
   place x g c t t′ hx hc hg most q =
       let s = same x g hx hg in
       let i = inside x g hx hg in
       let v : own x g - 1 ≡ src x g = omega arith in
-      subst (λ (u : List ℕ). Alike (suc x) N Same Equal (ownPlace t n room N c x g (own x g)) (readPlace u n room c x g (src x g))) q
+      subst (λ (u : List ℕ). EndAlike (suc x) N Same Equal (ownPlace t n room N c x g (own x g)) (readPlace u n room c x g (src x g))) q
       (rw (← own-read t n room N c x g (own x g) (λ z. omega arith) (omega arith), v)
       (read-alike N Same Equal n room x g c (src x g) t t (λ k a b d h. (refl, refl)) i hi hc most refl (λ k. refl) (λ k l. refl)))
 

@@ -25,8 +25,8 @@ use Rattle.build_checks_laws.proofs.Tests.{missing-fine}
 use Rattle.build_reading_laws.specs.Read.{Read}
 use Rattle.build_reading_laws.proofs.Stores.{cell}
 use Rattle.promises_builder.specs.Own.{ownNumber}
-use Rattle.promises_builder.specs.Refusals.{AllThere, NoneLeads, AllLedTo, Lacks, no-successor, no-predecessor, not-reached}
-use Rattle.promises_builder.proofs.Missing.{Beside}
+use Rattle.promises_builder.specs.Refusals.{AllThere, NoneLeads, AllLedTo, BuilderLacks, no-successor, no-predecessor, not-reached}
+use Rattle.promises_builder.proofs.Missing.{TableBeside}
 
 -- The first place of the table at which a cell is zero.
 pub record FirstZero (t : List ℕ) (n N shift : ℕ) (r : Refusal) : Type 0 where
@@ -78,7 +78,7 @@ row-start n e = omega arith
 pub record ReadOwn (own : ℕ → ℕ → ℕ) (n room size N c : ℕ) (t : List ℕ) : Type 0 where
   pub numbers : List ℕ
   pub read : Read (ownNumber N own) n room size c numbers
-  pub beside : Beside own n size c t numbers
+  pub beside : TableBeside own n size c t numbers
   pub some : 1 ≤ c
   pub most : c ≤ N
 
@@ -131,7 +131,7 @@ module _ {own : ℕ → ℕ → ℕ} {n room size N c : ℕ} {t : List ℕ} (O :
         let i : startOf n y + 0 + h ≡ startOf n y + h = omega arith in
         F .before y h (omega arith) hh a (rw i (own-cell y h hy hh ∙ z))
 
-    first-successor : {r : Refusal} (F : FirstZero t n M 0 r) → F .element < c → Lacks own n N c r
+    first-successor : {r : Refusal} (F : FirstZero t n M 0 r) → F .element < c → BuilderLacks own n N c r
     first-successor F he =
         let e = F .element in
         let g = F .generator in
@@ -139,16 +139,16 @@ module _ {own : ℕ → ℕ → ℕ} {n room size N c : ℕ} {t : List ℕ} (O :
         rw (F .is)
         (no-successor e g he (F .column) (sym (own-cell e g he (F .column)) ∙ (rw i at (F .zero-here))) (before-there F))
 
-  first-predecessor : {r : Refusal} → AllThere own n c → c ≡ N → FirstZero t n c n r → Lacks own n N c r
+  first-predecessor : {r : Refusal} → AllThere own n c → c ≡ N → FirstZero t n c n r → BuilderLacks own n N c r
   first-predecessor {r} A all F =
       rw (F .is)
       (no-predecessor (F .element) (F .generator) A all (F .inside) (F .column) (own-led (F .element) (F .generator) (F .inside) (F .column) (F .zero-here))
       (λ y k hy hk a none. F .before y k hy hk a (own-none y k hy hk none)))
 
-  pub lacks : {r : Refusal} → c ≡ N → check8 t n c ≡ Refused r → Lacks own n N c r
+  pub lacks : {r : Refusal} → c ≡ N → check8 t n c ≡ Refused r → BuilderLacks own n N c r
   unfolding check8
   lacks {r} all h = by (missing t n c 0) refl h where
-    by : (v : Verdict) → missing t n c 0 ≡ v → andThen v (missing t n c n) ≡ Refused r → Lacks own n N c r
+    by : (v : Verdict) → missing t n c 0 ≡ v → andThen v (missing t n c n) ≡ Refused r → BuilderLacks own n N c r
     by Fine q p = first-predecessor (there q) all (missing-first t n c n p)
     by (Refused s) q p =
         let i : s ≡ r = cc in
@@ -162,9 +162,9 @@ module _ {own : ℕ → ℕ → ℕ} {n room size N c : ℕ} {t : List ℕ} (O :
         let i : startOf n c + 0 + 0 ≡ startOf n c + 0 = omega arith in
         rw i (⊎-elim (λ z. O .beside .missing pos z) (λ p. O .beside .stored pos (λ z. omega arith) ∙ O .read .beyond (row-start n c)) (eq-zero-or-pos (own c 0)))
 
-    first-unreached : {r : Refusal} → FirstZero t n N 0 r → Lacks own n N c r
+    first-unreached : {r : Refusal} → FirstZero t n N 0 r → BuilderLacks own n N c r
     first-unreached {r} F = by (places (F .element) (F .generator) c 0) where
-      by : Places (F .element) (F .generator) c 0 → Lacks own n N c r
+      by : Places (F .element) (F .generator) c 0 → BuilderLacks own n N c r
       by (sooner (row l)) = first-successor (O .most) F l
       by (sooner (column e l)) = absurd (omega arith)
       by (same p q) =
@@ -172,10 +172,10 @@ module _ {own : ℕ → ℕ → ℕ} {n room size N c : ℕ} {t : List ℕ} (O :
           rw i (not-reached (λ y h hy hh. before-there (O .most) F y h hy hh (row (omega arith))) pos less)
       by (later a) = absurd (F .before c 0 less pos a row-empty)
 
-    pub unreached : {r : Refusal} → check8 t n N ≡ Refused r → Lacks own n N c r
+    pub unreached : {r : Refusal} → check8 t n N ≡ Refused r → BuilderLacks own n N c r
     unfolding check8
     unreached {r} h = by (missing t n N 0) refl h where
-      by : (v : Verdict) → missing t n N 0 ≡ v → andThen v (missing t n N n) ≡ Refused r → Lacks own n N c r
+      by : (v : Verdict) → missing t n N 0 ≡ v → andThen v (missing t n N n) ≡ Refused r → BuilderLacks own n N c r
       by Fine q p = absurd (missing-fine t n N 0 .0 q c less 0 pos row-empty)
       by (Refused s) q p = let i : s ≡ r = cc in first-unreached (missing-first t n N 0 (q ∙ ap Refused i))
 
@@ -185,7 +185,7 @@ module _ {own : ℕ → ℕ → ℕ} {n room size N c : ℕ} {t : List ℕ} (O :
 
 -- It is one refusal.
 module _ {own : ℕ → ℕ → ℕ} {n N c : ℕ} where
-  pub lacks-once : {r r′ : Refusal} → Lacks own n N c r → Lacks own n N c r′ → r ≡ r′
+  pub lacks-once : {r r′ : Refusal} → BuilderLacks own n N c r → BuilderLacks own n N c r′ → r ≡ r′
   lacks-once (no-successor e g he hg z b) (no-successor e′ g′ he′ hg′ z′ b′) = by (places e g e′ g′) where
     by : Places e g e′ g′ → numbered 8 e g 0 ≡ numbered 8 e′ g′ 0
     by (sooner a) = absurd (b′ e g he hg a z)
@@ -205,7 +205,7 @@ module _ {own : ℕ → ℕ → ℕ} {n N c : ℕ} where
     by (later a) = absurd (b e′ g′ he′ hg′ a x′)
 
   -- And its number is 8.
-  pub lacks-8 : {r : Refusal} → Lacks own n N c r → r .number ≡ 8
+  pub lacks-8 : {r : Refusal} → BuilderLacks own n N c r → r .number ≡ 8
   lacks-8 (no-successor e g he hg z b) = refl
   lacks-8 (not-reached A pos less) = refl
   lacks-8 (no-predecessor e g A all he hg x b) = refl

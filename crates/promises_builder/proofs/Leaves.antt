@@ -30,11 +30,11 @@ use Rattle.builder.specs.declared.Stored.the-variants as stored
 use Rattle.build_lending.specs.Lending.{tableNeed, workNeed, refusedMade, Making, making}
 use Rattle.builder.specs.Calls.{leaving, builderOf, refusedBegun, begins, placed, placedStep, overLong, grownBy, grown, growsBy, grows, storesBy, stores, builds}
 use Rattle.builder_arguments.proofs.Places.{place-fits}
-use Rattle.build_checks_laws.specs.Numbers.{In, lateNumbers}
+use Rattle.build_checks_laws.specs.Numbers.{RefusalIn, lateNumbers}
 use Rattle.promises.specs.Leaves.{Leaves, untouched, zeros, tableFor, lentFor}
 use Rattle.promises.proofs.ReadLengths.{adds-length}
 use Rattle.promises.proofs.Unaltered.{stretch-long}
-use Rattle.promises_builder.specs.Builds.{Right}
+use Rattle.promises_builder.specs.Builds.{BuildRight}
 use Rattle.promises_builder.proofs.Ways.{parts, same-refusal, build-number, build-zeros}
 
 -- Refusals that are one.
@@ -47,33 +47,33 @@ reached-is q = cc
 stored-is : {s r : Refusal} → stored.Refused s ≡ stored.Refused r → s ≡ r
 stored-is q = cc
 
-moved : (l : List ℕ) {s r : Refusal} → s ≡ r → In l s → In l r
-moved l q m = subst (λ (x : Refusal). In l x) q m
+moved : (l : List ℕ) {s r : Refusal} → s ≡ r → RefusalIn l s → RefusalIn l r
+moved l q m = subst (λ (x : Refusal). RefusalIn l x) q m
 
 -- `build`.
 module _ (t : List ℕ) (b : Builder) (w : List ℕ) (r : Refusal) (x : Factor) (t′ w′ : List ℕ) where
   abbrev refused : Making
   refused = making (record { answer = verdict.Refused r; factor = x }) t′ w′
 
-  right-or-not : builds t b w ≡ refused → Right t b w ⊎ (¬ (Right t b w) × In (4 ∷ 17 ∷ []) r × (t′ ≡ t) × (w′ ≡ w))
+  right-or-not : builds t b w ≡ refused → BuildRight t b w ⊎ (¬ (BuildRight t b w) × RefusalIn (4 ∷ 17 ∷ []) r × (t′ ≡ t) × (w′ ≡ w))
   unfolding builds
   right-or-not h = by (fitsIn (length t) (b .0)) refl (leb (workNeed (b .0 .generators) (b .0 .room)) (length w)) refl _ h where
-    early : (k : ℕ) → In (4 ∷ 17 ∷ []) (numbered k 0 0 0) → ¬ (Right t b w) → making (refusedMade k 0) t w ≡ refused
-        → Right t b w ⊎ (¬ (Right t b w) × In (4 ∷ 17 ∷ []) r × (t′ ≡ t) × (w′ ≡ w))
+    early : (k : ℕ) → RefusalIn (4 ∷ 17 ∷ []) (numbered k 0 0 0) → ¬ (BuildRight t b w) → making (refusedMade k 0) t w ≡ refused
+        → BuildRight t b w ⊎ (¬ (BuildRight t b w) × RefusalIn (4 ∷ 17 ∷ []) r × (t′ ≡ t) × (w′ ≡ w))
     early k m wrong e = let p = parts e in inr (wrong, moved (4 ∷ 17 ∷ []) (same-refusal {s = numbered k 0 0 0} (p .0)) m, sym (p .1), sym (p .2))
 
     by : (c : Bool) → fitsIn (length t) (b .0) ≡ c → (d : Bool) → leb (workNeed (b .0 .generators) (b .0 .room)) (length w) ≡ d → (m : Making)
         → pick c (pick d m (making (refusedMade 4 0) t w)) (making (refusedMade 17 0) t w) ≡ refused
-        → Right t b w ⊎ (¬ (Right t b w) × In (4 ∷ 17 ∷ []) r × (t′ ≡ t) × (w′ ≡ w))
+        → BuildRight t b w ⊎ (¬ (BuildRight t b w) × RefusalIn (4 ∷ 17 ∷ []) r × (t′ ≡ t) × (w′ ≡ w))
     by true p true q m e = inl (record { fits = p; enough = leb-true _ _ q })
     by true p false q m e = early 4 refl (λ R. omega (arith, R .enough, leb-false (workNeed (b .0 .generators) (b .0 .room)) (length w) q)) e
     by false p d q m e = early 17 refl (λ R. false-true (sym p ∙ R .fits)) e
 
   pub builds-leaves : builds t b w ≡ making (record { answer = verdict.Refused r; factor = x }) t′ w′
-      → Leaves (Right t b w) (4 ∷ 17 ∷ []) (6 ∷ 7 ∷ 8 ∷ 17 ∷ lateNumbers) (lentFor t (b .0 .start) w (b .0 .generators) (b .0 .room) t′ w′) r
+      → Leaves (BuildRight t b w) (4 ∷ 17 ∷ []) (6 ∷ 7 ∷ 8 ∷ 17 ∷ lateNumbers) (lentFor t (b .0 .start) w (b .0 .generators) (b .0 .room) t′ w′) r
   builds-leaves h = by (right-or-not h) where
-    by : Right t b w ⊎ (¬ (Right t b w) × In (4 ∷ 17 ∷ []) r × (t′ ≡ t) × (w′ ≡ w))
-        → Leaves (Right t b w) (4 ∷ 17 ∷ []) (6 ∷ 7 ∷ 8 ∷ 17 ∷ lateNumbers) (lentFor t (b .0 .start) w (b .0 .generators) (b .0 .room) t′ w′) r
+    by : BuildRight t b w ⊎ (¬ (BuildRight t b w) × RefusalIn (4 ∷ 17 ∷ []) r × (t′ ≡ t) × (w′ ≡ w))
+        → Leaves (BuildRight t b w) (4 ∷ 17 ∷ []) (6 ∷ 7 ∷ 8 ∷ 17 ∷ lateNumbers) (lentFor t (b .0 .start) w (b .0 .generators) (b .0 .room) t′ w′) r
     by (inr (wrong, m, p, q)) = untouched wrong m (p, (q, tt))
     by (inl R) =
         let n = b .0 .generators in
@@ -98,7 +98,7 @@ module _ (table : List ℕ) (start room n : ℕ) (r : Refusal) (b : Builder) (t 
       → Leaves (hasRoom (length table) start room n ≡ true) (1 ∷ 4 ∷ []) [] (tableFor table start n room t ∷ []) r
   unfolding begins
   begins-leaves h = by (ltb 8 n) refl (hasRoom (length table) start room n) refl _ h where
-    early : (k a : ℕ) → In (1 ∷ 4 ∷ []) (numbered k a 0 0) → ¬ (hasRoom (length table) start room n ≡ true)
+    early : (k a : ℕ) → RefusalIn (1 ∷ 4 ∷ []) (numbered k a 0 0) → ¬ (hasRoom (length table) start room n ≡ true)
         → leaving (refusedBegun k a) table ≡ leaving (record { answer = verdict.Refused r; builder = b }) t → Begins
     early k a m wrong e =
         let p = left e in
@@ -113,15 +113,15 @@ module _ (table : List ℕ) (start room n : ℕ) (r : Refusal) (b : Builder) (t 
     by false p false q l e = early 4 0 refl (λ z. false-true (sym q ∙ z)) e
 
 -- 17 in the handle and 14.
-fourteen : {a b c : ℕ} → Says (In (14 ∷ 17 ∷ [])) (refusedOf 14 a b c)
+fourteen : {a b c : ℕ} → Says (RefusalIn (14 ∷ 17 ∷ [])) (refusedOf 14 a b c)
 fourteen = says-refused refl
 
-seventeen : Says (In (14 ∷ 17 ∷ [])) (refusedOf 17 0 0 0)
+seventeen : Says (RefusalIn (14 ∷ 17 ∷ [])) (refusedOf 17 0 0 0)
 seventeen = says-refused refl
 
 ruleset early = (says-then, says-pick, says-fine, fourteen, seventeen)
 
-place-numbers : (len : ℕ) (f : Factor) (e : GroupElementId) (g : GeneratorId) → Says (In (14 ∷ 17 ∷ [])) (placed len f e g)
+place-numbers : (len : ℕ) (f : Factor) (e : GroupElementId) (g : GeneratorId) → Says (RefusalIn (14 ∷ 17 ∷ [])) (placed len f e g)
 unfolding placed
 place-numbers len f e g = search early
 
@@ -139,16 +139,16 @@ module _ (t : List ℕ) (b : Builder) (e : GroupElementId) (g : GeneratorId) (r 
   abbrev added : Adds
   added = adds (stretch t f) (f .generators) (f .room) (f .elements) e g
 
-  added-number : {x : Refusal} → added .answer ≡ reached.Refused x → In (5 ∷ 6 ∷ 17 ∷ []) x
+  added-number : {x : Refusal} → added .answer ≡ reached.Refused x → RefusalIn (5 ∷ 6 ∷ 17 ∷ []) x
   unfolding adds
   added-number {x} q = by (leb (f .room) (f .elements)) (leb 4096 (lengthOf (stretch t f) (f .generators) (e .0))) _ _ q where
-    is : (k : ℕ) → In (5 ∷ 6 ∷ 17 ∷ []) (numbered k (e .0) (g .0) 0) → reached.Refused (numbered k (e .0) (g .0) 0) ≡ reached.Refused x → In (5 ∷ 6 ∷ 17 ∷ []) x
+    is : (k : ℕ) → RefusalIn (5 ∷ 6 ∷ 17 ∷ []) (numbered k (e .0) (g .0) 0) → reached.Refused (numbered k (e .0) (g .0) 0) ≡ reached.Refused x → RefusalIn (5 ∷ 6 ∷ 17 ∷ []) x
     is k m p = moved (5 ∷ 6 ∷ 17 ∷ []) (reached-is {s = numbered k (e .0) (g .0) 0} p) m
 
     by : (c d : Bool) (y : GroupElementId) (l : List ℕ)
         → pick {A = Adds} c (record { answer = reached.Refused (numbered 5 (e .0) (g .0) 0); table = stretch t f })
         (pick d (record { answer = reached.Refused (numbered 6 (e .0) (g .0) 0); table = stretch t f }) (record { answer = reached.Element y; table = l })) .answer
-        ≡ reached.Refused x → In (5 ∷ 6 ∷ 17 ∷ []) x
+        ≡ reached.Refused x → RefusalIn (5 ∷ 6 ∷ 17 ∷ []) x
     by true d y l p = is 5 refl p
     by false true y l p = is 6 refl p
     by false false y l p = let z : _≡_ {A = ℕ} 0 1 = cc in absurd (omega arith)
@@ -162,7 +162,7 @@ module _ (t : List ℕ) (b : Builder) (e : GroupElementId) (g : GeneratorId) (r 
     answer-is q = ap (λ (z : Grown). z .answer) q
 
     -- A refusal of the build: zeros in the stretch.
-    ended : placed (length t) f e g ≡ verdict.Fine → (x : Refusal) (s : List ℕ) → In (5 ∷ 6 ∷ 17 ∷ []) x → length s ≡ length (stretch t f)
+    ended : placed (length t) f e g ≡ verdict.Fine → (x : Refusal) (s : List ℕ) → RefusalIn (5 ∷ 6 ∷ 17 ∷ []) x → length s ≡ length (stretch t f)
         → growsBy t f verdict.Fine (grownBy f (reached.Refused x) s) ≡ leaving refusal t′ → Grows
     ended fine x s m long q =
         let fits = place-fits (length t) f e g refl fine in
@@ -196,7 +196,7 @@ module _ (t : List ℕ) (b : Builder) (e : GroupElementId) (g : GeneratorId) (r 
 
 -- `set_successor` refuses its arguments only.
 module _ (t : List ℕ) (b : Builder) (e : GroupElementId) (g : GeneratorId) (to : GroupElementId) (r : Refusal) (t′ : List ℕ) where
-  step-numbers : Says (In (14 ∷ 17 ∷ [])) (placedStep (length t) (b .0) e g to)
+  step-numbers : Says (RefusalIn (14 ∷ 17 ∷ [])) (placedStep (length t) (b .0) e g to)
   unfolding placedStep
   step-numbers = says-then (placed (length t) (b .0) e g) _ (place-numbers (length t) (b .0) e g) (search early)
 

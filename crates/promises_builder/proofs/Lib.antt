@@ -1,5 +1,5 @@
 pub mod AnyWork
-pub mod Alike
+pub mod EndAlike
 pub mod Missing
 pub mod Composed
 pub mod Lacking

@@ -17,13 +17,13 @@ use Rattle.builder_rereading.specs.Own.{ownPlace, ownAll}
 use Rattle.builder_rereading.proofs.Owning.{own-missing, own-outside, own-read}
 use Rattle.build_checks_laws.proofs.AnyWork.{AlikeAt, put-alike}
 use Rattle.build_reading_laws.proofs.Stores.{cell, stepped, worded, step-length, step-keeps, step-predecessor, predecessor-or-kept, word-length, word-keeps}
-use Rattle.build_reading_laws.proofs.State.{place-skip, place-old}
+use Rattle.build_reading_laws.proofs.ReadingState.{place-skip, place-old}
 use Rattle.build_reading_laws.proofs.Runs.{zeros}
 use Rattle.promises_builder.specs.Own.{ownNumber, ownRefusal}
-use Rattle.promises_builder.proofs.Alike.{Alike, all-alike, read-alike}
+use Rattle.promises_builder.proofs.EndAlike.{EndAlike, all-alike, read-alike}
 
 -- The builder's table t beside the table t′ of the numbers, when c elements are known: what t stores of the steps, and the same lengths of words.
-pub record Beside (own : ℕ → ℕ → ℕ) (n size c : ℕ) (t t′ : List ℕ) : Type 0 where
+pub record TableBeside (own : ℕ → ℕ → ℕ) (n size c : ℕ) (t t′ : List ℕ) : Type 0 where
   pub whole : length t ≡ size
   pub whole′ : length t′ ≡ size
   pub missing : {e g : ℕ} → g < n → own e g ≡ 0 → cell t n e g ≡ 0
@@ -51,7 +51,7 @@ module _ (t t′ : List ℕ) (long : length t ≡ length t′) (i : ℕ) (here :
 
 module _ {own : ℕ → ℕ → ℕ} {n size : ℕ} where
   -- A step that is stored in both.
-  module _ {x g c v : ℕ} {t t′ : List ℕ} (B : Beside own n size c t t′) (hg : g < n) (is : own x g ≡ suc v) (hx : x < c) (hv : v < c)
+  module _ {x g c v : ℕ} {t t′ : List ℕ} (B : TableBeside own n size c t t′) (hg : g < n) (is : own x g ≡ suc v) (hx : x < c) (hv : v < c)
       (fits : c * (2 * n + 4) ≤ length t) (small : c ≤ 65535) where
     apart : {e h : ℕ} → own e h ≡ 0 → e ≡ x → h ≡ g → ⊥
     apart z p q = omega (arith, rw (p, q) at z)
@@ -77,7 +77,7 @@ module _ {own : ℕ → ℕ → ℕ} {n size : ℕ} where
       go (yes p) (no d) = before (λ a b. d b)
       go (no d) q = before (λ a b. d a)
 
-    beside-step : Beside own n size c (stepped t n x g v) (stepped t′ n x g v)
+    beside-step : TableBeside own n size c (stepped t n x g v) (stepped t′ n x g v)
     beside-step =
         let long : length t ≡ length t′ = B .whole ∙ sym (B .whole′) in
         record {
@@ -91,7 +91,7 @@ module _ {own : ℕ → ℕ → ℕ} {n size : ℕ} where
         }
 
   -- The word of a new element in both.
-  beside-word : {c : ℕ} {t t′ : List ℕ} (x g l : ℕ) → Beside own n size c t t′ → Beside own n size (suc c) (worded t n c x g l) (worded t′ n c x g l)
+  beside-word : {c : ℕ} {t t′ : List ℕ} (x g l : ℕ) → TableBeside own n size c t t′ → TableBeside own n size (suc c) (worded t n c x g l) (worded t′ n c x g l)
   beside-word {c} {t} {t′} x g l B =
       let long : length t ≡ length t′ = B .whole ∙ sym (B .whole′) in
       let same : (e k : ℕ) → k < 2 * n → cell (worded t n c x g l) n e k ≡ cell t n e k = λ e k h. word-keeps t n c x g l e k (omega arith) (λ p q r. omega arith) in
@@ -107,7 +107,7 @@ module _ {own : ℕ → ℕ → ℕ} {n size : ℕ} where
       }
 
   -- A missing step is stored in t′ alone, as one to the identity.
-  beside-missing : {x g c : ℕ} {t t′ : List ℕ} → Beside own n size c t t′ → g < n → own x g ≡ 0 → Beside own n size c t (stepped t′ n x g 0)
+  beside-missing : {x g c : ℕ} {t t′ : List ℕ} → TableBeside own n size c t t′ → g < n → own x g ≡ 0 → TableBeside own n size c t (stepped t′ n x g 0)
   beside-missing {x} {g} {c} {t} {t′} B hg none = record {
     whole = B .whole;
     whole′ = step-length t′ n x g 0 hg ∙ B .whole′;
@@ -119,7 +119,7 @@ module _ {own : ℕ → ℕ → ℕ} {n size : ℕ} where
     arrived = B .arrived;
   }
 
-  beside-start : Beside own n size 1 (replicate size 0) (replicate size 0)
+  beside-start : TableBeside own n size 1 (replicate size 0) (replicate size 0)
   beside-start = record {
     whole = length-replicate size 0;
     whole′ = length-replicate size 0;
@@ -137,18 +137,18 @@ module _ (own : ℕ → ℕ → ℕ) (n room size N : ℕ) (lo : 1 ≤ N) (hi : 
   letters-at : (x : ℕ) (t t′ : List ℕ) → cell t n x (2 * n + 2) ≡ cell t′ n x (2 * n + 2) → lengthOf t n x ≡ lengthOf t′ n x
   letters-at x t t′ q = let i : startOf n x + (2 * n + 2) ≡ startOf n x + 2 * n + 2 = omega arith in rw i at q
 
-  place : (x g c : ℕ) (t t′ : List ℕ) → x < N → x < c → g < n → c ≤ N → Beside own n size c t t′
-      → Alike (suc x) N (OwnRefusal N size) (Beside own n size) (ownPlace t n room N c x g (own x g)) (readPlace t′ n room c x g (ownNumber N own x g))
+  place : (x g c : ℕ) (t t′ : List ℕ) → x < N → x < c → g < n → c ≤ N → TableBeside own n size c t t′
+      → EndAlike (suc x) N (OwnRefusal N size) (TableBeside own n size) (ownPlace t n room N c x g (own x g)) (readPlace t′ n room c x g (ownNumber N own x g))
   place x g c t t′ hx hc hg most B = go (ℕ-discrete (own x g) 0) (decLt N (own x g)) where
     grown : own x g ≡ suc c → suc c ≤ N → lengthOf t n x ≡ lengthOf t′ n x
-        → Beside own n size (suc c) (stepped (worded t n c x g (suc (lengthOf t n x))) n x g c) (stepped (worded t′ n c x g (suc (lengthOf t′ n x))) n x g c)
+        → TableBeside own n size (suc c) (stepped (worded t n c x g (suc (lengthOf t n x))) n x g c) (stepped (worded t′ n c x g (suc (lengthOf t′ n x))) n x g c)
     grown is h len =
         let l = suc (lengthOf t′ n x) in
         let W = beside-word x g l B in
         rw len (beside-step W hg is (omega arith) (omega arith) (rows-fit h (W .whole)) (omega arith))
 
     go : Dec (own x g ≡ 0) → Dec (N < own x g)
-        → Alike (suc x) N (OwnRefusal N size) (Beside own n size) (ownPlace t n room N c x g (own x g)) (readPlace t′ n room c x g (ownNumber N own x g))
+        → EndAlike (suc x) N (OwnRefusal N size) (TableBeside own n size) (ownPlace t n room N c x g (own x g)) (readPlace t′ n room c x g (ownNumber N own x g))
     go (yes z) d =
         let l : own x g ≤ N = omega arith in
         let v : own x g - 1 ≡ 0 = omega arith in
@@ -163,10 +163,10 @@ module _ (own : ℕ → ℕ → ℕ) (n room size N : ℕ) (lo : 1 ≤ N) (hi : 
         let is : own x g ≡ suc v = ⊎-elim (λ q. absurd (z q)) (λ q. omega arith) (eq-zero-or-pos (own x g)) in
         let len : lengthOf t n x ≡ lengthOf t′ n x = letters-at x t t′ (B .letters x) in
         rw (← own-read t n room N c x g (own x g) z l, le-ltb N (own x g) l)
-        (read-alike N (OwnRefusal N size) (Beside own n size) n room x g c v t t′ (λ k a b d h. (rw (le-ltb N d h), B .whole)) (omega arith) hi hc most len
+        (read-alike N (OwnRefusal N size) (TableBeside own n size) n room x g c v t t′ (λ k a b d h. (rw (le-ltb N d h), B .whole)) (omega arith) hi hc most len
         (λ k. beside-step B hg is hc k (rows-fit most (B .whole)) (omega arith))
         (λ q k. grown (is ∙ ap suc q) (omega arith) len))
 
   -- The whole reading.
-  pub own-beside : Alike 1 N (OwnRefusal N size) (Beside own n size) (ownAll own n room N (replicate size 0)) (readAll (ownNumber N own) n room (replicate size 0))
-  own-beside = all-alike N (OwnRefusal N size) (Beside own n size) own (ownNumber N own) n room place lo hi beside-start
+  pub own-beside : EndAlike 1 N (OwnRefusal N size) (TableBeside own n size) (ownAll own n room N (replicate size 0)) (readAll (ownNumber N own) n room (replicate size 0))
+  own-beside = all-alike N (OwnRefusal N size) (TableBeside own n size) own (ownNumber N own) n room place lo hi beside-start

@@ -18,20 +18,20 @@ use Rattle.build_reading.specs.Reading.{Placed, placed, readAll}
 use Rattle.build_checks.specs.Checks.{check8, check-table, check-group}
 use Rattle.build_lending.specs.Finish.{Built, built, zeroed, settledBy, finished, finishedPlaced}
 use Rattle.builder_rereading.specs.Own.{storedAt, ownAll, allReached, reachesAll, ownIn}
-use Rattle.build_reading_laws.specs.Read.{Read, Readable, Refuses}
+use Rattle.build_reading_laws.specs.Read.{Read, Readable, ReadingRefused}
 use Rattle.build_reading_laws.proofs.Readings.{accepted-read, refused-read, read-readable}
 use Rattle.promises_builder.specs.Own.{ownNumber, ownRefusal}
-use Rattle.promises_builder.specs.Refusals.{Lacks}
+use Rattle.promises_builder.specs.Refusals.{BuilderLacks}
 use Rattle.promises_builder.proofs.AnyWork.{own-in-zeros}
-use Rattle.promises_builder.proofs.Alike.{Alike}
-use Rattle.promises_builder.proofs.Missing.{Beside, OwnRefusal, own-beside}
+use Rattle.promises_builder.proofs.EndAlike.{EndAlike}
+use Rattle.promises_builder.proofs.Missing.{TableBeside, OwnRefusal, own-beside}
 use Rattle.promises_builder.proofs.Lacking.{ReadOwn, lacks, unreached, never-fine}
 
 pub data Comes (own : ℕ → ℕ → ℕ) (n room size N : ℕ) (w : List ℕ) (B : Built) : Type 0 where
-  stopped : (r : Refusal) → Refuses (ownNumber N own) n room r → B ≡ built (Refused (ownRefusal N r)) (replicate size 0) (replicate (length w) 0)
+  stopped : (r : Refusal) → ReadingRefused (ownNumber N own) n room r → B ≡ built (Refused (ownRefusal N r)) (replicate size 0) (replicate (length w) 0)
       → Comes own n room size N w B
   nowhere : n ≡ 0 → 1 < N → B ≡ built (Refused (numbered 17 0 0 0)) (replicate size 0) (replicate (length w) 0) → Comes own n room size N w B
-  lacking : (c : ℕ) (r : Refusal) → Readable (ownNumber N own) n room c → Lacks own n N c r → B ≡ built (Refused r) (replicate size 0) (replicate (length w) 0)
+  lacking : (c : ℕ) (r : Refusal) → Readable (ownNumber N own) n room c → BuilderLacks own n N c r → B ≡ built (Refused r) (replicate size 0) (replicate (length w) 0)
       → Comes own n room size N w B
   whole : (t : List ℕ) → ownAll own n room N (replicate size 0) ≡ placed (Count N) t → ReadOwn own n room size N N t → check8 t n N ≡ verdict.Fine → B ≡ settledBy n N (check-group t (zeroed w) n N)
       → Comes own n room size N w B
@@ -89,7 +89,7 @@ module _ (own : ℕ → ℕ → ℕ) (n room size N : ℕ) (w : List ℕ) (least
   unfolding finished
   end-refused s t = refl
 
-  came : (p p′ : Placed) → ownAll own n room N (replicate size 0) ≡ p → readAll (ownNumber N own) n room (replicate size 0) ≡ p′ → Alike 1 N (OwnRefusal N size) (Beside own n size) p p′
+  came : (p p′ : Placed) → ownAll own n room N (replicate size 0) ≡ p → readAll (ownNumber N own) n room (replicate size 0) ≡ p′ → EndAlike 1 N (OwnRefusal N size) (TableBeside own n size) p p′
       → Comes own n room size N w (finishedPlaced (reachesAll n N p) n (zeroed w))
   came (placed (Count c) t) (placed (Count c′) t′) all q a = by (decLt c N) where
     O : ReadOwn own n room size N c t

@@ -13,13 +13,13 @@ use Rattle.promises.specs.Papers.{madePaper}
 use Rattle.promises.proofs.Never.{leaves-number}
 use Rattle.promises.proofs.Papers.{made-fine}
 use Rattle.promises_builder.specs.Own.{ownRows, Filled}
-use Rattle.promises_builder.specs.Builds.{Right}
+use Rattle.promises_builder.specs.Builds.{BuildRight}
 use Rattle.promises_builder.proofs.Builds.{begun, build-exactly}
 use Rattle.promises_builder.proofs.Leaves.{builds-leaves}
 
 module _ (t : List ℕ) (b : Builder) (w : List ℕ) where
   pub build-paper : madePaper (builds t b w) ≡ valuePaper 0
-      ↔ (Right t b w × Filled t (b .0) × Taken (composedAt (ownRows t (b .0)) (b .0 .generators)) (b .0 .generators) (b .0 .room) (b .0 .elements))
+      ↔ (BuildRight t b w × Filled t (b .0) × Taken (composedAt (ownRows t (b .0)) (b .0 .generators)) (b .0 .generators) (b .0 .room) (b .0 .elements))
   build-paper = (
     λ q.
         let a = made-fine (4 ∷ 6 ∷ 7 ∷ 8 ∷ 17 ∷ lateNumbers) refl (builds t b w) (λ r x t′ w′ h. leaves-number (4 ∷ 6 ∷ 7 ∷ 8 ∷ 17 ∷ lateNumbers) refl refl (builds-leaves t b w r x t′ w′ h)) q in

@@ -20,13 +20,13 @@ use Rattle.theory.specs.Numbering.{Numbered}
 use Rattle.theory.proofs.Reading.{numbered-once}
 use Rattle.build_checks_laws.specs.Numbers.{member, lateNumbers}
 use Rattle.build_checks_laws.proofs.Numbers.{each-in, none-of}
-use Rattle.build_reading_laws.specs.Read.{Readable, Refuses}
+use Rattle.build_reading_laws.specs.Read.{Readable, ReadingRefused}
 use Rattle.build_reading_laws.proofs.Readings.{read-readable}
 use Rattle.build_reading_laws.proofs.OnePlace.{refuses-once, readable-not-refused}
 use Rattle.build_laws.specs.Taken.{Groupless}
 use Rattle.promises.proofs.Composed.{composed-12}
 use Rattle.promises_builder.specs.Own.{ownAt, ownNumber, ownRefusal, ownRows, Filled}
-use Rattle.promises_builder.specs.Refusals.{Lacks}
+use Rattle.promises_builder.specs.Refusals.{BuilderLacks}
 use Rattle.promises_builder.proofs.Composed.{least, lent, listed-long, build-own-rows}
 use Rattle.promises_builder.proofs.Lacking.{all-there, lacks-once, lacks-8}
 use Rattle.promises_builder.proofs.Outcome.{stopped, nowhere, lacking, whole}
@@ -64,7 +64,7 @@ module _ (t : List ℕ) (b : Builder) (w : List ℕ) (fits : fitsIn (length t) (
   -- 17, 7 and 6 are a reading's of the builder's numbers, 17 for one that is no element's. (5 does not come.) Without generators 17 is given where the
   -- handle has more than the identity.
   pub build-stops : (s : Refusal) → (RefusedBy t b w s × (member (s .number) (5 ∷ 6 ∷ 7 ∷ 17 ∷ []) ≡ true))
-      ↔ (((r : Refusal) × Refuses (ownNumber (b .0 .elements) (ownAt t (b .0))) (b .0 .generators) (b .0 .room) r × (s ≡ ownRefusal (b .0 .elements) r))
+      ↔ (((r : Refusal) × ReadingRefused (ownNumber (b .0 .elements) (ownAt t (b .0))) (b .0 .generators) (b .0 .room) r × (s ≡ ownRefusal (b .0 .elements) r))
       ⊎ ((b .0 .generators ≡ 0) × (1 < b .0 .elements) × (s ≡ numbered 17 0 0 0)))
   build-stops s = (
     λ p. ⊎-elim (λ x. inl x)
@@ -77,7 +77,7 @@ module _ (t : List ℕ) (b : Builder) (w : List ℕ) (fits : fitsIn (length t) (
     Told : Type 0
     Told = RefusedBy t b w s × (member (s .number) (5 ∷ 6 ∷ 7 ∷ 17 ∷ []) ≡ true)
 
-    from-stop : (r : Refusal) × Refuses (ownNumber N own) n room r × (s ≡ ownRefusal N r) → Came t b w fits enough → Told
+    from-stop : (r : Refusal) × ReadingRefused (ownNumber N own) n room r × (s ≡ ownRefusal N r) → Came t b w fits enough → Told
     from-stop (r, F, is) (stopped x F′ e) =
         let i : s ≡ ownRefusal N x = is ∙ ap (ownRefusal N) (refuses-once F F′) in
         (rw i (refused-call t b w fits enough e), rw is (each-in (λ k. member k (5 ∷ 6 ∷ 7 ∷ 17 ∷ [])) (ownRefusal N r .number) (6 ∷ 7 ∷ 17 ∷ []) refl (stop-number t b w fits enough F)))
@@ -94,7 +94,7 @@ module _ (t : List ℕ) (b : Builder) (w : List ℕ) (fits : fitsIn (length t) (
   -- 8: "a successor or predecessor missing", at the first place that is lacking.
   pub build-8 : (r : Refusal) → (RefusedBy t b w r × (r .number ≡ 8))
       ↔ ((c : ℕ) × Readable (ownNumber (b .0 .elements) (ownAt t (b .0))) (b .0 .generators) (b .0 .room) c
-      × Lacks (ownAt t (b .0)) (b .0 .generators) (b .0 .elements) c r)
+      × BuilderLacks (ownAt t (b .0)) (b .0 .generators) (b .0 .elements) c r)
   build-8 r = (
     λ p. ⊎-elim
         (λ x. absurd (false-true (rw (sym (ap (λ (y : Refusal). y .number) (x .2)) ∙ p .1) at (stop-number t b w fits enough (x .1)))))
@@ -103,17 +103,17 @@ module _ (t : List ℕ) (b : Builder) (w : List ℕ) (fits : fitsIn (length t) (
         (ways t b w fits enough (p .0)),
     λ x. by x (came t b w fits enough),
   ) where
-    by : (c : ℕ) × Readable (ownNumber N own) n room c × Lacks own n N c r → Came t b w fits enough → RefusedBy t b w r × (r .number ≡ 8)
+    by : (c : ℕ) × Readable (ownNumber N own) n room c × BuilderLacks own n N c r → Came t b w fits enough → RefusedBy t b w r × (r .number ≡ 8)
     by (c, R, L) (stopped x F e) = absurd (readable-not-refused R F)
     by (c, R, L) (nowhere z l e) = absurd (some-generator L z)
     by (c, R, L) (lacking d x R′ L′ e) =
         let i : d ≡ c = numbered-once (R′ .by-rule) (R .by-rule) in
-        let j : x ≡ r = lacks-once (subst (λ (k : ℕ). Lacks own n N k x) i L′) L in
+        let j : x ≡ r = lacks-once (subst (λ (k : ℕ). BuilderLacks own n N k x) i L′) L in
         (rw (← j) (refused-call t b w fits enough e), lacks-8 L)
     by (c, R, L) (whole t₁ all O fine e) =
         let i : c ≡ N = numbered-once (R .by-rule) (O .read .by-rule) in
         let A = all-there O fine in
-        absurd (nothing-lacks (A .0) (A .1) (subst (λ (k : ℕ). Lacks own n N k r) i L))
+        absurd (nothing-lacks (A .0) (A .1) (subst (λ (k : ℕ). BuilderLacks own n N k r) i L))
 
   -- 12 exactly where reading and 8 to 11 pass and "no group has these right steps".
   pub build-12 : RefusedBy t b w (numbered 12 0 0 0)

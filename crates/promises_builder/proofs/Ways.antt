@@ -30,14 +30,14 @@ use Rattle.theory.proofs.Reading.{numbered-once}
 use Rattle.theory.proofs.RuleLaws.{numbered-agree}
 use Rattle.build_checks_laws.specs.Numbers.{member, lateNumbers}
 use Rattle.build_checks_laws.proofs.Numbers.{each-in, full-numbers, checks-number}
-use Rattle.build_reading_laws.specs.Read.{Readable, Refuses}
+use Rattle.build_reading_laws.specs.Read.{Readable, ReadingRefused}
 use Rattle.build_reading_laws.proofs.Readings.{accepted-read}
 use Rattle.build_laws.proofs.Lent.{by-build, by-refused}
 use Rattle.promises.proofs.Passing.{read-ranges}
 use Rattle.build_laws.proofs.Twelve.{check-refused}
 use Rattle.promises.proofs.Zeros.{settled-zeros}
 use Rattle.promises_builder.specs.Own.{ownAt, ownNumber, ownRefusal, ownRows, Filled}
-use Rattle.promises_builder.specs.Refusals.{Lacks}
+use Rattle.promises_builder.specs.Refusals.{BuilderLacks}
 use Rattle.promises_builder.proofs.Composed.{own-is-read, least, limit, stretch-long, builds-is, own-rows-at, build-own-rows}
 use Rattle.promises_builder.proofs.Lacking.{ReadOwn, own-inside, own-number, all-there, lacks-8}
 use Rattle.promises_builder.proofs.Outcome.{Comes, stopped, nowhere, lacking, whole, comes}
@@ -126,14 +126,14 @@ module _ (t : List ℕ) (b : Builder) (w : List ℕ) (fits : fitsIn (length t) (
     by (lacking c r R L e) z = absurd (refused-counted (sym e ∙ z))
     by (whole t₁ all O fine e) z = (filled t₁ O fine, rows-numbered t₁ O fine, is-composed t₁ O fine)
 
-  pub stop-number : {r : Refusal} → Refuses (ownNumber N own) n room r → member (ownRefusal N r .number) (6 ∷ 7 ∷ 17 ∷ []) ≡ true
+  pub stop-number : {r : Refusal} → ReadingRefused (ownNumber N own) n room r → member (ownRefusal N r .number) (6 ∷ 7 ∷ 17 ∷ []) ≡ true
   stop-number F = own-stop-number own n room N (some (length t) f fits) (room-enough (length t) f fits) F
 
   -- A refused build: by which of its ways, and with which numbers.
   pub ways : {r : Refusal} → RefusedBy t b w r
-      → ((x : Refusal) × Refuses (ownNumber N own) n room x × (r ≡ ownRefusal N x))
+      → ((x : Refusal) × ReadingRefused (ownNumber N own) n room x × (r ≡ ownRefusal N x))
       ⊎ (((n ≡ 0) × (1 < N) × (r ≡ numbered 17 0 0 0))
-      ⊎ (((c : ℕ) × Readable (ownNumber N own) n room c × Lacks own n N c r)
+      ⊎ (((c : ℕ) × Readable (ownNumber N own) n room c × BuilderLacks own n N c r)
       ⊎ (Filled t f × (member (r .number) lateNumbers ≡ true) × Numbered n N (composedAt (ownRows t f) n)
       × (builds t b w ≡ composed t (f .start) w (ownRows t f) n room))))
   ways {r} a = by came where
@@ -141,14 +141,14 @@ module _ (t : List ℕ) (b : Builder) (w : List ℕ) (fits : fitsIn (length t) (
     z = refused-in a .2
 
     by : Came
-        → ((x : Refusal) × Refuses (ownNumber N own) n room x × (r ≡ ownRefusal N x))
+        → ((x : Refusal) × ReadingRefused (ownNumber N own) n room x × (r ≡ ownRefusal N x))
         ⊎ (((n ≡ 0) × (1 < N) × (r ≡ numbered 17 0 0 0))
-        ⊎ (((c : ℕ) × Readable (ownNumber N own) n room c × Lacks own n N c r)
+        ⊎ (((c : ℕ) × Readable (ownNumber N own) n room c × BuilderLacks own n N c r)
         ⊎ (Filled t f × (member (r .number) lateNumbers ≡ true) × Numbered n N (composedAt (ownRows t f) n)
         × (builds t b w ≡ composed t (f .start) w (ownRows t f) n room))))
     by (stopped x F e) = inl (x, F, one z e)
     by (nowhere p q e) = inr (inl (p, q, one z e))
-    by (lacking c x R L e) = inr (inr (inl (c, R, subst (λ (y : Refusal). Lacks own n N c y) (one e z) L)))
+    by (lacking c x R L e) = inr (inr (inl (c, R, subst (λ (y : Refusal). BuilderLacks own n N c y) (one e z) L)))
     by (whole t₁ all O fine e) =
         let k = check-refused n N (check-group t₁ (zeroed W) n N) (sym e ∙ z) in
         inr (inr (inr (filled t₁ O fine, late-number t₁ O fine all (k .2), rows-numbered t₁ O fine, is-composed t₁ O fine)))

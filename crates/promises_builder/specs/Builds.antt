@@ -13,7 +13,7 @@ use Rattle.build_lending.specs.Lending.{workNeed, making}
 use Rattle.builder.specs.Calls.{builds}
 
 -- The arguments of `build` are right, so that it starts: the handle fits, and the work is long enough.
-pub record Right (t : List ℕ) (b : Builder) (w : List ℕ) : Type 0 where
+pub record BuildRight (t : List ℕ) (b : Builder) (w : List ℕ) : Type 0 where
   pub fits : fitsIn (length t) (b .0) ≡ true
   pub enough : workNeed (b .0 .generators) (b .0 .room) ≤ length w
 

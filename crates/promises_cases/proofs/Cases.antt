@@ -27,21 +27,21 @@ use Rattle.enumeration.specs.Calls.{enumeratedIn, enumerates}
 use Rattle.group_handles.specs.Handles.{limited, admits}
 use Rattle.group_digits.specs.Digits.{digitwise}
 use Rattle.group_digits.specs.Splits.{splitTail}
-use Rattle.group_powers.specs.Powers.{halves, powers}
+use Rattle.group_powers.specs.Powers.{byHalving, powers}
 use Rattle.group_periods.specs.Periods.{periodFrom, periods}
 use Rattle.group_words.specs.Words.{lengths, readables, spells, writes}
 use Rattle.group.specs.Questions as group
 use Rattle.image_cells.specs.Cells as cells
 use Rattle.image_check.specs.Short.{built}
 use Rattle.image.specs.Image.{headNumber, imageNumber}
-use Rattle.image_writing.specs.Written.{rowOf, rowsOf, spelled, imageOf, knownRow, allKnown}
+use Rattle.image_writing.specs.Written.{rowNumbers, rowsOf, spelledBytes, imageOf, knownRow, allKnown}
 use Rattle.image.specs.Written.{writeCount, writtenImage}
 use Rattle.image_reading.specs.Read.{imageIn}
 use Rattle.image.specs.Read.{readImage}
 use Rattle.promises_cases.specs.Cases.{KnownCases}
 
 pub known-cases : KnownCases
-unfolding putAt startOf scan pairCode pairCount ordersRight hasRoom fitsIn stretch readStep setStep setWord adds readPlace readRow readFrom checks.missingRow checks.missing checks.check8 checks.rangeRow checks.linksOf checks.ranges checks.wrongRow checks.wrong checks.check-table checks.wiped checks.arriveRow checks.arrivals checks.countsRight inverses.invertFrom inverses.fillInverses inverses.inversesRight lefts.identityRow lefts.columnsRow lefts.spelledRow lefts.spelled lefts.check-steps lefts.fillLeft lefts.goesRow lefts.allGo lefts.lefts checks.check-rest checks.check-group hopFrom withHops finished lentRight within composedIn composed factor.admits walks.along walks.readBack walks.ahead walks.backBy walks.composeIn walks.inverseIn walks.conjugateIn factor.composeAnswer factor.conjugateAnswer words.readableBy words.lengthIn words.spellBy words.writeIn factor.writeAnswer factor.written factor.wordPart turned doubledRow pairsRow relations checkAnswer rows.workWidth rows.placeAt rows.rowsAt rows.readRow rows.writeRow legs.backFrom legs.forwardFrom legs.filled rows.appended rows.waits rows.addedRow rows.addRowsFrom carrying.learns carrying.woken carrying.wakes carrying.wakesAll facts.emptied facts.updated facts.settleFrom enumerated runs visits discovered advanced enumeratedIn enumerates limited admits digitwise halves powers periodFrom periods lengths readables spells writes splitTail group.splitAnswer group.splitLeaves group.composeAnswer group.inverseAnswer group.powiAnswer group.periodAnswer group.writeAnswer group.written group.wordPart cells.halves built headNumber imageNumber rowOf rowsOf spelled imageOf knownRow allKnown writeCount writtenImage imageIn readImage
+unfolding putAt startOf scan pairCode pairCount ordersRight hasRoom fitsIn stretch readStep setStep setWord adds readPlace readRow readFrom checks.missingRow checks.missing checks.check8 checks.rangeRow checks.linksOf checks.ranges checks.wrongRow checks.wrong checks.check-table checks.wiped checks.arriveRow checks.arrivals checks.countsRight inverses.invertFrom inverses.fillInverses inverses.inversesRight lefts.identityRow lefts.columnsRow lefts.spelledRow lefts.spelled lefts.check-steps lefts.fillLeft lefts.goesRow lefts.allGo lefts.lefts checks.check-rest checks.check-group hopFrom withHops finished lentRight within composedIn composed factor.admits walks.along walks.readBack walks.ahead walks.backBy walks.composeIn walks.inverseIn walks.conjugateIn factor.composeAnswer factor.conjugateAnswer words.readableBy words.lengthIn words.spellBy words.writeIn factor.writeAnswer factor.written factor.wordPart turned doubledRow pairsRow relations checkAnswer rows.workWidth rows.placeAt rows.rowsAt rows.storedRow rows.writeRow legs.backFrom legs.forwardFrom legs.filled rows.appended rows.waits rows.addedRow rows.addRowsFrom carrying.learns carrying.woken carrying.wakes carrying.wakesAll facts.emptied facts.updated facts.settleFrom enumerated runs visits discovered advanced enumeratedIn enumerates limited admits digitwise byHalving powers periodFrom periods lengths readables spells writes splitTail group.splitAnswer group.splitLeaves group.composeAnswer group.inverseAnswer group.powiAnswer group.periodAnswer group.writeAnswer group.written group.wordPart cells.halves built headNumber imageNumber rowNumbers rowsOf spelledBytes imageOf knownRow allKnown writeCount writtenImage imageIn readImage
 known-cases = record {
   square-made = refl;
   square-rows = refl;

@@ -16,7 +16,7 @@ use Rattle.enumeration.specs.Calls.{enumeratedIn, enumerates}
 use Rattle.promises_cases.specs.Edges.{KnownEdges}
 
 pub known-edges : KnownEdges
-unfolding putAt startOf scan pairCode pairCount ordersRight hasRoom setStep setWord adds finished lentRight within rows.workWidth rows.placeAt rows.rowsAt rows.readRow rows.writeRow legs.backFrom legs.forwardFrom legs.filled rows.appended rows.waits rows.addedRow rows.addRowsFrom carrying.learns carrying.woken carrying.wakes carrying.wakesAll facts.emptied facts.updated facts.settleFrom enumerated runs visits discovered advanced enumeratedIn enumerates
+unfolding putAt startOf scan pairCode pairCount ordersRight hasRoom setStep setWord adds finished lentRight within rows.workWidth rows.placeAt rows.rowsAt rows.storedRow rows.writeRow legs.backFrom legs.forwardFrom legs.filled rows.appended rows.waits rows.addedRow rows.addRowsFrom carrying.learns carrying.woken carrying.wakes carrying.wakesAll facts.emptied facts.updated facts.settleFrom enumerated runs visits discovered advanced enumeratedIn enumerates
 known-edges = record {
   nine-generators = refl;
   eight-generators = refl;

@@ -24,7 +24,7 @@ use Rattle.theory.proofs.AnyCarrier.{any-carrier}
 use Rattle.theory.proofs.IdentityRows.{identity-row-distinct}
 use Rattle.theory.proofs.Counting.{numbered-table}
 use Rattle.theory.proofs.FirstPlaces.{numbered-spelled}
-use Rattle.build_reading_laws.specs.Read.{Readable, Refuses}
+use Rattle.build_reading_laws.specs.Read.{Readable, ReadingRefused}
 use Rattle.build_reading_laws.proofs.Readings.{accepts-exactly, refuses-exactly}
 use Rattle.factor_laws.specs.Accepted.{Accepted}
 use Rattle.build_laws.specs.Taken.{Taken}
@@ -32,7 +32,7 @@ use Rattle.build_laws.proofs.Lent.{taken-enough, by-build, by-refused, refused-
 use Rattle.build_laws.proofs.Built.{built-holds, taken-built}
 use Rattle.promises.proofs.Stops.{stops-built}
 use Rattle.theory_products.specs.Product as theory
-use Rattle.theory_products.specs.Product.{Each, Worded, Generated}
+use Rattle.theory_products.specs.Product.{Each, Worded, DistinctlyGenerated}
 use Rattle.theory_products.proofs.WordLaws.{product-worded}
 use Rattle.theory_products.proofs.Generating.{product-generated}
 use Rattle.group_handles.specs.declared.Group.{Group}
@@ -45,13 +45,13 @@ use Rattle.promises_group.proofs.Flattened.{flat-is-build}
 use Rattle.promises_group.proofs.FlatGiven.{same-count, part-table}
 
 -- The generators of an accepted factor are 1..n, so they are distinct, and none is the identity; and so are those of a product.
-part-generated : (t : List ℕ) {h : Factor} → Accepted t h → Generated (part t h)
+part-generated : (t : List ℕ) {h : Factor} → Accepted t h → DistinctlyGenerated (part t h)
 part-generated t A = record {
   stepped = part-worded t A .stepped;
   distinct = identity-row-distinct (A .ruled .rule .numbered) .0 (A .ruled .rule .identity-row);
 }
 
-all-generated : (t : List ℕ) {hs : List Factor} → AllAccepted t hs → Each Generated (parts t hs)
+all-generated : (t : List ℕ) {hs : List Factor} → AllAccepted t hs → Each DistinctlyGenerated (parts t hs)
 all-generated t none = theory.none
 all-generated t (more A As) = theory.more (part-generated t A) (all-generated t As)
 
@@ -144,7 +144,7 @@ module _ {from : List ℕ} {g : Group} (A : AcceptedProduct from g) (table : Lis
 
     -- A build that is refused stopped in reading: what reading takes is accepted.
     refused-by : (p : Placed) → readAll (direct from g .step) n room (replicate (tableNeed n room) 0) ≡ p → {r : Refusal} {s v : List ℕ}
-        → finishedPlaced p n (take (workNeed n room) work) ≡ built (Refused r) s v → build ≡ built (Refused r) s v → Refuses (direct from g .step) n room r
+        → finishedPlaced p n (take (workNeed n room) work) ≡ built (Refused r) s v → build ≡ built (Refused r) s v → ReadingRefused (direct from g .step) n room r
     unfolding finished
     refused-by (placed (Count N) t₀) e {r} {s} {v} q h =
         let F = flattened (readable-flattens A room (accepts-exactly (direct from g .step) n room (tableNeed n room) few lo hi (le-refl (tableNeed n room)) N .0 (t₀, e))) in
@@ -157,7 +157,7 @@ module _ {from : List ℕ} {g : Group} (A : AcceptedProduct from g) (table : Lis
     -- Refused exactly by 7, 5 or 6, at the first place that cannot be read.
     pub flat-stops : (r : Refusal)
         → ((f : Factor) × (t : List ℕ) × (w : List ℕ) × (flat from g table start work room ≡ making (record { answer = verdict.Refused r; factor = f }) t w))
-        ↔ Refuses (direct from g .step) n room r
+        ↔ ReadingRefused (direct from g .step) n room r
     flat-stops r = (
       λ a.
           let b = by-refused table start work n room build (sym is-build ∙ a .3) in

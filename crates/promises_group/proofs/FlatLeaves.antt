@@ -25,7 +25,7 @@ use Rattle.build_lending.specs.Finish.{built, zeroed, finished, finishedPlaced}
 use Rattle.build_lending.specs.Lending.{tableNeed, workNeed, lentRight, noFactor, refusedMade, Making, making, lentBack}
 use Rattle.build_lending.proofs.Lending.{lent-table}
 use Rattle.egg.specs.Answers.{onReached}
-use Rattle.build_checks_laws.specs.Numbers.{In}
+use Rattle.build_checks_laws.specs.Numbers.{RefusalIn}
 use Rattle.promises.specs.Leaves.{Leaves, lentFor}
 use Rattle.build_laws.proofs.Lent.{work-taken}
 use Rattle.promises.proofs.ReadLengths.{placedTable, place-length, row-length}
@@ -144,11 +144,11 @@ module _ (from : List ℕ) (hs : List Factor) (room size : ℕ) (w₀ : List ℕ
     flat-zeros h = by-came refl (came-rows size from hs room room 0 1 (replicate size 0) (length-replicate size 0)) h
 
 -- 17 and 15, before anything else.
-admits-number : (len : ℕ) (g : Group) {r : Refusal} → admits len g 0 1 0 1 ≡ verdict.Refused r → In flatBefore r
+admits-number : (len : ℕ) (g : Group) {r : Refusal} → admits len g 0 1 0 1 ≡ verdict.Refused r → RefusalIn flatBefore r
 unfolding admits
 admits-number len g {r} q = by (allFit len (handles g)) (handling.limited g) q where
   by : (a b : Bool) → pick a (pick b verdict.Fine (verdict.Refused (record { number = 15; a = 0; b = 0; c = 0 }))) (verdict.Refused (record { number = 17; a = 0; b = 0; c = 0 })) ≡ verdict.Refused r
-      → In flatBefore r
+      → RefusalIn flatBefore r
   by false b h = let e : record { number = 17; a = 0; b = 0; c = 0 } ≡ r = cc in rw (← e)
   by true false h = let e : record { number = 15; a = 0; b = 0; c = 0 } ≡ r = cc in rw (← e)
   by true true h = let z : _≡_ {A = ℕ} 0 1 = cc in absurd (omega arith)
@@ -163,15 +163,15 @@ module _ (from : List ℕ) (g : Group) (table : List ℕ) (start : ℕ) (work : 
   abbrev refused : Making
   refused = making (record { answer = verdict.Refused r; factor = f }) t w
 
-  abbrev Told : Type 0
-  Told = Leaves (FlatRight from g table start work room) flatBefore flatAfter (lentFor table start work n room t w) r
+  abbrev Claim : Type 0
+  Claim = Leaves (FlatRight from g table start work room) flatBefore flatAfter (lentFor table start work n room t w) r
 
-  refuses : {s : Refusal} → ¬ (FlatRight from g table start work room) → In flatBefore s
-      → making (record { answer = verdict.Refused s; factor = noFactor }) table work ≡ refused → Told
+  refuses : {s : Refusal} → ¬ (FlatRight from g table start work room) → RefusalIn flatBefore s
+      → making (record { answer = verdict.Refused s; factor = noFactor }) table work ≡ refused → Claim
   refuses wrong i e = leaves-early table start work n room flatAfter (early table start work n room flatBefore wrong i e)
 
   built-leaves : FlatRight from g table start work room
-      → lentBack table start work n room (flatIn (tableNeed n room) (take (workNeed n room) work) from (handles g) n room) ≡ refused → Told
+      → lentBack table start work n room (flatIn (tableNeed n room) (take (workNeed n room) work) from (handles g) n room) ≡ refused → Claim
   built-leaves R e =
       let B = late table start work n room (flatIn (tableNeed n room) (take (workNeed n room) work) from (handles g) n room) e in
       let has : hasRoom (length table) start room n ≡ true = lent-table (length table) start (length work) room n (R .lent) in
@@ -180,12 +180,12 @@ module _ (from : List ℕ) (g : Group) (table : List ℕ) (start : ℕ) (work : 
       (flat-zeros from (handles g) room (tableNeed n room) (take (workNeed n room) work) (R .generators) (positive (length table) start room n has)
       (limited (length table) start room n has) (le-refl (tableNeed n room)) (B .is)))
 
-  into-leaves : admits (length from) g 0 1 0 1 ≡ verdict.Fine → flatInto from (handles g) table start work room ≡ refused → Told
+  into-leaves : admits (length from) g 0 1 0 1 ≡ verdict.Fine → flatInto from (handles g) table start work room ≡ refused → Claim
   unfolding flatInto
   into-leaves ok e = first (ltb 8 n) refl e where
     second : n ≤ 8 → (b : Bool) → lentRight (length table) start (length work) room n ≡ b
         → pick b (lentBack table start work n room (flatIn (tableNeed n room) (take (workNeed n room) work) from (handles g) n room)) (making (refusedMade 4 0) table work) ≡ refused
-        → Told
+        → Claim
     second few true l h = built-leaves (record { admitted = ok; generators = few; lent = l }) h
     second few false l h = refuses {s = record { number = 4; a = 0; b = 0; c = 0 }} (λ R. false-true (sym l ∙ R .lent)) refl h
 
@@ -193,7 +193,7 @@ module _ (from : List ℕ) (g : Group) (table : List ℕ) (start : ℕ) (work : 
         → pick b (making (refusedMade 1 n) table work)
         (pick (lentRight (length table) start (length work) room n)
         (lentBack table start work n room (flatIn (tableNeed n room) (take (workNeed n room) work) from (handles g) n room)) (making (refusedMade 4 0) table work)) ≡ refused
-        → Told
+        → Claim
     first true l h = refuses {s = record { number = 1; a = n; b = 0; c = 0 }} (λ R. omega (arith, R .generators, ltb-true 8 n l)) refl h
     first false l h = second (ltb-false 8 n l) (lentRight (length table) start (length work) room n) refl h
 
@@ -201,6 +201,6 @@ module _ (from : List ℕ) (g : Group) (table : List ℕ) (start : ℕ) (work : 
       → Leaves (FlatRight from g table start work room) flatBefore flatAfter (lentFor table start work (generatorsOf (handles g)) room t w) r
   unfolding flat
   flat-leaves h = by (admits (length from) g 0 1 0 1) refl h where
-    by : (v : Verdict) → admits (length from) g 0 1 0 1 ≡ v → ifMaking v table work (flatInto from (handles g) table start work room) ≡ refused → Told
+    by : (v : Verdict) → admits (length from) g 0 1 0 1 ≡ v → ifMaking v table work (flatInto from (handles g) table start work room) ≡ refused → Claim
     by verdict.Fine q e = into-leaves q e
     by (verdict.Refused s) q e = refuses (λ R. fine-refused (sym (R .admitted) ∙ q)) (admits-number (length from) g q) e

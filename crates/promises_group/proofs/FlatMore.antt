@@ -18,7 +18,7 @@ use Rattle.egg.proofs.Rooms.{within-length}
 use Rattle.build_reading.specs.Reading.{readAll}
 use Rattle.build_lending.specs.Finish.{Built, finishedPlaced}
 use Rattle.build_lending.specs.Lending.{tableNeed, workNeed, lentRight, refusedMade, Making, making, lentBack}
-use Rattle.build_checks_laws.specs.Numbers.{In}
+use Rattle.build_checks_laws.specs.Numbers.{RefusalIn}
 use Rattle.factor_laws.specs.Papers.{valuePaper}
 use Rattle.promises.specs.Leaves.{composedNumbers, tableFor}
 use Rattle.promises.specs.Unaltered.{Wrote, part}
@@ -74,7 +74,7 @@ module _ (from : List ℕ) (g : Group) (table : List ℕ) (start : ℕ) (work : 
 
 -- Only these numbers are given, with any handles and buffers.
 pub flat-number : (from : List ℕ) (g : Group) (table : List ℕ) (start : ℕ) (work : List ℕ) (room : ℕ) (r : Refusal) (f : Factor) (t w : List ℕ)
-    → flat from g table start work room ≡ making (record { answer = verdict.Refused r; factor = f }) t w → In (17 ∷ 15 ∷ 1 ∷ 4 ∷ composedNumbers) r
+    → flat from g table start work room ≡ making (record { answer = verdict.Refused r; factor = f }) t w → RefusalIn (17 ∷ 15 ∷ 1 ∷ 4 ∷ composedNumbers) r
 flat-number from g table start work room r f t w h = leaves-number (17 ∷ 15 ∷ 1 ∷ 4 ∷ composedNumbers) refl refl (flat-leaves from g table start work room r f t w h)
 
 module _ {from : List ℕ} {g : Group} (A : AcceptedProduct from g) (table : List ℕ) (start : ℕ) (work : List ℕ) (room : ℕ) where

@@ -14,10 +14,10 @@ use Rattle.factor_laws.proofs.Steps.{compose-in, inverse-in, conjugate-in}
 use Rattle.build_checks_laws.proofs.Accepted.{read-step}
 use Rattle.factor_laws.proofs.Handles.{few-elements}
 use Rattle.theory_products.specs.Product as theory
-use Rattle.theory_products.specs.Product.{Part, product, ranges, Each, IsGroup, Worded, Parted}
+use Rattle.theory_products.specs.Product.{Part, product, digit-ranges, Each, IsGroup, Worded, Parted}
 use Rattle.theory_radix.proofs.RadixLaws.{low-small, high-small}
 use Rattle.theory_products.proofs.ProductLaws.{trivial-group, product-group, each-weaken}
-use Rattle.theory_products.proofs.StepLaws.{side, Side, left, right, step-left, step-right}
+use Rattle.theory_products.proofs.StepLaws.{side, WhichFactor, left, right, step-left, step-right}
 use Rattle.theory_products.proofs.Componentwise.{op-parted, inv-parted, conjugate-parted}
 use Rattle.theory_products.proofs.TableParts.{table-worded}
 use Rattle.group_digits.specs.declared.inner.Asked.{Asked}
@@ -41,7 +41,7 @@ module _ (t : List ℕ) where
   all-fit none = refl
   all-fit (more {h} {hs} A As) = rw (A .fits, all-fit As)
 
-  pub parts-sizes : (hs : List Factor) → ranges (parts t hs) ≡ sizes hs
+  pub parts-sizes : (hs : List Factor) → digit-ranges (parts t hs) ≡ sizes hs
   parts-sizes [] = refl
   parts-sizes (h ∷ hs) = ap (λ (l : List ℕ). h .elements ∷ l) (parts-sizes hs)
 
@@ -91,7 +91,7 @@ module _ (t : List ℕ) where
       by (steps-are As) (side (h .generators) (product (parts t hs) .generators) x hx)
     where
       by : ((e x : ℕ) → e < product (parts t hs) .elements → x < product (parts t hs) .generators → stepIn t hs e x ≡ reach (product (parts t hs) .step e x))
-          → Side (h .generators) (product (parts t hs) .generators) x
+          → WhichFactor (h .generators) (product (parts t hs) .generators) x
           → stepIn t (h ∷ hs) e x ≡ reach (product (parts t (h ∷ hs)) .step e x)
       by i (left k) =
           rw (

@@ -27,7 +27,7 @@ use Rattle.group_digits.specs.declared.inner.Asked.{Asked}
 use Rattle.group_digits.specs.declared.inner.Asked.the-variants.{Compose, Inverse, Conjugate}
 use Rattle.group_handles.specs.Handles.{handles, sizes, elementsOf, allFit, limited, admits, joins}
 use Rattle.group_digits.specs.Digits.{digitOf, digitwise, stepIn, composes, inverts}
-use Rattle.group_powers.specs.Powers.{oddToo, halves, negated, powers}
+use Rattle.group_powers.specs.Powers.{oddToo, byHalving, negated, powers}
 use Rattle.group_periods.specs.Periods.{periodFrom, periods}
 use Rattle.group_handles.specs.Counts.{onCounted, onElement}
 use Rattle.group_words.specs.Words.{lengths, readables, writesBy, writes, leaves}
@@ -91,15 +91,15 @@ module _ (op : ℕ → ℕ → Reached) (is : (x y : ℕ) → ReachedIn (14 ∷ 
   odd-in a x zero = reached-element _
   odd-in a x (suc r) = is x a
 
-  halves-in : (fuel a k : ℕ) → ReachedIn (14 ∷ 15 ∷ 17 ∷ []) (halves fuel op a k)
-  unfolding halves
+  halves-in : (fuel a k : ℕ) → ReachedIn (14 ∷ 15 ∷ 17 ∷ []) (byHalving fuel op a k)
+  unfolding byHalving
   halves-in zero a k = reached-element _
   halves-in (suc fuel) a zero = reached-element _
   halves-in (suc fuel) a (suc k) =
-      reached-on (halves fuel op a (suc k / 2)) _ (halves-in fuel a (suc k / 2)) (λ x. reached-on (op x x) _ (is x x) (λ y. odd-in a y (suc k % 2)))
+      reached-on (byHalving fuel op a (suc k / 2)) _ (halves-in fuel a (suc k / 2)) (λ x. reached-on (op x x) _ (is x x) (λ y. odd-in a y (suc k % 2)))
 
   negated-in : (b : Bool) (half i k : ℕ) → ReachedIn (14 ∷ 15 ∷ 17 ∷ []) (negated b half op i k)
-  negated-in true half i k = reached-on (halves half op i half) _ (halves-in half i half) (λ x. is x x)
+  negated-in true half i k = reached-on (byHalving half op i half) _ (halves-in half i half) (λ x. is x x)
   negated-in false half i k = halves-in k i k
 
   powers-in : (half : ℕ) (inv : ℕ → Reached) → ((x : ℕ) → ReachedIn (14 ∷ 15 ∷ 17 ∷ []) (inv x)) → (a : ℕ) (z : ℤ) → ReachedIn (14 ∷ 15 ∷ 17 ∷ []) (powers half op inv a z)

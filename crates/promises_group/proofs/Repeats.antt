@@ -25,7 +25,7 @@ use Rattle.theory_radix.proofs.RadixLaws.{low-small, high-small}
 use Rattle.theory_products.proofs.ProductLaws.{product-group}
 use Rattle.theory_products.proofs.PowerLaws.{powi-is}
 use Rattle.theory_products.proofs.PeriodLaws.{pair-period}
-use Rattle.group_powers.specs.Powers.{oddToo, halves, negated, powers}
+use Rattle.group_powers.specs.Powers.{oddToo, byHalving, negated, powers}
 use Rattle.group_periods.specs.Periods.{periodFrom, periodOf, periods}
 use Rattle.promises_group.specs.Products.{part, parts, AllAccepted, none, more}
 use Rattle.promises_group.proofs.Parts.{part-worded, all-groups}
@@ -51,8 +51,8 @@ module _ {N : ℕ} {op : ℕ → ℕ → ℕ} {inv : ℕ → ℕ} (G : GroupOn N
       let h = halves-small fuel (suc k / 2) ha in
       odd-small (suc k % 2) ha (G .op-closed h h)
 
-  halves-are : {a : ℕ} (fuel k : ℕ) → a < N → halves fuel opr a k ≡ reach (halving fuel op a k)
-  unfolding halves halving
+  halves-are : {a : ℕ} (fuel k : ℕ) → a < N → byHalving fuel opr a k ≡ reach (halving fuel op a k)
+  unfolding byHalving halving
   halves-are zero k ha = refl
   halves-are (suc fuel) zero ha = refl
   halves-are {a} (suc fuel) (suc k) ha =

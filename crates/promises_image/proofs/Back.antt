@@ -25,8 +25,8 @@ use Rattle.image_cells.specs.Cells.{halves}
 use Rattle.build_reading_laws.specs.Read.{Read, Readable}
 use Rattle.build_reading_laws.proofs.Readings.{accepted-read, readable-accepted, refused-read, refused-number}
 use Rattle.image_check.specs.Short.{verdictNumber, numberBy, built}
-use Rattle.promises_image.proofs.Composed.{fewer, madeNumber, built-is-composed}
-use Rattle.image.specs.Image.{generatorsOf, elementsOf, headNumber, bytesNeed, imageNumber}
+use Rattle.promises_image.proofs.Composed.{endsFewer, madeNumber, built-is-composed}
+use Rattle.image.specs.Image.{headGenerators, headElements, headNumber, bytesNeed, imageNumber}
 use Rattle.image_reading.specs.Read.{allPlaced, imageIn}
 use Rattle.image.specs.Read.{headPlace, readImage}
 use Rattle.image.proofs.Checking.{zeros-long}
@@ -42,17 +42,17 @@ use Rattle.promises_image.proofs.Heads.{formed, formed-head, listed}
 use Rattle.promises_image.proofs.Numbers.{fine-checks}
 
 -- A reading that reached them all goes on as it is, and one that did not is refused by 16.
-all-placed : (room : ℕ) (p : Placed) → fewer p room ≡ false → allPlaced room p ≡ p
+all-placed : (room : ℕ) (p : Placed) → endsFewer p room ≡ false → allPlaced room p ≡ p
 all-placed room (placed (Count c) t) e = rw e
 all-placed room (placed (Refused r) t) e = refl
 
-fewer-number : (table : List ℕ) (start : ℕ) (work : List ℕ) (n room : ℕ) (w : List ℕ) (p : Placed) → fewer p room ≡ true
+fewer-number : (table : List ℕ) (start : ℕ) (work : List ℕ) (n room : ℕ) (w : List ℕ) (p : Placed) → endsFewer p room ≡ true
     → madeNumber (lentBack table start work n room (finishedPlaced (allPlaced room p) n w)) ≡ 16
 unfolding finished
 fewer-number table start work n room w (placed (Count c) t) e = rw e
 fewer-number table start work n room w (placed (Refused r) t) e = absurd (let z : _≡_ {A = ℕ} 0 1 = cc in omega arith)
 
-in-same : (size : ℕ) (w rows : List ℕ) (n room : ℕ) → fewer (readAll (composedAt rows n) n room (replicate size 0)) room ≡ false
+in-same : (size : ℕ) (w rows : List ℕ) (n room : ℕ) → endsFewer (readAll (composedAt rows n) n room (replicate size 0)) room ≡ false
     → imageIn size w rows n room ≡ composedIn size w rows n room
 unfolding imageIn composedIn
 in-same size w rows n room e =
@@ -60,10 +60,10 @@ in-same size w rows n room e =
 
 -- What a reading with room N of a readable source gives is not fewer.
 readable-all : (src : ℕ → ℕ → ℕ) (n room size : ℕ) → n ≤ 8 → 1 ≤ room → room ≤ 65535 → room * (2 * n + 4) ≤ size → Readable src n room room
-    → fewer (readAll src n room (replicate size 0)) room ≡ false
+    → endsFewer (readAll src n room (replicate size 0)) room ≡ false
 readable-all src n room size few lo hi fits R =
     let a = readable-accepted src n room size few lo hi fits R in
-    ap (λ (p : Placed). fewer p room) (a .1) ∙ le-ltb room room (le-refl room)
+    ap (λ (p : Placed). endsFewer p room) (a .1) ∙ le-ltb room room (le-refl room)
 
 module _ (l table : List ℕ) (start : ℕ) (work : List ℕ) where
   -- A bad head is refused with its number.
@@ -71,12 +71,12 @@ module _ (l table : List ℕ) (start : ℕ) (work : List ℕ) where
   unfolding readImage
   bad-read d = simp (ne-eqb _ _ d)
 
-  module _ (F : WellFormed l) (long : elementsOf l * generatorsOf l ≤ length (halves (drop 8 l))) where
+  module _ (F : WellFormed l) (long : headElements l * headGenerators l ≤ length (halves (drop 8 l))) where
     abbrev n : ℕ
-    n = generatorsOf l
+    n = headGenerators l
 
     abbrev N : ℕ
-    N = elementsOf l
+    N = headElements l
 
     abbrev rows : List ℕ
     rows = halves (drop 8 l)
@@ -84,16 +84,16 @@ module _ (l table : List ℕ) (start : ℕ) (work : List ℕ) where
     abbrev reading : Placed
     reading = readAll (composedAt rows n) n N (replicate (tableNeed n N) 0)
 
-    pub short-read : lentRight (length table) start (length work) (elementsOf l) (generatorsOf l) ≡ false
+    pub short-read : lentRight (length table) start (length work) (headElements l) (headGenerators l) ≡ false
         → readImage l table start work ≡ making (refusedMade 4 0) table work
     unfolding readImage
     short-read lent = let h = formed-head l F in simp (eq-eqb _ _ h, lent)
 
-    pub lent-read : lentRight (length table) start (length work) (elementsOf l) (generatorsOf l) ≡ true
+    pub lent-read : lentRight (length table) start (length work) (headElements l) (headGenerators l) ≡ true
         → readImage l table start work
-        ≡ lentBack table start work (generatorsOf l) (elementsOf l)
-        (imageIn (tableNeed (generatorsOf l) (elementsOf l)) (take (workNeed (generatorsOf l) (elementsOf l)) work) (halves (drop 8 l)) (generatorsOf l)
-        (elementsOf l))
+        ≡ lentBack table start work (headGenerators l) (headElements l)
+        (imageIn (tableNeed (headGenerators l) (headElements l)) (take (workNeed (headGenerators l) (headElements l)) work) (halves (drop 8 l)) (headGenerators l)
+        (headElements l))
     unfolding readImage
     lent-read lent = let h = formed-head l F in simp (eq-eqb _ _ h, lent)
 
@@ -108,16 +108,16 @@ module _ (l table : List ℕ) (start : ℕ) (work : List ℕ) where
 
     -- The image is read as its successors are composed, with room N.
     pub read-is-composed
-        : fewer (readAll (composedAt (halves (drop 8 l)) (generatorsOf l)) (generatorsOf l) (elementsOf l) (replicate (tableNeed (generatorsOf l) (elementsOf l)) 0)) (elementsOf l) ≡ false
-        → readImage l table start work ≡ composed table start work (halves (drop 8 l)) (generatorsOf l) (elementsOf l)
+        : endsFewer (readAll (composedAt (halves (drop 8 l)) (headGenerators l)) (headGenerators l) (headElements l) (replicate (tableNeed (headGenerators l) (headElements l)) 0)) (headElements l) ≡ false
+        → readImage l table start work ≡ composed table start work (halves (drop 8 l)) (headGenerators l) (headElements l)
     read-is-composed e = by (lentRight (length table) start (length work) N n) refl where
       by : (b : Bool) → lentRight (length table) start (length work) N n ≡ b → readImage l table start work ≡ composed table start work rows n N
       by true lent =
           lent-read lent ∙ ap (lentBack table start work n N) (in-same (tableNeed n N) (take (workNeed n N) work) rows n N e) ∙ sym (lent-composed lent)
       by false lent = short-read lent ∙ sym (short-composed lent)
 
-    pub fewer-read : lentRight (length table) start (length work) (elementsOf l) (generatorsOf l) ≡ true
-        → fewer (readAll (composedAt (halves (drop 8 l)) (generatorsOf l)) (generatorsOf l) (elementsOf l) (replicate (tableNeed (generatorsOf l) (elementsOf l)) 0)) (elementsOf l) ≡ true
+    pub fewer-read : lentRight (length table) start (length work) (headElements l) (headGenerators l) ≡ true
+        → endsFewer (readAll (composedAt (halves (drop 8 l)) (headGenerators l)) (headGenerators l) (headElements l) (replicate (tableNeed (headGenerators l) (headElements l)) 0)) (headElements l) ≡ true
         → madeNumber (readImage l table start work) ≡ 16
     unfolding imageIn
     fewer-read lent e = ap madeNumber (lent-read lent) ∙ fewer-number table start work n N (take (workNeed n N) work) reading e
@@ -130,32 +130,32 @@ paper-number (making m t w) = of (m .answer) where
   of (verdict.Refused r) = refl
 
 module _ (l : List ℕ) (B : Bytes l) where
-  few-elements : elementsOf l ≤ 65535
+  few-elements : headElements l ≤ 65535
   few-elements = omega (arith, B .byte 6, B .byte 7)
 
-  pub all-listed : WellFormed l → elementsOf l * generatorsOf l ≤ length (halves (drop 8 l))
-  all-listed F = rw (listed l B F) (le-refl (elementsOf l * generatorsOf l))
+  pub all-listed : WellFormed l → headElements l * headGenerators l ≤ length (halves (drop 8 l))
+  all-listed F = rw (listed l B F) (le-refl (headElements l * headGenerators l))
 
   pub bad-number : (size : ℕ) → (headNumber l ≡ 0 → ⊥) → imageNumber l size ≡ headNumber l
   unfolding imageNumber
   bad-number size d = simp (ne-eqb _ _ d)
 
-  lent-number : (size : ℕ) → headNumber l ≡ 0 → bytesNeed (generatorsOf l) (elementsOf l) ≤ size
-      → imageNumber l size ≡ built (tableNeed (generatorsOf l) (elementsOf l)) (replicate (workNeed (generatorsOf l) (elementsOf l)) 0) (halves (drop 8 l)) (generatorsOf l) (elementsOf l)
+  lent-number : (size : ℕ) → headNumber l ≡ 0 → bytesNeed (headGenerators l) (headElements l) ≤ size
+      → imageNumber l size ≡ built (tableNeed (headGenerators l) (headElements l)) (replicate (workNeed (headGenerators l) (headElements l)) 0) (halves (drop 8 l)) (headGenerators l) (headElements l)
   unfolding imageNumber
   lent-number size h long = simp (eq-eqb _ _ h, le-ltb _ _ long)
 
   -- The check's number is the reading's, in whatever buffers that are not short; 0 is acceptance.
   pub number-is-read : (table : List ℕ) (start : ℕ) (work : List ℕ) (size : ℕ)
-      → (headNumber l ≡ 0 → lentRight (length table) start (length work) (elementsOf l) (generatorsOf l) ≡ true)
-      → (headNumber l ≡ 0 → bytesNeed (generatorsOf l) (elementsOf l) ≤ size)
+      → (headNumber l ≡ 0 → lentRight (length table) start (length work) (headElements l) (headGenerators l) ≡ true)
+      → (headNumber l ≡ 0 → bytesNeed (headGenerators l) (headElements l) ≤ size)
       → imageNumber l size ≡ madePaper (readImage l table start work) .number
   number-is-read table start work size lent long = by (eqb (headNumber l) 0) refl ∙ paper-number (readImage l table start work) where
     n : ℕ
-    n = generatorsOf l
+    n = headGenerators l
 
     N : ℕ
-    N = elementsOf l
+    N = headElements l
 
     rows : List ℕ
     rows = halves (drop 8 l)
@@ -163,7 +163,7 @@ module _ (l : List ℕ) (B : Bytes l) where
     p : Placed
     p = readAll (composedAt rows n) n N (replicate (tableNeed n N) 0)
 
-    turn : (F : WellFormed l) (h : headNumber l ≡ 0) (b : Bool) → fewer p N ≡ b
+    turn : (F : WellFormed l) (h : headNumber l ≡ 0) (b : Bool) → endsFewer p N ≡ b
         → pick b 16 (madeNumber (composed table start work rows n N)) ≡ madeNumber (readImage l table start work)
     turn F h true e = sym (fewer-read l table start work F (all-listed F) (lent h) e)
     turn F h false e = ap madeNumber (sym (read-is-composed l table start work F (all-listed F) e))
@@ -177,15 +177,15 @@ module _ (l : List ℕ) (B : Bytes l) where
         let F = formed l h in
         lent-number size h (long h)
         ∙ built-is-composed table start work rows n N (F .few) (lent h) (all-listed F) (replicate (workNeed n N) 0) (zeros-long n N)
-        ∙ turn F h (fewer p N) refl
+        ∙ turn F h (endsFewer p N) refl
 
   -- 0 just if the image has a group's right steps with N elements, under the numbering rule and within the limits: "accepted exactly when".
   module _ (F : WellFormed l) where
     abbrev gens : ℕ
-    gens = generatorsOf l
+    gens = headGenerators l
 
     abbrev elts : ℕ
-    elts = elementsOf l
+    elts = headElements l
 
     abbrev succs : List ℕ
     succs = halves (drop 8 l)
@@ -231,7 +231,7 @@ module _ (l : List ℕ) (B : Bytes l) where
         let k = taken-checked (composedAt succs gens) gens elts (tableNeed gens elts) zeros (F .few) (F .some) few-elements (le-refl (tableNeed gens elts)) zeros-work R T in
         rw (a .1, le-ltb elts elts (le-refl elts), k .2)
 
-  pub number-exactly : (size : ℕ) → bytesNeed (generatorsOf l) (elementsOf l) ≤ size → imageNumber l size ≡ 0 ↔ GroupImage l
+  pub number-exactly : (size : ℕ) → bytesNeed (headGenerators l) (headElements l) ≤ size → imageNumber l size ≡ 0 ↔ GroupImage l
   number-exactly size long = (λ z. by z (eqb (headNumber l) 0) refl, λ S. lent-number size (formed-head l (S .formed)) long ∙ taken-number (S .formed) (S .taken)) where
     by : imageNumber l size ≡ 0 → (b : Bool) → eqb (headNumber l) 0 ≡ b → GroupImage l
     by z false e = let d = eqb-false (headNumber l) 0 e in absurd (d (sym (bad-number size d) ∙ z))
@@ -240,86 +240,86 @@ module _ (l : List ℕ) (B : Bytes l) where
         let F = formed l h in
         record { formed = F; taken = built-taken F (sym (lent-number size h long) ∙ z) }
 
-  short-number : (size : ℕ) → headNumber l ≡ 0 → ltb size (bytesNeed (generatorsOf l) (elementsOf l)) ≡ true → imageNumber l size ≡ 4
+  short-number : (size : ℕ) → headNumber l ≡ 0 → ltb size (bytesNeed (headGenerators l) (headElements l)) ≡ true → imageNumber l size ≡ 4
   unfolding imageNumber
   short-number size h e = simp (eq-eqb _ _ h, e)
 
   -- So 0 is given exactly where the bytes are a group's image and the work is not short.
-  pub check-exactly : (size : ℕ) → imageNumber l size ≡ 0 ↔ (GroupImage l × (bytesNeed (generatorsOf l) (elementsOf l) ≤ size))
-  check-exactly size = (λ z. by z (ltb size (bytesNeed (generatorsOf l) (elementsOf l))) refl, λ a. number-exactly size (a .1) .1 (a .0)) where
-    never : ltb size (bytesNeed (generatorsOf l) (elementsOf l)) ≡ true → imageNumber l size ≡ 0 → (b : Bool) → eqb (headNumber l) 0 ≡ b → ⊥
+  pub check-exactly : (size : ℕ) → imageNumber l size ≡ 0 ↔ (GroupImage l × (bytesNeed (headGenerators l) (headElements l) ≤ size))
+  check-exactly size = (λ z. by z (ltb size (bytesNeed (headGenerators l) (headElements l))) refl, λ a. number-exactly size (a .1) .1 (a .0)) where
+    never : ltb size (bytesNeed (headGenerators l) (headElements l)) ≡ true → imageNumber l size ≡ 0 → (b : Bool) → eqb (headNumber l) 0 ≡ b → ⊥
     never e z false q = let d = eqb-false (headNumber l) 0 q in d (sym (bad-number size d) ∙ z)
     never e z true q = omega (arith, short-number size (eqb-true (headNumber l) 0 q) e, z)
 
-    by : imageNumber l size ≡ 0 → (b : Bool) → ltb size (bytesNeed (generatorsOf l) (elementsOf l)) ≡ b
-        → GroupImage l × (bytesNeed (generatorsOf l) (elementsOf l) ≤ size)
+    by : imageNumber l size ≡ 0 → (b : Bool) → ltb size (bytesNeed (headGenerators l) (headElements l)) ≡ b
+        → GroupImage l × (bytesNeed (headGenerators l) (headElements l) ≤ size)
     by z true e = absurd (never e z (eqb (headNumber l) 0) refl)
-    by z false e = let long = ltb-false size (bytesNeed (generatorsOf l) (elementsOf l)) e in (number-exactly size long .0 z, long)
+    by z false e = let long = ltb-false size (bytesNeed (headGenerators l) (headElements l)) e in (number-exactly size long .0 z, long)
 
 -- Reading is accepted just if the image is a group's, and then everything that is promised of composed rows holds of the factor, with N elements.
 module _ (l : List ℕ) (B : Bytes l) (table : List ℕ) (start : ℕ) (work : List ℕ) where
   module _ (F : WellFormed l) where
-    all-elements : {k : ℕ} → Readable (imageStep l) (generatorsOf l) (elementsOf l) k
-        → fewer (readAll (imageStep l) (generatorsOf l) (elementsOf l) (replicate (tableNeed (generatorsOf l) (elementsOf l)) 0)) (elementsOf l) ≡ false
-        → k ≡ elementsOf l
+    all-elements : {k : ℕ} → Readable (imageStep l) (headGenerators l) (headElements l) k
+        → endsFewer (readAll (imageStep l) (headGenerators l) (headElements l) (replicate (tableNeed (headGenerators l) (headElements l)) 0)) (headElements l) ≡ false
+        → k ≡ headElements l
     all-elements {k} R e =
-        let need = tableNeed (generatorsOf l) (elementsOf l) in
-        let a = readable-accepted (imageStep l) (generatorsOf l) (elementsOf l) need (F .few) (F .some) (few-elements l B) (le-refl need) R in
-        omega (arith, R .within, ltb-false k (elementsOf l) (sym (ap (λ (p : Placed). fewer p (elementsOf l)) (a .1)) ∙ e))
+        let need = tableNeed (headGenerators l) (headElements l) in
+        let a = readable-accepted (imageStep l) (headGenerators l) (headElements l) need (F .few) (F .some) (few-elements l B) (le-refl need) R in
+        omega (arith, R .within, ltb-false k (headElements l) (sym (ap (λ (p : Placed). endsFewer p (headElements l)) (a .1)) ∙ e))
 
     from-composed : {f : Factor} {t w : List ℕ}
-        → fewer (readAll (imageStep l) (generatorsOf l) (elementsOf l) (replicate (tableNeed (generatorsOf l) (elementsOf l)) 0)) (elementsOf l) ≡ false
-        → composed table start work (halves (drop 8 l)) (generatorsOf l) (elementsOf l) ≡ making (record { answer = verdict.Fine; factor = f }) t w
-        → Given table start work (halves (drop 8 l)) (generatorsOf l) (elementsOf l) f t w × (f .elements ≡ elementsOf l)
+        → endsFewer (readAll (imageStep l) (headGenerators l) (headElements l) (replicate (tableNeed (headGenerators l) (headElements l)) 0)) (headElements l) ≡ false
+        → composed table start work (halves (drop 8 l)) (headGenerators l) (headElements l) ≡ making (record { answer = verdict.Fine; factor = f }) t w
+        → Given table start work (halves (drop 8 l)) (headGenerators l) (headElements l) f t w × (f .elements ≡ headElements l)
     from-composed {f} {t} {w} e q =
-        let G = composed-given table start work (halves (drop 8 l)) (generatorsOf l) (elementsOf l) f t w q in
+        let G = composed-given table start work (halves (drop 8 l)) (headGenerators l) (headElements l) f t w q in
         (G, all-elements (G .taken .readable) e)
 
   pub read-given : {f : Factor} {t w : List ℕ} → readImage l table start work ≡ making (record { answer = verdict.Fine; factor = f }) t w
-      → GroupImage l × Given table start work (halves (drop 8 l)) (generatorsOf l) (elementsOf l) f t w × (f .elements ≡ elementsOf l)
+      → GroupImage l × Given table start work (halves (drop 8 l)) (headGenerators l) (headElements l) f t w × (f .elements ≡ headElements l)
   read-given {f} {t} {w} q = head (eqb (headNumber l) 0) refl where
     need : ℕ
-    need = tableNeed (generatorsOf l) (elementsOf l)
+    need = tableNeed (headGenerators l) (headElements l)
 
     p : Placed
-    p = readAll (imageStep l) (generatorsOf l) (elementsOf l) (replicate need 0)
+    p = readAll (imageStep l) (headGenerators l) (headElements l) (replicate need 0)
 
     Out : Type 1
-    Out = GroupImage l × Given table start work (halves (drop 8 l)) (generatorsOf l) (elementsOf l) f t w × (f .elements ≡ elementsOf l)
+    Out = GroupImage l × Given table start work (halves (drop 8 l)) (headGenerators l) (headElements l) f t w × (f .elements ≡ headElements l)
 
     zero-number : madeNumber (readImage l table start work) ≡ 0
     zero-number = ap madeNumber q
 
-    reached : WellFormed l → lentRight (length table) start (length work) (elementsOf l) (generatorsOf l) ≡ true → (b : Bool) → fewer p (elementsOf l) ≡ b → Out
+    reached : WellFormed l → lentRight (length table) start (length work) (headElements l) (headGenerators l) ≡ true → (b : Bool) → endsFewer p (headElements l) ≡ b → Out
     reached F lent true e = absurd (omega (arith, fewer-read l table start work F (all-listed l B F) lent e, zero-number))
     reached F lent false e =
         let a = from-composed F e (sym (read-is-composed l table start work F (all-listed l B F) e) ∙ q) in
-        (record { formed = F; taken = subst (λ (k : ℕ). Taken (imageStep l) (generatorsOf l) (elementsOf l) k) (a .1) (a .0 .taken) }, a .0, a .1)
+        (record { formed = F; taken = subst (λ (k : ℕ). Taken (imageStep l) (headGenerators l) (headElements l) k) (a .1) (a .0 .taken) }, a .0, a .1)
 
-    lending : WellFormed l → (b : Bool) → lentRight (length table) start (length work) (elementsOf l) (generatorsOf l) ≡ b → Out
-    lending F true e = reached F e (fewer p (elementsOf l)) refl
+    lending : WellFormed l → (b : Bool) → lentRight (length table) start (length work) (headElements l) (headGenerators l) ≡ b → Out
+    lending F true e = reached F e (endsFewer p (headElements l)) refl
     lending F false e = absurd (refused-making (sym (short-read l table start work F (all-listed l B F) e) ∙ q))
 
     head : (b : Bool) → eqb (headNumber l) 0 ≡ b → Out
     head false e = absurd (refused-making (sym (bad-read l table start work (eqb-false (headNumber l) 0 e)) ∙ q))
-    head true e = let F = formed l (eqb-true (headNumber l) 0 e) in lending F (lentRight (length table) start (length work) (elementsOf l) (generatorsOf l)) refl
+    head true e = let F = formed l (eqb-true (headNumber l) 0 e) in lending F (lentRight (length table) start (length work) (headElements l) (headGenerators l)) refl
 
   -- A group's image is read as its successors are composed, in whatever buffers.
-  pub group-composed : GroupImage l → readImage l table start work ≡ composed table start work (halves (drop 8 l)) (generatorsOf l) (elementsOf l)
+  pub group-composed : GroupImage l → readImage l table start work ≡ composed table start work (halves (drop 8 l)) (headGenerators l) (headElements l)
   group-composed S =
       let F = S .formed in
       read-is-composed l table start work F (all-listed l B F)
-      (readable-all (imageStep l) (generatorsOf l) (elementsOf l) (tableNeed (generatorsOf l) (elementsOf l)) (F .few) (F .some) (few-elements l B)
-      (le-refl (tableNeed (generatorsOf l) (elementsOf l))) (S .taken .readable))
+      (readable-all (imageStep l) (headGenerators l) (headElements l) (tableNeed (headGenerators l) (headElements l)) (F .few) (F .some) (few-elements l B)
+      (le-refl (tableNeed (headGenerators l) (headElements l))) (S .taken .readable))
 
-  pub group-read : GroupImage l → lentRight (length table) start (length work) (elementsOf l) (generatorsOf l) ≡ true
+  pub group-read : GroupImage l → lentRight (length table) start (length work) (headElements l) (headGenerators l) ≡ true
       → (f : Factor) × (t : List ℕ) × (w : List ℕ) × (readImage l table start work ≡ making (record { answer = verdict.Fine; factor = f }) t w)
   group-read S lent =
       let F = S .formed in
-      let a = composed-exactly table start work (halves (drop 8 l)) (generatorsOf l) (elementsOf l) (F .few) lent (all-listed l B F) .1 (elementsOf l, S .taken) in
+      let a = composed-exactly table start work (halves (drop 8 l)) (headGenerators l) (headElements l) (F .few) lent (all-listed l B F) .1 (headElements l, S .taken) in
       (a .0, a .1, a .2, group-composed S ∙ a .3)
 
   -- Accepted exactly when, in buffers that are not short where the head is right.
-  pub read-exactly : (headNumber l ≡ 0 → lentRight (length table) start (length work) (elementsOf l) (generatorsOf l) ≡ true)
+  pub read-exactly : (headNumber l ≡ 0 → lentRight (length table) start (length work) (headElements l) (headGenerators l) ≡ true)
       → ((f : Factor) × (t : List ℕ) × (w : List ℕ) × (readImage l table start work ≡ making (record { answer = verdict.Fine; factor = f }) t w)) ↔ GroupImage l
   read-exactly lent = (λ a. read-given (a .3) .0, λ S. group-read S (lent (formed-head l (S .formed))))

@@ -7,7 +7,7 @@ use lib.ListN.{length, drop, replicate}
 use Rattle.egg.specs.declared.Factor.{Factor}
 use Rattle.egg.specs.declared.Refusal.{Refusal}
 use Rattle.egg.specs.declared.Counted.the-variants.{Refused}
-use Rattle.image.specs.Image.{generatorsOf, elementsOf, headNumber, bytesNeed, imageNumber, imageWork}
+use Rattle.image.specs.Image.{headGenerators, headElements, headNumber, bytesNeed, imageNumber, imageWork}
 use Rattle.image.specs.Written.{writeCount, writtenImage}
 use Rattle.promises_image.specs.Images.{WellFormed}
 use Rattle.promises_image.proofs.Heads.{formed-head}
@@ -24,11 +24,11 @@ module _ (l w : List ℕ) where
   check-bad-head d = (simp (ne-eqb _ _ d), simp (ne-eqb _ _ d))
 
   module _ (F : WellFormed l) where
-    pub check-short : length w < bytesNeed (generatorsOf l) (elementsOf l) → (imageNumber l (length w) ≡ 4) × (imageWork l w ≡ w)
+    pub check-short : length w < bytesNeed (headGenerators l) (headElements l) → (imageNumber l (length w) ≡ 4) × (imageWork l w ≡ w)
     unfolding imageNumber imageWork
     check-short h = let z = formed-head l F in (simp (eq-eqb _ _ z, lt-ltb _ _ h), simp (eq-eqb _ _ z, lt-ltb _ _ h))
 
-    pub check-started : bytesNeed (generatorsOf l) (elementsOf l) ≤ length w
-        → imageWork l w ≡ replicate (bytesNeed (generatorsOf l) (elementsOf l)) 0 ++ drop (bytesNeed (generatorsOf l) (elementsOf l)) w
+    pub check-started : bytesNeed (headGenerators l) (headElements l) ≤ length w
+        → imageWork l w ≡ replicate (bytesNeed (headGenerators l) (headElements l)) 0 ++ drop (bytesNeed (headGenerators l) (headElements l)) w
     unfolding imageWork
     check-started h = let z = formed-head l F in simp (eq-eqb _ _ z, le-ltb _ _ h)

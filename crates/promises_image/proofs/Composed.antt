@@ -27,9 +27,9 @@ use Rattle.image_check.specs.Short.{verdictNumber, numberBy, built}
 use Rattle.image_check_laws.proofs.Short.{whole-same}
 
 -- A reading that ended with fewer than N elements.
-abbrev pub fewer : Placed → ℕ → Bool
-fewer (placed (Count c) t) room = ltb c room
-fewer (placed (Refused r) t) room = false
+abbrev pub endsFewer : Placed → ℕ → Bool
+endsFewer (placed (Count c) t) room = ltb c room
+endsFewer (placed (Refused r) t) room = false
 
 -- The number that a call which makes a factor answers.
 abbrev pub madeNumber : Making → ℕ
@@ -86,14 +86,14 @@ module _ (table : List ℕ) (start : ℕ) (work rows : List ℕ) (n room : ℕ) 
   counting c t q false e = whole c t q (ltb-false c room e)
 
   by : (p : Placed) → readAll (composedAt rows n) n room (replicate (tableNeed n room) 0) ≡ p
-      → numberBy (λ t. verdictOf (check-group t w n room)) p room ≡ pick (fewer p room) 16 (builtNumber (finishedPlaced p n w₁))
+      → numberBy (λ t. verdictOf (check-group t w n room)) p room ≡ pick (endsFewer p room) 16 (builtNumber (finishedPlaced p n w₁))
   unfolding finished
   by (placed (Refused r) t) q = refl
   by (placed (Count c) t) q = counting c t q (ltb c room) refl
 
   pub built-is-composed : built (tableNeed n room) w rows n room
-      ≡ pick (fewer (readAll (composedAt rows n) n room (replicate (tableNeed n room) 0)) room) 16 (madeNumber (composed table start work rows n room))
+      ≡ pick (endsFewer (readAll (composedAt rows n) n room (replicate (tableNeed n room) 0)) room) 16 (madeNumber (composed table start work rows n room))
   unfolding built composedIn
   built-is-composed =
       by (readAll (composedAt rows n) n room (replicate (tableNeed n room) 0)) refl
-      ∙ ap (λ (k : ℕ). pick (fewer (readAll (composedAt rows n) n room (replicate (tableNeed n room) 0)) room) 16 k) (sym composed-number)
+      ∙ ap (λ (k : ℕ). pick (endsFewer (readAll (composedAt rows n) n room (replicate (tableNeed n room) 0)) room) 16 k) (sym composed-number)

@@ -12,8 +12,8 @@ use lib.Seq.{getD-drop}
 use Rattle.build_reading.specs.Reading.{composedAt}
 use Rattle.image_cells.specs.Cells.{spell2, spell4, halves}
 use Rattle.image_cells.proofs.Laws.{halves-length}
-use Rattle.image.specs.Image.{lengthOf, generatorsOf, elementsOf, headNumber}
-use Rattle.image_writing.specs.Written.{rowsOf, spelled, imageOf}
+use Rattle.image.specs.Image.{headLength, headGenerators, headElements, headNumber}
+use Rattle.image_writing.specs.Written.{rowsOf, spelledBytes, imageOf}
 use Rattle.image.proofs.Heads.{head-right, head-version, pick-first, pick-second, sixteen, unit}
 use Rattle.image_writing.proofs.Bytes.{image-length}
 use Rattle.promises_image.specs.Images.{Bytes, WellFormed}
@@ -24,15 +24,15 @@ pub formed : (l : List ℕ) → headNumber l ≡ 0 → WellFormed l
 unfolding headNumber
 formed l h =
     let a = pick-second (ltb (length l) 8) 16 _ sixteen h in
-    let b = pick-first (eqb (lengthOf l + 4) (length l)) _ 16 sixteen (a .1) in
+    let b = pick-first (eqb (headLength l + 4) (length l)) _ 16 sixteen (a .1) in
     let v = pick-first (eqb (getD l 4 0) 1) _ 16 sixteen (b .1) in
-    let g = pick-second (ltb 8 (generatorsOf l)) 1 _ unit (v .1) in
-    let z = pick-second (eqb (elementsOf l) 0) 16 _ sixteen (g .1) in
-    let f = pick-first (eqb (lengthOf l) (4 + 2 * generatorsOf l * elementsOf l)) 0 16 sixteen (z .1) in
-    let no = eqb-false (elementsOf l) 0 (z .0) in
-    let said = eqb-true (lengthOf l) (4 + 2 * generatorsOf l * elementsOf l) (f .0) in
+    let g = pick-second (ltb 8 (headGenerators l)) 1 _ unit (v .1) in
+    let z = pick-second (eqb (headElements l) 0) 16 _ sixteen (g .1) in
+    let f = pick-first (eqb (headLength l) (4 + 2 * headGenerators l * headElements l)) 0 16 sixteen (z .1) in
+    let no = eqb-false (headElements l) 0 (z .0) in
+    let said = eqb-true (headLength l) (4 + 2 * headGenerators l * headElements l) (f .0) in
     record {
-      size = sym (eqb-true (lengthOf l + 4) (length l) (b .0)) ∙ omega arith;
+      size = sym (eqb-true (headLength l + 4) (length l) (b .0)) ∙ omega arith;
       said = said;
       version = eqb-true (getD l 4 0) 1 (v .0);
       few = ltb-false _ _ (g .0);
@@ -47,7 +47,7 @@ pub head-exactly : (l : List ℕ) → headNumber l ≡ 0 ↔ WellFormed l
 head-exactly l = (formed l, formed-head l)
 
 -- "version byte 1": any other is 16, where the size and the length are right; and so is any head before it.
-pub other-version : (l : List ℕ) → 8 ≤ length l → lengthOf l + 4 ≡ length l → (getD l 4 0 ≡ 1 → ⊥) → headNumber l ≡ 16
+pub other-version : (l : List ℕ) → 8 ≤ length l → headLength l + 4 ≡ length l → (getD l 4 0 ≡ 1 → ⊥) → headNumber l ≡ 16
 other-version l a b d = sym (head-version l a b d)
 
 -- What a written image says.
@@ -55,18 +55,18 @@ module _ (src : ℕ → ℕ → ℕ) (n N : ℕ) (few : n ≤ 8) (some : 1 ≤ N
   small-size : 2 * n * N ≤ 1048560
   small-size = let p : 2 * n ≤ 16 = omega arith in omega (arith, mul-le-mul p most)
 
-  pub written-generators : generatorsOf (imageOf src n N) ≡ n
+  pub written-generators : headGenerators (imageOf src n N) ≡ n
   unfolding imageOf
   written-generators = refl
 
-  pub written-elements : elementsOf (imageOf src n N) ≡ N
+  pub written-elements : headElements (imageOf src n N) ≡ N
   unfolding imageOf
   written-elements = omega arith
 
   spelled4 : (v : ℕ) → v < 4294967296 → spell4 (v % 256) (v / 256 % 256) (v / 256 / 256 % 256) (v / 256 / 256 / 256 % 256) ≡ v
   spelled4 v h = omega arith
 
-  written-said : lengthOf (imageOf src n N) ≡ 4 + 2 * n * N
+  written-said : headLength (imageOf src n N) ≡ 4 + 2 * n * N
   unfolding imageOf
   written-said = spelled4 (4 + 2 * n * N) (omega (arith, small-size))
 
@@ -109,10 +109,10 @@ eight (a ∷ b ∷ c ∷ d ∷ e ∷ f ∷ g ∷ i ∷ r) h = refl
 
 module _ (l : List ℕ) (B : Bytes l) (F : WellFormed l) where
   abbrev n : ℕ
-  n = generatorsOf l
+  n = headGenerators l
 
   abbrev N : ℕ
-  N = elementsOf l
+  N = headElements l
 
   rest-length : length (drop 8 l) ≡ 2 * (N * n)
   rest-length = length-drop 8 l ∙ omega (arith, F .size)
@@ -125,7 +125,7 @@ module _ (l : List ℕ) (B : Bytes l) (F : WellFormed l) where
   rest-bytes i = rw (getD-drop 8 l i 0) (B .byte (8 + i))
 
   -- A right image is the one that is written from its own successors.
-  pub image-again : imageOf (composedAt (halves (drop 8 l)) (generatorsOf l)) (generatorsOf l) (elementsOf l) ≡ l
+  pub image-again : imageOf (composedAt (halves (drop 8 l)) (headGenerators l)) (headGenerators l) (headElements l) ≡ l
   unfolding imageOf
   image-again =
       let a = digits4 (getD l 3 0) (getD l 2 0) (getD l 1 0) (getD l 0 0) (4 + 2 * n * N) (B .byte 3) (B .byte 2) (B .byte 1) (B .byte 0) (F .said) in
@@ -134,8 +134,8 @@ module _ (l : List ℕ) (B : Bytes l) (F : WellFormed l) where
       (rw (F .version) at (eight l (omega (arith, F .size))))
 
 -- A written image is bytes.
-spelled-bytes : (l : List ℕ) (i : ℕ) → getD (spelled l) i 0 < 256
-unfolding spelled
+spelled-bytes : (l : List ℕ) (i : ℕ) → getD (spelledBytes l) i 0 < 256
+unfolding spelledBytes
 spelled-bytes [] i = omega arith
 spelled-bytes (v ∷ r) zero = omega arith
 spelled-bytes (v ∷ r) (suc zero) = omega arith

@@ -17,13 +17,13 @@ use Rattle.build_lending.specs.Lending.{tableNeed, workNeed, lentRight, Making,
 use Rattle.build_lending.proofs.Lending.{lent-table, lent-enough}
 use Rattle.build_reading.specs.Reading.{Placed, readAll, composedAt}
 use Rattle.image_cells.specs.Cells.{halves}
-use Rattle.build_checks_laws.specs.Numbers.{member, In}
+use Rattle.build_checks_laws.specs.Numbers.{member, RefusalIn}
 use Rattle.promises.specs.Composed.{RowsRight}
 use Rattle.promises.specs.Papers.{madePaper}
 use Rattle.promises.specs.Leaves.{Leaves, untouched, zeros, AllCleared, lentFor, composedNumbers}
 use Rattle.promises.proofs.Leaves.{composed-leaves}
-use Rattle.promises_image.proofs.Composed.{fewer, madeNumber}
-use Rattle.image.specs.Image.{lengthOf, generatorsOf, elementsOf, headNumber}
+use Rattle.promises_image.proofs.Composed.{endsFewer, madeNumber}
+use Rattle.image.specs.Image.{headLength, headGenerators, headElements, headNumber}
 use Rattle.image.specs.Read.{headPlace, readImage}
 use Rattle.promises_image.specs.Images.{Bytes, WellFormed, ImageRight, imageNumbers}
 use Rattle.promises_image.proofs.Heads.{formed, formed-head}
@@ -42,11 +42,11 @@ head-in : (l : List ℕ) → HeadIn (headNumber l)
 unfolding headNumber
 head-in l =
     either-in (ltb (length l) 8) sixteen
-    (either-in (eqb (lengthOf l + 4) (length l))
+    (either-in (eqb (headLength l + 4) (length l))
     (either-in (eqb (getD l 4 0) 1)
-    (either-in (ltb 8 (generatorsOf l)) (record { is = refl })
-    (either-in (eqb (elementsOf l) 0) sixteen
-    (either-in (eqb (lengthOf l) (4 + 2 * generatorsOf l * elementsOf l)) (record { is = refl }) sixteen)))
+    (either-in (ltb 8 (headGenerators l)) (record { is = refl })
+    (either-in (eqb (headElements l) 0) sixteen
+    (either-in (eqb (headLength l) (4 + 2 * headGenerators l * headElements l)) (record { is = refl }) sixteen)))
     sixteen)
     sixteen) where
       sixteen : HeadIn 16
@@ -70,24 +70,24 @@ workOf (making m t w) = w
 module _ (l : List ℕ) (B : Bytes l) (table : List ℕ) (start : ℕ) (work : List ℕ) {r : Refusal} {f : Factor} {t w : List ℕ}
     (q : readImage l table start work ≡ making (record { answer = verdict.Refused r; factor = f }) t w) where
   abbrev n : ℕ
-  n = generatorsOf l
+  n = headGenerators l
 
   abbrev N : ℕ
-  N = elementsOf l
+  N = headElements l
 
-  abbrev Told : Type 0
-  Told = Leaves (ImageRight l table start work) (1 ∷ 4 ∷ 16 ∷ []) imageNumbers (lentFor table start work n N t w) r
+  abbrev Claim : Type 0
+  Claim = Leaves (ImageRight l table start work) (1 ∷ 4 ∷ 16 ∷ []) imageNumbers (lentFor table start work n N t w) r
 
   -- A refusal of the arguments.
   wrong : (k place : ℕ) → ¬ (ImageRight l table start work) → member k (1 ∷ 4 ∷ 16 ∷ []) ≡ true
-      → readImage l table start work ≡ making (refusedMade k place) table work → Told
+      → readImage l table start work ≡ making (refusedMade k place) table work → Claim
   wrong k place not-right m e =
       let both = sym e ∙ q in
       let number : k ≡ r .number = ap (λ (x : Making). madePaper x .number) both in
       untouched not-right (rw number at m) (sym (ap tableOf both), (sym (ap workOf both), tt))
 
   -- What is left after the start.
-  module _ (F : WellFormed l) (lent : lentRight (length table) start (length work) (elementsOf l) (generatorsOf l) ≡ true) where
+  module _ (F : WellFormed l) (lent : lentRight (length table) start (length work) (headElements l) (headGenerators l) ≡ true) where
     cleared : AllCleared (lentFor table start work n N t w)
     cleared =
         let z = read-zeros l B table start work F lent q in
@@ -96,28 +96,28 @@ module _ (l : List ℕ) (B : Bytes l) (table : List ℕ) (start : ℕ) (work : L
           (record { inside = rw end (leb-true _ _ (lent-enough (length table) start (length work) N n lent)); zero = z .2 ∙ rw end }, tt),
         )
 
-    started : In imageNumbers r → Told
+    started : RefusalIn imageNumbers r → Claim
     started m = zeros (record { formed = F; lent = lent }) m cleared
 
-    as-composed : Leaves (RowsRight table start work (halves (drop 8 l)) n N) (1 ∷ 4 ∷ []) composedNumbers (lentFor table start work n N t w) r → Told
+    as-composed : Leaves (RowsRight table start work (halves (drop 8 l)) n N) (1 ∷ 4 ∷ []) composedNumbers (lentFor table start work n N t w) r → Claim
     as-composed (untouched not-right m s) = absurd (not-right (record { generators = F .few; lent = lent; listed = all-listed l B F }))
     as-composed (zeros ok m c) = started (more-in (eqb (r .number) 16) m)
 
-    reached : (b : Bool) → fewer (readAll (composedAt (halves (drop 8 l)) n) n N (replicate (tableNeed n N) 0)) N ≡ b → Told
+    reached : (b : Bool) → endsFewer (readAll (composedAt (halves (drop 8 l)) n) n N (replicate (tableNeed n N) 0)) N ≡ b → Claim
     reached true e =
         let sixteen : r .number ≡ 16 = sym (ap madeNumber q) ∙ fewer-read l table start work F (all-listed l B F) lent e in
         started (rw sixteen)
     reached false e =
         as-composed (composed-leaves table start work (halves (drop 8 l)) n N r f t w (sym (read-is-composed l table start work F (all-listed l B F) e) ∙ q))
 
-  pub read-leaves : Leaves (ImageRight l table start work) (1 ∷ 4 ∷ 16 ∷ []) imageNumbers (lentFor table start work (generatorsOf l) (elementsOf l) t w) r
+  pub read-leaves : Leaves (ImageRight l table start work) (1 ∷ 4 ∷ 16 ∷ []) imageNumbers (lentFor table start work (headGenerators l) (headElements l) t w) r
   read-leaves = head (eqb (headNumber l) 0) refl where
-    lending : WellFormed l → (b : Bool) → lentRight (length table) start (length work) (elementsOf l) (generatorsOf l) ≡ b → Told
-    lending F true e = reached F e (fewer (readAll (composedAt (halves (drop 8 l)) n) n N (replicate (tableNeed n N) 0)) N) refl
+    lending : WellFormed l → (b : Bool) → lentRight (length table) start (length work) (headElements l) (headGenerators l) ≡ b → Claim
+    lending F true e = reached F e (endsFewer (readAll (composedAt (halves (drop 8 l)) n) n N (replicate (tableNeed n N) 0)) N) refl
     lending F false e = wrong 4 0 (λ R. false-true (sym e ∙ R .lent)) refl (short-read l table start work F (all-listed l B F) e)
 
-    head : (b : Bool) → eqb (headNumber l) 0 ≡ b → Told
+    head : (b : Bool) → eqb (headNumber l) 0 ≡ b → Claim
     head false e =
         let d = eqb-false (headNumber l) 0 e in
         wrong (headNumber l) (headPlace l) (λ R. d (formed-head l (R .formed))) (bad-in l d) (bad-read l table start work d)
-    head true e = lending (formed l (eqb-true (headNumber l) 0 e)) (lentRight (length table) start (length work) (elementsOf l) (generatorsOf l)) refl
+    head true e = lending (formed l (eqb-true (headNumber l) 0 e)) (lentRight (length table) start (length work) (headElements l) (headGenerators l)) refl

@@ -29,7 +29,7 @@ use Rattle.factor_laws.specs.Accepted.{Accepted, factorStep, factorWord}
 use Rattle.factor_laws.proofs.Handles.{few-generators, few-elements}
 use Rattle.promises.specs.Composed.{Given}
 use Rattle.build_laws.specs.Taken.{Taken}
-use Rattle.image.specs.Image.{generatorsOf, elementsOf}
+use Rattle.image.specs.Image.{headGenerators, headElements}
 use Rattle.image_writing.specs.Written.{rowsOf, imageSize, imageOf, stepRead, knownRow, allKnown}
 use Rattle.image.specs.Written.{writeCount, writtenImage}
 use Rattle.image.specs.Read.{readImage}
@@ -72,10 +72,10 @@ module _ {t : List ℕ} {f : Factor} (A : Accepted t f) where
   abbrev image : List ℕ
   image = imageOf (factorStep t f) (f .generators) (f .elements)
 
-  pub image-elements : elementsOf (imageOf (factorStep t f) (f .generators) (f .elements)) ≡ f .elements
+  pub image-elements : headElements (imageOf (factorStep t f) (f .generators) (f .elements)) ≡ f .elements
   image-elements = written-elements (factorStep t f) (f .generators) (f .elements) (few-generators A) some-elements (few-elements A)
 
-  pub image-generators : generatorsOf (imageOf (factorStep t f) (f .generators) (f .elements)) ≡ f .generators
+  pub image-generators : headGenerators (imageOf (factorStep t f) (f .generators) (f .elements)) ≡ f .generators
   image-generators = written-generators (factorStep t f) (f .generators) (f .elements) (few-generators A) some-elements (few-elements A)
 
   pub image-rows : halves (drop 8 (imageOf (factorStep t f) (f .generators) (f .elements))) ≡ rowsOf (f .elements) (factorStep t f) (f .generators) 0
@@ -126,7 +126,7 @@ module _ {t : List ℕ} {f : Factor} (A : Accepted t f) where
       (readImage (imageOf (factorStep t f) (f .generators) (f .elements)) table start work)
   read-written table start work lent =
       let B = image-bytes (factorStep t f) (f .generators) (f .elements) (few-generators A) in
-      let l : lentRight (length table) start (length work) (elementsOf image) (generatorsOf image) ≡ true = rw (image-elements, image-generators) lent in
+      let l : lentRight (length table) start (length work) (headElements image) (headGenerators image) ≡ true = rw (image-elements, image-generators) lent in
       let a = group-read image B table start work written-group l in
       let b = read-given image B table start work (a .3) in
       let G = b .1 in
@@ -149,19 +149,19 @@ image-same src src′ n N e = rw e
 -- Read and written again: the same bytes, at the start of a buffer that is long enough, and the answer is their number.
 module _ (l : List ℕ) (B : Bytes l) (table : List ℕ) (start : ℕ) (work : List ℕ) {f : Factor} {t w : List ℕ}
     (q : readImage l table start work ≡ making (record { answer = verdict.Fine; factor = f }) t w) where
-  given : GroupImage l × Given table start work (halves (drop 8 l)) (generatorsOf l) (elementsOf l) f t w × (f .elements ≡ elementsOf l)
+  given : GroupImage l × Given table start work (halves (drop 8 l)) (headGenerators l) (headElements l) f t w × (f .elements ≡ headElements l)
   given = read-given l B table start work q
 
-  generators-are : f .generators ≡ generatorsOf l
+  generators-are : f .generators ≡ headGenerators l
   generators-are = ap (λ (x : Factor). x .generators) (given .1 .handle)
 
   pub written-again : imageOf (factorStep t f) (f .generators) (f .elements) ≡ l
   written-again =
       let G = given .1 in
       ap (λ (x : ℕ). imageOf (factorStep t f) x (f .elements)) generators-are
-      ∙ ap (λ (x : ℕ). imageOf (factorStep t f) (generatorsOf l) x) (given .2)
-      ∙ image-same (factorStep t f) (imageStep l) (generatorsOf l) (elementsOf l)
-      (rows-same (factorStep t f) (imageStep l) (generatorsOf l) (elementsOf l) (λ e g he hg. G .steps (rw (given .2) he) hg))
+      ∙ ap (λ (x : ℕ). imageOf (factorStep t f) (headGenerators l) x) (given .2)
+      ∙ image-same (factorStep t f) (imageStep l) (headGenerators l) (headElements l)
+      (rows-same (factorStep t f) (imageStep l) (headGenerators l) (headElements l) (λ e g he hg. G .steps (rw (given .2) he) hg))
       ∙ image-again l B (given .0 .formed)
 
   same-size : imageSize (f .generators) (f .elements) ≡ length l

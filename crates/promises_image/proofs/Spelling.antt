@@ -8,12 +8,12 @@ use lib.ListN.{length, getD, drop, List·getD-append}
 use lib.Seq.{getD-append-add, drop-cons, drop-length}
 use Rattle.build_reading.specs.Reading.{composedAt}
 use Rattle.image_cells.specs.Cells.{spell2, halves}
-use Rattle.image_writing.specs.Written.{rowOf, rowsOf, spelled}
+use Rattle.image_writing.specs.Written.{rowNumbers, rowsOf, spelledBytes}
 use Rattle.image_writing.proofs.Bytes.{row-length}
 
 -- Numbers of 16 bits are read as they were spelled.
-pub halves-spelled : (l : List ℕ) → ((i : ℕ) → getD l i 0 < 65536) → halves (spelled l) ≡ l
-unfolding halves spelled
+pub halves-spelled : (l : List ℕ) → ((i : ℕ) → getD l i 0 < 65536) → halves (spelledBytes l) ≡ l
+unfolding halves spelledBytes
 halves-spelled [] p = refl
 halves-spelled (v ∷ r) p =
     let h : v < 65536 = p 0 in
@@ -21,8 +21,8 @@ halves-spelled (v ∷ r) p =
     rw (q, halves-spelled r (λ i. p (suc i)))
 
 -- And bytes are spelled as they were read.
-pub spelled-halves : (b : List ℕ) → ((i : ℕ) → getD b i 0 < 256) → (k : ℕ) → length b ≡ 2 * k → spelled (halves b) ≡ b
-unfolding halves spelled
+pub spelled-halves : (b : List ℕ) → ((i : ℕ) → getD b i 0 < 256) → (k : ℕ) → length b ≡ 2 * k → spelledBytes (halves b) ≡ b
+unfolding halves spelledBytes
 spelled-halves [] p k e = refl
 spelled-halves (a ∷ []) p k e = absurd (omega arith)
 spelled-halves (a ∷ b ∷ r) p k e =
@@ -33,8 +33,8 @@ spelled-halves (a ∷ b ∷ r) p k e =
     rw (qa, qb, spelled-halves r (λ i. p (suc (suc i))) (k - 1) (omega arith))
 
 -- What stands where in rows written out.
-pub row-at : (k : ℕ) (src : ℕ → ℕ → ℕ) (e g i : ℕ) → i < k → getD (rowOf k src e g) i 0 ≡ src e (g + i)
-unfolding rowOf
+pub row-at : (k : ℕ) (src : ℕ → ℕ → ℕ) (e g i : ℕ) → i < k → getD (rowNumbers k src e g) i 0 ≡ src e (g + i)
+unfolding rowNumbers
 row-at zero src e g i h = absurd (omega arith)
 row-at (suc k) src e g zero h = let q : g + 0 ≡ g = omega arith in rw q
 row-at (suc k) src e g (suc i) h = let q : g + 1 + i ≡ g + suc i = omega arith in rw (← q) (row-at k src e (g + 1) i (omega arith))
@@ -46,19 +46,19 @@ rows-at (suc k) src n e zero g hd hg =
     let z : 0 * n + g ≡ g = omega arith in
     let y : e + 0 ≡ e = omega arith in
     let x : 0 + g ≡ g = omega arith in
-    rw (z, y) (List·getD-append (rowOf n src e 0) (rowsOf k src n (e + 1)) 0 g (rw (row-length n src e 0) hg) ∙ row-at n src e 0 g hg ∙ ap (src e) x)
+    rw (z, y) (List·getD-append (rowNumbers n src e 0) (rowsOf k src n (e + 1)) 0 g (rw (row-length n src e 0) hg) ∙ row-at n src e 0 g hg ∙ ap (src e) x)
 rows-at (suc k) src n e (suc d) g hd hg =
-    let z : suc d * n + g ≡ length (rowOf n src e 0) + (d * n + g) = rw (row-length n src e 0) (omega arith) in
+    let z : suc d * n + g ≡ length (rowNumbers n src e 0) + (d * n + g) = rw (row-length n src e 0) (omega arith) in
     let y : e + 1 + d ≡ e + suc d = omega arith in
-    rw (z, ← y) (getD-append-add (rowOf n src e 0) (rowsOf k src n (e + 1)) (d * n + g) 0 ∙ rows-at k src n (e + 1) d g (omega arith) hg)
+    rw (z, ← y) (getD-append-add (rowNumbers n src e 0) (rowsOf k src n (e + 1)) (d * n + g) 0 ∙ rows-at k src n (e + 1) d g (omega arith) hg)
 
 pub rows-entry : (N : ℕ) (src : ℕ → ℕ → ℕ) (n : ℕ) {e g : ℕ} → e < N → g < n → composedAt (rowsOf N src n 0) n e g ≡ src e g
 rows-entry N src n {e} {g} he hg = let z : 0 + e ≡ e = omega arith in rows-at N src n 0 e g he hg ∙ ap (λ (x : ℕ). src x g) z
 
 -- Only what is in the table has a say.
 module _ (src src′ : ℕ → ℕ → ℕ) (n N : ℕ) (same : (e g : ℕ) → e < N → g < n → src e g ≡ src′ e g) where
-  row-same : (k e g : ℕ) → e < N → g + k ≤ n → rowOf k src e g ≡ rowOf k src′ e g
-  unfolding rowOf
+  row-same : (k e g : ℕ) → e < N → g + k ≤ n → rowNumbers k src e g ≡ rowNumbers k src′ e g
+  unfolding rowNumbers
   row-same zero e g he hg = refl
   row-same (suc k) e g he hg = rw (same e g he (omega arith), row-same k e (g + 1) he (omega arith))
 
@@ -77,8 +77,8 @@ append-small (v ∷ a) b m p q zero = p 0
 append-small (v ∷ a) b m p q (suc i) = append-small a b m (λ j. p (suc j)) q i
 
 module _ (src : ℕ → ℕ → ℕ) (n N m : ℕ) (pos : 0 < m) (small : (e g : ℕ) → e < N → g < n → src e g < m) where
-  pub row-small : (k e g : ℕ) → e < N → g + k ≤ n → (i : ℕ) → getD (rowOf k src e g) i 0 < m
-  unfolding rowOf
+  pub row-small : (k e g : ℕ) → e < N → g + k ≤ n → (i : ℕ) → getD (rowNumbers k src e g) i 0 < m
+  unfolding rowNumbers
   row-small zero e g he hg i = pos
   row-small (suc k) e g he hg zero = small e g he (omega arith)
   row-small (suc k) e g he hg (suc i) = row-small k e (g + 1) he (omega arith) i
@@ -87,15 +87,15 @@ module _ (src : ℕ → ℕ → ℕ) (n N m : ℕ) (pos : 0 < m) (small : (e g :
   unfolding rowsOf
   rows-below zero e h i = pos
   rows-below (suc k) e h i =
-      append-small (rowOf n src e 0) (rowsOf k src n (e + 1)) m (row-small n e 0 (omega arith) (omega arith)) (rows-below k (e + 1) (omega arith)) i
+      append-small (rowNumbers n src e 0) (rowsOf k src n (e + 1)) m (row-small n e 0 (omega arith) (omega arith)) (rows-below k (e + 1) (omega arith)) i
 
   pub rows-small : (i : ℕ) → getD (rowsOf N src n 0) i 0 < m
   rows-small = rows-below N 0 (omega arith)
 
 -- A list of rows, written out again.
 module _ (l : List ℕ) (n : ℕ) where
-  row-again : (k e g : ℕ) → e * n + g + k ≤ length l → rowOf k (composedAt l n) e g ++ drop (e * n + g + k) l ≡ drop (e * n + g) l
-  unfolding rowOf
+  row-again : (k e g : ℕ) → e * n + g + k ≤ length l → rowNumbers k (composedAt l n) e g ++ drop (e * n + g + k) l ≡ drop (e * n + g) l
+  unfolding rowNumbers
   row-again zero e g h = let z : e * n + g + 0 ≡ e * n + g = omega arith in rw z
   row-again (suc k) e g h =
       let z : e * n + g + suc k ≡ e * n + (g + 1) + k = omega arith in

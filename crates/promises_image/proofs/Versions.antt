@@ -7,7 +7,7 @@ use lib.ListN.{length, getD}
 use Rattle.egg.specs.declared.Factor.{Factor}
 use Rattle.build_lending.specs.Lending.{refusedMade, making}
 use Rattle.factor_laws.specs.Accepted.{Accepted, factorStep}
-use Rattle.image.specs.Image.{lengthOf, generatorsOf, elementsOf, headNumber, imageNumber}
+use Rattle.image.specs.Image.{headLength, headGenerators, headElements, headNumber, imageNumber}
 use Rattle.image_writing.specs.Written.{imageOf}
 use Rattle.image.specs.Read.{readImage}
 use Rattle.image.specs.Walked.{walkNumber}
@@ -17,7 +17,7 @@ use Rattle.promises_image.proofs.Back.{bad-read, bad-number}
 use Rattle.promises_image.proofs.Rounds.{image-steps, image-elements, image-generators}
 use Rattle.promises_image.proofs.Walks.{walk-head}
 
-module _ (l : List ℕ) (sized : 8 ≤ length l) (said : lengthOf l + 4 ≡ length l) (other : getD l 4 0 ≡ 1 → ⊥) where
+module _ (l : List ℕ) (sized : 8 ≤ length l) (said : headLength l + 4 ≡ length l) (other : getD l 4 0 ≡ 1 → ⊥) where
   sixteen : headNumber l ≡ 16
   sixteen = other-version l sized said other
 
@@ -37,10 +37,10 @@ module _ (l : List ℕ) (sized : 8 ≤ length l) (said : lengthOf l + 4 ≡ leng
 module _ {t t′ : List ℕ} {f f′ : Factor} (A : Accepted t f) (A′ : Accepted t′ f′)
     (same : imageOf (factorStep t f) (f .generators) (f .elements) ≡ imageOf (factorStep t′ f′) (f′ .generators) (f′ .elements)) where
   pub image-one-elements : f .elements ≡ f′ .elements
-  image-one-elements = sym (image-elements A) ∙ ap elementsOf same ∙ image-elements A′
+  image-one-elements = sym (image-elements A) ∙ ap headElements same ∙ image-elements A′
 
   pub image-one-generators : f .generators ≡ f′ .generators
-  image-one-generators = sym (image-generators A) ∙ ap generatorsOf same ∙ image-generators A′
+  image-one-generators = sym (image-generators A) ∙ ap headGenerators same ∙ image-generators A′
 
   pub image-one-table : {e g : ℕ} → e < f .elements → g < f .generators → factorStep t f e g ≡ factorStep t′ f′ e g
   image-one-table {e} {g} he hg =

@@ -11,7 +11,7 @@ use Rattle.theory.specs.Group.{GroupOn, RightSteps}
 use Rattle.theory.proofs.AnyCarrier.{any-carrier}
 use Rattle.theory.proofs.Walking.{walk-closed}
 use Rattle.theory.proofs.Complete.{walk-is-op}
-use Rattle.image.specs.Image.{generatorsOf, elementsOf, bytesNeed, imageNumber}
+use Rattle.image.specs.Image.{headGenerators, headElements, bytesNeed, imageNumber}
 use Rattle.image.specs.Read.{readImage}
 use Rattle.image.specs.Walked.{walkNumber}
 use Rattle.promises_image.specs.Images.{Bytes, imageStep, GroupImage}
@@ -21,19 +21,19 @@ use Rattle.promises_image.proofs.Walks.{image-table, walk-group-image, 
 
 -- The turns one by one lead where the word leads.
 module _ {l : List ℕ} (I : GroupImage l) where
-  live-walk : {e : ℕ} {u : List ℕ} → e < elementsOf l → Word (generatorsOf l) u → live l e u ≡ walk (imageStep l) e u
+  live-walk : {e : ℕ} {u : List ℕ} → e < headElements l → Word (headGenerators l) u → live l e u ≡ walk (imageStep l) e u
   unfolding live
   live-walk he empty = refl
   live-walk {e} he (letter {g = g} {w = u} hg hu) =
       ap (λ (x : ℕ). live l x u) (walk-group-image l e (g ∷ []) I he (letter hg empty)) ∙ live-walk (image-table I .closed he hg) hu
 
-module _ (l : List ℕ) (B : Bytes l) (size : ℕ) (long : bytesNeed (generatorsOf l) (elementsOf l) ≤ size) (checked : imageNumber l size ≡ 0) where
+module _ (l : List ℕ) (B : Bytes l) (size : ℕ) (long : bytesNeed (headGenerators l) (headElements l) ≤ size) (checked : imageNumber l size ≡ 0) where
   image : GroupImage l
   image = number-exactly l B size long .0 checked
 
   -- The image's group: its elements are 0 to N-1, its right steps the image's; and a walk is a product in it.
-  pub walk-in-group : (op : ℕ → ℕ → ℕ) × (inv : ℕ → ℕ) × GroupOn (elementsOf l) op inv × RightSteps (generatorsOf l) (elementsOf l) (imageStep l) op
-      × ((e : ℕ) (u : List ℕ) → e < elementsOf l → Word (generatorsOf l) u → walkNumber l e u ≡ op e (walkNumber l 0 u))
+  pub walk-in-group : (op : ℕ → ℕ → ℕ) × (inv : ℕ → ℕ) × GroupOn (headElements l) op inv × RightSteps (headGenerators l) (headElements l) (imageStep l) op
+      × ((e : ℕ) (u : List ℕ) → e < headElements l → Word (headGenerators l) u → walkNumber l e u ≡ op e (walkNumber l 0 u))
   walk-in-group =
       let G = any-carrier .0 (image .taken .group) in (
         G .op,
@@ -46,14 +46,14 @@ module _ (l : List ℕ) (B : Bytes l) (size : ℕ) (long : bytesNeed (generators
       )
 
   -- Two words with one product lead from every element to one: so whoever is behind may be sent any word for it.
-  pub one-product : (e : ℕ) (u v : List ℕ) → e < elementsOf l → Word (generatorsOf l) u → Word (generatorsOf l) v
+  pub one-product : (e : ℕ) (u v : List ℕ) → e < headElements l → Word (headGenerators l) u → Word (headGenerators l) v
       → walkNumber l 0 u ≡ walkNumber l 0 v → walkNumber l e u ≡ walkNumber l e v
   one-product e u v he hu hv q = let G = walk-in-group in G .4 e u he hu ∙ ap (G .0 e) q ∙ sym (G .4 e v he hv)
 
   -- Live turns one by one, and the element that is their product composed at once, end at one element.
   pub image-viewers : (table : List ℕ) (start : ℕ) (work : List ℕ) {f : Factor} {t w : List ℕ}
       → readImage l table start work ≡ making (record { answer = verdict.Fine; factor = f }) t w
-      → (e : ℕ) (u : List ℕ) → e < elementsOf l → Word (generatorsOf l) u → OneState l t f e u
+      → (e : ℕ) (u : List ℕ) → e < headElements l → Word (headGenerators l) u → OneState l t f e u
   image-viewers table start work read e u he hu =
       let T = image-table image in
       let walked = walk-group-image l e u image he hu in

@@ -24,7 +24,7 @@ use Rattle.theory.proofs.Walking.{walk-closed, walk-append, walk-agree, word-ap
 use Rattle.build_checks_laws.proofs.Accepted.{sound-group, sound-right-steps}
 use Rattle.factor_laws.specs.Accepted.{factorStep, reach}
 use Rattle.factor_laws.proofs.Handles.{compose-answer}
-use Rattle.image.specs.Image.{generatorsOf, elementsOf, headNumber, bytesNeed, imageNumber}
+use Rattle.image.specs.Image.{headGenerators, headElements, headNumber, bytesNeed, imageNumber}
 use Rattle.image.specs.Read.{readImage}
 use Rattle.image_walk.specs.Walked.{lettersBelow, follow}
 use Rattle.image.specs.Walked.{walkNumber}
@@ -52,7 +52,7 @@ unfolding follow
 follow-walk rows n N T he empty = refl
 follow-walk rows n N T he (letter hg w) = simp (lt-leb _ _ (T .closed he hg)) (follow-walk rows n N T (T .closed he hg) w)
 
-pub image-table : {l : List ℕ} → GroupImage l → Table (generatorsOf l) (elementsOf l) (imageStep l)
+pub image-table : {l : List ℕ} → GroupImage l → Table (headGenerators l) (headElements l) (imageStep l)
 image-table S = numbered-table (S .taken .readable .by-rule)
 
 module _ (l : List ℕ) where
@@ -61,45 +61,45 @@ module _ (l : List ℕ) where
   unfolding walkNumber
   walk-head start word d = simp (ne-eqb _ _ d)
 
-  pub walk-start : (start : ℕ) (word : List ℕ) → WellFormed l → elementsOf l ≤ start → walkNumber l start word ≡ 65536 + 14
+  pub walk-start : (start : ℕ) (word : List ℕ) → WellFormed l → headElements l ≤ start → walkNumber l start word ≡ 65536 + 14
   unfolding walkNumber
   walk-start start word F h = let z = formed-head l F in simp (eq-eqb _ _ z, le-leb _ _ h)
 
-  pub walk-letter : (start : ℕ) (word : List ℕ) → WellFormed l → start < elementsOf l → ¬ Word (generatorsOf l) word → walkNumber l start word ≡ 65536 + 14
+  pub walk-letter : (start : ℕ) (word : List ℕ) → WellFormed l → start < headElements l → ¬ Word (headGenerators l) word → walkNumber l start word ≡ 65536 + 14
   unfolding walkNumber
-  walk-letter start word F h none = let z = formed-head l F in simp (eq-eqb _ _ z, lt-leb _ _ h) (by (lettersBelow (generatorsOf l) word) refl) where
-    by : (b : Bool) → lettersBelow (generatorsOf l) word ≡ b
-        → pick b (follow (halves (drop 8 l)) (generatorsOf l) (elementsOf l) start word) 65550 ≡ 65536 + 14
-    by true e = absurd (none (letters-to (generatorsOf l) word e))
+  walk-letter start word F h none = let z = formed-head l F in simp (eq-eqb _ _ z, lt-leb _ _ h) (by (lettersBelow (headGenerators l) word) refl) where
+    by : (b : Bool) → lettersBelow (headGenerators l) word ≡ b
+        → pick b (follow (halves (drop 8 l)) (headGenerators l) (headElements l) start word) 65550 ≡ 65536 + 14
+    by true e = absurd (none (letters-to (headGenerators l) word e))
     by false e = refl
 
   -- And on a group's image the walk along its steps: no other number is given.
-  pub walk-group-image : (start : ℕ) (word : List ℕ) → GroupImage l → start < elementsOf l → Word (generatorsOf l) word
+  pub walk-group-image : (start : ℕ) (word : List ℕ) → GroupImage l → start < headElements l → Word (headGenerators l) word
       → walkNumber l start word ≡ walk (imageStep l) start word
   unfolding walkNumber
   walk-group-image start word S h w =
       let z = formed-head l (S .formed) in
-      simp (eq-eqb _ _ z, lt-leb _ _ h, letters-from w) (follow-walk (halves (drop 8 l)) (generatorsOf l) (elementsOf l) (image-table S) h w)
+      simp (eq-eqb _ _ z, lt-leb _ _ h, letters-from w) (follow-walk (halves (drop 8 l)) (headGenerators l) (headElements l) (image-table S) h w)
 
   -- A walk that goes on: turns that arrive in two parts land where one word lands.
-  pub walk-on : (start : ℕ) (u v : List ℕ) → GroupImage l → start < elementsOf l → Word (generatorsOf l) u → Word (generatorsOf l) v
+  pub walk-on : (start : ℕ) (u v : List ℕ) → GroupImage l → start < headElements l → Word (headGenerators l) u → Word (headGenerators l) v
       → walkNumber l (walkNumber l start u) v ≡ walkNumber l start (u ++ v)
   walk-on start u v S h hu hv =
       let T = image-table S in
       let a = walk-group-image start u S h hu in
-      let b : walk (imageStep l) start u < elementsOf l = walk-closed T h hu in
+      let b : walk (imageStep l) start u < headElements l = walk-closed T h hu in
       ap (λ (x : ℕ). walkNumber l x v) a ∙ walk-group-image (walk (imageStep l) start u) v S b hv ∙ sym (walk-append (imageStep l) start u v)
       ∙ sym (walk-group-image start (u ++ v) S h (word-append hu hv))
 
   -- The same from the check's 0.
-  pub walk-checked : Bytes l → (size : ℕ) → bytesNeed (generatorsOf l) (elementsOf l) ≤ size → imageNumber l size ≡ 0
-      → (start : ℕ) (word : List ℕ) → start < elementsOf l → Word (generatorsOf l) word → walkNumber l start word ≡ walk (imageStep l) start word
+  pub walk-checked : Bytes l → (size : ℕ) → bytesNeed (headGenerators l) (headElements l) ≤ size → imageNumber l size ≡ 0
+      → (start : ℕ) (word : List ℕ) → start < headElements l → Word (headGenerators l) word → walkNumber l start word ≡ walk (imageStep l) start word
   walk-checked B size long z start word h w = walk-group-image start word (number-exactly l B size long .0 z) h w
 
 -- In the factor that was read, the walk from an element is the product of the element with what the word reaches from the identity.
 module _ (l : List ℕ) (B : Bytes l) (table : List ℕ) (start : ℕ) (work : List ℕ) {f : Factor} {t w : List ℕ}
     (q : readImage l table start work ≡ making (record { answer = verdict.Fine; factor = f }) t w) where
-  pub walk-composes : (from : ℕ) (word : List ℕ) → from < elementsOf l → Word (generatorsOf l) word
+  pub walk-composes : (from : ℕ) (word : List ℕ) → from < headElements l → Word (headGenerators l) word
       → composeAnswer t f (record { 0 = from }) (record { 0 = walkNumber l 0 word }) ≡ reach (walkNumber l from word)
   walk-composes from word h ws =
       let g = read-given l B table start work q in
@@ -107,11 +107,11 @@ module _ (l : List ℕ) (B : Bytes l) (table : List ℕ) (start : ℕ) (work : L
       let A = G .accepted in
       let S = A .sound in
       let T = image-table (g .0) in
-      let gens : generatorsOf l ≡ f .generators = sym (ap (λ (x : Factor). x .generators) (G .handle)) in
+      let gens : headGenerators l ≡ f .generators = sym (ap (λ (x : Factor). x .generators) (G .handle)) in
       let ws′ : Word (f .generators) word = rw gens at ws in
       let h′ : from < f .elements = rw (g .2) h in
       let same : (e x : ℕ) → e < f .elements → x < f .generators → imageStep l e x ≡ factorStep t f e x = λ e x he hx. sym (G .steps he (rw gens hx)) in
-      let zero-in : 0 < elementsOf l = T .origin in
+      let zero-in : 0 < headElements l = T .origin in
       let here : walkNumber l 0 word ≡ walk (factorStep t f) 0 word
       = walk-group-image l 0 word (g .0) zero-in ws ∙ walk-agree (S .table) same (S .table .origin) ws′ in
       let there : walkNumber l from word ≡ walk (factorStep t f) from word = walk-group-image l from word (g .0) h ws ∙ walk-agree (S .table) same h′ ws′ in

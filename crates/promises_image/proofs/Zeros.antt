@@ -15,7 +15,7 @@ use Rattle.image_cells.specs.Cells.{halves}
 use Rattle.build_laws.proofs.Lent.{work-taken, by-refused}
 use Rattle.promises.proofs.ReadLengths.{placedTable, from-length}
 use Rattle.promises.proofs.Zeros.{finished-zeros}
-use Rattle.image.specs.Image.{generatorsOf, elementsOf}
+use Rattle.image.specs.Image.{headGenerators, headElements}
 use Rattle.image_reading.specs.Read.{allPlaced, imageIn}
 use Rattle.image.specs.Read.{readImage}
 use Rattle.promises_image.specs.Images.{Bytes, WellFormed}
@@ -39,14 +39,14 @@ in-zeros size w rows n room e =
 
 -- A refused call whose stretches were lent.
 module _ (l : List ℕ) (B : Bytes l) (table : List ℕ) (start : ℕ) (work : List ℕ) {r : Refusal} {f : Factor} {t w : List ℕ} where
-  pub read-zeros : WellFormed l → lentRight (length table) start (length work) (elementsOf l) (generatorsOf l) ≡ true
+  pub read-zeros : WellFormed l → lentRight (length table) start (length work) (headElements l) (headGenerators l) ≡ true
       → readImage l table start work ≡ making (record { answer = verdict.Refused r; factor = f }) t w
       → (f ≡ noFactor)
-      × (t ≡ within table start (start + tableNeed (generatorsOf l) (elementsOf l)) (replicate (tableNeed (generatorsOf l) (elementsOf l)) 0))
-      × (w ≡ within work 0 (workNeed (generatorsOf l) (elementsOf l)) (replicate (workNeed (generatorsOf l) (elementsOf l)) 0))
+      × (t ≡ within table start (start + tableNeed (headGenerators l) (headElements l)) (replicate (tableNeed (headGenerators l) (headElements l)) 0))
+      × (w ≡ within work 0 (workNeed (headGenerators l) (headElements l)) (replicate (workNeed (headGenerators l) (headElements l)) 0))
   read-zeros F lent q =
-      let n = generatorsOf l in
-      let N = elementsOf l in
+      let n = headGenerators l in
+      let N = headElements l in
       let b = by-refused table start work n N (imageIn (tableNeed n N) (take (workNeed n N) work) (halves (drop 8 l)) n N)
       (sym (lent-read l table start work F (all-listed l B F) lent) ∙ q) in
       let z = in-zeros (tableNeed n N) (take (workNeed n N) work) (halves (drop 8 l)) n N (b .2) in

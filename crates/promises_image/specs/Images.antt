@@ -10,7 +10,7 @@ use Rattle.egg.specs.Factor.{stretch, countedPaper}
 use Rattle.build_lending.specs.Lending.{lentRight, Making, making}
 use Rattle.build_reading.specs.Reading.{composedAt}
 use Rattle.image_cells.specs.Cells.{halves}
-use Rattle.image.specs.Image.{lengthOf, generatorsOf, elementsOf, bytesNeed, imageNumber}
+use Rattle.image.specs.Image.{headLength, headGenerators, headElements, bytesNeed, imageNumber}
 use Rattle.image.specs.Written.{writeCount, writtenImage}
 use Rattle.image.specs.Read.{readImage}
 use Rattle.factor_laws.specs.Accepted.{Accepted, factorStep}
@@ -24,22 +24,22 @@ pub record Bytes (l : List ℕ) : Type 0 where
 
 -- The step that an image's successors give.
 abbrev pub imageStep : List ℕ → ℕ → ℕ → ℕ
-imageStep l = composedAt (halves (drop 8 l)) (generatorsOf l)
+imageStep l = composedAt (halves (drop 8 l)) (headGenerators l)
 
 -- The head is right: "Four bytes, big-endian, the length of what follows; version byte 1; n in one byte; element count N in two; then the successors, two
 -- bytes each .. Length is 4 + 2nN."
 pub record WellFormed (l : List ℕ) : Type 0 where
-  pub size : length l ≡ 8 + 2 * generatorsOf l * elementsOf l
-  pub said : lengthOf l ≡ 4 + 2 * generatorsOf l * elementsOf l
+  pub size : length l ≡ 8 + 2 * headGenerators l * headElements l
+  pub said : headLength l ≡ 4 + 2 * headGenerators l * headElements l
   pub version : getD l 4 0 ≡ 1
-  pub few : generatorsOf l ≤ 8
-  pub some : 1 ≤ elementsOf l
+  pub few : headGenerators l ≤ 8
+  pub some : 1 ≤ headElements l
 
 -- What is accepted: a right head, and successors that are the right steps of some group with N elements under the numbering rule, with no recorded
 -- word over 4,096.
 pub record GroupImage (l : List ℕ) : Type 1 where
   pub formed : WellFormed l
-  pub taken : Taken (imageStep l) (generatorsOf l) (elementsOf l) (elementsOf l)
+  pub taken : Taken (imageStep l) (headGenerators l) (headElements l) (headElements l)
 
 -- A call that makes a factor, with the given start, was accepted: the handle has n generators, N elements and room N, and its steps are these.
 pub record MadeWith (start n N : ℕ) (step : ℕ → ℕ → ℕ) (m : Making) : Type 0 where
@@ -79,7 +79,7 @@ pub record SameBytes (l t : List ℕ) (f : Factor) (out : List ℕ) : Type 0 whe
 -- The arguments of a reading are right, so that its build starts: the head is right, and the buffers are not short.
 pub record ImageRight (l table : List ℕ) (start : ℕ) (work : List ℕ) : Type 0 where
   pub formed : WellFormed l
-  pub lent : lentRight (length table) start (length work) (elementsOf l) (generatorsOf l) ≡ true
+  pub lent : lentRight (length table) start (length work) (headElements l) (headGenerators l) ≡ true
 
 -- The numbers by which a reading may be refused then: 16, for "fewer than N reached is 16", and those of composed rows.
 abbrev pub imageNumbers : List ℕ

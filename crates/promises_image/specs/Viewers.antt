@@ -7,7 +7,7 @@ use Rattle.egg.specs.declared.Factor.{Factor}
 use Rattle.egg.specs.Factor.{reachedPaper}
 use Rattle.factor.specs.Questions.{composeAnswer}
 use Rattle.factor_laws.specs.Papers.{valuePaper}
-use Rattle.image.specs.Image.{elementsOf}
+use Rattle.image.specs.Image.{headElements}
 use Rattle.image.specs.Walked.{walkNumber}
 
 -- The live viewer at the element e: each turn is walked by a call of its own, from where the one before it ended.
@@ -20,10 +20,10 @@ live l e (g ∷ u) = live l (walkNumber l e (g ∷ [])) u
 -- product leads there too. Both are elements, so none of these calls refuses.
 pub record OneState (l t : List ℕ) (f : Factor) (e : ℕ) (u : List ℕ) : Type 0 where
   pub product : ℕ
-  pub an-element : product < elementsOf l
+  pub an-element : product < headElements l
   pub turned : walkNumber l 0 u ≡ product
   pub state : ℕ
-  pub a-state : state < elementsOf l
+  pub a-state : state < headElements l
   pub live-lands : live l e u ≡ state
   pub walked-lands : walkNumber l e u ≡ state
   pub delayed-lands : reachedPaper (composeAnswer t f (record { 0 = e }) (record { 0 = product })) ≡ valuePaper state

@@ -23,7 +23,7 @@ use Rattle.theory.specs.Appearance.{recorded}
 use Rattle.theory.proofs.AnyCarrier.{any-carrier}
 use Rattle.theory.proofs.Counting.{numbered-table}
 use Rattle.theory.proofs.FirstPlaces.{first-parents}
-use Rattle.build_checks_laws.specs.Stored.{Stored}
+use Rattle.build_checks_laws.specs.Stored.{StoredTable}
 use Rattle.build_checks_laws.proofs.Tests.{missing-fine, check8-fine, counts-fine, table-fine, steps-fine}
 use Rattle.build_checks_laws.proofs.Complete.{present, in-range, inverses-exactly}
 use Rattle.build_checks_laws.proofs.Arrivals.{arrivals-right}
@@ -33,7 +33,7 @@ use Rattle.build_reading_laws.proofs.Readings.{read-readable}
 use Rattle.build_laws.proofs.Built.{work-enough, rows-fit}
 use Rattle.build_reading_laws.proofs.Storing.{read-recorded, words-stored, read-columns}
 use Rattle.promises_refusals.specs.Firsts.{FirstOf, FirstPlace}
-use Rattle.promises_refusals.specs.Faults.{Unreached, WrongStep, inverseBy, Fault, lacks, strays, twists, misnumbers, groupless}
+use Rattle.promises_refusals.specs.Faults.{Unreached, WrongStep, inverseByWord, Fault, lacks, strays, twists, misnumbers, groupless}
 use Rattle.promises_refusals.proofs.Firsts.{first-found, first-refused, first-fine, place-found, place-refused, place-fine, fine-place}
 use Rattle.promises_refusals.proofs.Tests.{reached-decided, steps-decided, inverses-decided, identity-decided}
 
@@ -89,7 +89,7 @@ module _ (src : ℕ → ℕ → ℕ) (n room size : ℕ) (w : List ℕ) (few : n
   short e he = read-readable R .short he
 
   module _ {back : ℕ → ℕ → ℕ} (C : Columns n N src back) where
-    S : Stored t n N src back (parentOf t n) (lastOf t n) (recorded n src)
+    S : StoredTable t n N src back (parentOf t n) (lastOf t n) (recorded n src)
     S = words-stored R C
 
     in-ranges : ranges t n N ≡ Fine
@@ -129,13 +129,13 @@ module _ (src : ℕ → ℕ → ℕ) (n room size : ℕ) (w : List ℕ) (few : n
             again-is = refl;
           }))
 
-      pub twists-refused : {e : ℕ} → FirstOf N (λ x. ¬ (inverseBy src n back (inverseBy src n back x) ≡ x)) e → (t₁ : List ℕ) × (w₁ : List ℕ)
-          × (check-group t w n N ≡ checked (Refused (numbered 10 e (inverseBy src n back e) (inverseBy src n back (inverseBy src n back e)))) t₁ w₁)
+      pub twists-refused : {e : ℕ} → FirstOf N (λ x. ¬ (inverseByWord src n back (inverseByWord src n back x) ≡ x)) e → (t₁ : List ℕ) × (w₁ : List ℕ)
+          × (check-group t w n N ≡ checked (Refused (numbered 10 e (inverseByWord src n back e) (inverseByWord src n back (inverseByWord src n back e)))) t₁ w₁)
       unfolding check-group check-rest inversesRight
       twists-refused F =
           (fillInverses N t n 0, counted t w n N, rw (table-passes, counts-right, first-refused (inverses-decided small rows S T P W C) F))
 
-      module _ (turns : (x : ℕ) → x < N → inverseBy src n back (inverseBy src n back x) ≡ x) where
+      module _ (turns : (x : ℕ) → x < N → inverseByWord src n back (inverseByWord src n back x) ≡ x) where
         inverses-pass : inversesRight (fillInverses N t n 0) n N ≡ Fine
         unfolding inversesRight
         inverses-pass = first-fine (inverses-decided small rows S T P W C) (λ x hx d. d (turns x hx))
@@ -190,7 +190,7 @@ module _ (src : ℕ → ℕ → ℕ) (n room size : ℕ) (w : List ℕ) (few : n
     C : Columns n N src (backOf t n)
     C = eight-columns (table-fine t n N .0 table .0)
 
-    turned : inversesRight (fillInverses N t n 0) n N ≡ Fine → (x : ℕ) → x < N → inverseBy src n (backOf t n) (inverseBy src n (backOf t n) x) ≡ x
+    turned : inversesRight (fillInverses N t n 0) n N ≡ Fine → (x : ℕ) → x < N → inverseByWord src n (backOf t n) (inverseByWord src n (backOf t n) x) ≡ x
     turned i = inverses-exactly few small rows (S C) T P W C short .0 i
 
     twelve : inversesRight (fillInverses N t n 0) n N ≡ Fine → identityRow (fillInverses N t n 0) n ≡ Fine → Fault src n room r

@@ -5,7 +5,7 @@ use mathlib.Core.Logic.{_⊎_, inl, inr}
 use native.Mathlib.Omega.{arith}
 use Rattle.egg.specs.declared.Refusal.{Refusal}
 use Rattle.egg.specs.Answers.{numbered}
-use Rattle.build_reading_laws.specs.Read.{Held, Stops, skips-ahead, no-room, long-word, Refuses}
+use Rattle.build_reading_laws.specs.Read.{ReadSoFar, Stops, skips-ahead, no-room, long-word, ReadingRefused}
 use Rattle.build_reading_laws.proofs.Readings.{refused-number}
 use Rattle.build_laws.specs.Taken.{Groupless}
 use Rattle.promises_refusals.specs.Faults.{Overflows, Overlong, SkipsAhead, Lacks, Strays, Twists, Misnumbers, Fault, unread, lacks, strays, twists, misnumbers, groupless}
@@ -17,7 +17,7 @@ reading-number (inr (inr q)) = (omega arith, omega arith)
 
 module _ {src : ℕ → ℕ → ℕ} {n room : ℕ} where
   -- 5, 6 and 7 are the reading's.
-  pub reading-numbers : {r : Refusal} → Refuses src n room r → (5 ≤ r .number) × (r .number ≤ 7)
+  pub reading-numbers : {r : Refusal} → ReadingRefused src n room r → (5 ≤ r .number) × (r .number ≤ 7)
   reading-numbers F = reading-number (refused-number F)
 
   pub fault-numbers : {r : Refusal} → Fault src n room r → (5 ≤ r .number) × (r .number ≤ 12)
@@ -28,7 +28,7 @@ module _ {src : ℕ → ℕ → ℕ} {n room : ℕ} where
   fault-numbers (misnumbers F) = (omega arith, omega arith)
   fault-numbers (groupless F) = (omega arith, omega arith)
 
-  pub fault-reading : {r : Refusal} → Fault src n room r → r .number ≤ 7 → Refuses src n room r
+  pub fault-reading : {r : Refusal} → Fault src n room r → r .number ≤ 7 → ReadingRefused src n room r
   fault-reading (unread F) q = F
   fault-reading (lacks F) q = absurd (omega arith)
   fault-reading (strays F) q = absurd (omega arith)
@@ -37,17 +37,17 @@ module _ {src : ℕ → ℕ → ℕ} {n room : ℕ} where
   fault-reading (groupless F) q = absurd (omega arith)
 
   -- Each of them with its places.
-  at-5 : {x g c : ℕ} {r : Refusal} → Held src n room x g c → g < n → Stops src n room x g c r → r .number ≡ 5 → Overflows src n room (r .a) (r .b) × (r .c ≡ 0)
+  at-5 : {x g c : ℕ} {r : Refusal} → ReadSoFar src n room x g c → g < n → Stops src n room x g c r → r .number ≡ 5 → Overflows src n room (r .a) (r .b) × (r .c ≡ 0)
   at-5 H hg (skips-ahead l) q = absurd (omega arith)
   at-5 {c = c} H hg (no-room p f) q = (record { count = c; before = H; column = hg; needed = p; full = f }, refl)
   at-5 H hg (long-word p l f) q = absurd (omega arith)
 
-  at-6 : {x g c : ℕ} {r : Refusal} → Held src n room x g c → g < n → Stops src n room x g c r → r .number ≡ 6 → Overlong src n room (r .a) (r .b) × (r .c ≡ 0)
+  at-6 : {x g c : ℕ} {r : Refusal} → ReadSoFar src n room x g c → g < n → Stops src n room x g c r → r .number ≡ 6 → Overlong src n room (r .a) (r .b) × (r .c ≡ 0)
   at-6 H hg (skips-ahead l) q = absurd (omega arith)
   at-6 H hg (no-room p f) q = absurd (omega arith)
   at-6 {c = c} H hg (long-word p l f) q = (record { count = c; before = H; column = hg; needed = p; has-room = l; full = f }, refl)
 
-  at-7 : {x g c : ℕ} {r : Refusal} → Held src n room x g c → g < n → Stops src n room x g c r → r .number ≡ 7 → SkipsAhead src n room (r .a) (r .b) (r .c)
+  at-7 : {x g c : ℕ} {r : Refusal} → ReadSoFar src n room x g c → g < n → Stops src n room x g c r → r .number ≡ 7 → SkipsAhead src n room (r .a) (r .b) (r .c)
   at-7 {c = c} H hg (skips-ahead l) q = record { count = c; before = H; column = hg; number = refl; ahead = l }
   at-7 H hg (no-room p f) q = absurd (omega arith)
   at-7 H hg (long-word p l f) q = absurd (omega arith)

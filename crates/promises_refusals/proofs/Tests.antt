@@ -19,7 +19,7 @@ use Rattle.build_checks_inverses.specs.Inverses.{fillInverses, inverseAt}
 use Rattle.theory.specs.Table.{Table, Columns, generator}
 use Rattle.theory.specs.Words.{Parents, Recorded}
 use Rattle.theory.specs.Regular.{inverse}
-use Rattle.build_checks_laws.specs.Stored.{Stored}
+use Rattle.build_checks_laws.specs.Stored.{StoredTable}
 use Rattle.build_checks_laws.proofs.Inverses.{fill-kept, stored-kept, step-is, inverse-small, fill-inverse}
 use Rattle.build_reading_laws.specs.Read.{Read}
 use Rattle.build_reading_laws.proofs.Readings.{read-steps}
@@ -64,7 +64,7 @@ module _ {src : ℕ → ℕ → ℕ} {n room size N : ℕ} {t : List ℕ} (R : R
   steps-decided e g he hg = rw (read-steps R e g he hg, read-steps R 0 g (R .origin) hg) (wrong-decided src e g)
 
 module _ {n N : ℕ} {step back : ℕ → ℕ → ℕ} {parent last : ℕ → ℕ} {word : ℕ → List ℕ} {t : List ℕ}
-    (small : N ≤ 65535) (room : N * (2 * n + 4) ≤ length t) (S : Stored t n N step back parent last word)
+    (small : N ≤ 65535) (room : N * (2 * n + 4) ≤ length t) (S : StoredTable t n N step back parent last word)
     (T : Table n N step) (P : Parents n N step parent last) (R : Recorded N parent last word) (C : Columns n N step back) where
   filled : (e : ℕ) → e < N → inverseOf (fillInverses N t n 0) n e ≡ inverse back word e
   filled e he = fill-inverse T P R C small N t room S 0 (omega arith) e (omega arith) (omega arith)

@@ -9,7 +9,7 @@ use Rattle.egg.specs.Answers.{numbered}
 use Rattle.theory.specs.Table.{Columns, generator}
 use Rattle.theory.specs.Appearance.{recorded}
 use Rattle.theory.specs.Regular.{inverse}
-use Rattle.build_reading_laws.specs.Read.{Readable, Held, Refuses}
+use Rattle.build_reading_laws.specs.Read.{Readable, ReadSoFar, ReadingRefused}
 use Rattle.build_laws.specs.Taken.{Groupless}
 use Rattle.promises_refusals.specs.Firsts.{FirstOf, FirstPlace}
 
@@ -17,7 +17,7 @@ use Rattle.promises_refusals.specs.Firsts.{FirstOf, FirstPlace}
 -- room is full.
 pub record Overflows (src : ℕ → ℕ → ℕ) (n room e g : ℕ) : Type 0 where
   pub count : ℕ
-  pub before : Held src n room e g count
+  pub before : ReadSoFar src n room e g count
   pub column : g < n
   pub needed : src e g ≡ count
   pub full : count ≡ room
@@ -26,7 +26,7 @@ pub record Overflows (src : ℕ → ℕ → ℕ) (n room e g : ℕ) : Type 0 whe
 -- word of e is full.
 pub record Overlong (src : ℕ → ℕ → ℕ) (n room e g : ℕ) : Type 0 where
   pub count : ℕ
-  pub before : Held src n room e g count
+  pub before : ReadSoFar src n room e g count
   pub column : g < n
   pub needed : src e g ≡ count
   pub has-room : count < room
@@ -35,7 +35,7 @@ pub record Overlong (src : ℕ → ℕ → ℕ) (n room e g : ℕ) : Type 0 wher
 -- Refusal 7, "a composed number skips ahead", with the number, is due at (e, g): nothing is refused before, and its number v is more than the count.
 pub record SkipsAhead (src : ℕ → ℕ → ℕ) (n room e g v : ℕ) : Type 0 where
   pub count : ℕ
-  pub before : Held src n room e g count
+  pub before : ReadSoFar src n room e g count
   pub column : g < n
   pub number : src e g ≡ v
   pub ahead : count < v
@@ -67,8 +67,8 @@ pub record Strays (src : ℕ → ℕ → ℕ) (n room e g : ℕ) : Type 0 where
   pub first : FirstPlace n elements (WrongStep src) e g
 
 -- The inverse that the recorded word gives: it "follows the reversed word through predecessors from the identity".
-abbrev pub inverseBy : (ℕ → ℕ → ℕ) → ℕ → (ℕ → ℕ → ℕ) → ℕ → ℕ
-inverseBy src n back e = inverse back (recorded n src) e
+abbrev pub inverseByWord : (ℕ → ℕ → ℕ) → ℕ → (ℕ → ℕ → ℕ) → ℕ → ℕ
+inverseByWord src n back e = inverse back (recorded n src) e
 
 -- Refusal 10, "inverse of inverse differs", with "element, inverse, its inverse", is due: 8 and 9 have passed, and e is the first element whose
 -- inverse i has an inverse j that is not e.
@@ -78,9 +78,9 @@ pub record Twists (src : ℕ → ℕ → ℕ) (n room e i j : ℕ) : Type 0 wher
   pub back : ℕ → ℕ → ℕ
   pub columns : Columns n elements src back
   pub moves : {x g : ℕ} → x < elements → g < n → ¬ (WrongStep src x g)
-  pub first : FirstOf elements (λ x. ¬ (inverseBy src n back (inverseBy src n back x) ≡ x)) e
-  pub inverse-is : inverseBy src n back e ≡ i
-  pub again-is : inverseBy src n back i ≡ j
+  pub first : FirstOf elements (λ x. ¬ (inverseByWord src n back (inverseByWord src n back x) ≡ x)) e
+  pub inverse-is : inverseByWord src n back e ≡ i
+  pub again-is : inverseByWord src n back i ≡ j
 
 -- Refusal 11, "identity row is not 1..n", is due at g: 8 to 10 have passed, and g is the first generator whose element is not g + 1.
 pub record Misnumbers (src : ℕ → ℕ → ℕ) (n room g : ℕ) : Type 0 where
@@ -89,13 +89,13 @@ pub record Misnumbers (src : ℕ → ℕ → ℕ) (n room g : ℕ) : Type 0 wher
   pub back : ℕ → ℕ → ℕ
   pub columns : Columns n elements src back
   pub moves : {x h : ℕ} → x < elements → h < n → ¬ (WrongStep src x h)
-  pub turns : {x : ℕ} → x < elements → inverseBy src n back (inverseBy src n back x) ≡ x
+  pub turns : {x : ℕ} → x < elements → inverseByWord src n back (inverseByWord src n back x) ≡ x
   pub first : FirstOf n (λ x. ¬ (generator src x ≡ suc x)) g
 
 -- All that can be refused, one case for a number. 5, 6 and 7 are the reading's: the first three records above, as `fault-5` to `fault-7` prove; and
 -- 12 is `Groupless`.
 pub data Fault (src : ℕ → ℕ → ℕ) (n room : ℕ) : Refusal → Type 1 where
-  unread : {r : Refusal} → Refuses src n room r → Fault src n room r
+  unread : {r : Refusal} → ReadingRefused src n room r → Fault src n room r
   lacks : {e g : ℕ} → Lacks src n room e g → Fault src n room (numbered 8 e g 0)
   strays : {e g : ℕ} → Strays src n room e g → Fault src n room (numbered 9 e g 0)
   twists : {e i j : ℕ} → Twists src n room e i j → Fault src n room (numbered 10 e i j)

@@ -17,7 +17,7 @@ use Rattle.group_handles.specs.declared.Group.{Group}
 use Rattle.group_handles.specs.Handles.{handles, elementsOf}
 use Rattle.build_numbering.specs.Build.{Renumbering, renumbering, renumberIn}
 use Rattle.theory.specs.Orbit.{Inside, numberedStep, Appearing}
-use Rattle.build_numbering_laws.specs.Maps.{Filled}
+use Rattle.build_numbering_laws.specs.Maps.{MapsFilled}
 use Rattle.build_numbering_laws.proofs.Order.{appearing}
 use Rattle.build_numbering_laws.proofs.Partial.{total, total-answering, partial-build}
 use Rattle.build_numbering_laws.proofs.Builds.{builtOf, renumber-built, renumber-filled, refused-maps}
@@ -76,7 +76,7 @@ module _ (from : List ℕ) (over : Group) (gens table : List ℕ) (start : ℕ) 
       let R = renumber-filled A I small (total source 0) (total-answering n M source 0) room room lo hi (le-refl room) size lent (S .few) (le-refl size) enough q in
       counted-so (R .0) (R .1)
     where
-      counted-so : {c N : ℕ} {elt : ℕ → ℕ} → c ≡ N → Filled M room room elt c i o → MapsAfter M room N elt i o (built (counted.Count c) t w)
+      counted-so : {c N : ℕ} {elt : ℕ → ℕ} → c ≡ N → MapsFilled M room room elt c i o → MapsAfter M room N elt i o (built (counted.Count c) t w)
       counted-so {c} {N} {elt} e F = subst (λ (m : ℕ). MapsAfter M room m elt i o (built (counted.Count c) t w)) e (filled F)
   maps-after (built (counted.Refused r) t w) i o q =
       let Y = refused-maps size lent (total source 0) n room M room 0 q in

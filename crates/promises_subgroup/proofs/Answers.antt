@@ -22,7 +22,7 @@ use Rattle.build_lending.specs.Finish.{built, zeroed, finished, finishedPlaced}
 use Rattle.build_lending.specs.Lending.{tableNeed, workNeed, lentRight}
 use Rattle.build_lending.proofs.Lending.{lent-table, lent-enough}
 use Rattle.theory.proofs.Reading.{numbered-once}
-use Rattle.build_reading_laws.specs.Read.{Readable, Refuses}
+use Rattle.build_reading_laws.specs.Read.{Readable, ReadingRefused}
 use Rattle.build_reading_laws.proofs.Readings.{accepted-read, read-readable, refused-read, refuses-refused}
 use Rattle.promises_refusals.specs.Firsts.{FirstOf}
 use Rattle.promises_refusals.proofs.Firsts.{Decides, decides-fine, first-found, first-refused, first-fine}
@@ -44,7 +44,7 @@ use Rattle.subgroup_rows.specs.Rows.{productOf}
 use Rattle.subgroup_build.specs.Generated.{entryRight, entriesRight, smallEnough, admitsGenerators, fromGenerators}
 use Rattle.subgroup_build.proofs.Admits.{small-limited, small-elements, maps-lent, maps-inn, maps-outw}
 use Rattle.promises_subgroup.specs.Generates.{Started}
-use Rattle.promises_subgroup.specs.Answers.{subgroupPaper, Elements, Small, Enough, Generating, GeneratorsPaper, no-handle, no-element, too-large, many, short, stops, identity, repeated, made}
+use Rattle.promises_subgroup.specs.Answers.{subgroupPaper, Elements, Numberable, EnoughWithMaps, Generating, GeneratorsPaper, no-handle, no-element, too-large, many, short, stops, identity, repeated, made}
 use Rattle.promises_subgroup.proofs.Called as called
 
 -- What the tests of the arguments mean.
@@ -80,23 +80,23 @@ all-below M gens q g h = below-so (decides-fine (entry-decides M gens g) (scan-e
     by true e = absurd (f (leb-true _ _ e))
     by false e = leb-false M (getD gens g 0) e
 
-pub small-true : (over : Group) → Small over → smallEnough over ≡ true
+pub small-true : (over : Group) → Numberable over → smallEnough over ≡ true
 unfolding smallEnough handling.limited
 small-true over S =
     let m : elementsOf (handles over) ≤ 4294967295 = omega (arith, S .most) in
     simp (le-leb _ _ (S .few), le-leb _ _ m, le-leb _ _ (S .most))
 
-pub true-small : (over : Group) → smallEnough over ≡ true → Small over
+pub true-small : (over : Group) → smallEnough over ≡ true → Numberable over
 true-small over h = record { few = few-factors over (small-limited over h); most = small-elements over h }
 
-pub not-small : (over : Group) → ¬ (Small over) → smallEnough over ≡ false
+pub not-small : (over : Group) → ¬ (Numberable over) → smallEnough over ≡ false
 not-small over h = by (smallEnough over) refl where
   by : (b : Bool) → smallEnough over ≡ b → b ≡ false
   by false q = refl
   by true q = absurd (h (true-small over q))
 
 module _ (over : Group) (n : ℕ) (table : List ℕ) (start : ℕ) (work inn outw : List ℕ) (room : ℕ) where
-  pub enough-true : n ≤ 8 → Enough over n table start work inn outw room
+  pub enough-true : n ≤ 8 → EnoughWithMaps over n table start work inn outw room
       → mapsRight (length table) start (length work) (length inn) (length outw) room n (elementsOf (handles over)) ≡ true
   unfolding mapsRight lentRight hasRoom
   enough-true few E = simp (
@@ -110,7 +110,7 @@ module _ (over : Group) (n : ℕ) (table : List ℕ) (start : ℕ) (work inn out
   )
 
   pub true-enough : mapsRight (length table) start (length work) (length inn) (length outw) room n (elementsOf (handles over)) ≡ true
-      → Enough over n table start work inn outw room
+      → EnoughWithMaps over n table start work inn outw room
   true-enough h =
       let lent = maps-lent (length table) start (length work) (length inn) (length outw) room n (elementsOf (handles over)) h in
       let has = lent-table (length table) start (length work) room n lent in
@@ -143,7 +143,7 @@ module _ (from : List ℕ) (over : Group) (gens table : List ℕ) (start : ℕ) 
   abbrev op : ℕ → ℕ → ℕ
   op = direct from over .op
 
-  admits : Elements from over gens → Small over → admitsGenerators (length from) over gens ≡ Fine
+  admits : Elements from over gens → Numberable over → admitsGenerators (length from) over gens ≡ Fine
   unfolding admitsGenerators
   admits E S = rw (E .fits, entries-below (elementsOf (handles over)) gens (λ g h. E .below h), small-true over S)
 
@@ -160,7 +160,7 @@ module _ (from : List ℕ) (over : Group) (gens table : List ℕ) (start : ℕ) 
   unfolding admitsGenerators
   admits-15 E s = rw (E .fits, entries-below (elementsOf (handles over)) gens (λ g h. E .below h), s)
 
-  not-enough : ¬ (Enough over (length gens) table start work inn outw room)
+  not-enough : ¬ (EnoughWithMaps over (length gens) table start work inn outw room)
       → mapsRight (length table) start (length work) (length inn) (length outw) room (length gens) (elementsOf (handles over)) ≡ false
   not-enough h = by (mapsRight (length table) start (length work) (length inn) (length outw) room n M) refl where
     by : (b : Bool) → mapsRight (length table) start (length work) (length inn) (length outw) room n M ≡ b → b ≡ false
@@ -216,7 +216,7 @@ module _ (from : List ℕ) (over : Group) (gens table : List ℕ) (start : ℕ) 
     unfolding finished
     stopped-so q = rw q
 
-    is-stopped : {r : Refusal} → Refuses src n room r → subgroupPaper (fromGenerators from over gens table start work inn outw room) ≡ refusalPaper r
+    is-stopped : {r : Refusal} → ReadingRefused src n room r → subgroupPaper (fromGenerators from over gens table start work inn outw room) ≡ refusalPaper r
     is-stopped F =
         refused (the-build ∙ stopped-so (refuses-refused src n room (tableNeed n room) (Q .few) lo hi (le-refl (tableNeed n room)) F .1))
 

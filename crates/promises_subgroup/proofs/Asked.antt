@@ -32,11 +32,11 @@ use Rattle.subgroup_sides.proofs.Counts.{over-count, sub-count, second-small}
 use Rattle.subgroup.proofs.IndexLaws.{within-small}
 use Rattle.subgroup.proofs.Carries.{first-some, second-some, third-some}
 use Rattle.subgroup_sides.proofs.SideLaws.{fit-law, sides-fine, over-within, sub-within}
-use Rattle.promises_subgroup.specs.Carried.{Carried}
-use Rattle.promises_subgroup.specs.Asked.{Known, MapAnswers}
+use Rattle.promises_subgroup.specs.Carried.{MapsUndo}
+use Rattle.promises_subgroup.specs.Asked.{Askable, MapAnswers}
 use Rattle.promises_subgroup.proofs.Carrying.{carried-product}
 
-module _ {from table : ℕ} {s : Subgroup} {inn outw : List ℕ} (K : Known from table s inn outw) where
+module _ {from table : ℕ} {s : Subgroup} {inn outw : List ℕ} (K : Askable from table s inn outw) where
   abbrev B : ℕ
   B = elementsOf (handles (s .below))
 
@@ -68,15 +68,15 @@ module _ {from table : ℕ} {s : Subgroup} {inn outw : List ℕ} (K : Known from
       let c : e < B * (N * A) = subst (λ (k : ℕ). e < k) (sub-count s) h in
       rw v (over-cell e (K .carried .over-below (within-small B N A e c)))
 
-  back-none : (x : ℕ) → getD inn (x / B % M) 0 ≡ appear.none
+  back-none : (x : ℕ) → getD inn (x / B % M) 0 ≡ appear.noNumber
       → withinPaper (carriedBack s inn x) ≡ record { number = 0; a = subOf B M N (λ i. getD inn i 0) x; b = 0; c = 0 }
   unfolding carriedBack
-  back-none x e = rw (eq-eqb (getD inn (x / B % M) 0) appear.none e)
+  back-none x e = rw (eq-eqb (getD inn (x / B % M) 0) appear.noNumber e)
 
-  back-some : (x : ℕ) → ¬ (getD inn (x / B % M) 0 ≡ appear.none) → getD inn (x / B % M) 0 < N
+  back-some : (x : ℕ) → ¬ (getD inn (x / B % M) 0 ≡ appear.noNumber) → getD inn (x / B % M) 0 < N
       → withinPaper (carriedBack s inn x) ≡ record { number = 0; a = subOf B M N (λ i. getD inn i 0) x; b = 0; c = 0 }
   unfolding carriedBack
-  back-some x e h = rw (ne-eqb (getD inn (x / B % M) 0) appear.none e, lt-ltb (getD inn (x / B % M) 0) N h)
+  back-some x e h = rw (ne-eqb (getD inn (x / B % M) 0) appear.noNumber e, lt-ltb (getD inn (x / B % M) 0) N h)
 
   inward : {x : ℕ} → x < elementsOf (overSide s)
       → withinPaper (toSubAnswer from table s inn (record { 0 = x })) ≡ record { number = 0; a = subOf B M N (λ i. getD inn i 0) x; b = 0; c = 0 }
@@ -87,16 +87,16 @@ module _ {from table : ℕ} {s : Subgroup} {inn outw : List ℕ} (K : Known from
       let l : capped M ≤ length inn = rw m (K .inn-long) in
       let v : admitsSides from table s (length inn) (capped M) x (elementsOf (overSide s)) ≡ Fine =
       sym (sides-fine from table s (length inn) (capped M) x (elementsOf (overSide s)) (K .fits) l h (K .limited)) in
-      rw v (by c (eqb (getD inn (x / B % M) 0) appear.none) refl)
+      rw v (by c (eqb (getD inn (x / B % M) 0) appear.noNumber) refl)
     where
-      by : x < B * (M * A) → (b : Bool) → eqb (getD inn (x / B % M) 0) appear.none ≡ b
+      by : x < B * (M * A) → (b : Bool) → eqb (getD inn (x / B % M) 0) appear.noNumber ≡ b
           → withinPaper (carriedBack s inn x) ≡ record { number = 0; a = subOf B M N (λ i. getD inn i 0) x; b = 0; c = 0 }
       by c true e = back-none x (eqb-true _ _ e)
       by c false e =
-          let f : ¬ (getD inn (x / B % M) 0 ≡ appear.none) = eqb-false _ _ e in
+          let f : ¬ (getD inn (x / B % M) 0 ≡ appear.noNumber) = eqb-false _ _ e in
           back-some x f (K .carried .sub-below (within-small B M A x c) f)
 
-  formulas : Carried (elementsOf (overSide s)) (elementsOf (subSide s)) (overOf B M N (λ i. getD outw i 0)) (subOf B M N (λ i. getD inn i 0))
+  formulas : MapsUndo (elementsOf (overSide s)) (elementsOf (subSide s)) (overOf B M N (λ i. getD outw i 0)) (subOf B M N (λ i. getD inn i 0))
   formulas = rw (over-count s, sub-count s) (carried-product B A (K .carried) sub-small)
 
   pub maps-answer : MapAnswers from table s inn outw
@@ -121,11 +121,11 @@ fitting-fine : (b : Bool) (x : Subgrouped) {s : Subgroup} → pick b x (refusedS
 fitting-fine true x e = (refl, e)
 fitting-fine false x e = absurd (refused-fine (ap (λ (y : Subgrouped). y .answer) e))
 
-module _ {from table : ℕ} {s : Subgroup} {inn outw : List ℕ} (K : Known from table s inn outw) (g : Group) where
+module _ {from table : ℕ} {s : Subgroup} {inn outw : List ℕ} (K : Askable from table s inn outw) (g : Group) where
   parts-fit : fitsIn table (s .factor) && (allFit from (handles (s .below)) && (allFit from (handles (s .over)) && allFit from (handles (s .above)))) ≡ true
   parts-fit = sym (fit-law from table s) ∙ K .fits
 
-  known-as : {t t′ : Subgroup} → t ≡ t′ → Known from table t′ inn outw → Known from table t inn outw
+  known-as : {t t′ : Subgroup} → t ≡ t′ → Askable from table t′ inn outw → Askable from table t inn outw
   known-as e H = rw e H
 
   both : {a b : Bool} → a ≡ true → b ≡ true → a && b ≡ true
@@ -152,7 +152,7 @@ module _ {from table : ℕ} {s : Subgroup} {inn outw : List ℕ} (K : Known from
       (ap (allFit from) (handles-of (handles (s .above) ++ handles g)) ∙ fit-both from (handles (s .above)) (handles g)
       ∙ both (and-second (allFit from (handles (s .over))) _ rest-fits) e)))
 
-  pub left-known : {t : Subgroup} → leftProduct from table g s ≡ record { answer = Fine; subgroup = t } → Known from table t inn outw
+  pub left-known : {t : Subgroup} → leftProduct from table g s ≡ record { answer = Fine; subgroup = t } → Askable from table t inn outw
   unfolding leftProduct
   left-known {t} q =
       let F = fitting-fine (sidesFit from table s && allFit from (handles g)) _ q in
@@ -165,7 +165,7 @@ module _ {from table : ℕ} {s : Subgroup} {inn outw : List ℕ} (K : Known from
         carried = K .carried;
       })
 
-  pub right-known : {t : Subgroup} → rightProduct from table s g ≡ record { answer = Fine; subgroup = t } → Known from table t inn outw
+  pub right-known : {t : Subgroup} → rightProduct from table s g ≡ record { answer = Fine; subgroup = t } → Askable from table t inn outw
   unfolding rightProduct
   right-known {t} q =
       let F = fitting-fine (sidesFit from table s && allFit from (handles g)) _ q in

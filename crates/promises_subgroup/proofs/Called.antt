@@ -45,7 +45,7 @@ use Rattle.subgroup_build.specs.Lent.{shown, subgroupOf, subgrouping, mapsRight
 use Rattle.subgroup_rows.specs.Rows.{productOf}
 use Rattle.subgroup_build.specs.Generated.{entryRight, entriesRight, admitsGenerators, generatedInto, fromGenerators}
 use Rattle.subgroup_build.proofs.Admits.{generators-fine, admitted, small-elements, maps-lent, maps-inn, maps-outw}
-use Rattle.promises_subgroup.specs.Carried.{Carried, Homomorphic}
+use Rattle.promises_subgroup.specs.Carried.{MapsUndo, Homomorphic}
 use Rattle.promises_subgroup.specs.Made.{SubgroupMade}
 use Rattle.promises_subgroup.specs.Generates.{Started, Generates, Acceptable}
 use Rattle.promises_subgroup.proofs.Overgroup.{product-answers, product-overgroup, generated-as, subgroup-made}
@@ -65,14 +65,14 @@ unfolding within
 front-long l p k size h = simp (length-append, length-drop) (omega (arith, size))
 
 -- The same maps by other names.
-pub carried-as : {M N : ℕ} {f f′ g g′ : ℕ → ℕ} → ((e : ℕ) → e < N → f e ≡ f′ e) → ((x : ℕ) → x < M → g x ≡ g′ x) → Carried M N f g → Carried M N f′ g′
+pub carried-as : {M N : ℕ} {f f′ g g′ : ℕ → ℕ} → ((e : ℕ) → e < N → f e ≡ f′ e) → ((x : ℕ) → x < M → g x ≡ g′ x) → MapsUndo M N f g → MapsUndo M N f′ g′
 carried-as {M} {N} {f} {f′} {g} {g′} p q C = record {
   small = C .small;
   over-below = λ {e} h. rw (p e h) at (C .over-below h);
   there-and-back = λ {e} h. ap g′ (sym (p e h)) ∙ sym (q (f e) (C .over-below h)) ∙ C .there-and-back h;
   sub-below = λ {x} h k. subst (λ (y : ℕ). y < N) (q x h) (C .sub-below h (λ z. k (sym (q x h) ∙ z)));
   back-and-there = λ {x} h k.
-      let k′ : ¬ (g x ≡ appear.none) = λ z. k (sym (q x h) ∙ z) in
+      let k′ : ¬ (g x ≡ appear.noNumber) = λ z. k (sym (q x h) ∙ z) in
       ap f′ (sym (q x h)) ∙ sym (p (g x) (C .sub-below h k′)) ∙ C .back-and-there h k′;
 }
 
@@ -293,7 +293,7 @@ module _ (from : List ℕ) (over : Group) (gens table : List ℕ) (start : ℕ) 
       sub-same : (x : ℕ) → x < M → getD i x 0 ≡ getD (within inn 0 M i) x 0
       sub-same x h = sym (front-cell inn i M (made .held .inn-size) x h)
 
-      known : (x : ℕ) → ((x < M) × ¬ (getD i x 0 ≡ appear.none)) ↔ ((x < M) × ¬ (getD (within inn 0 M i) x 0 ≡ appear.none))
+      known : (x : ℕ) → ((x < M) × ¬ (getD i x 0 ≡ appear.noNumber)) ↔ ((x < M) × ¬ (getD (within inn 0 M i) x 0 ≡ appear.noNumber))
       known x = (λ p. (p .0, λ z. p .1 (sub-same x (p .0) ∙ z)), λ p. (p .0, λ z. p .1 (sym (sub-same x (p .0)) ∙ z)))
 
       generates : Generates from over gens table start work inn outw room

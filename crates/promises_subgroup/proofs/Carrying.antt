@@ -7,10 +7,10 @@ use native.Mathlib.Omega.{arith}
 use Rattle.build_numbering.specs.Renumber as appear
 use Rattle.subgroup.specs.Indices.{factorIndices, unfactorIndices, withWithin, overOf, subOf}
 use Rattle.subgroup.proofs.IndexLaws.{unfactor-small, below-is, within-is, above-is, below-small, within-small, above-small, unfactor-factor, sub-none, sub-some}
-use Rattle.promises_subgroup.specs.Carried.{Carried}
+use Rattle.promises_subgroup.specs.Carried.{MapsUndo}
 
 -- The parts of what the maps give.
-module _ (B A : ℕ) {M N : ℕ} {toOver toSub : ℕ → ℕ} (C : Carried M N toOver toSub) where
+module _ (B A : ℕ) {M N : ℕ} {toOver toSub : ℕ → ℕ} (C : MapsUndo M N toOver toSub) where
   module _ {e : ℕ} (h : e < B * (N * A)) where
     inside : toOver (e / B % N) < M
     inside = C .over-below (within-small B N A e h)
@@ -27,7 +27,7 @@ module _ (B A : ℕ) {M N : ℕ} {toOver toSub : ℕ → ℕ} (C : Carried M N t
     pub over-above-is : overOf B M N toOver e / B / M ≡ e / B / N
     over-above-is = above-is B M (withWithin (factorIndices e B N) (toOver (e / B % N))) (below-small B N A e h) inside
 
-    not-none : ¬ (toSub (overOf B M N toOver e / B % M) ≡ appear.none)
+    not-none : ¬ (toSub (overOf B M N toOver e / B % M) ≡ appear.noNumber)
     not-none q =
         let k : toSub (overOf B M N toOver e / B % M) ≡ e / B % N = ap toSub over-within-is ∙ C .there-and-back (within-small B N A e h) in
         omega (arith, C .small, within-small B N A e h)
@@ -38,7 +38,7 @@ module _ (B A : ℕ) {M N : ℕ} {toOver toSub : ℕ → ℕ} (C : Carried M N t
         ∙ rw (over-below-is, over-within-is, over-above-is, C .there-and-back (within-small B N A e h)) (unfactor-factor B N e)
 
   module _ {x : ℕ} (h : x < B * (M * A)) where
-    module _ (k : ¬ (toSub (x / B % M) ≡ appear.none)) where
+    module _ (k : ¬ (toSub (x / B % M) ≡ appear.noNumber)) where
       inner : toSub (x / B % M) < N
       inner = C .sub-below (within-small B M A x h) k
 
@@ -56,17 +56,17 @@ module _ (B A : ℕ) {M N : ℕ} {toOver toSub : ℕ → ℕ} (C : Carried M N t
             C .back-and-there (within-small B M A x h) k,
           ) (unfactor-factor B M x)
 
-    part-some : ¬ (subOf B M N toSub x ≡ appear.none) → ¬ (toSub (x / B % M) ≡ appear.none)
+    part-some : ¬ (subOf B M N toSub x ≡ appear.noNumber) → ¬ (toSub (x / B % M) ≡ appear.noNumber)
     part-some f q = f (sub-none B M N toSub x q)
 
-    pub none-exactly : B * (N * A) ≤ appear.none → subOf B M N toSub x ≡ appear.none ↔ toSub (x / B % M) ≡ appear.none
-    none-exactly small = (λ q. by q (ℕ-discrete (toSub (x / B % M)) appear.none), sub-none B M N toSub x) where
-      by : subOf B M N toSub x ≡ appear.none → Dec (toSub (x / B % M) ≡ appear.none) → toSub (x / B % M) ≡ appear.none
+    pub none-exactly : B * (N * A) ≤ appear.noNumber → subOf B M N toSub x ≡ appear.noNumber ↔ toSub (x / B % M) ≡ appear.noNumber
+    none-exactly small = (λ q. by q (ℕ-discrete (toSub (x / B % M)) appear.noNumber), sub-none B M N toSub x) where
+      by : subOf B M N toSub x ≡ appear.noNumber → Dec (toSub (x / B % M) ≡ appear.noNumber) → toSub (x / B % M) ≡ appear.noNumber
       by q (yes z) = z
       by q (no k) = absurd (omega (arith, member-small k))
 
   -- The maps of the index formulas undo each other, as those of the factor do.
-  pub carried-product : B * (N * A) ≤ appear.none → Carried (B * (M * A)) (B * (N * A)) (overOf B M N toOver) (subOf B M N toSub)
+  pub carried-product : B * (N * A) ≤ appear.noNumber → MapsUndo (B * (M * A)) (B * (N * A)) (overOf B M N toOver) (subOf B M N toSub)
   carried-product small = record {
     small = small;
     over-below = λ {e} h. over-small h;
@@ -76,9 +76,9 @@ module _ (B A : ℕ) {M N : ℕ} {toOver toSub : ℕ → ℕ} (C : Carried M N t
   }
 
 -- Two elements of the subgroup are two of the overgroup; and what the second map knows is what the first gives.
-module _ {M N : ℕ} {toOver toSub : ℕ → ℕ} (C : Carried M N toOver toSub) where
+module _ {M N : ℕ} {toOver toSub : ℕ → ℕ} (C : MapsUndo M N toOver toSub) where
   pub over-once : {d e : ℕ} → d < N → e < N → toOver d ≡ toOver e → d ≡ e
   over-once h k q = sym (C .there-and-back h) ∙ ap toSub q ∙ C .there-and-back k
 
-  pub over-known : {e : ℕ} → e < N → ¬ (toSub (toOver e) ≡ appear.none)
+  pub over-known : {e : ℕ} → e < N → ¬ (toSub (toOver e) ≡ appear.noNumber)
   over-known {e} h q = omega (arith, C .small, C .there-and-back h)

@@ -12,7 +12,7 @@ use Rattle.theory_products.specs.Product.{Part, table-part, pair, product, Each
 use Rattle.theory_products.proofs.ProductLaws.{product-group}
 use Rattle.build_numbering.specs.Renumber as appear
 use Rattle.subgroup.specs.Indices.{overOf, subOf}
-use Rattle.promises_subgroup.specs.Carried.{Carried, Homomorphic}
+use Rattle.promises_subgroup.specs.Carried.{MapsUndo, Homomorphic}
 use Rattle.promises_subgroup.specs.Made.{SubgroupMade}
 use Rattle.promises_subgroup.proofs.Carrying.{carried-product}
 use Rattle.promises_subgroup.proofs.Products.{homomorphic-product}
@@ -27,8 +27,8 @@ module _ {ps os rs : List Part} (Ps : Each IsGroup ps) (Os : Each IsGroup os) (R
   subgroup-group = record { laws = sound-group (S .sound) }
 
   -- With the groups ps below and rs above, the index formulas by the two lists undo each other ..
-  pub formulas-carried : product ps .elements * (c * product rs .elements) ≤ appear.none
-      → Carried (product ps .elements * (product os .elements * product rs .elements)) (product ps .elements * (c * product rs .elements))
+  pub formulas-carried : product ps .elements * (c * product rs .elements) ≤ appear.noNumber
+      → MapsUndo (product ps .elements * (product os .elements * product rs .elements)) (product ps .elements * (c * product rs .elements))
       (overOf (product ps .elements) (product os .elements) c (λ e. getD outw e 0)) (subOf (product ps .elements) (product os .elements) c (λ x. getD inn x 0))
   formulas-carried small = carried-product (product ps .elements) (product rs .elements) (S .carried) small
 

@@ -19,21 +19,21 @@ use Rattle.subgroup.specs.Questions.{carriedOver, generatorAnswer}
 use Rattle.subgroup_sides.specs.Generators.{scaled, sideGenerator}
 use Rattle.subgroup_sides.proofs.SideLaws.{sides-fine}
 use Rattle.subgroup_sides.proofs.Generators.{generator-within}
-use Rattle.promises_subgroup.specs.Generates.{Holds}
-use Rattle.promises_subgroup.specs.Asked.{Known}
+use Rattle.promises_subgroup.specs.Generates.{SubgroupHolds}
+use Rattle.promises_subgroup.specs.Asked.{Askable}
 use Rattle.promises_subgroup.proofs.Asked.{over-cell}
 
 -- With nothing below, the formula is the map.
 formula-alone : (M N : ℕ) (f : ℕ → ℕ) {e : ℕ} → e < N → overOf 1 M N f e ≡ f e
 formula-alone M N f {e} h = rw (div-one e, mod-one e, mod-eq-of-lt h, div-eq-of-lt h) (omega arith)
 
-module _ {from : List ℕ} {over : Group} {gens : List ℕ} {s : Subgroup} {t i o : List ℕ} (H : Holds from over gens s t i o)
-    (known : Known (length from) (length t) s i o) where
+module _ {from : List ℕ} {over : Group} {gens : List ℕ} {s : Subgroup} {t i o : List ℕ} (H : SubgroupHolds from over gens s t i o)
+    (known : Askable (length from) (length t) s i o) where
   abbrev made : Subgroup
   made = record { below = groupOf []; factor = s .factor; over = over; above = groupOf [] }
 
-  K : Known (length from) (length t) (record { below = groupOf []; factor = s .factor; over = over; above = groupOf [] }) i o
-  K = subst (λ (x : Subgroup). Known (length from) (length t) x i o) (H .value) known
+  K : Askable (length from) (length t) (record { below = groupOf []; factor = s .factor; over = over; above = groupOf [] }) i o
+  K = subst (λ (x : Subgroup). Askable (length from) (length t) x i o) (H .value) known
 
   module _ {g : ℕ} (h : g < length gens) where
     here : g < s .factor .generators

@@ -22,7 +22,7 @@ use Rattle.egg.specs.Answers.{numbered}
 use Rattle.build_reading.specs.Reading.{Placed, placed, readAll}
 use Rattle.build_lending.specs.Finish.{built, finished, finishedPlaced}
 use Rattle.build_lending.specs.Lending.{tableNeed, workNeed}
-use Rattle.build_checks_laws.specs.Numbers.{member, In, lateNumbers}
+use Rattle.build_checks_laws.specs.Numbers.{member, RefusalIn, lateNumbers}
 use Rattle.build_checks_laws.proofs.Numbers.{each-in, ranged-numbers}
 use Rattle.build_reading_laws.proofs.Readings.{accepted-read, refused-read}
 use Rattle.factor_laws.specs.Refuses.{VerdictIn}
@@ -64,12 +64,12 @@ module _ (from : List ℕ) (over : Group) (gens : List ℕ) (fits : allFit (leng
     I : Inside (length gens) (elementsOf (handles over)) (stepsRead from over gens) 0
     I = steps-inside from over gens fits
 
-    reading : {r : Refusal} → (e : ℕ) × (g : ℕ) × (g < n) × ((r ≡ numbered 5 e g 0) ⊎ (r ≡ numbered 6 e g 0)) → In generatorsAfter r
+    reading : {r : Refusal} → (e : ℕ) × (g : ℕ) × (g < n) × ((r ≡ numbered 5 e g 0) ⊎ (r ≡ numbered 6 e g 0)) → RefusalIn generatorsAfter r
     reading (e, g, h, inl q) = rw q
     reading (e, g, h, inr q) = rw q
 
     by-reading : (p : Placed) → readAll src n room (replicate size 0) ≡ p → {r : Refusal} {t w : List ℕ} → finishedPlaced p n w₀ ≡ built (Refused r) t w
-        → In generatorsAfter r
+        → RefusalIn generatorsAfter r
     unfolding finished
     by-reading (placed (Count c) t₀) e {r} q =
         each-in (λ x. member x generatorsAfter) (r .number) (8 ∷ lateNumbers) refl
@@ -77,14 +77,14 @@ module _ (from : List ℕ) (over : Group) (gens : List ℕ) (fits : allFit (leng
         (check-group t₀ w₀ n c) refl q .number)
     by-reading (placed (Refused s) t₀) e {r} q =
         let i : s ≡ r = cc in
-        subst (In generatorsAfter) i
+        subst (RefusalIn generatorsAfter) i
         (reading (refused-5-or-6 A I small (total (productOf from (handles over) gens) 0)
         (total-answering n (elementsOf (handles over)) (productOf from (handles over) gens) 0) room room lo hi (le-refl room)
         (refused-read src n room size few lo hi enough e)))
 
     pub steps-number : {r : Refusal} {t w : List ℕ}
         → finishedPlaced (readAll (numberedStep count elt (stepsRead from over gens)) (length gens) room (replicate size 0)) (length gens) w₀ ≡ built (Refused r) t w
-        → In generatorsAfter r
+        → RefusalIn generatorsAfter r
     steps-number q = by-reading (readAll src n room (replicate size 0)) refl q
 
 then-in : {l : List ℕ} (u v : Verdict) → VerdictIn l u → VerdictIn l v → VerdictIn l (andThen u v)
@@ -105,14 +105,14 @@ module _ (from : List ℕ) (over : Group) (gens table : List ℕ) (start : ℕ) 
   abbrev M : ℕ
   M = elementsOf (handles over)
 
-  abbrev Told : Type 0
-  Told = Leaves (Started from over gens table start work inn outw room) generatorsBefore generatorsAfter
+  abbrev Claim : Type 0
+  Claim = Leaves (Started from over gens table start work inn outw room) generatorsBefore generatorsAfter
       (mapsFor table start work inn outw (length gens) M room t w i o) r
 
-  generators-late : Started from over gens table start work inn outw room → In generatorsAfter r
+  generators-late : Started from over gens table start work inn outw room → RefusalIn generatorsAfter r
   generators-late S = by (generators-any from over gens table start work inn outw room S) where
     by : BySteps from over gens table start work inn outw room (fromGenerators from over gens table start work inn outw room)
-        ⊎ Stopped from over gens table start work inn outw room (fromGenerators from over gens table start work inn outw room) → In generatorsAfter r
+        ⊎ Stopped from over gens table start work inn outw room (fromGenerators from over gens table start work inn outw room) → RefusalIn generatorsAfter r
     by (inl B) =
         let n : ℕ = length gens in
         let v : List ℕ = take (workNeed n room) work in
@@ -123,12 +123,12 @@ module _ (from : List ℕ) (over : Group) (gens table : List ℕ) (start : ℕ) 
         (ap builtOf (T .is))
     by (inr B) =
         each-in (λ x. member x generatorsAfter) (r .number) (17 ∷ []) refl
-        (subst (In (17 ∷ [])) (called.same-refusal (sym (B .is) ∙ z)) (B .number))
+        (subst (RefusalIn (17 ∷ [])) (called.same-refusal (sym (B .is) ∙ z)) (B .number))
 
-  early : {f : Refusal} {s′ : Subgroup} → ¬ (Started from over gens table start work inn outw room) → In generatorsBefore f
+  early : {f : Refusal} {s′ : Subgroup} → ¬ (Started from over gens table start work inn outw room) → RefusalIn generatorsBefore f
       → subgrouping (record { answer = verdict.Refused f; subgroup = s′ }) table work inn outw ≡ subgrouping (record { answer = verdict.Refused r; subgroup = s }) t w i o
-      → Told
-  early wrong p e = untouched wrong (subst (In generatorsBefore) (called.same-refusal e) p) (cc, (cc, (cc, (cc, tt))))
+      → Claim
+  early wrong p e = untouched wrong (subst (RefusalIn generatorsBefore) (called.same-refusal e) p) (cc, (cc, (cc, (cc, tt))))
 
   pub generators-leaves : Leaves (Started from over gens table start work inn outw room) generatorsBefore generatorsAfter
       (mapsFor table start work inn outw (length gens) (elementsOf (handles over)) room t w i o) r
@@ -137,7 +137,7 @@ module _ (from : List ℕ) (over : Group) (gens table : List ℕ) (start : ℕ) 
       (mapsRight (length table) start (length work) (length inn) (length outw) room (length gens) M) refl refl refl
     where
       by : (v : Verdict) (a b : Bool) → admitsGenerators (length from) over gens ≡ v → ltb 8 (length gens) ≡ a
-          → mapsRight (length table) start (length work) (length inn) (length outw) room (length gens) M ≡ b → Told
+          → mapsRight (length table) start (length work) (length inn) (length outw) room (length gens) M ≡ b → Claim
       by (verdict.Refused f) a b q k l =
           early (λ S. refused-fine (sym q ∙ sym (generators-fine (length from) over gens (S .fits) refl (S .entries) refl (S .small))))
           (admits-in (length from) over gens .of f q) (sym (called.early-arguments from over gens table start work inn outw room q) ∙ z)

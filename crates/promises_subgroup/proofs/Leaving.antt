@@ -27,7 +27,7 @@ use Rattle.promises.proofs.ReadLengths.{adds-length}
 use Rattle.promises.proofs.Zeros.{finished-zeros}
 use Rattle.group_handles.specs.declared.Group.{Group}
 use Rattle.group_handles.specs.Handles.{handles, elementsOf}
-use Rattle.build_numbering.specs.Renumber.{none, Mapped, mapped, thenMapped, onNew, mapPlace, mapFrom, mapRow, mapRows, mapAll}
+use Rattle.build_numbering.specs.Renumber.{noNumber, Mapped, mapped, thenMapped, onNew, mapPlace, mapFrom, mapRow, mapRows, mapAll}
 use Rattle.build_numbering.specs.Build.{renumbering, finishedMapped, renumberIn}
 use Rattle.build_numbering_laws.proofs.Builds.{builtOf, settled-built, refused-maps, settled-count}
 use Rattle.subgroup_build.specs.declared.Subgroup.{Subgroup}
@@ -52,7 +52,7 @@ new-table (reached.Refused r) t inn outw count x = refl
 
 place-long : (t inn outw : List ℕ) (n room count e g x : ℕ) → length (tableIn (mapPlace t inn outw n room count e g x)) ≡ length t
 unfolding mapPlace
-place-long t inn outw n room count e g x = by (eqb (getD inn x 0) none) where
+place-long t inn outw n room count e g x = by (eqb (getD inn x 0) noNumber) where
   at : GroupElementId
   at = record { 0 = e }
 
@@ -103,7 +103,7 @@ pub refused-stretches : (size : ℕ) (w₀ : List ℕ) (source : ℕ → ℕ →
 unfolding renumberIn
 refused-stretches size w₀ source n room M K x₀ {r} {t} {w} {inn} {outw} q =
     go (mapAll source n room M K x₀ (replicate size 0))
-    (rows-long room source n room 0 1 (replicate size 0) (putAt (replicate M none) x₀ 0) (putAt (replicate K 0) 0 x₀) ∙ length-replicate size 0) q
+    (rows-long room source n room 0 1 (replicate size 0) (putAt (replicate M noNumber) x₀ 0) (putAt (replicate K 0) 0 x₀) ∙ length-replicate size 0) q
   where
     go : (m : Mapped) → length (tableIn m) ≡ size → finishedMapped m n w₀ ≡ renumbering (built (Refused r) t w) inn outw
         → (t ≡ replicate size 0) × (w ≡ replicate (length w₀) 0)
@@ -163,7 +163,7 @@ pub accepted-lengths : (size : ℕ) (w₀ : List ℕ) (source : ℕ → ℕ → 
 unfolding renumberIn
 accepted-lengths size w₀ source n room M K x₀ {c} {t} {w} {i} {o} q =
     go (mapAll source n room M K x₀ (replicate size 0))
-    (rows-long room source n room 0 1 (replicate size 0) (putAt (replicate M none) x₀ 0) (putAt (replicate K 0) 0 x₀) ∙ length-replicate size 0)
+    (rows-long room source n room 0 1 (replicate size 0) (putAt (replicate M noNumber) x₀ 0) (putAt (replicate K 0) 0 x₀) ∙ length-replicate size 0)
     (all-long source n room M K x₀ (replicate size 0)) q
   where
     go : (m : Mapped) → length (tableIn m) ≡ size → Long M K m → finishedMapped m n w₀ ≡ renumbering (built (Count c) t w) i o

@@ -17,7 +17,7 @@ use Rattle.subgroup_sides.specs.Sides.{fewFactors, sidesLimited}
 use Rattle.subgroup_build.proofs.Admits.{small-limited, small-elements}
 use Rattle.subgroup_sides.proofs.SideLaws.{fit-law}
 use Rattle.promises_subgroup.specs.Altered.{Regardless}
-use Rattle.promises_subgroup.specs.Asked.{Known}
+use Rattle.promises_subgroup.specs.Asked.{Askable}
 
 few-handles : (g : Group) → g .count ≤ 8 → length (handles g) ≤ 8
 few-handles g h = simp length-take (omega arith)
@@ -34,7 +34,7 @@ limited-made over f c m n =
 -- Whatever the overgroup's buffer held.
 module _ {from : List ℕ} {over : Group} {gens : List ℕ} {k : ℕ} {table : List ℕ} {start : ℕ} {work inn outw : List ℕ} {room : ℕ} {s : Subgroup} {t w i o : List ℕ}
     (R : Regardless from over gens k table start work inn outw room s t w i o) where
-  as-made : Known (length from) (length t) (record { below = groupOf []; factor = s .factor; over = over; above = groupOf [] }) i o
+  as-made : Askable (length from) (length t) (record { below = groupOf []; factor = s .factor; over = over; above = groupOf [] }) i o
   as-made = record {
     fits = fit-law (length from) (length t) (record { below = groupOf []; factor = s .factor; over = over; above = groupOf [] }) ∙ rw (R .accepted .fits, R .fits);
     limited = limited-made over (s .factor) (few-factors over (small-limited over (R .small))) (omega (arith, small-elements over (R .small))) (R .carried .small);
@@ -43,5 +43,5 @@ module _ {from : List ℕ} {over : Group} {gens : List ℕ} {k : ℕ} {table : L
     carried = R .carried;
   }
 
-  pub made-known : Known (length from) (length t) s i o
-  made-known = subst (λ (x : Subgroup). Known (length from) (length t) x i o) (sym (R .value)) as-made
+  pub made-known : Askable (length from) (length t) s i o
+  made-known = subst (λ (x : Subgroup). Askable (length from) (length t) x i o) (sym (R .value)) as-made

@@ -74,5 +74,5 @@ module _ {M : ℕ} {op : ℕ → ℕ → ℕ} {inv : ℕ → ℕ} (G : GroupOn M
         work-zero = renumber-work A I small source answering room K lo hi lent size w few fits work q;
       }
     where
-      not-none : (x : ℕ) → getD inn x 0 < c → c ≤ room → ¬ (getD inn x 0 ≡ appear.none)
+      not-none : (x : ℕ) → getD inn x 0 < c → c ≤ room → ¬ (getD inn x 0 ≡ appear.noNumber)
       not-none x l h e = omega arith

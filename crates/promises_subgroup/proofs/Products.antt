@@ -11,7 +11,7 @@ use Rattle.theory_products.specs.Product.{Part, pair, product, Each, none, more
 use Rattle.theory_radix.proofs.RadixLaws.{low, high, joined-small, low-small, high-small}
 use Rattle.theory_products.proofs.ProductLaws.{product-group}
 use Rattle.subgroup.specs.Indices.{Indices, factorIndices, unfactorIndices, withWithin, overOf, subOf}
-use Rattle.promises_subgroup.specs.Carried.{Carried, Homomorphic}
+use Rattle.promises_subgroup.specs.Carried.{MapsUndo, Homomorphic}
 use Rattle.subgroup.proofs.IndexLaws.{unfactor-is, below-small, within-small, above-small}
 use Rattle.promises_subgroup.proofs.Carrying.{over-small, over-below-is, over-within-is, over-above-is}
 
@@ -26,7 +26,7 @@ pub over-parts : {B N : ℕ} (M : ℕ) (f : ℕ → ℕ) {b x : ℕ} → b < B �
 over-parts {B} {N} M f {b} {x} hb hx a = over-is B M N f (b + B * (x + N * a)) ∙ rw (low hb (x + N * a), high hb (x + N * a), low hx a, high hx a)
 
 module _ (p q s r : Part) (P : IsGroup p) (Q : IsGroup q) (S : IsGroup s) (R : IsGroup r) {toOver toSub : ℕ → ℕ}
-    (C : Carried (q .elements) (s .elements) toOver toSub)
+    (C : MapsUndo (q .elements) (s .elements) toOver toSub)
     (H : Homomorphic (s .elements) (s .op) (s .inv) (q .op) (q .inv) toOver) where
   module _ {a : ℕ} (ha : a < p .elements * (s .elements * r .elements)) where
     l : a % p .elements < p .elements
@@ -68,9 +68,9 @@ module _ (p q s r : Part) (P : IsGroup p) (Q : IsGroup q) (S : IsGroup s) (R : I
   }
 
 -- Back too, of what is in the subgroup.
-module _ {M N : ℕ} {opₛ op : ℕ → ℕ → ℕ} {invₛ inv toOver toSub : ℕ → ℕ} (C : Carried M N toOver toSub) (H : Homomorphic N opₛ invₛ op inv toOver)
+module _ {M N : ℕ} {opₛ op : ℕ → ℕ → ℕ} {invₛ inv toOver toSub : ℕ → ℕ} (C : MapsUndo M N toOver toSub) (H : Homomorphic N opₛ invₛ op inv toOver)
     (closed : (a b : ℕ) → a < N → b < N → opₛ a b < N) where
-  pub sub-composes : {x y : ℕ} → x < M → y < M → ¬ (toSub x ≡ appear.none) → ¬ (toSub y ≡ appear.none) → toSub (op x y) ≡ opₛ (toSub x) (toSub y)
+  pub sub-composes : {x y : ℕ} → x < M → y < M → ¬ (toSub x ≡ appear.noNumber) → ¬ (toSub y ≡ appear.noNumber) → toSub (op x y) ≡ opₛ (toSub x) (toSub y)
   sub-composes {x} {y} hx hy f k =
       let a = C .sub-below hx f in
       let b = C .sub-below hy k in

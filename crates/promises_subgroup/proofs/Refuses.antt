@@ -13,13 +13,13 @@ use Rattle.egg.specs.declared.Verdict.{Verdict}
 use Rattle.egg.specs.declared.Verdict.the-variants as verdict
 use Rattle.egg.specs.Table.{pick}
 use Rattle.egg.specs.Factor.{stretch}
-use Rattle.build_checks_laws.specs.Numbers.{In}
+use Rattle.build_checks_laws.specs.Numbers.{RefusalIn}
 use Rattle.factor_laws.specs.Refuses.{VerdictIn, ReachedIn}
 use Rattle.factor_laws.proofs.Refuses.{reached-element, reached-refused, reached-pick, reached-on, reached-if, reached-widen, step-in, verdict-fine, verdict-refused, verdict-pick}
 use Rattle.group_handles.specs.declared.Group.{Group}
 use Rattle.group_handles.specs.Handles.{handles, allFit, generatorsOf}
 use Rattle.promises_group.proofs.Refuses.{stepped-in}
-use Rattle.build_numbering.specs.Renumber.{none}
+use Rattle.build_numbering.specs.Renumber.{noNumber}
 use Rattle.subgroup_build.specs.declared.Subgroup.{Subgroup}
 use Rattle.subgroup_build.specs.declared.Subgrouped.{Subgrouped}
 use Rattle.subgroup.specs.declared.Within.{Within}
@@ -44,7 +44,7 @@ module _ {l : List ℕ} where
     never : (r : Refusal) → within.Outside ≡ within.Refused r → ⊥
     never r h = let z : _≡_ {A = ℕ} 0 1 = cc in omega arith
 
-  within-refused : (s : Refusal) → In l s → WithinIn l (within.Refused s)
+  within-refused : (s : Refusal) → RefusalIn l s → WithinIn l (within.Refused s)
   within-refused s m = record { of = λ r h. let e : s ≡ r = cc in rw e at m }
 
   within-pick : (b : Bool) (x y : Within) → WithinIn l x → WithinIn l y → WithinIn l (pick b x y)
@@ -79,7 +79,7 @@ over-in s outw e = reached-pick (ltb (getD outw (e / strideOf s % s .factor .ele
 back-in : (s : Subgroup) (inn : List ℕ) (x : ℕ) → WithinIn (14 ∷ 15 ∷ 17 ∷ []) (carriedBack s inn x)
 unfolding carriedBack
 back-in s inn x =
-    within-pick (eqb (getD inn (x / strideOf s % overCount s) 0) none) _ _ within-outside
+    within-pick (eqb (getD inn (x / strideOf s % overCount s) 0) noNumber) _ _ within-outside
     (within-pick (ltb (getD inn (x / strideOf s % overCount s) 0) (s .factor .elements)) _ _ (within-element _) (within-refused _ refl))
 
 side-in : (from table : List ℕ) (s : Subgroup) (g : ℕ) → ReachedIn (14 ∷ 15 ∷ 17 ∷ []) (sideGenerator from table s g)

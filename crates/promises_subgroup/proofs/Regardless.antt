@@ -35,7 +35,7 @@ use Rattle.group_digits.proofs.Walks.{Below, element, below-element, below-on, 
 use Rattle.build_numbering.specs.Build.{renumbering, renumberIn}
 use Rattle.theory.specs.Orbit.{Inside, numberedStep, Appearing}
 use Rattle.build_numbering_laws.specs.Source.{Answering}
-use Rattle.build_numbering_laws.specs.Maps.{Filled}
+use Rattle.build_numbering_laws.specs.Maps.{MapsFilled}
 use Rattle.build_numbering_laws.proofs.Order.{appearing}
 use Rattle.build_numbering_laws.proofs.Partial.{ranged-inside, total, total-answering, partial-build}
 use Rattle.build_numbering_laws.proofs.Builds.{builtOf, not-refused, renumber-built, renumber-holds, renumber-work, renumber-filled, renumber-maps}
@@ -150,7 +150,7 @@ module _ (from : List ℕ) (over : Group) (gens : List ℕ) (k : ℕ) (table : L
     H : Holding src n room (tableNeed k room) c t
     H = renumber-holds A I small source answering room room lo hi (le-refl room) (tableNeed k room) v eight rows enough same
 
-    filled-maps : (c ≡ appearing I .0) × Filled M room room (appearing I .1) c i o
+    filled-maps : (c ≡ appearing I .0) × MapsFilled M room room (appearing I .1) c i o
     filled-maps = renumber-filled A I small source answering room room lo hi (le-refl room) (tableNeed k room) v eight rows enough same
 
     own : Holding src n room (tableNeed n room) c (take (tableNeed n room) t)
@@ -164,7 +164,7 @@ module _ (from : List ℕ) (over : Group) (gens : List ℕ) (k : ℕ) (table : L
     inside : start + tableNeed k room ≤ length table
     inside = within-length (length table) start room k has
 
-    F : Filled M room room (appearing I .1) c i o
+    F : MapsFilled M room room (appearing I .1) c i o
     F = filled-maps .1
 
     whole : c ≡ appearing I .0

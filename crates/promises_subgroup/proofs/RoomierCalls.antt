@@ -22,7 +22,7 @@ use Rattle.group_handles.specs.Handles.{handles, elementsOf, groupOf}
 use Rattle.promises_group.specs.Products.{AllAccepted}
 use Rattle.build_numbering.specs.Build.{Renumbering, renumbering, renumberIn}
 use Rattle.build_numbering_laws.specs.Source.{Answering}
-use Rattle.build_numbering_laws.specs.Maps.{Filled}
+use Rattle.build_numbering_laws.specs.Maps.{MapsFilled}
 use Rattle.theory.specs.Subgroup.{rightBy}
 use Rattle.theory.specs.Orbit.{numberedStep}
 use Rattle.build_numbering_laws.proofs.Order.{appearing}
@@ -60,7 +60,7 @@ module _ {M : ℕ} {op : ℕ → ℕ → ℕ} {inv : ℕ → ℕ} (G : GroupOn M
     where
       go : (m : Renumbering) → renumberIn size′ w′ source n room′ M K′ 0 ≡ m → (w₂ : List ℕ)
           → builtOf (renumberIn size′ w′ source n room′ M K′ 0) ≡ built (Count c) (longer (size′ - size) t) w₂
-          → Filled M room K (appearing (right-inside G gens) .1) c i o
+          → MapsFilled M room K (appearing (right-inside G gens) .1) c i o
           → (w₂ : List ℕ) × (i′ : List ℕ) × (o′ : List ℕ) × ((renumberIn size′ w′ source n room′ M K′ 0 ≡ renumbering (built (Count c) (longer (size′ - size) t) w₂) i′ o′)
           × ((i ≡ i′) × ((e : ℕ) → getD o e 0 ≡ getD o′ e 0)))
       go (renumbering b′ i′ o′) z w₂ y F =

@@ -14,7 +14,7 @@ use Rattle.egg.proofs.Rooms.{positive, limited, within-length}
 use Rattle.build_lending.specs.Lending.{tableNeed, workNeed, within}
 use Rattle.theory.proofs.RuleLaws.{numbered-agree}
 use Rattle.build_laws.proofs.Lent.{handle, within-long}
-use Rattle.build_numbering_laws.specs.Maps.{Held}
+use Rattle.build_numbering_laws.specs.Maps.{RenumberedLists}
 
 pub fewer-rows : (n k room : ℕ) → n ≤ k → tableNeed n room ≤ tableNeed k room
 fewer-rows n k room h = let l : 2 * n + 4 ≤ 2 * k + 4 = omega arith in mul-le-mul (le-refl room) l
@@ -35,8 +35,8 @@ step-cut t n room e g h hg =
     let i : e * (2 * n + 4) + g < room * (2 * n + 4) = omega arith in
     ap (λ (x : ℕ). x - 1) (getD-take (tableNeed n room) t (e * (2 * n + 4) + g) 0 i)
 
-pub held-steps : {n M room K x₀ c : ℕ} {out step step′ : ℕ → ℕ → ℕ} {inn outw : List ℕ} → Held n M room K out x₀ c step inn outw
-    → ((e g : ℕ) → e < c → g < n → step′ e g ≡ step e g) → Held n M room K out x₀ c step′ inn outw
+pub held-steps : {n M room K x₀ c : ℕ} {out step step′ : ℕ → ℕ → ℕ} {inn outw : List ℕ} → RenumberedLists n M room K out x₀ c step inn outw
+    → ((e g : ℕ) → e < c → g < n → step′ e g ≡ step e g) → RenumberedLists n M room K out x₀ c step′ inn outw
 held-steps {outw = outw} H agree =
     let R = H .renumbered in
     record {

@@ -34,8 +34,8 @@ use Rattle.subgroup_sides.specs.Generators.{sideGenerator}
 use Rattle.subgroup_rows.specs.Rows.{productOf}
 use Rattle.subgroup_build.specs.Generated.{admitsGenerators, generatedInto, fromGenerators}
 use Rattle.subgroup_sides.proofs.SideLaws.{fit-law}
-use Rattle.promises_subgroup.specs.Generates.{Holds}
-use Rattle.promises_subgroup.specs.Asked.{Known}
+use Rattle.promises_subgroup.specs.Generates.{SubgroupHolds}
+use Rattle.promises_subgroup.specs.Asked.{Askable}
 use Rattle.promises_subgroup.specs.Unaltered.{SameMaps, UnalteredMaps, EachSame, all, also, SameStretches}
 use Rattle.promises_subgroup.proofs.Overgroup.{generated-as}
 use Rattle.promises_subgroup.proofs.Called.{carried-as, homomorphic-as}
@@ -106,7 +106,7 @@ module _ {from from′ table table′ : ℕ} {s : Subgroup} {inn inn′ outw out
   unfolding rightProduct
   rights g q = rw (P .fits, P .fits′, q)
 
-  still-known : Known from table s inn outw → Known from′ table′ s inn′ outw′
+  still-known : Askable from table s inn outw → Askable from′ table′ s inn′ outw′
   still-known K = record {
     fits = P .fits′;
     limited = K .limited;
@@ -179,20 +179,20 @@ parts-same : {t t′ : List ℕ} {hs : List Factor} → EachSame t t′ hs → p
 parts-same all = refl
 parts-same (also q S) = rw (q, parts-same S)
 
-module _ {from from′ : List ℕ} {over : Group} {gens : List ℕ} {s : Subgroup} {t t′ i o : List ℕ} (H : Holds from over gens s t i o)
+module _ {from from′ : List ℕ} {over : Group} {gens : List ℕ} {s : Subgroup} {t t′ i o : List ℕ} (H : SubgroupHolds from over gens s t i o)
     (U : Unaltered t t′ (s .factor)) (same : EachSame from from′ (handles over)) (i′ o′ : List ℕ)
     (inn-same : (x : ℕ) → x < elementsOf (handles over) → getD i′ x 0 ≡ getD i x 0)
     (outw-same : (e : ℕ) → e < s .factor .elements → getD o′ e 0 ≡ getD o e 0) where
   over-alike : direct from′ over ≡ direct from over
   over-alike = ap product (parts-same same)
 
-  members-alike : (x : ℕ) → ((x < elementsOf (handles over)) × ¬ (getD i x 0 ≡ appear.none)) ↔ ((x < elementsOf (handles over)) × ¬ (getD i′ x 0 ≡ appear.none))
+  members-alike : (x : ℕ) → ((x < elementsOf (handles over)) × ¬ (getD i x 0 ≡ appear.noNumber)) ↔ ((x < elementsOf (handles over)) × ¬ (getD i′ x 0 ≡ appear.noNumber))
   members-alike x = (
     λ p. (p .0, λ z. p .1 (sym (inn-same x (p .0)) ∙ z)),
     λ p. (p .0, λ z. p .1 (inn-same x (p .0) ∙ z)),
   )
 
-  pub still-holds : Holds from′ over gens s t′ i′ o′
+  pub still-holds : SubgroupHolds from′ over gens s t′ i′ o′
   still-holds = record {
     value = H .value;
     count = H .count;

@@ -12,7 +12,7 @@ use Rattle.egg.specs.declared.Verdict.the-variants as verdict
 use Rattle.egg.specs.declared.Counted.the-variants as counted
 use Rattle.build_lending.specs.Finish.{built}
 use Rattle.build_lending.specs.Lending.{tableNeed, workNeed, noFactor}
-use Rattle.build_checks_laws.specs.Numbers.{In}
+use Rattle.build_checks_laws.specs.Numbers.{RefusalIn}
 use Rattle.build_checks_laws.proofs.Numbers.{none-of}
 use Rattle.factor_laws.specs.Accepted.{Accepted}
 use Rattle.factor_laws.specs.Unaltered.{Unaltered}
@@ -77,7 +77,7 @@ module _ (from : List ℕ) (over : Group) (gens table : List ℕ) (start : ℕ) 
   -- 2, 3, 7, 13 and 16 never come.
   pub generators-never : (r : Refusal)
       → fromGenerators from over gens table start work inn outw room ≡ subgrouping (record { answer = verdict.Refused r; subgroup = s }) t w i o
-      → ¬ (In (2 ∷ 3 ∷ 7 ∷ 13 ∷ 16 ∷ []) r)
+      → ¬ (RefusalIn (2 ∷ 3 ∷ 7 ∷ 13 ∷ 16 ∷ []) r)
   generators-never r h m =
       none-of (r .number) (2 ∷ 3 ∷ 7 ∷ 13 ∷ 16 ∷ []) (1 ∷ 4 ∷ 14 ∷ 15 ∷ generatorsAfter) refl m
       (leaves-number (1 ∷ 4 ∷ 14 ∷ 15 ∷ generatorsAfter) refl refl (generators-leaves from over gens table start work inn outw room r s t w i o h))

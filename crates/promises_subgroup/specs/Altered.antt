@@ -12,7 +12,7 @@ use Rattle.egg.specs.declared.Counted.the-variants as counted
 use Rattle.build_reading.specs.Reading.{readAll}
 use Rattle.build_lending.specs.Finish.{Built, built, finishedPlaced}
 use Rattle.build_lending.specs.Lending.{tableNeed, workNeed, within, noFactor}
-use Rattle.build_checks_laws.specs.Numbers.{In}
+use Rattle.build_checks_laws.specs.Numbers.{RefusalIn}
 use Rattle.factor_laws.specs.Accepted.{Accepted, factorStep}
 use Rattle.build_laws.specs.Taken.{Taken}
 use Rattle.group_handles.specs.declared.Group.{Group}
@@ -20,12 +20,12 @@ use Rattle.group_handles.specs.Handles.{handles, elementsOf, allFit, groupOf}
 use Rattle.build_numbering.specs.Build.{renumbering}
 use Rattle.theory.specs.Orbit.{numberedStep, Appearing}
 use Rattle.build_numbering_laws.specs.Source.{outOf}
-use Rattle.build_numbering_laws.specs.Maps.{Filled}
+use Rattle.build_numbering_laws.specs.Maps.{MapsFilled}
 use Rattle.subgroup_build.specs.declared.Subgroup.{Subgroup}
 use Rattle.subgroup_build.specs.Lent.{subgroupOf, Subgrouping, subgrouping, mapsBack}
 use Rattle.subgroup_rows.specs.Rows.{productOf}
 use Rattle.subgroup_build.specs.Generated.{smallEnough}
-use Rattle.promises_subgroup.specs.Carried.{Carried}
+use Rattle.promises_subgroup.specs.Carried.{MapsUndo}
 use Rattle.promises_subgroup.specs.Leaves.{mapsFor, AllWrote}
 
 -- The steps that are read, where the overgroup's `compose` answers.
@@ -33,10 +33,10 @@ abbrev pub stepsRead : List ℕ → Group → List ℕ → ℕ → ℕ → ℕ
 stepsRead from over gens = outOf 0 (productOf from (handles over) gens)
 
 -- What the two maps hold after a build in which `count` elements appeared, the e-th of them being elt e of the overgroup. After acceptance the one
--- has for each element of the overgroup its number, or 4,294,967,295 where it did not appear, the other has elt e at e, and zero beyond (`Filled`).
+-- has for each element of the overgroup its number, or 4,294,967,295 where it did not appear, the other has elt e at e, and zero beyond (`MapsFilled`).
 -- After a refusal both are zero.
 pub data MapsAfter (M room count : ℕ) (elt : ℕ → ℕ) (inn outw : List ℕ) : Built → Type 0 where
-  filled : {t w : List ℕ} → Filled M room room elt count inn outw → MapsAfter M room count elt inn outw (built (counted.Count count) t w)
+  filled : {t w : List ℕ} → MapsFilled M room room elt count inn outw → MapsAfter M room count elt inn outw (built (counted.Count count) t w)
   zeros : {r : Refusal} {t w : List ℕ} → inn ≡ replicate M 0 → outw ≡ replicate room 0 → MapsAfter M room count elt inn outw (built (counted.Refused r) t w)
 
 -- The call comes to the build from composed rows of the steps that are read, numbered in order of first appearance.
@@ -58,7 +58,7 @@ pub record Stopped (from : List ℕ) (over : Group) (gens table : List ℕ) (sta
   pub element : ℕ
   pub generator : ℕ
   pub refusal : Refusal
-  pub number : In (17 ∷ []) refusal
+  pub number : RefusalIn (17 ∷ []) refusal
   pub refused : productOf from (handles over) gens element generator ≡ reached.Refused refusal
   pub is : m ≡ subgrouping (subgroupOf over (record { answer = verdict.Refused refusal; factor = noFactor }))
       (within table start (start + tableNeed (length gens) room) (replicate (tableNeed (length gens) room) 0))
@@ -82,8 +82,8 @@ pub record Regardless (from : List ℕ) (over : Group) (gens : List ℕ) (k : �
       → factorStep t (s .factor) e g ≡ numberedStep (s .factor .elements) elt (stepsRead from over gens) e g
   pub inn-long : elementsOf (handles over) ≤ length i
   pub outw-long : room ≤ length o
-  pub maps : Filled (elementsOf (handles over)) room room elt (s .factor .elements) (take (elementsOf (handles over)) i) (take room o)
-  pub carried : Carried (elementsOf (handles over)) (s .factor .elements) (λ e. getD o e 0) (λ x. getD i x 0)
+  pub maps : MapsFilled (elementsOf (handles over)) room room elt (s .factor .elements) (take (elementsOf (handles over)) i) (take room o)
+  pub carried : MapsUndo (elementsOf (handles over)) (s .factor .elements) (λ e. getD o e 0) (λ x. getD i x 0)
   pub beyond : {j : ℕ} → s .factor .elements * (2 * length gens + 4) ≤ j → j < tableNeed k room → getD t (start + j) 0 ≡ 0
   pub work-zero : w ≡ within work 0 (workNeed k room) (replicate (workNeed k room) 0)
   pub wrote : AllWrote (mapsFor table start work inn outw k (elementsOf (handles over)) room t w i o)

@@ -9,7 +9,7 @@ use Rattle.egg.specs.declared.Refusal.{Refusal}
 use Rattle.egg.specs.Factor.{Paper, refusalPaper, verdictPaper}
 use Rattle.egg.specs.Answers.{numbered}
 use Rattle.build_lending.specs.Lending.{tableNeed, workNeed}
-use Rattle.build_reading_laws.specs.Read.{Readable, Refuses}
+use Rattle.build_reading_laws.specs.Read.{Readable, ReadingRefused}
 use Rattle.factor_laws.specs.Papers.{valuePaper}
 use Rattle.promises_refusals.specs.Firsts.{FirstOf}
 use Rattle.group_handles.specs.declared.Group.{Group}
@@ -30,12 +30,12 @@ pub record Elements (from : List ℕ) (over : Group) (gens : List ℕ) : Type 0 
   pub below : {g : ℕ} → g < length gens → getD gens g 0 < elementsOf (handles over)
 
 -- Refusal 15 is not due: "more than 8 factors, product too large, an overgroup above 65,535 elements".
-pub record Small (over : Group) : Type 0 where
+pub record Numberable (over : Group) : Type 0 where
   pub few : over .count ≤ 8
   pub most : elementsOf (handles over) ≤ 65535
 
 -- Refusal 4 is not due: "room 0 or above 65,535, or a lent buffer short".
-pub record Enough (over : Group) (n : ℕ) (table : List ℕ) (start : ℕ) (work inn outw : List ℕ) (room : ℕ) : Type 0 where
+pub record EnoughWithMaps (over : Group) (n : ℕ) (table : List ℕ) (start : ℕ) (work inn outw : List ℕ) (room : ℕ) : Type 0 where
   pub some-room : 1 ≤ room
   pub most-room : room ≤ 65535
   pub table-long : start + tableNeed n room ≤ length table
@@ -46,9 +46,9 @@ pub record Enough (over : Group) (n : ℕ) (table : List ℕ) (start : ℕ) (wor
 -- All these are right, and N elements are generated, numbered in order of first appearance as `elt`.
 pub record Generating (from : List ℕ) (over : Group) (gens table : List ℕ) (start : ℕ) (work inn outw : List ℕ) (room N : ℕ) (elt : ℕ → ℕ) : Type 0 where
   pub elements : Elements from over gens
-  pub small : Small over
+  pub small : Numberable over
   pub few : length gens ≤ 8
-  pub enough : Enough over (length gens) table start work inn outw room
+  pub enough : EnoughWithMaps over (length gens) table start work inn outw room
   pub appearing : Appearing (length gens) (elementsOf (handles over)) (rightBy (direct from over .op) (λ g. getD gens g 0)) 0 N elt
 
 -- What the call answers on these arguments.
@@ -58,14 +58,14 @@ pub data GeneratorsPaper (from : List ℕ) (over : Group) (gens table : List ℕ
   no-handle : allFit (length from) (handles over) ≡ false → GeneratorsPaper from over gens table start work inn outw room (refusalPaper (numbered 17 0 0 0))
   no-element : {k : ℕ} → allFit (length from) (handles over) ≡ true → FirstOf (length gens) (λ g. elementsOf (handles over) ≤ getD gens g 0) k
       → GeneratorsPaper from over gens table start work inn outw room (refusalPaper (numbered 14 (shown k) 0 0))
-  too-large : Elements from over gens → ¬ (Small over) → GeneratorsPaper from over gens table start work inn outw room (refusalPaper (numbered 15 0 0 0))
-  many : Elements from over gens → Small over → 8 < length gens
+  too-large : Elements from over gens → ¬ (Numberable over) → GeneratorsPaper from over gens table start work inn outw room (refusalPaper (numbered 15 0 0 0))
+  many : Elements from over gens → Numberable over → 8 < length gens
       → GeneratorsPaper from over gens table start work inn outw room (refusalPaper (numbered 1 (shown (length gens)) 0 0))
-  short : Elements from over gens → Small over → length gens ≤ 8 → ¬ (Enough over (length gens) table start work inn outw room)
+  short : Elements from over gens → Numberable over → length gens ≤ 8 → ¬ (EnoughWithMaps over (length gens) table start work inn outw room)
       → GeneratorsPaper from over gens table start work inn outw room (refusalPaper (numbered 4 0 0 0))
   -- It gives 5 or 6 where the numbering stops first, at that element and generator.
   stops : {N : ℕ} {elt : ℕ → ℕ} {r : Refusal} → Generating from over gens table start work inn outw room N elt
-      → Refuses (numberedStep N elt (rightBy (direct from over .op) (λ g. getD gens g 0))) (length gens) room r
+      → ReadingRefused (numberedStep N elt (rightBy (direct from over .op) (λ g. getD gens g 0))) (length gens) room r
       → GeneratorsPaper from over gens table start work inn outw room (refusalPaper r)
   -- Where all are numbered it gives 9 for the first generator that is the identity; where none is, 11 for the first that is as an earlier one; else
   -- 0.

@@ -11,15 +11,15 @@ use Rattle.subgroup_build.specs.declared.Subgroup.{Subgroup}
 use Rattle.subgroup.specs.Indices.{overOf, subOf}
 use Rattle.subgroup_sides.specs.Sides.{overSide, subSide, sidesFit, sidesLimited, strideOf, overCount}
 use Rattle.subgroup.specs.Questions.{withinPaper, toOverAnswer, toSubAnswer}
-use Rattle.promises_subgroup.specs.Carried.{Carried}
+use Rattle.promises_subgroup.specs.Carried.{MapsUndo}
 
 -- The handles fit, both sides are within the limits, and the two maps are those of the subgroup's own factor.
-pub record Known (from table : ℕ) (s : Subgroup) (inn outw : List ℕ) : Type 0 where
+pub record Askable (from table : ℕ) (s : Subgroup) (inn outw : List ℕ) : Type 0 where
   pub fits : sidesFit from table s ≡ true
   pub limited : sidesLimited s ≡ true
   pub inn-long : overCount s ≤ length inn
   pub outw-long : s .factor .elements ≤ length outw
-  pub carried : Carried (overCount s) (s .factor .elements) (λ e. getD outw e 0) (λ x. getD inn x 0)
+  pub carried : MapsUndo (overCount s) (s .factor .elements) (λ e. getD outw e 0) (λ x. getD inn x 0)
 
 -- Then every answer is that of the index formulas, and the maps that these make undo each other.
 pub record MapAnswers (from table : ℕ) (s : Subgroup) (inn outw : List ℕ) : Type 0 where
@@ -28,5 +28,5 @@ pub record MapAnswers (from table : ℕ) (s : Subgroup) (inn outw : List ℕ) : 
   pub inward : {x : ℕ} → x < elementsOf (overSide s)
       → withinPaper (toSubAnswer from table s inn (record { 0 = x }))
       ≡ record { number = 0; a = subOf (strideOf s) (overCount s) (s .factor .elements) (λ i. getD inn i 0) x; b = 0; c = 0 }
-  pub carried : Carried (elementsOf (overSide s)) (elementsOf (subSide s)) (overOf (strideOf s) (overCount s) (s .factor .elements) (λ i. getD outw i 0))
+  pub carried : MapsUndo (elementsOf (overSide s)) (elementsOf (subSide s)) (overOf (strideOf s) (overCount s) (s .factor .elements) (λ i. getD outw i 0))
       (subOf (strideOf s) (overCount s) (s .factor .elements) (λ i. getD inn i 0))

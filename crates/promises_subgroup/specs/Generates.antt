@@ -21,7 +21,7 @@ use Rattle.theory.specs.Subgroup.{rightBy, Generated, Proper}
 use Rattle.subgroup_build.specs.declared.Subgroup.{Subgroup}
 use Rattle.subgroup_build.specs.Lent.{Subgrouping, subgrouping, mapsRight}
 use Rattle.subgroup_build.specs.Generated.{entriesRight, smallEnough}
-use Rattle.promises_subgroup.specs.Carried.{Carried, Homomorphic}
+use Rattle.promises_subgroup.specs.Carried.{MapsUndo, Homomorphic}
 
 -- The arguments are right, and the buffers long enough, so that the build starts: 17 in the handles, 14, 15, 1 and 4 have passed.
 pub record Started (from : List ℕ) (over : Group) (gens table : List ℕ) (start : ℕ) (work inn outw : List ℕ) (room : ℕ) : Type 0 where
@@ -33,24 +33,24 @@ pub record Started (from : List ℕ) (over : Group) (gens table : List ℕ) (sta
 
 -- What holds of a subgroup by these elements of an overgroup of accepted factors, whichever call made it: its factor is accepted; the elements are different and
 -- none is the identity; those that have a number are the subgroup that they generate; the two maps undo each other and carry identity, compose and inverse.
-pub record Holds (from : List ℕ) (over : Group) (gens : List ℕ) (s : Subgroup) (t i o : List ℕ) : Type 1 where
+pub record SubgroupHolds (from : List ℕ) (over : Group) (gens : List ℕ) (s : Subgroup) (t i o : List ℕ) : Type 1 where
   pub value : s ≡ record { below = groupOf []; factor = s .factor; over = over; above = groupOf [] }
   pub count : s .factor .generators ≡ length gens
   pub accepted : Accepted t (s .factor)
   pub proper : Proper (length gens) (λ g. getD gens g 0)
   pub members : Generated (length gens) (elementsOf (handles over)) (direct from over .op) (direct from over .inv) (λ g. getD gens g 0)
-      (λ x. (x < elementsOf (handles over)) × ¬ (getD i x 0 ≡ appear.none))
-  pub carried : Carried (elementsOf (handles over)) (s .factor .elements) (λ e. getD o e 0) (λ x. getD i x 0)
+      (λ x. (x < elementsOf (handles over)) × ¬ (getD i x 0 ≡ appear.noNumber))
+  pub carried : MapsUndo (elementsOf (handles over)) (s .factor .elements) (λ e. getD o e 0) (λ x. getD i x 0)
   pub homomorphic : Homomorphic (s .factor .elements) (compose (factorStep t (s .factor)) (factorWord t (s .factor)))
       (inverse (factorBack t (s .factor)) (factorWord t (s .factor))) (direct from over .op) (direct from over .inv) (λ e. getD o e 0)
   pub generators : {g : ℕ} → g < length gens → getD o (factorStep t (s .factor) 0 g) 0 ≡ getD gens g 0
 
--- What an accepted call gives: `Holds`, in the given stretch; beyond the last element table and map are zero, the work is, and the excess of all four buffers
+-- What an accepted call gives: `SubgroupHolds`, in the given stretch; beyond the last element table and map are zero, the work is, and the excess of all four buffers
 -- is as it was.
 pub record Generates (from : List ℕ) (over : Group) (gens table : List ℕ) (start : ℕ) (work inn outw : List ℕ) (room : ℕ) (s : Subgroup)
     (t w i o : List ℕ) : Type 1 where
   pub started : Started from over gens table start work inn outw room
-  pub holds : Holds from over gens s t i o
+  pub holds : SubgroupHolds from over gens s t i o
   pub handle : s .factor ≡ record { start = start; room = room; generators = length gens; elements = s .factor .elements }
   pub beyond : {k : ℕ} → s .factor .elements * (2 * length gens + 4) ≤ k → getD (stretch t (s .factor)) k 0 ≡ 0
   pub map-beyond : {e : ℕ} → s .factor .elements ≤ e → e < room → getD o e 0 ≡ 0

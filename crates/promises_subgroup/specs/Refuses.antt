@@ -8,7 +8,7 @@ use lib.ListN.{length}
 use Rattle.egg.specs.declared.Refusal.{Refusal}
 use Rattle.egg.specs.declared.GroupElementId.{GroupElementId}
 use Rattle.egg.specs.declared.GeneratorId.{GeneratorId}
-use Rattle.build_checks_laws.specs.Numbers.{In}
+use Rattle.build_checks_laws.specs.Numbers.{RefusalIn}
 use Rattle.factor_laws.specs.Refuses.{VerdictIn, ReachedIn}
 use Rattle.group_handles.specs.declared.Group.{Group}
 use Rattle.subgroup_build.specs.declared.Subgroup.{Subgroup}
@@ -19,7 +19,7 @@ use Rattle.subgroup.specs.Questions.{toOverAnswer, toSubAnswer, generatorAnswer
 
 -- If the question is refused, then by one of these numbers. "Not in the subgroup" is an answer, and no refusal.
 pub record WithinIn (l : List ℕ) (x : Within) : Type 0 where
-  pub of : (r : Refusal) → x ≡ within.Refused r → In l r
+  pub of : (r : Refusal) → x ≡ within.Refused r → RefusalIn l r
 
 -- Each call on the subgroup s, with the only numbers by which it is ever refused.
 pub record SubgroupRefuses (from table : List ℕ) (s : Subgroup) : Type 0 where

@@ -13,7 +13,7 @@ use Rattle.group_handles.specs.Handles.{handles, allFit}
 use Rattle.subgroup_build.specs.declared.Subgroup.{Subgroup}
 use Rattle.subgroup_sides.specs.Sides.{sidesFit, leftProduct, rightProduct, overCount}
 use Rattle.subgroup.specs.Questions.{toOverAnswer, toSubAnswer}
-use Rattle.promises_subgroup.specs.Asked.{Known}
+use Rattle.promises_subgroup.specs.Asked.{Askable}
 
 -- What the maps' questions about a subgroup s need, the same in the marked buffers as in the others: the handles fit, and the needed part of each map holds the
 -- same numbers. Nothing is asked of what else the buffers hold, nor of what the numbers are. (Of the buffers of the handles only the lengths count.)
@@ -33,7 +33,7 @@ pub record UnalteredMaps (from from′ table table′ : ℕ) (s : Subgroup) (inn
   pub inward : (x : GroupElementId) → toSubAnswer from′ table′ s inn′ x ≡ toSubAnswer from table s inn x
   pub lefts : (g : Group) → allFit from′ (handles g) ≡ allFit from (handles g) → leftProduct from′ table′ g s ≡ leftProduct from table g s
   pub rights : (g : Group) → allFit from′ (handles g) ≡ allFit from (handles g) → rightProduct from′ table′ s g ≡ rightProduct from table s g
-  pub known : Known from table s inn outw → Known from′ table′ s inn′ outw′
+  pub known : Askable from table s inn outw → Askable from′ table′ s inn′ outw′
 
 -- The stretch of each of these factors holds the same numbers in both buffers.
 pub data EachSame (t t′ : List ℕ) : List Factor → Type 0 where

@@ -27,7 +27,7 @@ use Rattle.build_numbering_laws.proofs.Builds.{builtOf, renumber-built, same-re
 use Rattle.subgroup_build.specs.declared.Subgroup.{Subgroup}
 use Rattle.subgroup_build.specs.Lent.{subgrouping}
 use Rattle.subgroup_rows.specs.Rows.{productOf}
-use Rattle.subgroup_predicate_choices.specs.Choices.{Picked, picked, isNew, chooses, againIn}
+use Rattle.subgroup_predicate_choices.specs.Choices.{Picked, picked, isNewMember, chooses, againIn}
 use Rattle.subgroup_predicate.specs.Predicate.{predicateIn, fromPredicate}
 use Rattle.subgroup_predicate_choices.specs.Choices as choices
 use Rattle.promises_subgroup_predicate.specs.Tells.{Predicated}
@@ -52,7 +52,7 @@ module _ (L : ℕ) (again : List ℕ → List ℕ → Renumbering)
   chooses-last zero x gens r w₀ h l q = by-few w₀ h l q
   chooses-last (suc k) x gens (renumbering (built (Refused f) t w) i o) w₀ h l q = by-few w₀ h l q
   chooses-last (suc k) x gens (renumbering (built (Count c) t w) i o) w₀ h l q =
-      pick-ends (Last L again) (isNew i byte x) (ltb (length gens) 8)
+      pick-ends (Last L again) (isNewMember i byte x) (ltb (length gens) 8)
       (λ n d. chooses-last k (x + 1) (gens ++ (x ∷ [])) (again (gens ++ (x ∷ [])) w) w (omega (arith, more-length gens x, ltb-true (length gens) 8 d))
       (keeps gens w₀ c t w i o q ∙ l) refl)
       (λ n d. by-ninth gens t w i o)

@@ -19,7 +19,7 @@ use Rattle.build_numbering.specs.Renumber as appear
 use Rattle.build_numbering.specs.Build.{Renumbering, renumbering}
 use Rattle.theory.specs.Orbit.{Orbit, origin, onward}
 use Rattle.theory.specs.Subgroup.{rightBy}
-use Rattle.subgroup_predicate_choices.specs.Choices.{Picked, isNew, chooses}
+use Rattle.subgroup_predicate_choices.specs.Choices.{Picked, isNewMember, chooses}
 use Rattle.promises_subgroup_predicate.specs.Predicate.{Reach, Chosen, Knows, Faithful, Ends, accepted, refused, too-many}
 
 -- The same by generators that are the same.
@@ -118,19 +118,19 @@ pick-ends P false d a c b = b refl
 
 module _ {op : ℕ → ℕ → ℕ} {byte : ℕ → ℕ} {M L : ℕ} {again : List ℕ → List ℕ → Renumbering} (F : Faithful op M L again) where
   module _ {x : ℕ} {gens : List ℕ} (C : Chosen op byte x gens) (l : x < M) {inn w : List ℕ} (K : Knows op M L gens inn w) where
-    pub new-member : isNew inn byte x ≡ true → ¬ (byte x ≡ 0)
-    new-member h q = eqb-false (byte x) 0 (not-true _ (and-second (eqb (getD inn x 0) appear.none) _ h)) q
+    pub new-member : isNewMember inn byte x ≡ true → ¬ (byte x ≡ 0)
+    new-member h q = eqb-false (byte x) 0 (not-true _ (and-second (eqb (getD inn x 0) appear.noNumber) _ h)) q
 
-    pub new-outside : isNew inn byte x ≡ true → ¬ Reach op gens (length gens) x
-    new-outside h = K .missing l (eqb-true (getD inn x 0) appear.none (and-first (eqb (getD inn x 0) appear.none) _ h))
+    pub new-outside : isNewMember inn byte x ≡ true → ¬ Reach op gens (length gens) x
+    new-outside h = K .missing l (eqb-true (getD inn x 0) appear.noNumber (and-first (eqb (getD inn x 0) appear.noNumber) _ h))
 
-    pub not-new : isNew inn byte x ≡ false → (byte x ≡ 0) ⊎ Reach op gens (length gens) x
-    not-new h = by (ℕ-discrete (byte x) 0) (ℕ-discrete (getD inn x 0) appear.none) where
-      by : Dec (byte x ≡ 0) → Dec (getD inn x 0 ≡ appear.none) → (byte x ≡ 0) ⊎ Reach op gens (length gens) x
+    pub not-new : isNewMember inn byte x ≡ false → (byte x ≡ 0) ⊎ Reach op gens (length gens) x
+    not-new h = by (ℕ-discrete (byte x) 0) (ℕ-discrete (getD inn x 0) appear.noNumber) where
+      by : Dec (byte x ≡ 0) → Dec (getD inn x 0 ≡ appear.noNumber) → (byte x ≡ 0) ⊎ Reach op gens (length gens) x
       by (yes z) d = inl z
       by (no z) (no k) = inr (K .inside l k)
       by (no z) (yes k) =
-          let t : isNew inn byte x ≡ true = rw (eq-eqb (getD inn x 0) appear.none k, ne-eqb (byte x) 0 z) in
+          let t : isNewMember inn byte x ≡ true = rw (eq-eqb (getD inn x 0) appear.noNumber k, ne-eqb (byte x) 0 z) in
           absurd (false-true (sym h ∙ t))
 
   pub knowing : {x : ℕ} {gens : List ℕ} → Chosen op byte x gens → x ≤ M → {w₀ : List ℕ} → length w₀ ≡ L → {c : ℕ} {t w inn outw : List ℕ}
@@ -147,7 +147,7 @@ module _ {op : ℕ → ℕ → ℕ} {byte : ℕ → ℕ} {M L : ℕ} {again : Li
   choose-ends (suc k) x gens (renumbering (built (Count c) t w) inn outw) w₀ z C l q =
       let h : x < M = omega arith in
       let K = knowing C (omega arith) l q in
-      pick-ends (Ends op byte M L again) (isNew inn byte x) (ltb (length gens) 8)
+      pick-ends (Ends op byte M L again) (isNewMember inn byte x) (ltb (length gens) 8)
       (λ n d. choose-ends k (x + 1) (gens ++ (x ∷ [])) (again (gens ++ (x ∷ [])) w) w (omega arith)
       (chosen-more C (ltb-true (length gens) 8 d) (new-member C h K n) (new-outside C h K n)) (K .work) refl)
       (λ n d.

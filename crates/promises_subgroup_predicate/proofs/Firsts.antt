@@ -16,7 +16,7 @@ use Rattle.build_lending.specs.Finish.{built}
 use Rattle.build_numbering.specs.Build.{Renumbering, renumbering}
 use Rattle.build_numbering_laws.proofs.Builds.{not-refused}
 use Rattle.build_numbering_laws.proofs.Chosen.{orbit-more}
-use Rattle.subgroup_predicate_choices.specs.Choices.{Picked, picked, isNew, chooses}
+use Rattle.subgroup_predicate_choices.specs.Choices.{Picked, picked, isNewMember, chooses}
 use Rattle.promises_subgroup_predicate.specs.Predicate.{Reach, Chosen, Faithful, Ends, accepted, refused, too-many}
 use Rattle.promises_subgroup_predicate.proofs.Choosing.{orbit-as, more-length, pick-ends, new-member, new-outside, not-new, knowing, chosen-same, chosen-more, nothing-chosen, chooses-ends}
 use Rattle.promises_subgroup_predicate.proofs.Telling.{ends-accepted}
@@ -101,7 +101,7 @@ module _ {op : ℕ → ℕ → ℕ} {byte : ℕ → ℕ} {M L : ℕ} {again : Li
       let h : x < M = omega arith in
       let K = knowing F C (omega arith) l q in
       let p : P gens = asks x gens w₀ (omega arith) C l (record { count = c; table = t; work = w; inn = inn; outw = outw; is = q }) in
-      pick-ends EachOf (isNew inn byte x) (ltb (length gens) 8)
+      pick-ends EachOf (isNewMember inn byte x) (ltb (length gens) 8)
       (λ n d. each-ends k (x + 1) (gens ++ (x ∷ [])) (again (gens ++ (x ∷ [])) w) w (omega arith)
       (chosen-more C (ltb-true (length gens) 8 d) (new-member F C h K n) (new-outside F C h K n)) (K .work) refl
       (λ j i.

@@ -16,7 +16,7 @@ use Rattle.build_checks_laws.specs.Sound.{Sound, Ruled}
 use Rattle.build_numbering.specs.Renumber as appear
 use Rattle.build_numbering.specs.Build.{renumbering}
 use Rattle.theory.specs.Orbit.{numberedStep}
-use Rattle.theory.specs.Subgroup.{rightBy, Subgroup}
+use Rattle.theory.specs.Subgroup.{rightBy, IsSubgroup}
 use Rattle.build_numbering_laws.proofs.Order.{appearing}
 use Rattle.theory.proofs.Subgroups.{right-inside, orbit-generated}
 use Rattle.build_numbering_laws.proofs.Builds.{builtOf, renumber-built, renumber-holds}
@@ -60,7 +60,7 @@ module _ {M : ℕ} {op : ℕ → ℕ → ℕ} {inv : ℕ → ℕ} (G : GroupOn M
           work-zero = W ∙ ap (λ (k : ℕ). replicate k 0) l;
         }
       where
-        apart : (l : List ℕ) (y : ℕ) → getD l y 0 ≡ appear.none → getD l y 0 < c → c ≤ room → ⊥
+        apart : (l : List ℕ) (y : ℕ) → getD l y 0 ≡ appear.noNumber → getD l y 0 < c → c ≤ room → ⊥
         apart l y k a b = omega arith
 
     -- The first part of the stretch, as long as the chosen need it, is a sound table by itself, follows the numbering rule, and has the letters of its words.
@@ -84,8 +84,8 @@ module _ {M : ℕ} {op : ℕ → ℕ → ℕ} {inv : ℕ → ℕ} (G : GroupOn M
         (m .sound, m .ruled, m .hops)
 
     -- A predicate that is true of exactly a subgroup gives that subgroup.
-    pub told-subgroup : {H : ℕ → Type 0} → Subgroup M op inv H → ((y : ℕ) → y < M → H y ↔ ¬ (byte y ≡ 0))
-        → (y : ℕ) → y < M → (¬ (getD inn y 0 ≡ appear.none)) ↔ H y
+    pub told-subgroup : {H : ℕ → Type 0} → IsSubgroup M op inv H → ((y : ℕ) → y < M → H y ↔ ¬ (byte y ≡ 0))
+        → (y : ℕ) → y < M → (¬ (getD inn y 0 ≡ appear.noNumber)) ↔ H y
     told-subgroup {H} S exact y h =
         let T = predicate-told in
         let P = predicate-subgroup (T .chosen) G S exact y in

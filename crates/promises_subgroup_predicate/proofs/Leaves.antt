@@ -16,7 +16,7 @@ use Rattle.egg.proofs.Rooms.{false-true, and-first, and-second}
 use Rattle.egg.proofs.Scans.{refused-fine}
 use Rattle.egg.specs.Answers.{numbered}
 use Rattle.build_lending.specs.Lending.{tableNeed}
-use Rattle.build_checks_laws.specs.Numbers.{member, In}
+use Rattle.build_checks_laws.specs.Numbers.{member, RefusalIn}
 use Rattle.build_checks_laws.proofs.Numbers.{each-in}
 use Rattle.factor_laws.specs.Refuses.{VerdictIn}
 use Rattle.factor_laws.proofs.Refuses.{verdict-fine, verdict-refused, verdict-pick}
@@ -53,9 +53,9 @@ module _ (from : List ℕ) (over : Group) (members table : List ℕ) (start : �
   Left = Leaves (Predicated from over members table start work inn outw room) predicateBefore predicateAfter
       (mapsFor table start work inn outw 8 among room t w i o) r
 
-  predicate-late : Predicated from over members table start work inn outw room → In predicateAfter r
+  predicate-late : Predicated from over members table start work inn outw room → RefusalIn predicateAfter r
   predicate-late S = by (told-stops from over members table start work inn outw room S z) where
-    by : ToldStops from over room r → In predicateAfter r
+    by : ToldStops from over room r → RefusalIn predicateAfter r
     by (ninth q) = rw q
     by (stopped gens x g few m q) = each-in (λ x. member x predicateAfter) (r .number) (17 ∷ []) refl m
     by (by-steps gens count elt v t′ w′ few A q) =
@@ -64,10 +64,10 @@ module _ (from : List ℕ) (over : Group) (members table : List ℕ) (start : �
         (told.lo from over members table start work inn outw room S) (told.hi from over members table start work inn outw room S)
         (eight-rows (length gens) room (tableNeed 8 room) few (le-refl (tableNeed 8 room))) q)
 
-  early-told : {f : Refusal} {s′ : Subgroup} → ¬ (Predicated from over members table start work inn outw room) → In predicateBefore f
+  early-told : {f : Refusal} {s′ : Subgroup} → ¬ (Predicated from over members table start work inn outw room) → RefusalIn predicateBefore f
       → subgrouping (record { answer = verdict.Refused f; subgroup = s′ }) table work inn outw ≡ subgrouping (record { answer = verdict.Refused r; subgroup = s }) t w i o
       → Left
-  early-told wrong p e = untouched wrong (subst (In predicateBefore) (called.same-refusal e) p) (cc, (cc, (cc, (cc, tt))))
+  early-told wrong p e = untouched wrong (subst (RefusalIn predicateBefore) (called.same-refusal e) p) (cc, (cc, (cc, (cc, tt))))
 
   pub predicate-leaves : Leaves (Predicated from over members table start work inn outw room) predicateBefore predicateAfter
       (mapsFor table start work inn outw 8 (elementsOf (handles over)) room t w i o) r

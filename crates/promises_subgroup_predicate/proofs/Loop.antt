@@ -24,23 +24,23 @@ module _ (again : List ℕ → List ℕ → Renumbering) (byte : ℕ → ℕ) (k
   choose-stop f = refl
 
   module _ (c : ℕ) where
-    pub choose-known : ¬ (getD inn x 0 ≡ appear.none) → chooses (suc k) again byte x gens (renumbering (built (Count c) t w) inn outw)
+    pub choose-known : ¬ (getD inn x 0 ≡ appear.noNumber) → chooses (suc k) again byte x gens (renumbering (built (Count c) t w) inn outw)
         ≡ chooses k again byte (x + 1) gens (renumbering (built (Count c) t w) inn outw)
     unfolding chooses
-    choose-known h = rw (ne-eqb (getD inn x 0) appear.none h)
+    choose-known h = rw (ne-eqb (getD inn x 0) appear.noNumber h)
 
-    module _ (h : getD inn x 0 ≡ appear.none) where
+    module _ (h : getD inn x 0 ≡ appear.noNumber) where
       pub choose-no-member : byte x ≡ 0 → chooses (suc k) again byte x gens (renumbering (built (Count c) t w) inn outw)
           ≡ chooses k again byte (x + 1) gens (renumbering (built (Count c) t w) inn outw)
       unfolding chooses
-      choose-no-member z = rw (eq-eqb (getD inn x 0) appear.none h, eq-eqb (byte x) 0 z)
+      choose-no-member z = rw (eq-eqb (getD inn x 0) appear.noNumber h, eq-eqb (byte x) 0 z)
 
       pub choose-next : ¬ (byte x ≡ 0) → length gens < 8 → chooses (suc k) again byte x gens (renumbering (built (Count c) t w) inn outw)
           ≡ chooses k again byte (x + 1) (gens ++ (x ∷ [])) (again (gens ++ (x ∷ [])) w)
       unfolding chooses
-      choose-next z l = rw (eq-eqb (getD inn x 0) appear.none h, ne-eqb (byte x) 0 z, lt-ltb (length gens) 8 l)
+      choose-next z l = rw (eq-eqb (getD inn x 0) appear.noNumber h, ne-eqb (byte x) 0 z, lt-ltb (length gens) 8 l)
 
       pub choose-ninth : ¬ (byte x ≡ 0) → 8 ≤ length gens → chooses (suc k) again byte x gens (renumbering (built (Count c) t w) inn outw)
           ≡ picked gens (ninth t w inn outw)
       unfolding chooses
-      choose-ninth z l = rw (eq-eqb (getD inn x 0) appear.none h, ne-eqb (byte x) 0 z, le-ltb (length gens) 8 l)
+      choose-ninth z l = rw (eq-eqb (getD inn x 0) appear.noNumber h, ne-eqb (byte x) 0 z, le-ltb (length gens) 8 l)

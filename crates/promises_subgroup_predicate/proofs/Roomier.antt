@@ -65,7 +65,7 @@ module _ {op : ℕ → ℕ → ℕ} {byte : ℕ → ℕ} {M L L′ : ℕ} {again
     K′ = knows-two (omega arith) C m B′
 
     turn : Accepts gs (chooses (suc k) more byte x gens (more gens w₁))
-    turn = by (ℕ-discrete (getD (B .inn) x 0) appear.none) (ℕ-discrete (getD (B′ .inn) x 0) appear.none) (ℕ-discrete (byte x) 0) (decLt (length gens) 8) where
+    turn = by (ℕ-discrete (getD (B .inn) x 0) appear.noNumber) (ℕ-discrete (getD (B′ .inn) x 0) appear.noNumber) (ℕ-discrete (byte x) 0) (decLt (length gens) 8) where
       one : {p : Picked} → chooses (suc k) again byte x gens (renumbering (built (Count (B .count)) (B .table) (B .work)) (B .inn) (B .outw)) ≡ p → Accepts gs p
       one q = subst (Accepts gs) (ap (chooses (suc k) again byte x gens) (B .is) ∙ q) A
 
@@ -73,7 +73,7 @@ module _ {op : ℕ → ℕ → ℕ} {byte : ℕ → ℕ} {M L L′ : ℕ} {again
           → Accepts gs p → Accepts gs (chooses (suc k) more byte x gens (more gens w₁))
       two q a = subst (Accepts gs) (sym (ap (chooses (suc k) more byte x gens) (B′ .is) ∙ q)) a
 
-      by : Dec (getD (B .inn) x 0 ≡ appear.none) → Dec (getD (B′ .inn) x 0 ≡ appear.none) → Dec (byte x ≡ 0) → Dec (length gens < 8)
+      by : Dec (getD (B .inn) x 0 ≡ appear.noNumber) → Dec (getD (B′ .inn) x 0 ≡ appear.noNumber) → Dec (byte x ≡ 0) → Dec (length gens < 8)
           → Accepts gs (chooses (suc k) more byte x gens (more gens w₁))
       by (no a) (yes b) d e = absurd (K′ .missing h b (K .inside h a))
       by (yes a) (no b) d e = absurd (K .missing h a (K′ .inside h b))

@@ -17,7 +17,7 @@ use Rattle.build_reading.specs.Build.{setStep, setWord, adds}
 use Rattle.egg.specs.Answers.{numbered}
 use Rattle.build_word_cells.specs.Hops.{hopFrom, withHops}
 use Rattle.build_lending.specs.Finish.{built, finished}
-use Rattle.build_numbering.specs.Renumber.{none, mapPlace, mapRow, mapRows}
+use Rattle.build_numbering.specs.Renumber.{noNumber, mapPlace, mapRow, mapRows}
 use Rattle.build_numbering.specs.Build.{renumbering, renumberIn}
 use Rattle.subgroup_predicate_choices.specs.Choices.{Picked, picked, chooses}
 use Rattle.subgroup_predicate.specs.Predicate.{predicateIn}
@@ -39,7 +39,7 @@ abbrev told : List ℕ → ℕ → Shown
 told bytes room = shown (predicateIn 120 (replicate 200 0) plus room 6 room (λ y. getD bytes y 0))
 
 -- The even ones.
-even : told (1 ∷ 0 ∷ 1 ∷ 0 ∷ 7 ∷ 0 ∷ []) 3 ≡ record { gens = 2 ∷ []; answer = Count 3; inn = 0 ∷ none ∷ 1 ∷ none ∷ 2 ∷ none ∷ []; outw = 0 ∷ 2 ∷ 4 ∷ [] }
+even : told (1 ∷ 0 ∷ 1 ∷ 0 ∷ 7 ∷ 0 ∷ []) 3 ≡ record { gens = 2 ∷ []; answer = Count 3; inn = 0 ∷ noNumber ∷ 1 ∷ noNumber ∷ 2 ∷ noNumber ∷ []; outw = 0 ∷ 2 ∷ 4 ∷ [] }
 unfolding putAt startOf scan readStep checks.missingRow checks.missing checks.check8 checks.rangeRow checks.linksOf checks.ranges checks.wrongRow checks.wrong checks.check-table checks.wiped checks.arriveRow checks.arrivals checks.countsRight inverses.invertFrom inverses.fillInverses inverses.inversesRight lefts.identityRow lefts.columnsRow lefts.spelledRow lefts.spelled lefts.check-steps lefts.fillLeft lefts.goesRow lefts.allGo lefts.lefts checks.check-rest checks.check-group setStep setWord adds hopFrom withHops finished mapPlace mapRow mapRows renumberIn chooses
 even = refl
 
@@ -59,8 +59,8 @@ short = refl
 there : overOf 2 6 3 (λ e. getD (0 ∷ 2 ∷ 4 ∷ []) e 0) (1 + 2 + 2 + 6) ≡ 1 + 8 + 12
 there = refl
 
-back : subOf 2 6 3 (λ x. getD (0 ∷ none ∷ 1 ∷ none ∷ 2 ∷ none ∷ []) x 0) (1 + 8 + 12) ≡ 1 + 2 + 2 + 6
+back : subOf 2 6 3 (λ x. getD (0 ∷ noNumber ∷ 1 ∷ noNumber ∷ 2 ∷ noNumber ∷ []) x 0) (1 + 8 + 12) ≡ 1 + 2 + 2 + 6
 back = refl
 
-outside : subOf 2 6 3 (λ x. getD (0 ∷ none ∷ 1 ∷ none ∷ 2 ∷ none ∷ []) x 0) (1 + 6 + 12) ≡ none
+outside : subOf 2 6 3 (λ x. getD (0 ∷ noNumber ∷ 1 ∷ noNumber ∷ 2 ∷ noNumber ∷ []) x 0) (1 + 6 + 12) ≡ noNumber
 outside = refl

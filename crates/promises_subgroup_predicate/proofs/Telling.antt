@@ -16,8 +16,8 @@ use Rattle.theory.specs.Group.{GroupOn}
 use Rattle.build_numbering.specs.Renumber as appear
 use Rattle.build_numbering.specs.Build.{Renumbering, renumbering}
 use Rattle.build_numbering_laws.specs.Source.{Answering}
-use Rattle.build_numbering_laws.specs.Maps.{Held}
-use Rattle.theory.specs.Subgroup.{rightBy, Subgroup, Proper}
+use Rattle.build_numbering_laws.specs.Maps.{RenumberedLists}
+use Rattle.theory.specs.Subgroup.{rightBy, IsSubgroup, Proper}
 use Rattle.build_numbering_laws.proofs.Order.{appearing}
 use Rattle.theory.proofs.Subgroups.{right-inside, orbit-generated}
 use Rattle.build_numbering_laws.proofs.Builds.{not-refused, renumber-work, renumber-maps}
@@ -48,7 +48,7 @@ module _ {M : ℕ} {op : ℕ → ℕ → ℕ} {inv : ℕ → ℕ} (G : GroupOn M
 
     module _ (w₀ : List ℕ) (l : length w₀ ≡ L) {c : ℕ} {t w inn outw : List ℕ}
         (q : againIn size source room M K gens w₀ ≡ renumbering (built (Count c) t w) inn outw) where
-      pub again-held : Held (length gens) M room K (rightBy op (λ g. getD gens g 0)) 0 c (stepOf t (length gens)) inn outw
+      pub again-held : RenumberedLists (length gens) M room K (rightBy op (λ g. getD gens g 0)) 0 c (stepOf t (length gens)) inn outw
       again-held =
           renumber-maps (appearing (right-inside G below) .2) (right-inside G below) small (λ y g. source y (getD gens g 0)) answering room K lo hi lent size w₀ few
           (eight-rows (length gens) room size few fits) (eight-work (length gens) room (length w₀) few (rw l work)) q
@@ -64,7 +64,7 @@ module _ {M : ℕ} {op : ℕ → ℕ → ℕ} {inv : ℕ → ℕ} (G : GroupOn M
         inside = λ {y} h k. again-held .reached h k;
         missing = λ {y} h k o. apart y k (again-held .renumbered .inward o) (again-held .within);
       } where
-        apart : (y : ℕ) → getD inn y 0 ≡ appear.none → getD inn y 0 < c → c ≤ room → ⊥
+        apart : (y : ℕ) → getD inn y 0 ≡ appear.noNumber → getD inn y 0 < c → c ≤ room → ⊥
         apart y k a b = omega arith
 
   pub again-faithful : Faithful op M L (againIn size source room M K)
@@ -124,7 +124,7 @@ module _ {M : ℕ} {op : ℕ → ℕ → ℕ} {byte : ℕ → ℕ} {gens : List 
       by (inr (k, h, f)) = orbit-more h (f .1)
 
     -- A predicate that is true of exactly a subgroup gives that subgroup.
-    pub predicate-subgroup : {K : ℕ → Type 0} → Subgroup M op inv K → ((y : ℕ) → y < M → K y ↔ ¬ (byte y ≡ 0))
+    pub predicate-subgroup : {K : ℕ → Type 0} → IsSubgroup M op inv K → ((y : ℕ) → y < M → K y ↔ ¬ (byte y ≡ 0))
         → (y : ℕ) → Reach op gens (length gens) y ↔ K y
     predicate-subgroup {K} S exact y =
         chosen-all G {gen = λ g. getD gens g 0} (λ g h. C .before h) S (λ g h. exact (getD gens g 0) (C .before h) .1 (C .members h))

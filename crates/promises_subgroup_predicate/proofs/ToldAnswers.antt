@@ -25,8 +25,8 @@ use Rattle.egg.specs.Answers.{numbered}
 use Rattle.build_lending.specs.Finish.{built, zeroed}
 use Rattle.build_lending.specs.Lending.{tableNeed, workNeed}
 use Rattle.theory.specs.Group.{GroupOn}
-use Rattle.build_checks_laws.specs.Numbers.{In}
-use Rattle.build_reading_laws.specs.Read.{Refuses}
+use Rattle.build_checks_laws.specs.Numbers.{RefusalIn}
+use Rattle.build_reading_laws.specs.Read.{ReadingRefused}
 use Rattle.build_reading_laws.proofs.Readings.{refuses-refused}
 use Rattle.group_handles.specs.declared.Group.{Group}
 use Rattle.group_handles.specs.Handles.{handles, elementsOf, allFit}
@@ -49,8 +49,8 @@ use Rattle.subgroup_predicate.specs.Predicate.{predicateIn, admitsOver, toldBac
 use Rattle.promises_subgroup_predicate.specs.Predicate.{Reach, Chosen, Ends, accepted, refused, too-many}
 use Rattle.promises_subgroup_predicate.specs.Tellable.{Buildable, Tellable}
 use Rattle.promises_subgroup_predicate.specs.Tells.{Predicated}
-use Rattle.promises_subgroup.specs.Answers.{subgroupPaper, Small}
-use Rattle.promises_subgroup_predicate.specs.ToldAnswers.{Stopping, Way, told, stops, ninth, Bytes, PredicatePaper, no-handle, too-large, short, chosen}
+use Rattle.promises_subgroup.specs.Answers.{subgroupPaper, Numberable}
+use Rattle.promises_subgroup_predicate.specs.ToldAnswers.{Stopping, Way, told, stops, ninth, EnoughWithBytes, PredicatePaper, no-handle, too-large, short, chosen}
 use Rattle.promises_subgroup_predicate.proofs.Telling.{eight-rows, eight-work, answering, again-faithful, predicate-ends}
 use Rattle.promises_subgroup_predicate.proofs.Firsts.{first-chosen, each-of, each-before}
 use Rattle.promises_subgroup_predicate.proofs.ToldExactly.{asks, suffices}
@@ -65,7 +65,7 @@ countedVerdict (Refused r) = verdict.Refused r
 abbrev pickedVerdict : Picked → Verdict
 pickedVerdict (picked gens (renumbering (built c t w) i o)) = countedVerdict c
 
-five-or-six : {n : ℕ} {r : Refusal} → (e : ℕ) × (g : ℕ) × (g < n) × ((r ≡ numbered 5 e g 0) ⊎ (r ≡ numbered 6 e g 0)) → In (5 ∷ 6 ∷ []) r
+five-or-six : {n : ℕ} {r : Refusal} → (e : ℕ) × (g : ℕ) × (g < n) × ((r ≡ numbered 5 e g 0) ⊎ (r ≡ numbered 6 e g 0)) → RefusalIn (5 ∷ 6 ∷ []) r
 five-or-six (e, g, h, inl q) = rw q
 five-or-six (e, g, h, inr q) = rw q
 
@@ -91,7 +91,7 @@ module _ {M : ℕ} {op : ℕ → ℕ → ℕ} {inv : ℕ → ℕ} (G : GroupOn M
           (answering G small source answers room K lo hi lent size L fits work gens (C .few) below) room K lo hi lent size w (C .few)
           (eight-rows (length gens) room size (C .few) fits) enough z)
         where
-          by : Refuses (numberedStep (appearing (right-inside G below) .0) (appearing (right-inside G below) .1) (rightBy op (λ g. getD gens g 0))) (length gens) room f
+          by : ReadingRefused (numberedStep (appearing (right-inside G below) .0) (appearing (right-inside G below) .1) (rightBy op (λ g. getD gens g 0))) (length gens) room f
               ⊎ (((g : ℕ) × FirstIdentity (length gens) (λ g. getD gens g 0) g × (f ≡ numbered 9 0 g 0))
               ⊎ ((g : ℕ) × FirstRepeat (length gens) (λ g. getD gens g 0) g × (f ≡ numbered 11 g 0 0)))
               → Stopping op M room gens f
@@ -225,7 +225,7 @@ module _ (from : List ℕ) (over : Group) (members table : List ℕ) (start : �
   abbrev among : ℕ
   among = elementsOf (handles over)
 
-  admits : allFit (length from) (handles over) ≡ true → Small over → admitsOver (length from) over ≡ verdict.Fine
+  admits : allFit (length from) (handles over) ≡ true → Numberable over → admitsOver (length from) over ≡ verdict.Fine
   unfolding admitsOver
   admits f s = rw (f, small-true over s)
 
@@ -241,24 +241,24 @@ module _ (from : List ℕ) (over : Group) (members table : List ℕ) (start : �
   right = mapsRight (length table) start (length work) (length inn) (length outw) room 8 among && leb among (length members)
 
   right-bytes : mapsRight (length table) start (length work) (length inn) (length outw) room 8 (elementsOf (handles over)) && leb (elementsOf (handles over)) (length members) ≡ true
-      → Bytes over members table start work inn outw room
+      → EnoughWithBytes over members table start work inn outw room
   right-bytes h = record {
     enough = true-enough over 8 table start work inn outw room (and-first _ _ h);
     bytes = leb-true _ _ (and-second (mapsRight (length table) start (length work) (length inn) (length outw) room 8 among) _ h);
   }
 
-  bytes-right : Bytes over members table start work inn outw room
+  bytes-right : EnoughWithBytes over members table start work inn outw room
       → mapsRight (length table) start (length work) (length inn) (length outw) room 8 (elementsOf (handles over)) && leb (elementsOf (handles over)) (length members) ≡ true
   bytes-right B = rw (enough-true over 8 table start work inn outw room (le-refl 8) (B .enough), le-leb among (length members) (B .bytes))
 
-  not-right : ¬ (Bytes over members table start work inn outw room)
+  not-right : ¬ (EnoughWithBytes over members table start work inn outw room)
       → mapsRight (length table) start (length work) (length inn) (length outw) room 8 (elementsOf (handles over)) && leb (elementsOf (handles over)) (length members) ≡ false
   not-right h = by right refl where
     by : (b : Bool) → right ≡ b → b ≡ false
     by false q = refl
     by true q = absurd (h (right-bytes q))
 
-  module _ (f : allFit (length from) (handles over) ≡ true) (s : Small over) (B : Bytes over members table start work inn outw room) where
+  module _ (f : allFit (length from) (handles over) ≡ true) (s : Numberable over) (B : EnoughWithBytes over members table start work inn outw room) where
     S : Predicated from over members table start work inn outw room
     S = record {
       fits = f;

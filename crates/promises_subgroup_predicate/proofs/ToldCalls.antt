@@ -39,7 +39,7 @@ use Rattle.subgroup_predicate.specs.Predicate.{predicateIn, admitsOver, toldBac
 use Rattle.subgroup_predicate.proofs.Told.{over-fine, over-admitted}
 use Rattle.build_checks_laws.specs.Sound.{Sound, Ruled}
 use Rattle.build_checks_laws.proofs.Accepted.{sound-group}
-use Rattle.build_numbering_laws.specs.Maps.{Held}
+use Rattle.build_numbering_laws.specs.Maps.{RenumberedLists}
 use Rattle.theory.specs.Subgroup.{rightBy}
 use Rattle.theory.proofs.Subgroups.{generator-outside}
 use Rattle.promises_subgroup_predicate.specs.Predicate.{Reach}
@@ -210,10 +210,10 @@ module _ (from : List ℕ) (over : Group) (members table : List ℕ) (start : �
       below g h = T .chosen .before h
 
       -- The maps hold the numbering of the factor's own stretch.
-      own : Held (length gens) M room room (rightBy op (λ g. getD gens g 0)) 0 c (stepOf (take (tableNeed (length gens) room) t) (length gens)) i o
+      own : RenumberedLists (length gens) M room room (rightBy op (λ g. getD gens g 0)) 0 c (stepOf (take (tableNeed (length gens) room) t) (length gens)) i o
       own = held-steps (T .held) (λ e g h hg. step-cut t (length gens) room e g (omega (arith, T .held .within)) hg)
 
-      known : (x : ℕ) → Reach op gens (length gens) x ↔ ((x < M) × ¬ (getD (within inn 0 M i) x 0 ≡ appear.none))
+      known : (x : ℕ) → Reach op gens (length gens) x ↔ ((x < M) × ¬ (getD (within inn 0 M i) x 0 ≡ appear.noNumber))
       known x = (
         λ r. let h = T .generated .subgroup .below r in (h, λ z. T .in-map x h .1 r (sub-same x h ∙ z)),
         λ p. T .in-map x (p .0) .0 (λ z. p .1 (sym (sub-same x (p .0)) ∙ z)),

@@ -20,7 +20,7 @@ use Rattle.build_numbering.specs.Build.{Renumbering, renumbering, renumberIn}
 use Rattle.build_numbering_laws.proofs.Builds.{refused-maps}
 use Rattle.subgroup_build.specs.declared.Subgroup.{Subgroup}
 use Rattle.subgroup_build.specs.Lent.{subgrouping}
-use Rattle.subgroup_predicate_choices.specs.Choices.{Picked, picked, isNew, ninth, chooses, againIn}
+use Rattle.subgroup_predicate_choices.specs.Choices.{Picked, picked, isNewMember, ninth, chooses, againIn}
 use Rattle.subgroup_predicate.specs.Predicate.{predicateIn, toldBack, fromPredicate}
 use Rattle.promises_subgroup.specs.Leaves.{mapsFor}
 use Rattle.promises_subgroup_predicate.specs.Tells.{Predicated}
@@ -60,7 +60,7 @@ module _ (size L M K : ℕ) (again : List ℕ → List ℕ → Renumbering) (kee
   chooses-kept zero x gens r h = h
   chooses-kept (suc k) x gens (renumbering (built (Refused f) t w) i o) h = h
   chooses-kept (suc k) x gens (renumbering (built (Count c) t w) i o) (counted p q r s) =
-      turn (isNew i byte x) (ltb (length gens) 8) (chooses k again byte (x + 1) (gens ++ (x ∷ [])) (again (gens ++ (x ∷ [])) w))
+      turn (isNewMember i byte x) (ltb (length gens) 8) (chooses k again byte (x + 1) (gens ++ (x ∷ [])) (again (gens ++ (x ∷ [])) w))
       (chooses k again byte (x + 1) gens (renumbering (built (Count c) t w) i o)) gens t w i o p q r s
       (chooses-kept k (x + 1) (gens ++ (x ∷ [])) (again (gens ++ (x ∷ [])) w) (keeps (gens ++ (x ∷ [])) w q))
       (chooses-kept k (x + 1) gens (renumbering (built (Count c) t w) i o) (counted p q r s))

@@ -9,7 +9,7 @@ use Rattle.egg.specs.declared.Refusal.{Refusal}
 use Rattle.egg.specs.declared.Verdict.{Verdict}
 use Rattle.egg.specs.declared.Verdict.the-variants as verdict
 use Rattle.build_lending.specs.Lending.{tableNeed, workNeed, noFactor}
-use Rattle.build_checks_laws.specs.Numbers.{In}
+use Rattle.build_checks_laws.specs.Numbers.{RefusalIn}
 use Rattle.build_checks_laws.proofs.Numbers.{none-of}
 use Rattle.factor_laws.specs.Accepted.{Accepted}
 use Rattle.factor_laws.specs.Unaltered.{Unaltered}
@@ -49,7 +49,7 @@ module _ (from : List ℕ) (over : Group) (members table : List ℕ) (start : �
   -- 1 to 3, 7, 13, 14 and 16 never come.
   pub predicate-never : (r : Refusal)
       → fromPredicate from over members table start work inn outw room ≡ subgrouping (record { answer = verdict.Refused r; subgroup = s }) t w i o
-      → ¬ (In (1 ∷ 2 ∷ 3 ∷ 7 ∷ 13 ∷ 14 ∷ 16 ∷ []) r)
+      → ¬ (RefusalIn (1 ∷ 2 ∷ 3 ∷ 7 ∷ 13 ∷ 14 ∷ 16 ∷ []) r)
   predicate-never r h m =
       none-of (r .number) (1 ∷ 2 ∷ 3 ∷ 7 ∷ 13 ∷ 14 ∷ 16 ∷ []) (4 ∷ predicateAfter) refl m
       (leaves-number (4 ∷ predicateAfter) refl refl (predicate-leaves from over members table start work inn outw room r s t w i o h))

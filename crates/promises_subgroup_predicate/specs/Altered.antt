@@ -10,7 +10,7 @@ use Rattle.egg.specs.Answers.{numbered}
 use Rattle.build_reading.specs.Reading.{readAll}
 use Rattle.build_lending.specs.Finish.{built, finishedPlaced}
 use Rattle.build_lending.specs.Lending.{tableNeed}
-use Rattle.build_checks_laws.specs.Numbers.{In}
+use Rattle.build_checks_laws.specs.Numbers.{RefusalIn}
 use Rattle.group_handles.specs.declared.Group.{Group}
 use Rattle.group_handles.specs.Handles.{handles, elementsOf}
 use Rattle.theory.specs.Orbit.{numberedStep, Appearing}
@@ -21,7 +21,7 @@ use Rattle.promises_subgroup.specs.Altered.{stepsRead}
 -- refused, by 17 as a product is, or as the build from composed rows is, of the steps that are read.
 pub data ToldStops (from : List ℕ) (over : Group) (room : ℕ) (r : Refusal) : Type 0 where
   ninth : r ≡ numbered 15 0 0 0 → ToldStops from over room r
-  stopped : (gens : List ℕ) (x g : ℕ) → length gens ≤ 8 → In (17 ∷ []) r → productOf from (handles over) gens x g ≡ reached.Refused r → ToldStops from over room r
+  stopped : (gens : List ℕ) (x g : ℕ) → length gens ≤ 8 → RefusalIn (17 ∷ []) r → productOf from (handles over) gens x g ≡ reached.Refused r → ToldStops from over room r
   by-steps : (gens : List ℕ) (count : ℕ) (elt : ℕ → ℕ) (w t w′ : List ℕ) → length gens ≤ 8
       → Appearing (length gens) (elementsOf (handles over)) (stepsRead from over gens) 0 count elt
       → finishedPlaced (readAll (numberedStep count elt (stepsRead from over gens)) (length gens) room (replicate (tableNeed 8 room) 0)) (length gens) w

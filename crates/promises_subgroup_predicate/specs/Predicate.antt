@@ -32,8 +32,8 @@ pub record Chosen (op : ℕ → ℕ → ℕ) (byte : ℕ → ℕ) (x : ℕ) (gen
 -- What an accepted build knows: its map tells what `gens` generate. The work is as long as it was.
 pub record Knows (op : ℕ → ℕ → ℕ) (M L : ℕ) (gens inn w : List ℕ) : Type 0 where
   pub work : length w ≡ L
-  pub inside : {y : ℕ} → y < M → ¬ (getD inn y 0 ≡ appear.none) → Reach op gens (length gens) y
-  pub missing : {y : ℕ} → y < M → getD inn y 0 ≡ appear.none → ¬ Reach op gens (length gens) y
+  pub inside : {y : ℕ} → y < M → ¬ (getD inn y 0 ≡ appear.noNumber) → Reach op gens (length gens) y
+  pub missing : {y : ℕ} → y < M → getD inn y 0 ≡ appear.noNumber → ¬ Reach op gens (length gens) y
 
 -- Every accepted build by `again` knows this.
 pub record Faithful (op : ℕ → ℕ → ℕ) (M L : ℕ) (again : List ℕ → List ℕ → Renumbering) : Type 0 where

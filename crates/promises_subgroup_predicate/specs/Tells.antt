@@ -14,7 +14,7 @@ use Rattle.theory.specs.Subgroup as sub
 use Rattle.subgroup_build.specs.declared.Subgroup.{Subgroup}
 use Rattle.subgroup_build.specs.Lent.{mapsRight}
 use Rattle.subgroup_build.specs.Generated.{smallEnough}
-use Rattle.promises_subgroup.specs.Generates.{Holds}
+use Rattle.promises_subgroup.specs.Generates.{SubgroupHolds}
 use Rattle.promises_subgroup_predicate.specs.Told.{Told}
 
 -- The arguments are right, so that the builds start: 17 in the handles, 15 and 4 have passed. Table and work are lent as for 8 generators, and there
@@ -35,7 +35,7 @@ pub record Tells (from : List ℕ) (over : Group) (members table : List ℕ) (st
   pub work₈ : List ℕ
   pub inn₈ : List ℕ
   pub outw₈ : List ℕ
-  pub holds : Holds from over gens s t i o
+  pub holds : SubgroupHolds from over gens s t i o
   pub handle : s .factor ≡ record { start = start; room = room; generators = length gens; elements = s .factor .elements }
   pub told : Told (direct from over .op) (direct from over .inv) (λ x. getD members x 0) (elementsOf (handles over)) room room (tableNeed 8 room)
       (workNeed 8 room) gens (s .factor .elements) table₈ work₈ inn₈ outw₈
@@ -43,6 +43,6 @@ pub record Tells (from : List ℕ) (over : Group) (members table : List ℕ) (st
   pub work-is : w ≡ within work 0 (workNeed 8 room) work₈
   pub inn-is : i ≡ within inn 0 (elementsOf (handles over)) inn₈
   pub outw-is : o ≡ within outw 0 room outw₈
-  pub exactly : {H : ℕ → Type 0} → sub.Subgroup (elementsOf (handles over)) (direct from over .op) (direct from over .inv) H
+  pub exactly : {H : ℕ → Type 0} → sub.IsSubgroup (elementsOf (handles over)) (direct from over .op) (direct from over .inv) H
       → ((y : ℕ) → y < elementsOf (handles over) → H y ↔ ¬ (getD members y 0 ≡ 0))
-      → (y : ℕ) → y < elementsOf (handles over) → (¬ (getD i y 0 ≡ appear.none)) ↔ H y
+      → (y : ℕ) → y < elementsOf (handles over) → (¬ (getD i y 0 ≡ appear.noNumber)) ↔ H y

@@ -15,7 +15,7 @@ use Rattle.egg.specs.Answers.{onReached}
 use Rattle.theory_radix.proofs.RadixLaws.{range-pos, high-small}
 use Rattle.group_handles.specs.Handles.{handles, elementsOf, capped}
 use Rattle.group_handles.proofs.Caps.{cap-small}
-use Rattle.build_numbering.specs.Renumber.{none}
+use Rattle.build_numbering.specs.Renumber.{noNumber}
 use Rattle.subgroup_build.specs.declared.Subgroup.{Subgroup}
 use Rattle.subgroup.specs.declared.Within.the-variants as within
 use Rattle.subgroup.specs.Indices.{factorIndices, unfactorIndices, withWithin}
@@ -50,16 +50,16 @@ module _ (B M N e : ℕ) (outw : List ℕ) {w : ℕ} (r : w ≡ getD outw (e / B
 
 -- And back.
 module _ (B M N x : ℕ) (inn : List ℕ) {w : ℕ} (r : w ≡ getD inn (x / B % M) 0) where
-  pub back-outside : w ≡ none → within.Outside ≡ carriedBackBy B M N inn x
-  back-outside k = rw (← r, eq-eqb w none k)
+  pub back-outside : w ≡ noNumber → within.Outside ≡ carriedBackBy B M N inn x
+  back-outside k = rw (← r, eq-eqb w noNumber k)
 
-  module _ (f : ¬ (w ≡ none)) where
+  module _ (f : ¬ (w ≡ noNumber)) where
     pub back-refused : N ≤ w → refusedWithin 17 ≡ carriedBackBy B M N inn x
-    back-refused k = rw (← r, ne-eqb w none f, le-ltb w N k)
+    back-refused k = rw (← r, ne-eqb w noNumber f, le-ltb w N k)
 
     pub back-is : w < N → {t : ℕ} → t ≡ unfactorIndices (withWithin (factorIndices x B M) w) B N
         → within.Element (record { 0 = t }) ≡ carriedBackBy B M N inn x
-    back-is k u = rw (← r, ne-eqb w none f, lt-ltb w N k, u)
+    back-is k u = rw (← r, ne-eqb w noNumber f, lt-ltb w N k, u)
 
 -- Where both sides are within 32 bits, so are their parts.
 module _ (s : Subgroup) (small : elementsOf (subSide s) ≤ 4294967295) (large : elementsOf (overSide s) ≤ 4294967295) where

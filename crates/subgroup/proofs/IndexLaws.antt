@@ -48,9 +48,9 @@ unfactor-factor B M e = unfactor-is (factorIndices e B M) B M ∙ rw (mod-add-di
 
 -- An element of the overgroup is in the subgroup exactly if its part within is.
 module _ (B M N : ℕ) (toSub : ℕ → ℕ) (x : ℕ) where
-  pub sub-none : toSub (x / B % M) ≡ appear.none → subOf B M N toSub x ≡ appear.none
+  pub sub-none : toSub (x / B % M) ≡ appear.noNumber → subOf B M N toSub x ≡ appear.noNumber
   sub-none q = simp (eq-eqb _ _ q)
 
-  pub sub-some : ¬ (toSub (x / B % M) ≡ appear.none)
+  pub sub-some : ¬ (toSub (x / B % M) ≡ appear.noNumber)
       → subOf B M N toSub x ≡ unfactorIndices (record { below = x % B; within = toSub (x / B % M); above = x / B / M }) B N
   sub-some q = simp (ne-eqb _ _ q)

@@ -4,7 +4,7 @@
 use Prim.Native.Nat.{ℕ, _+_, _*_, _/_, _%_}
 use lib.Dec.{eqb}
 use Rattle.egg.specs.Table.{pick}
-use Rattle.build_numbering.specs.Renumber.{none}
+use Rattle.build_numbering.specs.Renumber.{noNumber}
 
 -- An element by its three parts: in the factors below, in those that the subgroup stands for, and in those above.
 pub record Indices : Type 0 where
@@ -29,8 +29,8 @@ abbrev pub overOf : (stride M N : ℕ) (toOver : ℕ → ℕ) (e : ℕ) → ℕ
 overOf stride M N toOver e =
     unfactorIndices (withWithin (factorIndices e stride N) (toOver (factorIndices e stride N .within))) stride M
 
--- `overgroup_to_subgroup`, where `none` is "not in the subgroup".
+-- `overgroup_to_subgroup`, where `noNumber` is "not in the subgroup".
 abbrev pub subOf : (stride M N : ℕ) (toSub : ℕ → ℕ) (x : ℕ) → ℕ
 subOf stride M N toSub x =
-    pick (eqb (toSub (factorIndices x stride M .within)) none) none
+    pick (eqb (toSub (factorIndices x stride M .within)) noNumber) noNumber
     (unfactorIndices (withWithin (factorIndices x stride M) (toSub (factorIndices x stride M .within))) stride N)

@@ -14,7 +14,7 @@ use Rattle.egg.specs.Table.{pick}
 use Rattle.egg.specs.Factor.{Paper, refusalPaper, refusedReach}
 use Rattle.egg.specs.Answers.{ifReach, onReached}
 use Rattle.group_handles.specs.Handles.{elementsOf, generatorsOf, capped}
-use Rattle.build_numbering.specs.Renumber.{none}
+use Rattle.build_numbering.specs.Renumber.{noNumber}
 use Rattle.subgroup_build.specs.declared.Subgroup.{Subgroup}
 use Rattle.subgroup.specs.declared.Within.{Within}
 use Rattle.subgroup.specs.declared.Within.the-variants as within
@@ -26,7 +26,7 @@ use Rattle.subgroup_sides.specs.Generators.{sideGenerator}
 -- the subgroup" is 4,294,967,295 in the map, which is no element number".
 abbrev pub withinPaper : Within → Paper
 withinPaper (within.Element e) = record { number = 0; a = e .0; b = 0; c = 0 }
-withinPaper within.Outside = record { number = 0; a = none; b = 0; c = 0 }
+withinPaper within.Outside = record { number = 0; a = noNumber; b = 0; c = 0 }
 withinPaper (within.Refused r) = refusalPaper r
 
 -- The refusal with this number and no places.
@@ -56,7 +56,7 @@ toOverAnswer from table s outw e =
 -- Carries the overgroup's x back to the subgroup. What is not in the subgroup has an answer of its own; 17 where the map holds no element.
 abbrev pub carriedBackBy : (stride M N : ℕ) (inn : List ℕ) (x : ℕ) → Within
 carriedBackBy stride M N inn x =
-    pick (eqb (getD inn (x / stride % M) 0) none) within.Outside
+    pick (eqb (getD inn (x / stride % M) 0) noNumber) within.Outside
     (pick (ltb (getD inn (x / stride % M) 0) N) (within.Element (record { 0 = subOf stride M N (λ i. getD inn i 0) x })) (refusedWithin 17))
 
 -- The same by the subgroup's own numbers.

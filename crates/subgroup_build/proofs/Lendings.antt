@@ -14,7 +14,7 @@ use Rattle.egg.specs.declared.Verdict.{Verdict}
 use Rattle.egg.specs.declared.Verdict.the-variants.{Fine, Refused}
 use Rattle.egg.specs.declared.Counted.{Counted}
 use Rattle.build_lending.specs.Finish.{built}
-use Rattle.build_lending.specs.Lending.{tableNeed, workNeed, within, Ends, noFactor, refusedMade, madeOf}
+use Rattle.build_lending.specs.Lending.{tableNeed, workNeed, within, StretchEnd, noFactor, refusedMade, madeOf}
 use Rattle.build_lending.proofs.Lending.{part-length, part-back, put-front}
 use Rattle.group_handles.specs.declared.Group.{Group}
 use Rattle.group_handles.specs.Handles.{handles, elementsOf}
@@ -28,7 +28,7 @@ use Rattle.subgroup_build.proofs.Admits.{maps-inn, maps-outw}
 -- What went on in the four parts, when they are back: lent for k generators, and the factor has n.
 module _ (over : Group) (table : List ℕ) (start : ℕ) (work inn outw : List ℕ) (M k n room : ℕ) where
   pub maps-back : {x d : ℕ} {c : Counted} {t w i o : List ℕ} {m : Made} {s : Subgrouped} {b : Renumbering}
-      → Ends x start (tableNeed k room) (length table) → d ≡ workNeed k room → m ≡ madeOf start room n c → s ≡ subgroupOf over m
+      → StretchEnd x start (tableNeed k room) (length table) → d ≡ workNeed k room → m ≡ madeOf start room n c → s ≡ subgroupOf over m
       → renumbering (built c t w) i o ≡ b
       → subgrouping s (putMid start (x - start) table t) (w ++ drop d work) (i ++ drop M inn) (o ++ drop room outw)
       ≡ mapsBack over table start work inn outw M k n room b
@@ -44,7 +44,7 @@ module _ (over : Group) (table : List ℕ) (start : ℕ) (work inn outw : List �
 
   -- The parts that were lent are as long as the definition says.
   pub lent-lengths : (source : ℕ → ℕ → Reached) (g : ℕ) {x d : ℕ} {b : Renumbering} → M ≤ length inn → room ≤ length outw
-      → Ends x start (tableNeed k room) (length table) → d ≡ workNeed k room
+      → StretchEnd x start (tableNeed k room) (length table) → d ≡ workNeed k room
       → b ≡ renumberIn (length (midOf start (x - start) table)) (take d work) source g room (length (take M inn)) (length (take room outw)) 0
       → b ≡ renumberIn (tableNeed k room) (take (workNeed k room) work) source g room M room 0
   lent-lengths source g {x} {d} hi ho ends need q =
@@ -71,7 +71,7 @@ module _ (from : List ℕ) (over : Group) (gens table : List ℕ) (start : ℕ) 
 
     pub generated-built : {x d : ℕ} {c : Counted} {t w i o : List ℕ} {m : Made} {s : Subgrouped}
         → mapsRight (length table) start (length work) (length inn) (length outw) room (length gens) M ≡ true
-        → Ends x start (tableNeed (length gens) room) (length table) → d ≡ workNeed (length gens) room → m ≡ madeOf start room (length gens) c
+        → StretchEnd x start (tableNeed (length gens) room) (length table) → d ≡ workNeed (length gens) room → m ≡ madeOf start room (length gens) c
         → s ≡ subgroupOf over m
         → renumbering (built c t w) i o
         ≡ renumberIn (length (midOf start (x - start) table)) (take d work) (productOf from (handles over) gens) (length gens) room (length (take M inn))

@@ -24,10 +24,10 @@ use Rattle.build_lending.specs.Lending.{workNeed, lentRight}
 use Rattle.build_lending.proofs.Finishing.{builtWith, settled-like}
 use Rattle.build_lending.proofs.Lending.{lent-table, lent-enough}
 use Rattle.build_checks_laws.proofs.Lengths.{checks-work}
-use Rattle.build_numbering.specs.Renumber.{none, Mapped, mapped, thenMapped, onNew, mapPlace, mapFrom, mapRow, mapRows, mapAll}
+use Rattle.build_numbering.specs.Renumber.{noNumber, Mapped, mapped, thenMapped, onNew, mapPlace, mapFrom, mapRow, mapRows, mapAll}
 use Rattle.build_numbering.specs.Build.{Renumbering, renumbering, settledMaps, finishedMapped, renumberIn}
 use Rattle.subgroup_predicate_choices.specs.declared.inner.Picks.{Picks}
-use Rattle.subgroup_predicate_choices.specs.Choices.{Picked, picked, ninth, isNew, chooses, againIn, pickedOf}
+use Rattle.subgroup_predicate_choices.specs.Choices.{Picked, picked, ninth, isNewMember, chooses, againIn, pickedOf}
 use Rattle.subgroup_predicate.specs.Predicate.{predicateIn}
 use Rattle.build_checks_laws.proofs.AnyWork.{Like, any-work}
 
@@ -54,7 +54,7 @@ module _ (room : ℕ) where
   from-within : (r : Reached) (t inn outw : List ℕ) (n count e g : ℕ) → count ≤ room → Within (mapFrom r t inn outw n room count e g)
   unfolding mapPlace
   from-within (reached.Element x) t inn outw n count e g h =
-      pick-within (eqb (getD inn (x .0) 0) none) _ _
+      pick-within (eqb (getD inn (x .0) 0) noNumber) _ _
       (new-within (adds t n room count (record { 0 = e }) (record { 0 = g }) .answer) _ inn outw n count e g (x .0) t refl) h
   from-within (reached.Refused r) t inn outw n count e g h = tt
 
@@ -151,7 +151,7 @@ module _ (size : ℕ) (source : ℕ → ℕ → Reached) (room M K : ℕ) (byte 
         let stay = chooses-with k (x + 1) gens (renumbering (built (Count c) t w) inn outw) h in
         let stop : picked gens (ninth t v inn outw) ≡ pickedWith v (picked gens (ninth t w inn outw)) =
         ap (λ (l : List ℕ). pickedWith l (picked gens (ninth t w inn outw))) zero-already in
-        picks-with v (isNew inn byte x) (ltb (length gens) 8) _ _ _ on stop stay
+        picks-with v (isNewMember inn byte x) (ltb (length gens) 8) _ _ _ on stop stay
 
   pub predicate-with : (w w′ : List ℕ) → room ≤ length w → room ≤ length w′
       → predicateIn size w source room M K byte ≡ pickedWith (zeroed w) (predicateIn size w′ source room M K byte)

@@ -15,7 +15,7 @@ use Rattle.egg.specs.declared.Counted.{Counted}
 use Rattle.egg.specs.Scan.{refusedOf}
 use Rattle.egg.proofs.Scans.{refused-fine}
 use Rattle.build_lending.specs.Finish.{built}
-use Rattle.build_lending.specs.Lending.{tableNeed, workNeed, Ends, refusedMade, madeOf}
+use Rattle.build_lending.specs.Lending.{tableNeed, workNeed, StretchEnd, refusedMade, madeOf}
 use Rattle.build_lending.proofs.Lending.{part-length}
 use Rattle.group_handles.specs.declared.Group.{Group}
 use Rattle.group_handles.specs.Handles.{handles, elementsOf, allFit}
@@ -25,7 +25,7 @@ use Rattle.subgroup_build.specs.declared.Subgrouped.{Subgrouped}
 use Rattle.subgroup_build.specs.Lent.{subgroupOf, subgrouping, mapsRight, mapsBack}
 use Rattle.subgroup_build.specs.Generated.{smallEnough}
 use Rattle.subgroup_predicate_choices.specs.declared.inner.Picks.{Picks}
-use Rattle.subgroup_predicate_choices.specs.Choices.{Picked, chooses, againIn, Eight, pickedOf}
+use Rattle.subgroup_predicate_choices.specs.Choices.{Picked, chooses, againIn, ChosenOfEight, pickedOf}
 use Rattle.subgroup_predicate.specs.Predicate.{predicateIn, admitsOver, toldBack, toldInto}
 use Rattle.subgroup_build.proofs.Admits.{maps-inn, maps-outw}
 use Rattle.subgroup_build.proofs.Lendings.{maps-back}
@@ -72,8 +72,8 @@ module _ (from : List ℕ) (over : Group) (members table : List ℕ) (start : �
     told-few h q r = rw (← e, z, lt-leb M (length members) h, r, q)
 
     pub told-built : M ≤ length members → {x d : ℕ} {p : Picks} {made : Counted} {t w i o : List ℕ} {m : Made} {s : Subgrouped}
-        → Ends x start (tableNeed 8 room) (length table) → d ≡ workNeed 8 room → made ≡ p .made → m ≡ madeOf start room (p .generators) made
-        → s ≡ subgroupOf over m → Eight p
+        → StretchEnd x start (tableNeed 8 room) (length table) → d ≡ workNeed 8 room → made ≡ p .made → m ≡ madeOf start room (p .generators) made
+        → s ≡ subgroupOf over m → ChosenOfEight p
         → pickedOf p t w i o
         ≡ predicateIn (length (midOf start (x - start) table)) (take d work) (composes from (handles over)) room (length (take M inn)) (length (take room outw))
         (λ y. getD members y 0)

@@ -6,7 +6,7 @@ ghost use lib.ListN.{length, getD};
 ghost use Rattle.group_handles.specs.Handles.{handles, elementsOf, allFit};
 ghost use Rattle.group_digits.specs.Digits.{composes};
 ghost use Rattle.subgroup_build.specs.Lent.{Subgrouping, mapsRight};
-ghost use Rattle.subgroup_predicate_choices.specs.Choices.{Eight, pickedOf};
+ghost use Rattle.subgroup_predicate_choices.specs.Choices.{ChosenOfEight, pickedOf};
 ghost use Rattle.subgroup_predicate.specs.Predicate.{predicateIn, admitsOver, toldInto};
 use egg::Verdict;
 use group_handles::Group;
@@ -38,7 +38,7 @@ fn told_in(
     room: u32,
 ) -> Picks
     requires { ⌜ ((allFit (length (now from)) (handles over) ≡ true) × (elementsOf (handles over) ≤ 4294967295)) × (length (now inn) ≤ 65535) ⌝ }
-    ensures { λ r. ⌜ (pickedOf r (now (t .exit)) (now (w .exit)) (now (inn .exit)) (now (outw .exit)) ≡ predicateIn (length (now (t .entry))) (now (w .entry)) (composes (now (from .entry)) (handles over)) room (length (now (inn .entry))) (length (now (outw .entry))) (λ y. getD (now (members .entry)) y 0)) × Eight r ⌝ }
+    ensures { λ r. ⌜ (pickedOf r (now (t .exit)) (now (w .exit)) (now (inn .exit)) (now (outw .exit)) ≡ predicateIn (length (now (t .entry))) (now (w .entry)) (composes (now (from .entry)) (handles over)) room (length (now (inn .entry))) (length (now (outw .entry))) (λ y. getD (now (members .entry)) y 0)) × ChosenOfEight r ⌝ }
 {
     let chosen = [0u32; 8];
     let none: usize = 0;
@@ -73,7 +73,7 @@ fn told_in_front(
     room: u32,
 ) -> Picks
     requires { ⌜ (((allFit (length (now from)) (handles over) ≡ true) × (elementsOf (handles over) ≤ 4294967295)) × (length (now inn) ≤ 65535)) × ((1 ≤ room) × (room ≤ length (now w))) ⌝ }
-    ensures { λ r. ⌜ (pickedOf r (now (t .exit)) (now (w .exit)) (now (inn .exit)) (now (outw .exit)) ≡ predicateIn (length (now (t .entry))) (now (w .entry)) (composes (now (from .entry)) (handles over)) room (length (now (inn .entry))) (length (now (outw .entry))) (λ y. getD (now (members .entry)) y 0)) × Eight r ⌝ }
+    ensures { λ r. ⌜ (pickedOf r (now (t .exit)) (now (w .exit)) (now (inn .exit)) (now (outw .exit)) ≡ predicateIn (length (now (t .entry))) (now (w .entry)) (composes (now (from .entry)) (handles over)) room (length (now (inn .entry))) (length (now (outw .entry))) (λ y. getD (now (members .entry)) y 0)) × ChosenOfEight r ⌝ }
 {
     let front = room as usize;
     let p = told_in(t, &mut w[..front], inn, outw, from, over, members, room);

@@ -20,19 +20,19 @@ use Rattle.build_lending.specs.Finish.{built, zeroed}
 use Rattle.build_numbering.specs.Renumber as appear
 use Rattle.build_numbering.specs.Build.{Renumbering, renumbering, renumberIn}
 use Rattle.subgroup_predicate_choices.specs.declared.inner.Picks.{Picks}
-use Rattle.subgroup_predicate_choices.specs.Choices.{Picked, picked, ninth, isNew, chooses, againIn, Eight}
+use Rattle.subgroup_predicate_choices.specs.Choices.{Picked, picked, ninth, isNewMember, chooses, againIn, ChosenOfEight}
 
 module _ (inn : List ℕ) (byte : ℕ → ℕ) (x : ℕ) {v : ℕ} (q : v ≡ getD inn x 0) where
-  pub new-known : ¬ (v ≡ appear.none) → false ≡ isNew inn byte x
-  new-known h = let z : ¬ (getD inn x 0 ≡ appear.none) = λ e. h (q ∙ e) in rw (ne-eqb (getD inn x 0) appear.none z)
+  pub new-known : ¬ (v ≡ appear.noNumber) → false ≡ isNewMember inn byte x
+  new-known h = let z : ¬ (getD inn x 0 ≡ appear.noNumber) = λ e. h (q ∙ e) in rw (ne-eqb (getD inn x 0) appear.noNumber z)
 
-  pub new-byte : v ≡ appear.none → {y : ℕ} → y ≡ byte x → not (eqb y 0) ≡ isNew inn byte x
-  new-byte h p = let z : getD inn x 0 ≡ appear.none = sym q ∙ h in rw (eq-eqb (getD inn x 0) appear.none z, p)
+  pub new-byte : v ≡ appear.noNumber → {y : ℕ} → y ≡ byte x → not (eqb y 0) ≡ isNewMember inn byte x
+  new-byte h p = let z : getD inn x 0 ≡ appear.noNumber = sym q ∙ h in rw (eq-eqb (getD inn x 0) appear.noNumber z, p)
 
 pub set-long : (l : List ℕ) (i v : ℕ) {n : ℕ} → length l ≡ n → length (set l i v) ≡ n
 set-long l i v q = simp length-set q
 
-pub eight-as : {p r : Picks} → r .generators ≡ p .generators → r .chosen ≡ p .chosen → Eight p → Eight r
+pub eight-as : {p r : Picks} → r .generators ≡ p .generators → r .chosen ≡ p .chosen → ChosenOfEight p → ChosenOfEight r
 eight-as g l h = record { few = rw g (h .few); long = ap length l ∙ h .long }
 
 -- All that was built is zero again.
@@ -52,7 +52,7 @@ module _ (size room M K : ℕ) (source : ℕ → ℕ → Reached) (byte : ℕ �
   unfolding chooses
   turn-refused e = rw e
 
-  module _ {c : ℕ} (e : made ≡ Count c) {b : Bool} (q : b ≡ isNew inn byte x) where
+  module _ {c : ℕ} (e : made ≡ Count c) {b : Bool} (q : b ≡ isNewMember inn byte x) where
     pub turn-known : b ≡ false
         → picked (take k chosen) (renumbering (built made t w) inn outw)
         ≡ chooses 1 (againIn size source room M K) byte x (take k chosen) (renumbering (built made t w) inn outw)
@@ -86,7 +86,7 @@ module _ (size room M K : ℕ) (source : ℕ → ℕ → Reached) (byte : ℕ �
           (ap (λ (l : List ℕ). picked l (renumbering (built made′ t′ w′) inn′ outw′)) more
           ∙ ap (λ (r : Renumbering). picked (take k chosen ++ (x ∷ [])) r) u)
 
-pub next-eight : {p : Picks} (chosen : List ℕ) (k x : ℕ) → length chosen ≡ 8 → k < 8 → p .generators ≡ k + 1 → p .chosen ≡ set chosen k x → Eight p
+pub next-eight : {p : Picks} (chosen : List ℕ) (k x : ℕ) → length chosen ≡ 8 → k < 8 → p .generators ≡ k + 1 → p .chosen ≡ set chosen k x → ChosenOfEight p
 next-eight chosen k x long h g l = record { few = rw g (omega arith); long = ap length l ∙ set-long chosen k x long }
 
 -- Turns one after another.
@@ -104,7 +104,7 @@ module _ (again : List ℕ → List ℕ → Renumbering) (byte : ℕ → ℕ) wh
       → chooses (suc k) again byte x gens r ≡ onPicked (chooses 1 again byte x gens r) (λ g s. chooses k again byte (x + 1) g s)
   unfolding chooses
   one-then k x gens (renumbering (built (Refused f) t w) inn outw) = stopped k (x + 1) gens f t w inn outw
-  one-then k x gens (renumbering (built (Count c) t w) inn outw) = by (isNew inn byte x) (ltb (length gens) 8) where
+  one-then k x gens (renumbering (built (Count c) t w) inn outw) = by (isNewMember inn byte x) (ltb (length gens) 8) where
     by : (a b : Bool) → pick a (pick b (chooses k again byte (x + 1) (gens ++ (x ∷ [])) (again (gens ++ (x ∷ [])) w)) (picked gens (ninth t w inn outw)))
         (chooses k again byte (x + 1) gens (renumbering (built (Count c) t w) inn outw))
         ≡ onPicked (pick a (pick b (picked (gens ++ (x ∷ [])) (again (gens ++ (x ∷ [])) w)) (picked gens (ninth t w inn outw)))

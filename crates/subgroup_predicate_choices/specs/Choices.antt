@@ -25,8 +25,8 @@ abbrev pub ninth : List ℕ → List ℕ → List ℕ → List ℕ → Renumberi
 ninth t w inn outw = renumbering (built (Refused (numbered 15 0 0 0)) (zeroed t) (zeroed w)) (zeroed inn) (zeroed outw)
 
 -- True where x is a new member: it is not in the map so far, and its byte is not 0.
-abbrev pub isNew : List ℕ → (ℕ → ℕ) → ℕ → Bool
-isNew inn byte x = eqb (getD inn x 0) appear.none && not (eqb (byte x) 0)
+abbrev pub isNewMember : List ℕ → (ℕ → ℕ) → ℕ → Bool
+isNewMember inn byte x = eqb (getD inn x 0) appear.noNumber && not (eqb (byte x) 0)
 
 -- Goes through k elements of the overgroup, from x on. `again gens w` builds the subgroup that `gens` generate, with the work w; the last argument is
 -- how the build before ended.
@@ -34,7 +34,7 @@ unfoldable pub chooses : ℕ → (List ℕ → List ℕ → Renumbering) → (�
 chooses zero again byte x gens r = picked gens r
 chooses (suc k) again byte x gens (renumbering (built (Refused f) t w) inn outw) = picked gens (renumbering (built (Refused f) t w) inn outw)
 chooses (suc k) again byte x gens (renumbering (built (Count c) t w) inn outw) =
-    pick (isNew inn byte x)
+    pick (isNewMember inn byte x)
     (pick (ltb (length gens) 8)
     (chooses k again byte (x + 1) (gens ++ (x ∷ [])) (again (gens ++ (x ∷ [])) w))
     (picked gens (ninth t w inn outw)))
@@ -45,7 +45,7 @@ abbrev pub againIn : (size : ℕ) (source : ℕ → ℕ → Reached) (room M K :
 againIn size source room M K gens w = renumberIn size w (λ y g. source y (getD gens g 0)) (length gens) room M K 0
 
 -- What the code keeps true on its way: there are eight places for chosen generators, and the first `generators` of them are used.
-pub record Eight (p : Picks) : Type 0 where
+pub record ChosenOfEight (p : Picks) : Type 0 where
   pub few : p .generators ≤ 8
   pub long : length (p .chosen) ≡ 8
 

@@ -8,7 +8,7 @@ ghost use Rattle.build_lending.specs.Finish.{Built};
 ghost use Rattle.group_handles.specs.Handles.{handles, elementsOf, allFit};
 ghost use Rattle.group_digits.specs.Digits.{composes};
 ghost use Rattle.build_numbering.specs.Build.{Renumbering};
-ghost use Rattle.subgroup_predicate_choices.specs.Choices.{isNew, Eight, ninthOf, chooses, againIn, pickedOf};
+ghost use Rattle.subgroup_predicate_choices.specs.Choices.{isNewMember, ChosenOfEight, ninthOf, chooses, againIn, pickedOf};
 use egg::Counted;
 use egg::GroupElementId;
 use egg::Refusal;
@@ -23,7 +23,7 @@ pub struct Picks {
 
 // Whether x is a member that has no number yet.
 fn is_new(inn: &[u32], members: &[u8], x: GroupElementId) -> bool
-    ensures { λ r. ⌜ r ≡ isNew (now (inn .entry)) (λ y. getD (now (members .entry)) y 0) (x .0) ⌝ }
+    ensures { λ r. ⌜ r ≡ isNewMember (now (inn .entry)) (λ y. getD (now (members .entry)) y 0) (x .0) ⌝ }
 {
     let i = x.0;
     if egg::inner::get(inn, i as usize) != 4294967295 {
@@ -66,8 +66,8 @@ fn choose(
     x: GroupElementId,
     p: Picks,
 ) -> Picks
-    requires { ⌜ ((allFit (length (now from)) (handles over) ≡ true) × (elementsOf (handles over) ≤ 4294967295)) × Eight p ⌝ }
-    ensures { λ r. ⌜ (pickedOf r (now (t .exit)) (now (w .exit)) (now (inn .exit)) (now (outw .exit)) ≡ chooses 1 (againIn (length (now (t .entry))) (composes (now (from .entry)) (handles over)) room (length (now (inn .entry))) (length (now (outw .entry)))) (λ y. getD (now (members .entry)) y 0) (x .0) (take (p .generators) (p .chosen)) (Renumbering.renumbering (Built.built (p .made) (now (t .entry)) (now (w .entry))) (now (inn .entry)) (now (outw .entry)))) × Eight r ⌝ }
+    requires { ⌜ ((allFit (length (now from)) (handles over) ≡ true) × (elementsOf (handles over) ≤ 4294967295)) × ChosenOfEight p ⌝ }
+    ensures { λ r. ⌜ (pickedOf r (now (t .exit)) (now (w .exit)) (now (inn .exit)) (now (outw .exit)) ≡ chooses 1 (againIn (length (now (t .entry))) (composes (now (from .entry)) (handles over)) room (length (now (inn .entry))) (length (now (outw .entry)))) (λ y. getD (now (members .entry)) y 0) (x .0) (take (p .generators) (p .chosen)) (Renumbering.renumbering (Built.built (p .made) (now (t .entry)) (now (w .entry))) (now (inn .entry)) (now (outw .entry)))) × ChosenOfEight r ⌝ }
 {
     let built = p.made;
     let Counted::Count(_) = built else {
@@ -114,8 +114,8 @@ pub fn choose_all(
     room: u32,
     p: Picks,
 ) -> Picks
-    requires { ⌜ (((allFit (length (now from)) (handles over) ≡ true) × (elementsOf (handles over) ≤ 4294967295)) × (length (now inn) ≤ 65535)) × Eight p ⌝ }
-    ensures { λ r. ⌜ (pickedOf r (now (t .exit)) (now (w .exit)) (now (inn .exit)) (now (outw .exit)) ≡ chooses (length (now (inn .entry))) (againIn (length (now (t .entry))) (composes (now (from .entry)) (handles over)) room (length (now (inn .entry))) (length (now (outw .entry)))) (λ y. getD (now (members .entry)) y 0) 0 (take (p .generators) (p .chosen)) (Renumbering.renumbering (Built.built (p .made) (now (t .entry)) (now (w .entry))) (now (inn .entry)) (now (outw .entry)))) × Eight r ⌝ }
+    requires { ⌜ (((allFit (length (now from)) (handles over) ≡ true) × (elementsOf (handles over) ≤ 4294967295)) × (length (now inn) ≤ 65535)) × ChosenOfEight p ⌝ }
+    ensures { λ r. ⌜ (pickedOf r (now (t .exit)) (now (w .exit)) (now (inn .exit)) (now (outw .exit)) ≡ chooses (length (now (inn .entry))) (againIn (length (now (t .entry))) (composes (now (from .entry)) (handles over)) room (length (now (inn .entry))) (length (now (outw .entry)))) (λ y. getD (now (members .entry)) y 0) 0 (take (p .generators) (p .chosen)) (Renumbering.renumbering (Built.built (p .made) (now (t .entry)) (now (w .entry))) (now (inn .entry)) (now (outw .entry)))) × ChosenOfEight r ⌝ }
 {
     let m = inn.len() as u32;
     let mut x: u32 = 0;

@@ -14,7 +14,7 @@ use Rattle.egg.specs.Table.{pick}
 use Rattle.egg.proofs.Cells.{put-other}
 use Rattle.build_reading.specs.Build.{setStep, adds}
 use Rattle.build_reading.specs.Reading.{placed}
-use Rattle.build_numbering.specs.Renumber.{none, Mapped, mapped, onNew, mapPlace}
+use Rattle.build_numbering.specs.Renumber.{noNumber, Mapped, mapped, onNew, mapPlace}
 
 abbrev outsideOf : Mapped → List ℕ
 outsideOf (mapped p inn outw) = outw
@@ -36,7 +36,7 @@ module _ (t inn outw : List ℕ) (count x : ℕ) where
 module _ (t inn outw : List ℕ) (n room count e g x : ℕ) where
   keeps : e < count → getD (outsideOf (mapPlace t inn outw n room count e g x)) e 0 ≡ getD outw e 0
   unfolding mapPlace
-  keeps h = by (eqb (getD inn x 0) none) where
+  keeps h = by (eqb (getD inn x 0) noNumber) where
     by : (b : Bool) → getD (outsideOf (pick b
         (onNew (adds t n room count (record { 0 = e }) (record { 0 = g }) .answer) (adds t n room count (record { 0 = e }) (record { 0 = g }) .table) inn outw count x)
         (mapped (placed (Count count) (setStep t n (record { 0 = e }) (record { 0 = g }) (record { 0 = getD inn x 0 }))) inn outw))) e 0 ≡ getD outw e 0
@@ -45,7 +45,7 @@ module _ (t inn outw : List ℕ) (n room count e g x : ℕ) where
 
   more : count ≤ countOr count (mapPlace t inn outw n room count e g x)
   unfolding mapPlace
-  more = by (eqb (getD inn x 0) none) where
+  more = by (eqb (getD inn x 0) noNumber) where
     by : (b : Bool) → count ≤ countOr count (pick b
         (onNew (adds t n room count (record { 0 = e }) (record { 0 = g }) .answer) (adds t n room count (record { 0 = e }) (record { 0 = g }) .table) inn outw count x)
         (mapped (placed (Count count) (setStep t n (record { 0 = e }) (record { 0 = g }) (record { 0 = getD inn x 0 }))) inn outw))

@@ -6,12 +6,12 @@ use native.Mathlib.Decide.{decLt, Fin·val-path}
 use native.Mathlib.Omega.{arith}
 use Rattle.theory.specs.Table.{generator}
 use Rattle.theory.specs.Group.{GroupOn, RightSteps, RightRegular}
-use Rattle.theory.specs.AnyGroup.{Group, Numbers, SomeGroup}
+use Rattle.theory.specs.AnyGroup.{GroupOver, Numbers, SomeGroup}
 
 -- From any carrier to the numbers: the operation is carried over by the numbering.
 module _ {n N : ℕ} {step : ℕ → ℕ → ℕ} (S : SomeGroup n N step) where
   open SomeGroup S using (group, numbers, gen, steps)
-  open Group group using (op, unit, inv)
+  open GroupOver group using (op, unit, inv)
   open Numbers numbers using (num, elt)
 
   elt-zero : elt 0 ≡ unit
@@ -41,7 +41,7 @@ module _ {n N : ℕ} {step : ℕ → ℕ → ℕ} (S : SomeGroup n N step) where
 module _ {n N : ℕ} {step : ℕ → ℕ → ℕ} (R : RightRegular n N step) where
   open RightRegular R using (op, inv, group, steps)
 
-  on-carrier : Group (Fin N)
+  on-carrier : GroupOver (Fin N)
   on-carrier = record {
     op = λ a b. (op (a .0) (b .0), group .op-closed (a .1) (b .1));
     unit = (0, group .identity);

@@ -8,7 +8,7 @@ use native.Mathlib.Decide.{decLt}
 use native.Mathlib.Omega.{arith}
 use lib.Dec.{T, eqb, eqb→eq}
 use Rattle.theory.specs.Bounded.{sum, one}
-use Rattle.theory.specs.Table.{Table, Columns, arrivals}
+use Rattle.theory.specs.Table.{Table, Columns, arrival-count}
 use Rattle.theory.proofs.BoundedTests.{eq→eqb, is-true, is-false, below-suc}
 use Rattle.theory.proofs.Pigeonhole.{Repeats, pigeonhole}
 
@@ -78,7 +78,7 @@ sum-single (suc k) p b hb t only = ⊎-elim
     (below-suc hb)
 
 -- "Counting arrivals over all generators together" never refuses a table whose columns are permutations.
-pub arrivals-are : {n N : ℕ} {step back : ℕ → ℕ → ℕ} → Columns n N step back → {e : ℕ} → e < N → arrivals n N step e ≡ n
+pub arrivals-are : {n N : ℕ} {step back : ℕ → ℕ → ℕ} → Columns n N step back → {e : ℕ} → e < N → arrival-count n N step e ≡ n
 arrivals-are {n} {N} {step} {back} B {e} he =
     omega (arith, sum-swap N n (λ x g. one (eqb (step x g) e)), sum-same n 1 (λ g. sum N (λ x. one (eqb (step x g) e))) once) where
       once : (g : ℕ) → g < n → sum N (λ x. one (eqb (step x g) e)) ≡ 1

@@ -29,30 +29,30 @@ module _ (n : ℕ) (step : ℕ → ℕ → ℕ) (k x g c : ℕ) where
   read-end hg h = rw (le-ltb g n hg, le-ltb (suc x) c h, read)
 
 -- What an outcome says of the table.
-abbrev pub Told : ℕ → (ℕ → ℕ → ℕ) → Outcome → Type 0
-Told n step (numbers N) = Numbered n N step
-Told n step (skips x g t) = Skips n step x g t
-Told n step unread = Unit {0}
+abbrev pub OutcomeSays : ℕ → (ℕ → ℕ → ℕ) → Outcome → Type 0
+OutcomeSays n step (numbers N) = Numbered n N step
+OutcomeSays n step (skips x g t) = Skips n step x g t
+OutcomeSays n step unread = Unit {0}
 
 module _ {n : ℕ} {step : ℕ → ℕ → ℕ} where
-  one-step : (k : ℕ) → ((x g c : ℕ) → Known n step x g c → Told n step (read n step k x g c))
-      → (x g c : ℕ) → Known n step x g c → Told n step (read n step (suc k) x g c)
+  one-step : (k : ℕ) → ((x g c : ℕ) → Known n step x g c → OutcomeSays n step (read n step k x g c))
+      → (x g c : ℕ) → Known n step x g c → OutcomeSays n step (read n step (suc k) x g c)
   one-step k ih x g c K = go (decLt g n) where
-    at-place : g < n → Order (step x g) c → Told n step (read n step (suc k) x g c)
+    at-place : g < n → Order (step x g) c → OutcomeSays n step (read n step (suc k) x g c)
     at-place hg (less t) = rw (read-old n step k x g c hg t) (ih x (suc g) c (old K hg t))
     at-place hg (equal t) = rw (read-new n step k x g c hg t) (ih x (suc g) (suc c) (new K hg t))
     at-place hg (more t) = rw (read-skip n step k x g c hg t) (record { count = c; known = K; column = hg; number = refl; ahead = t })
 
-    at-end : n ≤ g → Known n step x n c → Dec (suc x < c) → Told n step (read n step (suc k) x g c)
+    at-end : n ≤ g → Known n step x n c → Dec (suc x < c) → OutcomeSays n step (read n step (suc k) x g c)
     at-end hg K (yes h) = rw (read-row n step k x g c hg h) (ih (suc x) 0 c (next-row K h))
     at-end hg K (no h) = rw (read-end n step k x g c hg (omega arith)) (record { end = x; last-row = omega (arith, row-known K); known = K })
 
-    go : Dec (g < n) → Told n step (read n step (suc k) x g c)
+    go : Dec (g < n) → OutcomeSays n step (read n step (suc k) x g c)
     go (yes h) = at-place h (order (step x g) c)
     go (no h) = let e : g ≡ n = omega (arith, column-in-row K) in at-end (omega arith) (rw e at K) (decLt (suc x) c)
 
   -- Whatever reading comes to is true of the table.
-  pub read-true : (k x g c : ℕ) → Known n step x g c → Told n step (read n step k x g c)
+  pub read-true : (k x g c : ℕ) → Known n step x g c → OutcomeSays n step (read n step k x g c)
   read-true zero x g c K = tt
   read-true (suc k) x g c K = one-step k (read-true k) x g c K
 
@@ -88,7 +88,7 @@ module _ {n : ℕ} {step : ℕ → ℕ → ℕ} where
 -- So the reading decides the numbering rule: a table has N rows by it just if N elements are counted.
 pub read-exact : (n N : ℕ) (step : ℕ → ℕ → ℕ) → (read n step (N * suc n) 0 0 1 ≡ numbers N) ↔ Numbered n N step
 read-exact n N step = (
-  λ e. subst (Told n step) e (read-true (N * suc n) 0 0 1 start),
+  λ e. subst (OutcomeSays n step) e (read-true (N * suc n) 0 0 1 start),
   λ R. read-counts R (N * suc n) (le-refl _),
 )
 

@@ -16,7 +16,7 @@ use Rattle.theory.proofs.Periods.{period-exists}
 use Rattle.theory.proofs.IdentityRows.{identity-row-distinct}
 use Rattle.theory.proofs.Complete.{compose-is-op, inverse-is-inv}
 use Rattle.theory.specs.Orbit.{Orbit, origin, onward, Inside, Renumbered}
-use Rattle.theory.specs.Subgroup.{rightBy, Subgroup, Generated, Proper}
+use Rattle.theory.specs.Subgroup.{rightBy, IsSubgroup, Generated, Proper}
 
 module _ {M : ℕ} {op : ℕ → ℕ → ℕ} {inv : ℕ → ℕ} (G : GroupOn M op inv) {n : ℕ} {gen : ℕ → ℕ} (gens : (g : ℕ) → g < n → gen g < M) where
   pub right-inside : Inside n M (rightBy op gen) 0
@@ -51,7 +51,7 @@ module _ {M : ℕ} {op : ℕ → ℕ → ℕ} {inv : ℕ → ℕ} (G : GroupOn M
   orbit-generators : {g : ℕ} → g < n → H (gen g)
   orbit-generators {g} hg = subst H (G .left-identity (gens g hg)) (onward origin hg)
 
-  orbit-smallest : {K : ℕ → Type 0} {a : ℕ} → Subgroup M op inv K → ((g : ℕ) → g < n → K (gen g)) → H a → K a
+  orbit-smallest : {K : ℕ → Type 0} {a : ℕ} → IsSubgroup M op inv K → ((g : ℕ) → g < n → K (gen g)) → H a → K a
   orbit-smallest S k origin = S .identity
   orbit-smallest S k (onward {x} {g} o hg) = S .products (orbit-smallest S k o) (k g hg)
 

@@ -5,7 +5,7 @@ use mathlib.Core.List.{List, [], _∷_}
 use Prim.Native.Nat.{ℕ, _<_}
 
 -- The textbook's group, on the elements of a type.
-pub record Group (A : Type 0) : Type 0 where
+pub record GroupOver (A : Type 0) : Type 0 where
   pub op : A → A → A
   pub unit : A
   pub inv : A → A
@@ -17,7 +17,7 @@ pub record Group (A : Type 0) : Type 0 where
 
 -- The group's elements are numbered 0 .. N-1, each once, and the identity is 0: `num` gives an element's number, `elt` the element that has a number,
 -- and they undo each other.
-pub record Numbers {A : Type 0} (G : Group A) (N : ℕ) : Type 0 where
+pub record Numbers {A : Type 0} (G : GroupOver A) (N : ℕ) : Type 0 where
   pub num : A → ℕ
   pub elt : ℕ → A
   pub num-below : (a : A) → num a < N
@@ -29,12 +29,12 @@ pub record Numbers {A : Type 0} (G : Group A) (N : ℕ) : Type 0 where
 -- these right steps".
 pub record SomeGroup (n N : ℕ) (step : ℕ → ℕ → ℕ) : Type 1 where
   pub Carrier : Type 0
-  pub group : Group Carrier
+  pub group : GroupOver Carrier
   pub numbers : Numbers group N
   pub gen : ℕ → Carrier
   pub steps : {e g : ℕ} → e < N → g < n → step e g ≡ numbers .num (group .op (numbers .elt e) (gen g))
 
 -- What a word multiplies to, with an element of the group for each letter.
-abbrev pub product : {A : Type 0} → Group A → (ℕ → A) → List ℕ → A
-product G gen [] = G .unit
-product G gen (g ∷ w) = G .op (gen g) (product G gen w)
+abbrev pub word-product : {A : Type 0} → GroupOver A → (ℕ → A) → List ℕ → A
+word-product G gen [] = G .unit
+word-product G gen (g ∷ w) = G .op (gen g) (word-product G gen w)

@@ -28,5 +28,5 @@ pub record Columns (n N : ℕ) (step back : ℕ → ℕ → ℕ) : Type 0 where
   pub back-step : {e g : ℕ} → e < N → g < n → back (step e g) g ≡ e
 
 -- How often e is arrived at, over all elements and generators together: the "count (003)" that refusal 9 looks at.
-abbrev pub arrivals : ℕ → ℕ → (ℕ → ℕ → ℕ) → ℕ → ℕ
-arrivals n N step e = sum N λ x. sum n λ g. one (eqb (step x g) e)
+abbrev pub arrival-count : ℕ → ℕ → (ℕ → ℕ → ℕ) → ℕ → ℕ
+arrival-count n N step e = sum N λ x. sum n λ g. one (eqb (step x g) e)

@@ -10,19 +10,19 @@ use lib.ListN.{length, getD}
 use Rattle.theory.specs.Group.{conjugate, power, integer-power}
 use Rattle.theory_radix.specs.Radix as radix
 use Rattle.theory_radix.specs.Radix.{Digits, count, split, project, inject}
-use Rattle.theory_products.specs.Product.{Part, trivial, pair, product, ranges, factor, each, componentwise, gather, Each, none, more, IsGroup, Parted}
+use Rattle.theory_products.specs.Product.{Part, trivial, pair, product, digit-ranges, factor, each, componentwise, gather, Each, none, more, IsGroup, Parted}
 use Rattle.theory_radix.proofs.RadixLaws.{low, high, low-small, high-small, project-is, project-small}
 use Rattle.theory_products.proofs.ProductLaws.{trivial-group, product-group}
 
 -- The elements themselves, and the identity.
-pub first : Parted (λ p a b. a)
-first = record { closed = λ G a b. a; at-pair = λ {p} {q} {a} P Q ha hb. sym (mod-add-div a (p .elements)) }
+pub first-parted : Parted (λ p a b. a)
+first-parted = record { closed = λ G a b. a; at-pair = λ {p} {q} {a} P Q ha hb. sym (mod-add-div a (p .elements)) }
 
-pub second : Parted (λ p a b. b)
-second = record { closed = λ G a b. b; at-pair = λ {p} {q} {a} {b} P Q ha hb. sym (mod-add-div b (p .elements)) }
+pub second-parted : Parted (λ p a b. b)
+second-parted = record { closed = λ G a b. b; at-pair = λ {p} {q} {a} {b} P Q ha hb. sym (mod-add-div b (p .elements)) }
 
-pub identity : Parted (λ p a b. 0)
-identity = record { closed = λ G a b. G .laws .identity; at-pair = λ {p} P Q ha hb. omega (arith, mul-zero (p .elements)) }
+pub identity-parted : Parted (λ p a b. 0)
+identity-parted = record { closed = λ G a b. G .laws .identity; at-pair = λ {p} P Q ha hb. omega (arith, mul-zero (p .elements)) }
 
 module _ {F G : Part → ℕ → ℕ → ℕ} (S : Parted F) (T : Parted G) where
   times-pair : {p q : Part} {a b : ℕ} → IsGroup p → IsGroup q → a < p .elements * q .elements → b < p .elements * q .elements
@@ -57,21 +57,21 @@ module _ {F : Part → ℕ → ℕ → ℕ} (S : Parted F) where
 
 -- So every term in the operation, the inverse and the identity is taken factor by factor: conjugates and powers too.
 pub op-parted : Parted (λ p. p .op)
-op-parted = times first second
+op-parted = times first-parted second-parted
 
 pub inv-parted : Parted (λ p a b. p .inv a)
-inv-parted = inverse-of first
+inv-parted = inverse-of first-parted
 
 pub conjugate-parted : Parted (λ p. conjugate (p .op) (p .inv))
-conjugate-parted = times (times first second) (inverse-of first)
+conjugate-parted = times (times first-parted second-parted) (inverse-of first-parted)
 
 pub power-parted : {F : Part → ℕ → ℕ → ℕ} → Parted F → (k : ℕ) → Parted (λ p a b. power (p .op) (F p a b) k)
-power-parted S zero = identity
+power-parted S zero = identity-parted
 power-parted S (suc k) = times (power-parted S k) S
 
 pub integer-power-parted : (z : ℤ) → Parted (λ p a b. integer-power (p .op) (p .inv) a z)
-integer-power-parted (pos k) = power-parted first k
-integer-power-parted (negsuc k) = power-parted (inverse-of first) (suc k)
+integer-power-parted (pos k) = power-parted first-parted k
+integer-power-parted (negsuc k) = power-parted (inverse-of first-parted) (suc k)
 
 -- F of the product is F of each factor and its digits.
 pub parted-join : {F : Part → ℕ → ℕ → ℕ} {ps : List Part} → Parted F → Each IsGroup ps → (a b : ℕ)
@@ -85,7 +85,7 @@ parted-join {F} S (more {p} {ps} P Ps) a b ha hb =
 
 -- These digits are in range.
 pub each-digits : {F : Part → ℕ → ℕ → ℕ} {ps : List Part} → Parted F → Each IsGroup ps → (a b : ℕ)
-    → a < product ps .elements → b < product ps .elements → Digits (ranges ps) (each F ps (split (ranges ps) a) (split (ranges ps) b))
+    → a < product ps .elements → b < product ps .elements → Digits (digit-ranges ps) (each F ps (split (digit-ranges ps) a) (split (digit-ranges ps) b))
 each-digits S none a b ha hb = radix.none
 each-digits {F} S (more {p} {ps} P Ps) a b ha hb =
     let N = p .elements in
@@ -95,7 +95,7 @@ each-digits {F} S (more {p} {ps} P Ps) a b ha hb =
 -- Each projection is a homomorphism, and more: it commutes with every such F.
 pub parted-project : {F : Part → ℕ → ℕ → ℕ} {ps : List Part} → Parted F → Each IsGroup ps → (a b f : ℕ)
     → a < product ps .elements → b < product ps .elements
-    → project (ranges ps) f (F (product ps) a b) ≡ F (factor ps f) (project (ranges ps) f a) (project (ranges ps) f b)
+    → project (digit-ranges ps) f (F (product ps) a b) ≡ F (factor ps f) (project (digit-ranges ps) f a) (project (digit-ranges ps) f b)
 parted-project {F} S none a b f ha hb =
     omega (arith, project-is [] f (F trivial a b), S .closed trivial-group (project-small [] f a ha) (project-small [] f b hb))
 parted-project S (more {p} {ps} P Ps) a b zero ha hb =
@@ -109,13 +109,13 @@ parted-project S (more {p} {ps} P Ps) a b (suc f) ha hb =
     (rw (S .at-pair P (product-group Ps) ha hb, high (S .closed P (low-small N M a ha) (low-small N M b hb)))
     (parted-project S Ps (a / N) (b / N) f (high-small N M a ha) (high-small N M b hb)))
 
-pub factor-range : (ps : List Part) (f : ℕ) → factor ps f .elements ≡ getD (ranges ps) f 1
+pub factor-range : (ps : List Part) (f : ℕ) → factor ps f .elements ≡ getD (digit-ranges ps) f 1
 factor-range [] f = refl
 factor-range (p ∷ ps) zero = refl
 factor-range (p ∷ ps) (suc f) = factor-range ps f
 
 pub inject-small : {ps : List Part} → Each IsGroup ps → (f x : ℕ) → f < length ps → x < factor ps f .elements
-    → inject (ranges ps) f x < product ps .elements
+    → inject (digit-ranges ps) f x < product ps .elements
 inject-small none f x h hx = absurd (omega arith)
 inject-small (more {p} {ps} P Ps) zero x h hx = rw one-mul (lt-of-lt-of-le hx (le-mul-of-pos-right (p .elements) (product-group Ps .laws .identity)))
 inject-small (more {p} {ps} P Ps) (suc f) x h hx =
@@ -124,7 +124,7 @@ inject-small (more {p} {ps} P Ps) (suc f) x h hx =
 -- Each injection is a homomorphism, and more: it commutes with every such F that takes the identity to the identity.
 pub parted-inject : {F : Part → ℕ → ℕ → ℕ} {ps : List Part} → Parted F → ((p : Part) → IsGroup p → F p 0 0 ≡ 0) → Each IsGroup ps
     → (f x y : ℕ) → f < length ps → x < factor ps f .elements → y < factor ps f .elements
-    → F (product ps) (inject (ranges ps) f x) (inject (ranges ps) f y) ≡ inject (ranges ps) f (F (factor ps f) x y)
+    → F (product ps) (inject (digit-ranges ps) f x) (inject (digit-ranges ps) f y) ≡ inject (digit-ranges ps) f (F (factor ps f) x y)
 parted-inject S still none f x y h hx hy = absurd (omega arith)
 parted-inject S still (more {p} {ps} P Ps) zero x y h hx hy =
     let N≤ = le-mul-of-pos-right (p .elements) (product-group Ps .laws .identity) in
@@ -134,8 +134,8 @@ parted-inject S still (more {p} {ps} P Ps) zero x y h hx hy =
 parted-inject S still (more {p} {ps} P Ps) (suc f) x y h hx hy =
     let N = p .elements in
     let pos = P .laws .identity in
-    let X = inject (ranges ps) f x in
-    let Y = inject (ranges ps) f y in
+    let X = inject (digit-ranges ps) f x in
+    let Y = inject (digit-ranges ps) f y in
     let x< = mul-lt-mul-of-pos-left (inject-small Ps f x (omega arith) hx) pos in
     let y< = mul-lt-mul-of-pos-left (inject-small Ps f y (omega arith) hy) pos in
     simp mul-assoc
@@ -152,7 +152,7 @@ gather-is F s (p ∷ ps) a b sum =
 
 -- A product of two products is the product of all their factors.
 pub componentwise-append : (F : Part → ℕ → ℕ → ℕ) (ps qs : List Part) (a b : ℕ) → componentwise F (ps ++ qs) a b
-    ≡ componentwise F ps a b + count (ranges ps) * componentwise F qs (a / count (ranges ps)) (b / count (ranges ps))
+    ≡ componentwise F ps a b + count (digit-ranges ps) * componentwise F qs (a / count (digit-ranges ps)) (b / count (digit-ranges ps))
 componentwise-append F [] qs a b = simp (div-one, one-mul, zero-add)
 componentwise-append F (p ∷ ps) qs a b =
     rw (componentwise-append F ps qs (a / p .elements) (b / p .elements), mul-add) (simp (div-div-eq-div-mul, mul-assoc, add-assoc))

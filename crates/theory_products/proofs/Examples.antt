@@ -17,7 +17,7 @@ use Rattle.theory.proofs.Reading.{read-exact}
 use Rattle.theory.proofs.Test.{check-exact}
 use Rattle.theory.proofs.Examples.{s3, s3-rule, s3-check}
 use Rattle.theory_radix.specs.Radix.{split, project}
-use Rattle.theory_products.specs.Product.{Part, table-part, product, ranges, factor, none, more, Shortest}
+use Rattle.theory_products.specs.Product.{Part, table-part, product, digit-ranges, factor, none, more, Shortest}
 use Rattle.theory_products.specs.Power.{powi, halving}
 use Rattle.theory_products.proofs.WordLaws.{product-shortest}
 use Rattle.theory_products.proofs.TableParts.{numbered-shortest}
@@ -57,7 +57,7 @@ pub s3-z2-shortest : Shortest S3×Z2
 s3-z2-shortest = product-shortest (more s3-shortest (more z2-shortest none))
 
 -- "9 splits (3,1), word 0,1,2; compose(9,7)=5; inverse(9)=10." By the generator 2, that of Z2, 0 leads to 6.
-pub s3-z2 : (split (ranges (S3 ∷ Z2 ∷ [])) 9 ≡ 3 ∷ 1 ∷ []) × (S3×Z2 .word 9 ≡ 0 ∷ 1 ∷ 2 ∷ []) × (S3×Z2 .op 9 7 ≡ 5) × (S3×Z2 .inv 9 ≡ 10)
+pub s3-z2 : (split (digit-ranges (S3 ∷ Z2 ∷ [])) 9 ≡ 3 ∷ 1 ∷ []) × (S3×Z2 .word 9 ≡ 0 ∷ 1 ∷ 2 ∷ []) × (S3×Z2 .op 9 7 ≡ 5) × (S3×Z2 .inv 9 ≡ 10)
     × (S3×Z2 .step 0 2 ≡ 6)
 s3-z2 = (refl, refl, refl, refl, refl)
 
@@ -87,7 +87,7 @@ pub s3-z2-period : Period (S3×Z2 .op) 9 6
 s3-z2-period =
     product-period (more (s3-shortest .worded .stepped .group) (more (z2-shortest .worded .stepped .group) none)) 9 (λ f. getD (3 ∷ 2 ∷ []) f 1) (lit< tt)
     periods where
-      periods : (f : ℕ) → f < 2 → Period (factor (S3 ∷ Z2 ∷ []) f .op) (project (ranges (S3 ∷ Z2 ∷ [])) f 9) (getD (3 ∷ 2 ∷ []) f 1)
+      periods : (f : ℕ) → f < 2 → Period (factor (S3 ∷ Z2 ∷ []) f .op) (project (digit-ranges (S3 ∷ Z2 ∷ [])) f 9) (getD (3 ∷ 2 ∷ []) f 1)
       periods zero h = s3-period
       periods (suc zero) h = z2-period
       periods (suc (suc f)) h = absurd (omega arith)

@@ -9,11 +9,11 @@ use lib.ListN.{length}
 use Rattle.theory.specs.Group.{GroupOn, power, Period}
 use Rattle.theory.proofs.GroupLaws.{power-closed, power-add, power-mul}
 use Rattle.theory_radix.specs.Radix.{project}
-use Rattle.theory_products.specs.Product.{Part, pair, product, ranges, factor, Each, none, more, IsGroup}
+use Rattle.theory_products.specs.Product.{Part, pair, product, digit-ranges, factor, Each, none, more, IsGroup}
 use Rattle.theory_radix.specs.Divisors.{lcm, lcms}
 use Rattle.theory_radix.proofs.RadixLaws.{low, high, low-small, high-small}
 use Rattle.theory_products.proofs.ProductLaws.{product-group}
-use Rattle.theory_products.proofs.Componentwise.{first, power-parted}
+use Rattle.theory_products.proofs.Componentwise.{first-parted, power-parted}
 use Rattle.theory_products.proofs.PowerLaws.{power-identity}
 use Rattle.theory_radix.proofs.DivisorLaws.{lcm-left, lcm-right, lcm-least, lcm-positive}
 
@@ -35,7 +35,7 @@ module _ {N : ℕ} {op : ℕ → ℕ → ℕ} {inv : ℕ → ℕ} (G : GroupOn N
 module _ (p q : Part) (P : IsGroup p) (Q : IsGroup q) {e j k : ℕ} (he : e < p .elements * q .elements)
     (J : Period (p .op) (e % p .elements) j) (K : Period (q .op) (e / p .elements) k) where
   powers : (i : ℕ) → power (pair p q .op) e i ≡ power (p .op) (e % p .elements) i + p .elements * power (q .op) (e / p .elements) i
-  powers i = (power-parted first i) .at-pair P Q he he
+  powers i = (power-parted first-parted i) .at-pair P Q he he
 
   pub pair-period : Period (pair p q .op) e (lcm j k)
   pair-period = record {
@@ -57,7 +57,7 @@ module _ (p q : Part) (P : IsGroup p) (Q : IsGroup q) {e j k : ℕ} (he : e < p 
     h = high-small (p .elements) (q .elements) e he
 
 pub product-period : {ps : List Part} → Each IsGroup ps → (e : ℕ) (k : ℕ → ℕ) → e < product ps .elements
-    → ((f : ℕ) → f < length ps → Period (factor ps f .op) (project (ranges ps) f e) (k f)) → Period (product ps .op) e (lcms (length ps) k)
+    → ((f : ℕ) → f < length ps → Period (factor ps f .op) (project (digit-ranges ps) f e) (k f)) → Period (product ps .op) e (lcms (length ps) k)
 product-period none e k he K = record { positive = omega arith; returns = refl; first = λ pos z. pos }
 product-period (more {p} {ps} P Ps) e k he K =
     pair-period p (product ps) P (product-group Ps) he (simp div-one at (K zero (omega arith)))

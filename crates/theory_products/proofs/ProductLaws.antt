@@ -7,7 +7,7 @@ use native.Mathlib.Omega.{arith}
 use lib.ListN.{length, getD}
 use Rattle.theory.specs.Group.{GroupOn}
 use Rattle.theory_radix.specs.Radix.{count}
-use Rattle.theory_products.specs.Product.{Part, trivial, pair, product, ranges, factor, componentwise, Each, none, more, IsGroup}
+use Rattle.theory_products.specs.Product.{Part, trivial, pair, product, digit-ranges, factor, componentwise, Each, none, more, IsGroup}
 use Rattle.theory_radix.proofs.RadixLaws.{low, high, joined-small, low-small, high-small}
 
 -- What holds of the one-element group, and of a pair if of both, holds of every product.
@@ -61,11 +61,11 @@ module _ (p q : Part) (P : IsGroup p) (Q : IsGroup q) where
 pub product-group : {ps : List Part} → Each IsGroup ps → IsGroup (product ps)
 product-group gs = product-has trivial-group pair-group gs
 
-pub product-count : (ps : List Part) → product ps .elements ≡ count (ranges ps)
+pub product-count : (ps : List Part) → product ps .elements ≡ count (digit-ranges ps)
 product-count [] = refl
 product-count (p ∷ ps) = ap (λ x. p .elements * x) (product-count ps)
 
-pub ranges-length : (ps : List Part) → length (ranges ps) ≡ length ps
+pub ranges-length : (ps : List Part) → length (digit-ranges ps) ≡ length ps
 ranges-length [] = refl
 ranges-length (p ∷ ps) = ap suc (ranges-length ps)
 
@@ -81,7 +81,7 @@ inv-is (p ∷ ps) a = ap (λ x. p .inv (a % p .elements) + p .elements * x) (inv
 
 -- The direct product: factor by factor, groups make a group on 0 .. count-1 with identity 0.
 pub direct-product : {ps : List Part} → Each IsGroup ps
-    → GroupOn (count (ranges ps)) (componentwise (λ p. p .op) ps) (λ a. componentwise (λ p a b. p .inv a) ps a a)
+    → GroupOn (count (digit-ranges ps)) (componentwise (λ p. p .op) ps) (λ a. componentwise (λ p a b. p .inv a) ps a a)
 direct-product {ps} gs =
     subst₃ (λ N op inv. GroupOn N op inv) (product-count ps) (fun-ext λ a. fun-ext λ b. op-is ps a b) (fun-ext λ a. inv-is ps a) (product-group gs .laws)
 

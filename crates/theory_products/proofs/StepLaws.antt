@@ -9,18 +9,18 @@ use lib.ListN.{length, getD, set}
 use borrow.Author.Tests.{lt-ltb, le-ltb}
 use Rattle.theory.specs.Table.{generator}
 use Rattle.theory_radix.specs.Radix.{count, split, join, project, inject, replace}
-use Rattle.theory_products.specs.Product.{Part, trivial, pair, product, ranges, factor, offset, Each, Stepped}
+use Rattle.theory_products.specs.Product.{Part, trivial, pair, product, digit-ranges, factor, offset, Each, Stepped}
 use Rattle.theory_radix.proofs.RadixLaws.{low, high, joined-small, low-small, high-small, join-split, replace-is, project-zero, project-is, inject-is}
 use Rattle.theory_products.proofs.ProductLaws.{product-has, trivial-group, pair-group, product-count, ranges-length}
 
 -- A generator of a pair is one of the first, or the g-th of the second.
-pub data Side (n m G : ℕ) : Type 0 where
-  left : G < n → Side n m G
-  right : (g : ℕ) → g < m → G ≡ n + g → Side n m G
+pub data WhichFactor (n m G : ℕ) : Type 0 where
+  left : G < n → WhichFactor n m G
+  right : (g : ℕ) → g < m → G ≡ n + g → WhichFactor n m G
 
-pub side : (n m G : ℕ) → G < n + m → Side n m G
+pub side : (n m G : ℕ) → G < n + m → WhichFactor n m G
 side n m G h = go (decLt G n) where
-  go : Dec (G < n) → Side n m G
+  go : Dec (G < n) → WhichFactor n m G
   go (yes k) = left k
   go (no k) = right (G - n) (omega arith) (omega arith)
 
@@ -40,11 +40,11 @@ module _ (p q : Part) where
 
 -- The steps of a pair are multiplication on the right by the elements of the generators.
 module _ (p q : Part) (P : Stepped p) (Q : Stepped q) where
-  element : (G : ℕ) → Side (p .generators) (q .generators) G → pair p q .step 0 G < p .elements * q .elements
+  element : (G : ℕ) → WhichFactor (p .generators) (q .generators) G → pair p q .step 0 G < p .elements * q .elements
   element G (left h) = rw (element-left p q h) (joined-small (P .steps .element h) 0 (Q .group .laws .identity))
   element G (right g h z) = rw (z, element-right p q g) (joined-small (P .group .laws .identity) (q .step 0 g) (Q .steps .element h))
 
-  step-is : (e G : ℕ) → e < p .elements * q .elements → Side (p .generators) (q .generators) G → pair p q .step e G ≡ pair p q .op e (pair p q .step 0 G)
+  step-is : (e G : ℕ) → e < p .elements * q .elements → WhichFactor (p .generators) (q .generators) G → pair p q .step e G ≡ pair p q .op e (pair p q .step 0 G)
   step-is e G he (left h) =
       let l = low-small (p .elements) (q .elements) e he in
       let k = high-small (p .elements) (q .elements) e he in
@@ -72,35 +72,35 @@ pub product-stepped : {ps : List Part} → Each Stepped ps → Stepped (product 
 product-stepped ss = product-has trivial-stepped pair-stepped ss
 
 -- A step by the generator g of the factor f puts that factor's step in place of the digit f.
-step-joins : (ps : List Part) (f g e : ℕ) → f < length ps → g < factor ps f .generators → e < count (ranges ps)
-    → product ps .step e (offset ps f + g) ≡ join (ranges ps) (set (split (ranges ps) e) f (factor ps f .step (getD (split (ranges ps) e) f 0) g))
+step-joins : (ps : List Part) (f g e : ℕ) → f < length ps → g < factor ps f .generators → e < count (digit-ranges ps)
+    → product ps .step e (offset ps f + g) ≡ join (digit-ranges ps) (set (split (digit-ranges ps) e) f (factor ps f .step (getD (split (digit-ranges ps) e) f 0) g))
 step-joins [] f g e h hg he = absurd (omega arith)
 step-joins (p ∷ ps) zero g e h hg he =
-    rw (zero-add, join-split (ranges ps) (e / p .elements) (high-small (p .elements) (count (ranges ps)) e he)) (step-left p (product ps) e hg)
+    rw (zero-add, join-split (digit-ranges ps) (e / p .elements) (high-small (p .elements) (count (digit-ranges ps)) e he)) (step-left p (product ps) e hg)
 step-joins (p ∷ ps) (suc f) g e h hg he =
-    rw (add-assoc, ← step-joins ps f g (e / p .elements) (omega arith) hg (high-small (p .elements) (count (ranges ps)) e he))
+    rw (add-assoc, ← step-joins ps f g (e / p .elements) (omega arith) hg (high-small (p .elements) (count (digit-ranges ps)) e he))
     (step-right p (product ps) e (offset ps f + g))
 
 pub step-replaces : (ps : List Part) (f g e : ℕ) → f < length ps → g < factor ps f .generators → e < product ps .elements
-    → product ps .step e (offset ps f + g) ≡ replace (ranges ps) f e (factor ps f .step (project (ranges ps) f e) g)
+    → product ps .step e (offset ps f + g) ≡ replace (digit-ranges ps) f e (factor ps f .step (project (digit-ranges ps) f e) g)
 step-replaces ps f g e h hg he =
-    let k : e < count (ranges ps) = rw (← product-count ps) he in
-    let l : f < length (ranges ps) = rw (ranges-length ps) h in
-    step-joins ps f g e h hg k ∙ rw (← project-is (ranges ps) f e) (sym (replace-is (ranges ps) f e (factor ps f .step (project (ranges ps) f e) g) l k))
+    let k : e < count (digit-ranges ps) = rw (← product-count ps) he in
+    let l : f < length (digit-ranges ps) = rw (ranges-length ps) h in
+    step-joins ps f g e h hg k ∙ rw (← project-is (digit-ranges ps) f e) (sym (replace-is (digit-ranges ps) f e (factor ps f .step (project (digit-ranges ps) f e) g) l k))
 
 -- The element of that generator is the factor's, times the stride.
 pub generator-is : (ps : List Part) (f g : ℕ) → f < length ps → g < factor ps f .generators → 0 < product ps .elements
-    → generator (product ps .step) (offset ps f + g) ≡ inject (ranges ps) f (generator (factor ps f .step) g)
+    → generator (product ps .step) (offset ps f + g) ≡ inject (digit-ranges ps) f (generator (factor ps f .step) g)
 generator-is ps f g h hg h₀ =
     step-replaces ps f g 0 h hg h₀
-    ∙ ap (λ x. replace (ranges ps) f 0 (factor ps f .step x g)) (project-zero (ranges ps) f) ∙ sym (inject-is (ranges ps) f (generator (factor ps f .step) g))
+    ∙ ap (λ x. replace (digit-ranges ps) f 0 (factor ps f .step x g)) (project-zero (digit-ranges ps) f) ∙ sym (inject-is (digit-ranges ps) f (generator (factor ps f .step) g))
 
 -- Every generator of the product is one of these.
 pub generators-are : (ps : List Part) (G : ℕ) → G < product ps .generators
     → (f : ℕ) × (g : ℕ) × (f < length ps) × (g < factor ps f .generators) × (G ≡ offset ps f + g)
 generators-are [] G h = absurd (omega arith)
 generators-are (p ∷ ps) G h = go (side (p .generators) (product ps .generators) G h) (generators-are ps) where
-  go : Side (p .generators) (product ps .generators) G
+  go : WhichFactor (p .generators) (product ps .generators) G
       → ((g : ℕ) → g < product ps .generators → (f : ℕ) × (h : ℕ) × (f < length ps) × (h < factor ps f .generators) × (g ≡ offset ps f + h))
       → (f : ℕ) × (g : ℕ) × (f < suc (length ps)) × (g < factor (p ∷ ps) f .generators) × (G ≡ offset (p ∷ ps) f + g)
   go (left k) ih = (0, G, omega arith, k, sym (zero-add G))

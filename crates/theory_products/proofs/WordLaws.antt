@@ -13,7 +13,7 @@ use Rattle.theory.proofs.Complete.{right-table, compose-is-op}
 use Rattle.theory_products.specs.Product.{Part, trivial, shift, pair, product, words-from, Each, Stepped, Worded, Shortest}
 use Rattle.theory_radix.proofs.RadixLaws.{low, high, joined-small, low-small, high-small}
 use Rattle.theory_products.proofs.ProductLaws.{product-has}
-use Rattle.theory_products.proofs.StepLaws.{Side, left, right, side, step-left, step-right, pair-stepped, trivial-stepped}
+use Rattle.theory_products.proofs.StepLaws.{WhichFactor, left, right, side, step-left, step-right, pair-stepped, trivial-stepped}
 
 -- The word w has the letters u of the first factor and the letters v of the second, each in their order.
 data Shuffle (n m : ℕ) : List ℕ → List ℕ → List ℕ → Type 0 where
@@ -25,7 +25,7 @@ data Shuffle (n m : ℕ) : List ℕ → List ℕ → List ℕ → Type 0 where
 abbrev Sifted : ℕ → ℕ → List ℕ → Type 0
 Sifted n m w = (u : List ℕ) × (v : List ℕ) × Shuffle n m w u v
 
-sift-letter : {n m G : ℕ} {w : List ℕ} → Side n m G → Sifted n m w → Sifted n m (G ∷ w)
+sift-letter : {n m G : ℕ} {w : List ℕ} → WhichFactor n m G → Sifted n m w → Sifted n m (G ∷ w)
 sift-letter {G = G} (left h) (u, v, s) = (G ∷ u, v, first h s)
 sift-letter (right g h z) (u, v, s) = (u, g ∷ v, rw z (second h s))
 

@@ -60,9 +60,9 @@ product [] = trivial
 product (p ∷ ps) = pair p (product ps)
 
 -- The numbers of elements of the factors: they are the ranges of the digits.
-abbrev pub ranges : List Part → List ℕ
-ranges [] = []
-ranges (p ∷ ps) = p .elements ∷ ranges ps
+abbrev pub digit-ranges : List Part → List ℕ
+digit-ranges [] = []
+digit-ranges (p ∷ ps) = p .elements ∷ digit-ranges ps
 
 -- How many generators the first f factors have together: this is added to a generator of the factor f to number it in the product.
 abbrev pub offset : List Part → ℕ → ℕ
@@ -88,7 +88,7 @@ each F (p ∷ ps) (a ∷ xs) (b ∷ ys) = F p a b ∷ each F ps xs ys
 
 -- F taken factor by factor: split both elements into digits, take F of the digits, and join the results.
 abbrev pub componentwise : (Part → ℕ → ℕ → ℕ) → List Part → ℕ → ℕ → ℕ
-componentwise F ps a b = join (ranges ps) (each F ps (split (ranges ps) a) (split (ranges ps) b))
+componentwise F ps a b = join (digit-ranges ps) (each F ps (split (digit-ranges ps) a) (split (digit-ranges ps) b))
 
 -- The same as a loop does it: s is the stride, a and b are what is left to split, and what has been joined so far is in `sum`.
 abbrev pub gather : (Part → ℕ → ℕ → ℕ) → ℕ → List Part → ℕ → ℕ → ℕ → ℕ
@@ -126,6 +126,6 @@ pub record Shortest (p : Part) : Type 0 where
   pub shortest : {e : ℕ} {w : List ℕ} → Word (p .generators) w → walk (p .step) 0 w ≡ e → length (p .word e) ≤ length w
 
 -- The steps are the group's, its generators are distinct, and none of them is the identity.
-pub record Generated (p : Part) : Type 0 where
+pub record DistinctlyGenerated (p : Part) : Type 0 where
   pub stepped : Stepped p
   pub distinct : Distinct (p .generators) (p .step)

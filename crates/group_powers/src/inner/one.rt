@@ -1,7 +1,7 @@
 // Powers in one factor. The powers of a product split its elements at each halving; a product of one factor has nothing to split.
 ghost use mathlib.Core.Path.{_≡_};
 ghost use Rattle.factor_questions.specs.Walks.{composeIn, inverseIn};
-ghost use Rattle.group_powers.specs.Powers.{halves, powers, powiAlone};
+ghost use Rattle.group_powers.specs.Powers.{byHalving, powers, powiAlone};
 use egg::Factor;
 use egg::GroupElementId;
 use egg::Reached;
@@ -9,7 +9,7 @@ use egg::Verdict;
 
 // The k-th power: the square of the power by half of k, and once more the element where k is odd.
 fn power(s: &[u32], n: u8, count: u32, a: GroupElementId, k: u32) -> Reached
-    ensures { λ r. ⌜ r ≡ halves k (composeIn (now (s .entry)) n count) (a .0) k ⌝ }
+    ensures { λ r. ⌜ r ≡ byHalving k (composeIn (now (s .entry)) n count) (a .0) k ⌝ }
 {
     if k == 0 {
         return Reached::Element(GroupElementId(0));

@@ -1,5 +1,5 @@
 use mathlib.Core.Path.{refl}
-use Rattle.enumeration_rows.specs.Rows.{readRow}
+use Rattle.enumeration_rows.specs.Rows.{storedRow}
 use borrow.Author.Needs.{needs}
 use Rattle.enumeration_rows.proofs.inner.read_row.Statement.{statement}
 use Rattle.enumeration_rows.proofs.inner.read_row.Tie as tie
@@ -53,7 +53,7 @@ shared-slice-read-t20 : tie.Need-shared-slice-read-t20
 shared-slice-read-t20 c = search needs
 
 returns : tie.Need-returns
-unfolding readRow
+unfolding storedRow
 returns c = refl
 
 get-requires : tie.Need-get-requires
@@ -84,7 +84,7 @@ get-requires-5 : tie.Need-get-requires-5
 get-requires-5 c κs = search needs
 
 returns-2 : tie.Need-returns-2
-unfolding readRow
+unfolding storedRow
 returns-2 c = rw (c .before .before .before .before .get .ensures, c .before .before .before .get2 .ensures, c .before .before .get3 .ensures, c .before .get4 .ensures, c .get5 .ensures)
 
 pub read-row-spec : {M : Type 1} → statement M

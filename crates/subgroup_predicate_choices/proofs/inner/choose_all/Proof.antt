@@ -8,13 +8,13 @@ use Rattle.build_lending.specs.Finish.{built}
 use Rattle.group_handles.specs.Handles.{handles}
 use Rattle.group_digits.specs.Digits.{composes}
 use Rattle.build_numbering.specs.Build.{renumbering}
-use Rattle.subgroup_predicate_choices.specs.Choices.{Eight, chooses, againIn}
+use Rattle.subgroup_predicate_choices.specs.Choices.{ChosenOfEight, chooses, againIn}
 use Rattle.subgroup_predicate_choices.proofs.Choices.{turn-on, turns-begin, turns-end, turn-lengths}
 use Rattle.subgroup_predicate_choices.proofs.inner.choose_all.Statement.{statement}
 use Rattle.subgroup_predicate_choices.proofs.inner.choose_all.Tie as tie
 
 abbrev Inv-loop : tie.InvT-loop
-Inv-loop t₀ w₀ inn₀ outw₀ from over members room m x₀ q₀ t w inn outw x q = (length t ≡ length t₀) × (length w ≡ length w₀) × (length inn ≡ length inn₀) × (length outw ≡ length outw₀) × (x ≤ m) × Eight q × (chooses (m - x) (againIn (length t₀) (composes from (handles over)) room (length inn₀) (length outw₀)) (λ y. getD members y 0) x (take (q .generators) (q .chosen)) (renumbering (built (q .made) t w) inn outw) ≡ chooses m (againIn (length t₀) (composes from (handles over)) room (length inn₀) (length outw₀)) (λ y. getD members y 0) 0 (take (q₀ .generators) (q₀ .chosen)) (renumbering (built (q₀ .made) t₀ w₀) inn₀ outw₀))
+Inv-loop t₀ w₀ inn₀ outw₀ from over members room m x₀ q₀ t w inn outw x q = (length t ≡ length t₀) × (length w ≡ length w₀) × (length inn ≡ length inn₀) × (length outw ≡ length outw₀) × (x ≤ m) × ChosenOfEight q × (chooses (m - x) (againIn (length t₀) (composes from (handles over)) room (length inn₀) (length outw₀)) (λ y. getD members y 0) x (take (q .generators) (q .chosen)) (renumbering (built (q .made) t w) inn outw) ≡ chooses m (againIn (length t₀) (composes from (handles over)) room (length inn₀) (length outw₀)) (λ y. getD members y 0) 0 (take (q₀ .generators) (q₀ .chosen)) (renumbering (built (q₀ .made) t₀ w₀) inn₀ outw₀))
 
 abbrev μ-loop : tie.MeasureT-loop
 μ-loop t₀ w₀ inn₀ outw₀ from over members room m x₀ q₀ t w inn outw x q = m - x

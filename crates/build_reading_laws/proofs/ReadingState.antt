@@ -21,14 +21,14 @@ use Rattle.theory.specs.Appearance.{recorded}
 use Rattle.theory.proofs.BoundedTests.{below-suc}
 use Rattle.theory.proofs.Counting.{row-known}
 use Rattle.theory.proofs.Induction.{Order, less, equal, more, order}
-use Rattle.build_reading_laws.specs.Read.{Held, Stops, skips-ahead, no-room, long-word, Refuses}
+use Rattle.build_reading_laws.specs.Read.{ReadSoFar, Stops, skips-ahead, no-room, long-word, ReadingRefused}
 use Rattle.build_reading_laws.proofs.Stores.{stepped, worded, step-length, step-keeps, step-beyond, word-length, word-keeps, word-beyond}
 use Rattle.build_reading_laws.proofs.Steps.{Steps, steps-same, steps-next}
 use Rattle.build_reading_laws.proofs.Words.{Words, words-same, words-new}
 use Rattle.theory.proofs.RuleLaws.{new-letters}
 
-pub record State (src : ℕ → ℕ → ℕ) (n room size x g c : ℕ) (t : List ℕ) : Type 0 where
-  pub held : Held src n room x g c
+pub record ReadingState (src : ℕ → ℕ → ℕ) (n room size x g c : ℕ) (t : List ℕ) : Type 0 where
+  pub held : ReadSoFar src n room x g c
   pub whole : length t ≡ size
   pub steps : Steps src n x g c t
   pub words : Words src n c t
@@ -67,14 +67,14 @@ rows-fit : (w : ℕ) {c room l size : ℕ} → room * w ≤ size → c ≤ room 
 rows-fit w fits h q = omega (arith, mul-le-mul-right w h)
 
 module _ {src : ℕ → ℕ → ℕ} {n room size : ℕ} (hn : n ≤ 8) (hr : room ≤ 65535) (fits : room * (2 * n + 4) ≤ size) where
-  module _ {x g c : ℕ} {t : List ℕ} (S : State src n room size x g c t) (hg : g < n) where
+  module _ {x g c : ℕ} {t : List ℕ} (S : ReadingState src n room size x g c t) (hg : g < n) where
     hx : x < c
     hx = row-known (S .held .known)
 
     letters-at : lengthOf t n x ≡ length (recorded n src x)
     letters-at = let q : startOf n x + (2 * n + 2) ≡ startOf n x + 2 * n + 2 = omega arith in rw q at (S .words .letters hx)
 
-    state-old : src x g < c → State src n room size x (suc g) c (stepped t n x g (src x g))
+    state-old : src x g < c → ReadingState src n room size x (suc g) c (stepped t n x g (src x g))
     state-old h =
         let f = rows-fit (2 * n + 4) fits (S .held .within) (S .whole) in
         let s : c ≤ 65535 = omega (arith, S .held .within) in
@@ -87,7 +87,7 @@ module _ {src : ℕ → ℕ → ℕ} {n room size : ℕ} (hn : n ≤ 8) (hr : ro
         }
 
     module _ (is : src x g ≡ c) (hc : c < room) (hl : lengthOf t n x < 4096) where
-      state-new : State src n room size x (suc g) (suc c) (stepped (worded t n c x g (suc (lengthOf t n x))) n x g c)
+      state-new : ReadingState src n room size x (suc g) (suc c) (stepped (worded t n c x g (suc (lengthOf t n x))) n x g c)
       state-new =
           let K = S .held .known in
           let l = suc (lengthOf t n x) in
@@ -112,19 +112,19 @@ module _ {src : ℕ → ℕ → ℕ} {n room size : ℕ} (hn : n ≤ 8) (hr : ro
           }
 
     -- One place.
-    pub read-place : On (State src n room size x (suc g)) (Refuses src n room) (readPlace t n room c x g (src x g))
+    pub read-place : On (ReadingState src n room size x (suc g)) (ReadingRefused src n room) (readPlace t n room c x g (src x g))
     read-place = go (order (src x g) c) where
-      refused : {r : Refusal} → Stops src n room x g c r → Refuses src n room r
+      refused : {r : Refusal} → Stops src n room x g c r → ReadingRefused src n room r
       refused s = record { row = x; column = g; count = c; before = S .held; place = hg; stops = s }
 
       at-new : src x g ≡ c → Dec (c < room) → Dec (lengthOf t n x < 4096)
-          → On (State src n room size x (suc g)) (Refuses src n room) (readPlace t n room c x g (src x g))
+          → On (ReadingState src n room size x (suc g)) (ReadingRefused src n room) (readPlace t n room c x g (src x g))
       at-new is (no h) l = rw (place-full t n room c x g (src x g) is (omega arith)) (refused (no-room is (omega (arith, S .held .within))))
       at-new is (yes h) (no l) = rw (place-long t n room c x g (src x g) is h (omega arith))
           (refused (long-word is h (omega (arith, letters-at, S .held .short hx))))
       at-new is (yes h) (yes l) = rw (place-new t n room c x g (src x g) is h l) (state-new is h l)
 
-      go : Order (src x g) c → On (State src n room size x (suc g)) (Refuses src n room) (readPlace t n room c x g (src x g))
+      go : Order (src x g) c → On (ReadingState src n room size x (suc g)) (ReadingRefused src n room) (readPlace t n room c x g (src x g))
       go (less h) = rw (place-old t n room c x g (src x g) h) (state-old h)
       go (equal h) = at-new h (decLt c room) (decLt (lengthOf t n x) 4096)
       go (more h) = rw (place-skip t n room c x g (src x g) h) (refused (skips-ahead h))
