@@ -13,7 +13,8 @@ unfoldable pub identityRow : List ℕ → ℕ → Verdict
 identityRow t n = scan n (λ g. pick (eqb (stepOf t n 0 g) (g + 1)) Fine (refusedOf 11 g 0 0)) 0
 
 -- Refusal 12, "no group has these right steps", has three parts. The first, for one element: each step back is undone by the step, so that the
--- columns are permutations. The first two parts hold after every reading and enumeration that has passed 8; the checks do not rest on that.
+-- columns are permutations. The first two parts hold after every reading that has passed 8 and after every run of 000 that is done
+-- (`enumeration-done` of `promises_enumeration`); the checks do not rest on that.
 unfoldable pub columnsRow : List ℕ → ℕ → ℕ → Verdict
 columnsRow t n e = scan n (λ g. pick (eqb (stepOf t n (backOf t n e g) g) e) Fine (refusedOf 12 0 0 0)) 0
 

@@ -102,7 +102,7 @@ module _ (table : List ℕ) (start : ℕ) (work orders : List ℕ) (n room : ℕ
       record {
         few = generators;
         full = orders-limits orders n right .0;
-        orders = orders-limits orders n right .1;
+        orders = λ k hk. let l = orders-limits orders n right .1 k hk in (omega (arith, l .0), l .1);
         some = positive (length table) start room n has;
         limit = limited (length table) start room n has;
         table-room = le-refl (tableNeed n room);

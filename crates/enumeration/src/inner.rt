@@ -48,7 +48,8 @@ fn relate(t: &mut [u32], orders: &[u32], n: u8, read: Counted) -> Counted
 }
 
 // The quick way: the run by closed loops, 8 to 12, then 13. Answers the element count where it accepts, and that is
-// what the build by 000 gives (`enumeration_quick_laws`); else 0, which says nothing of that build.
+// what the build by 000 gives (`enumeration_quick_laws`); else 0. That the build by
+// 000 is then refused by 5 or 6 is proved (`promises_enumeration`), and the code does not rest on it.
 fn enumerate_swiftly(t: &mut [u32], w: &mut [u32], orders: &[u32], n: u8, room: u32) -> u32
     requires { ⌜ Limits n (now orders) room (length (now t)) (length (now w)) ⌝ }
     ensures { λ r. ⌜ Quick (length (now (t .entry))) (length (now (w .entry))) (now (orders .entry)) n room r (now (t .exit)) (now (w .exit)) ⌝ }

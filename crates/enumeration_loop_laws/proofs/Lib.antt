@@ -5,6 +5,5 @@ pub mod Joining
 pub mod Stepping
 pub mod Telling
 pub mod Filling
-pub mod Least
 pub mod Reversing
 pub mod Rooting

@@ -11,7 +11,7 @@ use Rattle.enumeration_run_laws.specs.Invariant.{StepKnown}
 use Rattle.enumeration_loop_laws.specs.Rings.{turn, ring, firstOfPair, secondOfPair, Looped, StepsAgree, Rooted}
 use Rattle.enumeration_loop_laws.proofs.Turns.{turn-odd, turn-same, turn-begins, turn-shift, turn-back, ring-is}
 use Rattle.enumeration_loop_laws.proofs.Letters.{letters-below, turn-low, ring-back}
-use Rattle.enumeration_loop_laws.proofs.Least.{least-of}
+use Rattle.theory.proofs.Least.{least-of}
 use Rattle.enumeration_loop_laws.proofs.Reversing.{ring-reverse, ring-swapped, ring-again}
 
 -- The loop h g h .. of l letters through x: its steps are known but for the last.

@@ -34,10 +34,10 @@ use Rattle.enumeration_quick_laws.proofs.Placing.{Came}
 
 -- A step that is not known makes an element, where there is room and its word is short enough.
 module _ (n : ℕ) (o : List ℕ) (room c : ℕ) (e : GroupElementId) (g : GeneratorId) (t w : List ℕ) where
-  abbrev after : ℕ → State
+  abbrev pub after : ℕ → State
   after len = discovered n o e g (record { 0 = c }) (setStep (setWord t n (record { 0 = c }) e g len) n e g (record { 0 = c })) w
 
-  makes : (len : ℕ) → getD t (startOf n (e .0) + g .0) 0 ≡ 0 → c < room → lengthOf t n (e .0) < 4096 → len ≡ lengthOf t n (e .0) + 1
+  pub makes : (len : ℕ) → getD t (startOf n (e .0) + g .0) 0 ≡ 0 → c < room → lengthOf t n (e .0) < 4096 → len ≡ lengthOf t n (e .0) + 1
       → visits n o room c e g t w ≡ visit (counted.Count (c + 1)) (after len .table) (after len .work)
   unfolding visits adds
   makes len z h short q = rw q (simp (eq-eqb _ _ z, lt-leb _ _ h, lt-leb _ _ short))
@@ -101,7 +101,7 @@ module _ {n N : ℕ} {o : List ℕ} (F : List ℕ) (looped : Looped n N o (stepO
         ∙ set-rest n (setWord q n new e γ len) e γ new hg c (2 * n + 1) (omega arith) (omega arith) in
         ap (λ (v : ℕ). v % 8) (rw i at a) ∙ last-new q n c e γ len row-fits (omega (arith, L .few))
 
-    dead : (k : ℕ) → k < length o → Live n F c k → (g ≡ firstOfPair k → ⊥) × (g ≡ secondOfPair k → ⊥)
+    dead : (k : ℕ) → k < length o → Live (lastOf F n) c k → (g ≡ firstOfPair k → ⊥) × (g ≡ secondOfPair k → ⊥)
     dead k hk live = let l = live (omega arith) in (λ z. l .0 (last-is ∙ z), λ z. l .1 (last-is ∙ z))
 
     pub came-new : Came n o room lt lw F x g c t w (c + 1) q′

@@ -4,7 +4,7 @@ use mathlib.Core.Path.{_≡_}
 use mathlib.Core.List.{List}
 use native.Mathlib.Omega.{arith}
 use lib.ListN.{getD}
-use Rattle.egg.specs.Table.{startOf, stepOf}
+use Rattle.egg.specs.Table.{startOf, stepOf, lastOf}
 use Rattle.enumeration_quick_laws.proofs.Ahead.{AllBefore}
 use Rattle.enumeration_run_laws.specs.Invariant.{StepKnown}
 use Rattle.enumeration_run_laws.specs.Going.{Going}
@@ -14,7 +14,7 @@ use Rattle.enumeration_quick_laws.specs.Sweeping.{Live, TwoWay, Grows}
 -- Between two places: the steps of the quick run's table go both ways, the other run is closed, it knows all that the quick run knows, and the words are the same.
 pub record Beside (n : ℕ) (o : List ℕ) (lt lw : ℕ) (F : List ℕ) (c : ℕ) (q t w : List ℕ) : Type 0 where
   pub two-way : TwoWay n c lt q
-  pub closed : Closed n o (stepOf F n) (Live n F) c lt lw t w
+  pub closed : Closed n o (stepOf F n) (Live (lastOf F n)) c lt lw t w
   pub known : (e h : ℕ) → h < n → StepKnown n q e h → StepKnown n t e h
   pub rest : (e k : ℕ) → 2 * n ≤ k → k < 2 * n + 4 → getD t (startOf n e + k) 0 ≡ getD q (startOf n e + k) 0
 

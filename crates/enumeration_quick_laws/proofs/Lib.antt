@@ -14,6 +14,7 @@ pub mod Matching
 pub mod Coming
 pub mod Ahead
 pub mod Lockstep
+pub mod Closing
 pub mod Accepting
 pub mod Swift
 pub mod Sample

@@ -19,21 +19,20 @@ use Rattle.enumeration_quick_laws.proofs.Pairing.{PairOf, pair-of}
 use Rattle.enumeration_quick_laws.proofs.Beside.{Beside, grown-step}
 use Rattle.enumeration_quick_laws.proofs.Finding.{Found}
 
-module _ {n N : ℕ} {o : List ℕ} (F : List ℕ) (looped : Looped n N o (stepOf F n)) (parents : Parents n N (stepOf F n) (parentOf F n) (lastOf F n)) where
+module _ {n N : ℕ} {o : List ℕ} {step : ℕ → ℕ → ℕ} {parent last : ℕ → ℕ} (looped : Looped n N o step) (parents : Parents n N step parent last) where
   -- The step back from an element leads to one below it.
-  goes-down : {u : ℕ} → 0 < u → u < N → (g : ℕ) → lastOf F n u ≡ g → u ≤ stepOf F n u g → ⊥
+  goes-down : {u : ℕ} → 0 < u → u < N → (g : ℕ) → last u ≡ g → u ≤ step u g → ⊥
   goes-down {u} pos hu g q up =
-      let p = parentOf F n u in
-      let l = lastOf F n u in
-      let e : p < u = parents .earlier pos hu in
-      let back : stepOf F n u l ≡ p = ap (λ (y : ℕ). stepOf F n y l) (sym (parents .arrives pos hu)) ∙ looped .twice (omega arith) (parents .generator pos hu) in
-      let here : stepOf F n u g ≡ p = ap (λ (h : ℕ). stepOf F n u h) (sym q) ∙ back in
+      let e : parent u < u = parents .earlier pos hu in
+      let back : step u (last u) ≡ parent u = ap (λ (y : ℕ). step y (last u)) (sym (parents .arrives pos hu)) ∙ looped .twice (omega arith) (parents .generator pos hu) in
+      let here : step u g ≡ parent u = ap (λ (h : ℕ). step u h) (sym q) ∙ back in
       omega arith
 
   -- So the least element of a loop has a live row.
-  pub least-live : {u : ℕ} (k : ℕ) → u < N → u ≤ stepOf F n u (firstOfPair k) → u ≤ stepOf F n u (secondOfPair k) → Live n F u k
-  least-live {u} k hu a b pos = (λ q. goes-down pos hu (firstOfPair k) q a, λ q. goes-down pos hu (secondOfPair k) q b)
+  pub least-live : {u : ℕ} (k : ℕ) → u < N → u ≤ step u (firstOfPair k) → u ≤ step u (secondOfPair k) → Live last u k
+  least-live {u} k hu a b pos = (λ q. goes-down (omega arith) hu (firstOfPair k) q a, λ q. goes-down (omega arith) hu (secondOfPair k) q b)
 
+module _ {n N : ℕ} {o : List ℕ} (F : List ℕ) (looped : Looped n N o (stepOf F n)) (parents : Parents n N (stepOf F n) (parentOf F n) (lastOf F n)) where
   module _ (few : n ≤ 8) (full : length o ≡ pairs-below n) (orders : (k : ℕ) → k < length o → 1 ≤ getD o k 0)
       {lt lw c : ℕ} {q t w : List ℕ} (B : Beside n o lt lw F c q t w) (G : Grows n c N q F) {x g : ℕ} (hx : x < c) (hg : g < n) {r : ℕ} (found : Found q o n x g r) where
     abbrev h : ℕ
@@ -56,7 +55,7 @@ module _ {n N : ℕ} {o : List ℕ} (F : List ℕ) (looped : Looped n N o (stepO
         let y = root in
         y .tells
         (column-known few full (B .closed) (y .root) (pair .place) (y .column) (y .root-below) (pair .below)
-        (least-live (pair .place) (omega (arith, y .root-below, G .more)) (y .first-up) (y .second-up)) (y .column-below) (y .others))
+        (least-live looped parents (pair .place) (omega (arith, y .root-below, G .more)) (y .first-up) (y .second-up)) (y .column-below) (y .others))
 
     -- Where it leads is an element.
     pub loop-below : r < N

@@ -35,7 +35,7 @@ pub record Came (n : ℕ) (o : List ℕ) (room lt lw : ℕ) (F : List ℕ) (x g 
   pub here : StepKnown n q′ x g
 
 -- A known step is skipped.
-skips : (n : ℕ) (o : List ℕ) (room c x g : ℕ) (t w : List ℕ) → StepKnown n t x g → visits n o room c (record { 0 = x }) (record { 0 = g }) t w ≡ visit (counted.Count c) t w
+pub skips : (n : ℕ) (o : List ℕ) (room c x g : ℕ) (t w : List ℕ) → StepKnown n t x g → visits n o room c (record { 0 = x }) (record { 0 = g }) t w ≡ visit (counted.Count c) t w
 unfolding visits
 skips n o room c x g t w d = simp (ne-eqb _ _ d)
 

@@ -4,7 +4,7 @@ use Prim.Native.Nat.{ℕ, suc, _+_, _*_, _<_, _≤_}
 use mathlib.Core.Path.{_≡_}
 use mathlib.Core.List.{List}
 use lib.ListN.{getD, length}
-use Rattle.egg.specs.Table.{startOf, lastOf}
+use Rattle.egg.specs.Table.{startOf}
 use Rattle.enumeration_run_laws.specs.Invariant.{StepKnown}
 use Rattle.enumeration_loop_laws.specs.Rings.{firstOfPair, secondOfPair}
 
@@ -22,8 +22,8 @@ pub record Grows (n count count′ : ℕ) (t t′ : List ℕ) : Type 0 where
   pub known : (e g : ℕ) → g < n → StepKnown n t e g → getD t′ (startOf n e + g) 0 ≡ getD t (startOf n e + g) 0
   pub rest : (e k : ℕ) → e < count → 2 * n ≤ k → k < 2 * n + 4 → getD t′ (startOf n e + k) 0 ≡ getD t (startOf n e + k) 0
 
--- Which rows are live, in the sense of `Machine` of `enumeration_closure_laws`, where F is the table that the run by closed loops will leave: those
--- of the identity, and those of an element whose last letter is neither generator of the pair at place k. By that letter the element has its step
--- back, "which is no fact".
-abbrev pub Live : (n : ℕ) (F : List ℕ) (u k : ℕ) → Type 0
-Live n F u k = 0 < u → (lastOf F n u ≡ firstOfPair k → ⊥) × (lastOf F n u ≡ secondOfPair k → ⊥)
+-- Which rows are live, in the sense of `Machine` of `enumeration_closure_laws`, by the last letters of the table that is known beforehand: those of
+-- the identity, and those of an element whose last letter is neither generator of the pair at place k. By that letter the element has its step back,
+-- "which is no fact".
+abbrev pub Live : (last : ℕ → ℕ) (u k : ℕ) → Type 0
+Live last u k = 0 < u → (last u ≡ firstOfPair k → ⊥) × (last u ≡ secondOfPair k → ⊥)

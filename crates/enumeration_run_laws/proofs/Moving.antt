@@ -1,5 +1,6 @@
 -- No step of a finished run stays where it is, since words that are equal under the relations are both of even or both of odd length. Of 9, "a fixed point
--- or wrong generator row or count", there is left after a finished run: a generator row other than the identity's, and a count.
+-- or wrong generator row or count", this leaves a generator row other than the identity's, and a count; that these do not come either is `enumeration-done` of
+-- `promises_enumeration`.
 use Prim.Native.Nat.{ℕ, _+_, _%_, _<_}
 use mathlib.Core.Path.{_≡_, refl}
 use mathlib.Core.List.{List, [], _∷_}

@@ -34,21 +34,21 @@ module _ (o : List ℕ) (count k : ℕ) {m : ℕ} (e : m ≡ getD o k 0) (h : k 
   pub order-fine : 2 ≤ m → m ≤ 32767 → scan (count - k) (λ k. orderAt o k) k ≡ scan (count - (k + 1)) (λ k. orderAt o k) (k + 1)
   order-fine p z = scan-next count (λ k. orderAt o k) k h (rw (← e) (simp (le-leb _ _ p, le-leb _ _ z)))
 
-order-limits : (o : List ℕ) (k : ℕ) → orderAt o k ≡ Fine → (1 ≤ getD o k 0) × (getD o k 0 < 32768)
+order-limits : (o : List ℕ) (k : ℕ) → orderAt o k ≡ Fine → (2 ≤ getD o k 0) × (getD o k 0 < 32768)
 order-limits o k h = by (leb 2 (getD o k 0)) (leb (getD o k 0) 32767) refl refl h where
   by : (a b : Bool) → leb 2 (getD o k 0) ≡ a → leb (getD o k 0) 32767 ≡ b
-      → pick a (pick b Fine (refusedOf 3 k 0 0)) (refusedOf 3 k 0 0) ≡ Fine → (1 ≤ getD o k 0) × (getD o k 0 < 32768)
+      → pick a (pick b Fine (refusedOf 3 k 0 0)) (refusedOf 3 k 0 0) ≡ Fine → (2 ≤ getD o k 0) × (getD o k 0 < 32768)
   by true true p q e = omega (arith, leb-true 2 (getD o k 0) p, leb-true (getD o k 0) 32767 q)
   by true false p q e = absurd (refused-fine e)
   by false b p q e = absurd (refused-fine e)
 
 -- What 2 and 3 have shown of the orders.
 pub orders-limits : (o : List ℕ) (n : ℕ) → ordersRight o n ≡ Fine
-    → (length o ≡ n * (n - 1) / 2) × ((k : ℕ) → k < length o → (1 ≤ getD o k 0) × (getD o k 0 < 32768))
+    → (length o ≡ n * (n - 1) / 2) × ((k : ℕ) → k < length o → (2 ≤ getD o k 0) × (getD o k 0 < 32768))
 unfolding ordersRight pairCount
 orders-limits o n h = by (eqb (length o) (n * (n - 1) / 2)) refl h where
   by : (b : Bool) → eqb (length o) (n * (n - 1) / 2) ≡ b → pick b (scan (length o) (λ k. orderAt o k) 0) (refusedOf 2 0 0 0) ≡ Fine
-      → (length o ≡ n * (n - 1) / 2) × ((k : ℕ) → k < length o → (1 ≤ getD o k 0) × (getD o k 0 < 32768))
+      → (length o ≡ n * (n - 1) / 2) × ((k : ℕ) → k < length o → (2 ≤ getD o k 0) × (getD o k 0 < 32768))
   by true q e = (eqb-true _ _ q, λ k hk. order-limits o k (scan-fine (length o) (λ k. orderAt o k) .0 e k hk))
   by false q e = absurd (refused-fine e)
 

@@ -1,5 +1,5 @@
--- A finished run is accepted exactly when no two of its words and no two generators are equal under the relations. That this is so for every finished run is a
--- theorem on the groups of pair orders, and not on the machine.
+-- A finished run is accepted exactly when no two of its words and no two generators are equal under the relations. What is here is of the machine alone; that it is so
+-- for every finished run comes from the theory of the groups of pair orders (`enumeration-done` of `promises_enumeration`).
 use Prim.Native.Nat.{ℕ, zero, suc, _+_, _*_, _<_, _≤_}
 use mathlib.Core.Path.{_≡_, refl, sym, ap, _∙_, subst}
 use mathlib.Core.Logic.{_↔_, ⊎-elim}
@@ -210,8 +210,8 @@ module _ (o : List ℕ) (n room lt lw : ℕ) (L : Limits n o room lt lw) (right 
       none-twice-agree (presented-none-twice (R .sound .table) (R .holds) (R .sound .spelled) (R .derived) (λ g hg. R .sound .identity-row hg))
       (λ e he. sym (word-same (F .run .table .words) K e he))
 
-  -- A finished run is accepted exactly when no two of the words that it records, and no two generators, are equal under the relations: so 9 to 13 come after a
-  -- finished run just if an element was made twice, or two generators are equal.
+  -- A finished run is accepted exactly when no two of the words that it records, and no two generators, are equal under the relations: so 9 to 13 could come
+  -- after a finished run only if an element was made twice, or two generators were equal, and neither happens (`enumeration-done`).
   pub finished-exactly : ((t : List ℕ) × (w : List ℕ) × (enumeratedIn lt lw o n room ≡ built (Count N) t w)) ↔ NoneTwice n N (order-of o) (run.words n T)
   finished-exactly =
       let agree : (e : ℕ) → e < N → run.words n T e ≡ F .run .word e = λ e he. word-same (F .run .table .words) (kept-same {N = N}) e he in (

@@ -8,14 +8,15 @@ use Rattle.theory.specs.Table.{generator}
 use Rattle.theory.specs.Group.{GroupOn, RightSteps, RightRegular}
 use Rattle.theory.specs.AnyGroup.{GroupOver, Numbers, SomeGroup}
 
+-- The element with the number 0 is the identity.
+pub elt-zero : {A : Type 0} {G : GroupOver A} {N : ℕ} (numbers : Numbers G N) → numbers .elt 0 ≡ G .unit
+elt-zero {G = G} numbers = cc (numbers .num-unit, numbers .elt-num (G .unit))
+
 -- From any carrier to the numbers: the operation is carried over by the numbering.
 module _ {n N : ℕ} {step : ℕ → ℕ → ℕ} (S : SomeGroup n N step) where
   open SomeGroup S using (group, numbers, gen, steps)
   open GroupOver group using (op, unit, inv)
   open Numbers numbers using (num, elt)
-
-  elt-zero : elt 0 ≡ unit
-  elt-zero = cc (numbers .num-unit, numbers .elt-num unit)
 
   pub on-numbers : GroupOn N (λ a b. num (op (elt a) (elt b))) (λ a. num (inv (elt a)))
   on-numbers = record {
@@ -24,8 +25,8 @@ module _ {n N : ℕ} {step : ℕ → ℕ → ℕ} (S : SomeGroup n N step) where
     inv-closed = λ {a} _. numbers .num-below (inv (elt a));
     assoc = λ {a} {b} {c} _ _ _.
         cc (numbers .elt-num (op (elt a) (elt b)), numbers .elt-num (op (elt b) (elt c)), group .assoc (elt a) (elt b) (elt c));
-    left-identity = λ {a} h. cc (elt-zero, group .left-unit (elt a), numbers .num-elt h);
-    right-identity = λ {a} h. cc (elt-zero, group .right-unit (elt a), numbers .num-elt h);
+    left-identity = λ {a} h. cc (elt-zero numbers, group .left-unit (elt a), numbers .num-elt h);
+    right-identity = λ {a} h. cc (elt-zero numbers, group .right-unit (elt a), numbers .num-elt h);
     left-inverse = λ {a} _. cc (numbers .elt-num (inv (elt a)), group .left-inverse (elt a), numbers .num-unit);
     right-inverse = λ {a} _. cc (numbers .elt-num (inv (elt a)), group .right-inverse (elt a), numbers .num-unit);
   }
@@ -34,7 +35,7 @@ module _ {n N : ℕ} {step : ℕ → ℕ → ℕ} (S : SomeGroup n N step) where
   on-numbers-steps = record {
     element = λ hg. rw (steps (on-numbers .identity) hg) (numbers .num-below _);
     step-is = λ {e} {g} he hg.
-        cc (steps he hg, steps (on-numbers .identity) hg, elt-zero, group .left-unit (gen g), numbers .elt-num (gen g));
+        cc (steps he hg, steps (on-numbers .identity) hg, elt-zero numbers, group .left-unit (gen g), numbers .elt-num (gen g));
   }
 
 -- From the numbers to a carrier: the numbers below N are one.

@@ -34,12 +34,18 @@ module _ {n : ℕ} {step : ℕ → ℕ → ℕ} where
   pub new-first : {x g c : ℕ} → Known n step x g c → g < n → step x g ≡ c → First n step c x g
   new-first k hg t = record { earlier = row-known k; generator = hg; arrives = t; before = λ hn a. read-known k hn a }
 
-  -- Each known element but the identity has appeared.
+  -- Each known element but the identity has appeared, at a place that has been read.
+  pub appeared-before : {x g c e : ℕ} → Known n step x g c → 0 < e → e < c → (y : ℕ) × (h : ℕ) × First n step e y h × Ahead y h x g
+  appeared-before start pos l = absurd (omega arith)
+  appeared-before (old k _ _) pos l = let (y, h, f, a) = appeared-before k pos l in (y, h, f, ahead-suc a)
+  appeared-before (new {x} {g} k hg t) pos l = ⊎-elim
+      (λ e. (x, g, rw e (new-first k hg t), column refl (omega arith)))
+      (λ m. let (y, h, f, a) = appeared-before k pos m in (y, h, f, ahead-suc a))
+      (below-suc l)
+  appeared-before (next-row k _) pos l = let (y, h, f, a) = appeared-before k pos l in (y, h, f, ahead-next a)
+
   pub appeared : {x g c e : ℕ} → Known n step x g c → 0 < e → e < c → (y : ℕ) × (h : ℕ) × First n step e y h
-  appeared start pos l = absurd (omega arith)
-  appeared (old k _ _) pos l = appeared k pos l
-  appeared (new {x} {g} k hg t) pos l = ⊎-elim (λ e. (x, g, rw e (new-first k hg t))) (λ m. appeared k pos m) (below-suc l)
-  appeared (next-row k _) pos l = appeared k pos l
+  appeared k pos l = let (y, h, f, a) = appeared-before k pos l in (y, h, f)
 
 -- What is to be read has no say: the rule has held so far in any table with the same entries so far.
 pub known-same : {n x g c : ℕ} {step step′ : ℕ → ℕ → ℕ} → Known n step x g c → ((y h : ℕ) → h < n → Ahead y h x g → step′ y h ≡ step y h)

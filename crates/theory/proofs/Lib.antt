@@ -1,5 +1,6 @@
 pub mod Induction
 pub mod BoundedTests
+pub mod Least
 pub mod Pigeonhole
 pub mod ColumnLaws
 pub mod Walking

@@ -69,3 +69,15 @@ recorded-once {N} {parent} {word = word} {word′} R R′ agree = induction (λ 
       let p : 0 < suc e = omega arith in
       let a = agree (suc e) p h in
       cc (R .grow p h, R′ .grow p h, ih (parent (suc e)) (a .0) (omega (arith, a .0)), a .1, a .2)
+
+-- Who has the same steps, parents and last generators reaches each element from its parent as well.
+pub parents-agree : {n N : ℕ} {step step′ : ℕ → ℕ → ℕ} {parent last parent′ last′ : ℕ → ℕ} → Parents n N step parent last
+    → ((e g : ℕ) → e < N → g < n → step′ e g ≡ step e g)
+    → ((e : ℕ) → 0 < e → e < N → parent′ e ≡ parent e) → ((e : ℕ) → 0 < e → e < N → last′ e ≡ last e) → Parents n N step′ parent′ last′
+parents-agree {parent = parent} {last} P steps parents lasts = record {
+  earlier = λ {e} pos he. rw (parents e pos he) (P .earlier pos he);
+  generator = λ {e} pos he. rw (lasts e pos he) (P .generator pos he);
+  arrives = λ {e} pos he.
+      let low : parent e < e = P .earlier pos he in
+      rw (parents e pos he, lasts e pos he, steps (parent e) (last e) (omega arith) (P .generator pos he)) (P .arrives pos he);
+}

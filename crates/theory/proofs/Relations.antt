@@ -18,7 +18,7 @@ holds-exact {n} {N} {m} {step} = (
   by-kind t e (double g) = t .doubled e g
   by-kind t e (pair i j) = t .paired e i j
 
-alternate-word : {n i j : ℕ} → i < n → j < n → (k : ℕ) → Word n (alternate i j k)
+pub alternate-word : {n i j : ℕ} → i < n → j < n → (k : ℕ) → Word n (alternate i j k)
 alternate-word i j zero = empty
 alternate-word i j (suc k) = letter i (letter j (alternate-word i j k))
 

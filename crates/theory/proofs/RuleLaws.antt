@@ -1,16 +1,14 @@
 -- Further laws of the numbering rule: what it records as far as it has held, that a place's count is one, and that what is not in the table has no say.
 use Prim.Native.Nat.{ℕ, suc, _≤_, _<_}
-use mathlib.Core.Path.{_≡_, refl, sym, ap, _∙_}
-use mathlib.Core.Logic.{⊎-elim}
+use mathlib.Core.Path.{_≡_, ap, _∙_}
 use native.Mathlib.Decide.{decLe}
 use native.Mathlib.Omega.{arith}
 use lib.ListN.{length}
 use Rattle.theory.specs.Words.{Recorded}
 use Rattle.theory.specs.Numbering.{Known, start, old, new, next-row, Numbered}
 use Rattle.theory.specs.Appearance.{Ahead, row, column, First, FirstAppearance, parent-of, last-of, recorded}
-use Rattle.theory.proofs.BoundedTests.{below-suc}
-use Rattle.theory.proofs.Places.{Places, sooner, same, later, places, ahead-suc, ahead-next}
-use Rattle.theory.proofs.Counting.{row-known, read-known, new-first, appeared, known-same, numbered-table}
+use Rattle.theory.proofs.Places.{Places, sooner, same, later, places, ahead-row}
+use Rattle.theory.proofs.Counting.{row-known, read-known, new-first, appeared-before, appeared, known-same, numbered-table}
 use Rattle.theory.proofs.Recording.{word-of-recorded, length-grow}
 use Rattle.theory.proofs.FirstPlaces.{parent-found, last-found, first-parents}
 
@@ -30,21 +28,11 @@ module _ {n : ℕ} {src : ℕ → ℕ → ℕ} where
       let F = new-first K hg is in
       length-grow (known-recorded (new K hg is)) {x = c} (omega (arith, row-known K)) (omega arith) ∙ ap (λ e. suc (length (recorded n src e))) (parent-found F)
 
-  -- Each known element but the identity stands at a place that has been read.
-  met : {x g c e : ℕ} → Known n src x g c → 0 < e → e < c → (y : ℕ) × (h : ℕ) × (h < n) × Ahead y h x g × (src y h ≡ e)
-  met start pos l = absurd (omega arith)
-  met (old k _ _) pos l = let (y, h, b, a, q) = met k pos l in (y, h, b, ahead-suc a, q)
-  met (new {x} {g} k hg t) pos l = ⊎-elim
-      (λ e. (x, g, hg, column refl (omega arith), t ∙ sym e))
-      (λ m. let (y, h, b, a, q) = met k pos m in (y, h, b, ahead-suc a, q))
-      (below-suc l)
-  met (next-row k _) pos l = let (y, h, b, a, q) = met k pos l in (y, h, b, ahead-next a, q)
-
   count-grows : {x g c c′ : ℕ} → Known n src x g c → Known n src x g c′ → c ≤ c′
   count-grows {x} {g} {c} {c′} K K′ = go (decLe c c′) where
     go : Dec (c ≤ c′) → c ≤ c′
     go (yes h) = h
-    go (no h) = let (y, h, b, a, q) = met {e = c′} K (omega (arith, row-known K′)) (omega arith) in omega (arith, read-known K′ b a)
+    go (no h) = let (y, h, F, a) = appeared-before {e = c′} K (omega (arith, row-known K′)) (omega arith) in omega (arith, read-known K′ (F .generator) a, F .arrives)
 
   -- When a place is come to, so many are known.
   pub count-once : {x g c c′ : ℕ} → Known n src x g c → Known n src x g c′ → c ≡ c′
@@ -71,6 +59,10 @@ module _ {n : ℕ} {src : ℕ → ℕ → ℕ} where
   count-within R (old k _ _) = count-within R k
   count-within R (new {x} k hg t) = let h = count-within R k in omega (arith, numbered-table R .closed {e = x} (omega (arith, row-known k)) hg)
   count-within R (next-row k _) = count-within R k
+
+  -- A step leads to an element that is known, or to the next.
+  pub step-within : {N x g c : ℕ} → Numbered n N src → Known n src x g c → g < n → src x g ≤ c
+  step-within {N} {x} {g} R K hg = no-skip K hg (R .known) (ahead-row hg (row (omega (arith, R .last-row, row-known K, count-within R K))))
 
 pub ahead-above : {x g y h : ℕ} → Ahead x g y h → x ≤ y
 ahead-above (row p) = omega arith

@@ -1,5 +1,5 @@
 -- The recorded word of an element is the first of all the words that lead to it, by length and then as in a dictionary.
-use mathlib.Core.Path.{_≡_, refl, sym}
+use mathlib.Core.Path.{_≡_, refl, sym, ap}
 use mathlib.Core.Logic.{_⊎_, inl, inr}
 use mathlib.Core.List.{List, [], _∷_, _++_, append-nil, append-assoc}
 use Prim.Native.Nat.{ℕ, zero, suc, _<_, _≤_}
@@ -107,3 +107,17 @@ module _ {n N : ℕ} {step : ℕ → ℕ → ℕ} (R : Numbered n N step) {w : L
       let F = numbered-first R in
       let W = word-of-recorded (first-parents F) in
       (shortest (numbered-table R) F W hw refl, none-earlier (numbered-table R) F W hw refl)
+
+-- What has the shorter recorded word has the smaller number.
+pub shorter-first : {n N : ℕ} {step : ℕ → ℕ → ℕ} → Numbered n N step → {a b : ℕ} → a < N → length (recorded n step a) < length (recorded n step b) → a < b
+shorter-first {n} {step = step} R {a} {b} ha l = go (order a b) where
+  no-longer : Before (recorded n step b) (recorded n step a) → ⊥
+  no-longer (shorter k) = omega arith
+  no-longer (earlier k _) = omega arith
+
+  go : Order a b → a < b
+  go (less h) = h
+  go (equal e) = absurd (omega (arith, ap (λ x. length (recorded n step x)) e))
+  go (more h) =
+      let F = numbered-first R in
+      absurd (no-longer (ordered (numbered-table R) F (word-of-recorded (first-parents F)) a b h ha))

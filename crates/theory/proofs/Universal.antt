@@ -10,7 +10,7 @@ use Rattle.theory.specs.Presentation.{Relator, Equiv, insert, same, turn
 use Rattle.theory.proofs.Presented.{derived-walk}
 
 module _ {A : Type 0} (G : GroupOver A) (gen : ℕ → A) where
-  product-append : (u v : List ℕ) → word-product G gen (u ++ v) ≡ G .op (word-product G gen u) (word-product G gen v)
+  pub product-append : (u v : List ℕ) → word-product G gen (u ++ v) ≡ G .op (word-product G gen u) (word-product G gen v)
   product-append [] v = sym (G .left-unit (word-product G gen v))
   product-append (g ∷ u) v = cc (product-append u v, G .assoc (gen g) (word-product G gen u) (word-product G gen v))
 

@@ -1,0 +1,9 @@
+pub mod Orders
+pub mod Accepting
+pub mod Quotient
+pub mod Finishing
+pub mod Groups
+pub mod Complete
+pub mod Finite
+pub mod Quick
+pub mod Sample

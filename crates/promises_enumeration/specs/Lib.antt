@@ -1,0 +1,2 @@
+pub mod Presented
+pub mod Spanning

@@ -1,0 +1,12 @@
+pub mod Algebra
+pub mod Flipping
+pub mod Sides
+pub mod Exchange
+pub mod Turns
+pub mod Dihedral
+pub mod Descents
+pub mod Tables
+pub mod Vectors
+pub mod Paths
+pub mod Action
+pub mod ExactOrders

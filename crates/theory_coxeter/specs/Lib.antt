@@ -1,0 +1,3 @@
+pub mod Coxeter
+pub mod Tables
+pub mod Groups
