@@ -46,9 +46,9 @@ module _ {n M : ℕ} {out : ℕ → ℕ → ℕ} {x₀ N : ℕ} {elt : ℕ → �
   src = numberedStep N elt out
 
   -- What holds when row e is to be read from column g on and c elements are known.
-  record Before (e g c : ℕ) (inn outw : List ℕ) : Type 0 where
-    known : Known n (numberedStep N elt out) e g c
-    filled : MapsFilled M room K elt c inn outw
+  pub record Before (e g c : ℕ) (inn outw : List ℕ) : Type 0 where
+    pub known : Known n (numberedStep N elt out) e g c
+    pub filled : MapsFilled M room K elt c inn outw
 
   module _ {e g c : ℕ} {inn outw : List ℕ} (S : Before e g c inn outw) (hg : g < n) where
     within-all : c ≤ N
@@ -57,7 +57,7 @@ module _ {n M : ℕ} {out : ℕ → ℕ → ℕ} {x₀ N : ℕ} {elt : ℕ → �
     row-in : e < c
     row-in = row-known (S .known)
 
-    inside : elt e < M
+    pub inside : elt e < M
     inside = A .below (omega (arith, row-in, within-all))
 
     -- It never skips ahead.
@@ -117,7 +117,7 @@ module _ {n M : ℕ} {out : ℕ → ℕ → ℕ} {x₀ N : ℕ} {elt : ℕ → �
       before₁ = let p : c + 1 ≡ suc c = omega arith in rw p (record { known = new (S .known) hg is; filled = filled₁ })
 
     -- One place.
-    place-follows : (t : List ℕ) → out (elt e) g < M
+    pub place-follows : (t : List ℕ) → out (elt e) g < M
         → Agree (Before e (suc g)) (readPlace t n room c e g (src e g)) (mapPlace t inn outw n room c e g (out (elt e) g))
     place-follows t hx = go (decLt (src e g) c) where
       fresh : src e g ≡ c → noNumber ≡ getD inn (out (elt e) g) 0 → (a : Reached) → a ≡ adds t n room c (record { 0 = e }) (record { 0 = g }) .answer
@@ -195,7 +195,7 @@ module _ {n M : ℕ} {out : ℕ → ℕ → ℕ} {x₀ N : ℕ} {elt : ℕ → �
     at-first : {e : ℕ} → e < 1 → elt e ≡ x₀
     at-first {e} h = let q : e ≡ 0 = omega arith in ap elt q ∙ A .first
 
-    at-start : 1 ≤ room → Before 0 0 1 (putAt (replicate M noNumber) x₀ 0) (putAt (replicate K 0) 0 x₀)
+    pub at-start : 1 ≤ room → Before 0 0 1 (putAt (replicate M noNumber) x₀ 0) (putAt (replicate K 0) 0 x₀)
     at-start lo =
         let lm = length-replicate {A = ℕ} M noNumber in
         let lr = length-replicate {A = ℕ} K 0 in

@@ -34,7 +34,7 @@ zeros size i = go (decLt i size) where
 
 module _ (src : ℕ → ℕ → ℕ) (n room size : ℕ) where
   -- Before anything is read the identity is known, and all cells are zero.
-  state-start : 1 ≤ room → ReadingState src n room size 0 0 1 (replicate size 0)
+  pub state-start : 1 ≤ room → ReadingState src n room size 0 0 1 (replicate size 0)
   state-start h = record {
     held = record { known = start; within = h; short = λ {e} l. let q : e ≡ 0 = omega arith in rw q (omega arith) };
     whole = length-replicate size 0;
@@ -55,7 +55,7 @@ module _ (src : ℕ → ℕ → ℕ) (n room size : ℕ) where
   }
 
   -- The next row, where its element is known.
-  state-row : {x c : ℕ} {t : List ℕ} → suc x < c → ReadingState src n room size x n c t → ReadingState src n room size (suc x) 0 c t
+  pub state-row : {x c : ℕ} {t : List ℕ} → suc x < c → ReadingState src n room size x n c t → ReadingState src n room size (suc x) 0 c t
   state-row h S = record {
     held = record { known = next-row (S .held .known) h; within = S .held .within; short = S .held .short };
     whole = S .whole;

@@ -20,7 +20,7 @@ use Rattle.group_handles.specs.Handles.{handles, elementsOf, allFit, groupOf, j
 use Rattle.group_handles.proofs.Joins.{handles-of}
 use Rattle.promises_group.specs.Products.{AllAccepted, none, more, AcceptedProduct}
 
-grouped : (t : List ℕ) (l : List Factor) → AllAccepted t l → length l ≤ 8 → elementsOf l ≤ 4294967295 → AcceptedProduct t (groupOf l)
+pub grouped : (t : List ℕ) (l : List Factor) → AllAccepted t l → length l ≤ 8 → elementsOf l ≤ 4294967295 → AcceptedProduct t (groupOf l)
 unfolding hs.limited
 grouped t l As h k = record {
   factors = subst (AllAccepted t) (sym (handles-of l)) As;
@@ -36,7 +36,7 @@ pub one-accepted : {t : List ℕ} {f : Factor} → Accepted t f → AcceptedProd
 one-accepted {t} {f} A =
     grouped t (f ∷ []) (more A none) (omega arith) (omega (arith, fits-small (length t) f (A .fits) .1, mul-one (f .elements)))
 
-all-both : {t : List ℕ} {xs ys : List Factor} → AllAccepted t xs → AllAccepted t ys → AllAccepted t (xs ++ ys)
+pub all-both : {t : List ℕ} {xs ys : List Factor} → AllAccepted t xs → AllAccepted t ys → AllAccepted t (xs ++ ys)
 all-both none Bs = Bs
 all-both (more A As) Bs = more A (all-both As Bs)
 

@@ -32,7 +32,7 @@ use Rattle.promises_group.specs.Unaltered.{AllUnaltered, none, more, All
 use Rattle.promises_group.proofs.Parts.{all-fit}
 
 module _ {t t′ : List ℕ} where
-  all-accepted : {hs : List Factor} → AllUnaltered t t′ hs → AllAccepted t′ hs
+  pub all-accepted : {hs : List Factor} → AllUnaltered t t′ hs → AllAccepted t′ hs
   all-accepted none = products.none
   all-accepted (more U Us) = products.more (U .accepted) (all-accepted Us)
 

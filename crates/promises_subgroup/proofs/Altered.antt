@@ -4,12 +4,14 @@ use mathlib.Core.Path.{_≡_, refl, sym, ap, _∙_, subst}
 use mathlib.Core.Logic.{_⊎_, inl, inr}
 use mathlib.Core.List.{List}
 use native.Mathlib.Nat.{le-refl}
+use native.Mathlib.Omega.{arith}
 use lib.ListN.{length, getD, take, replicate}
 use Rattle.egg.specs.declared.Refusal.{Refusal}
 use Rattle.egg.specs.declared.Reached.{Reached}
-use Rattle.egg.specs.declared.Reached.the-variants as reached
 use Rattle.egg.specs.declared.Verdict.the-variants as verdict
 use Rattle.egg.specs.declared.Counted.the-variants as counted
+use Rattle.theory.proofs.Counting.{row-known}
+use Rattle.theory.proofs.RuleLaws.{count-within}
 use Rattle.build_reading.specs.Reading.{readAll}
 use Rattle.build_lending.specs.Finish.{Built, built, zeroed, finishedPlaced}
 use Rattle.build_lending.specs.Lending.{tableNeed, workNeed}
@@ -17,6 +19,7 @@ use Rattle.group_handles.specs.declared.Group.{Group}
 use Rattle.group_handles.specs.Handles.{handles, elementsOf}
 use Rattle.build_numbering.specs.Build.{Renumbering, renumbering, renumberIn}
 use Rattle.theory.specs.Orbit.{Inside, numberedStep, Appearing}
+use Rattle.build_numbering_laws.specs.Source.{AllAnswered, RefusedAt}
 use Rattle.build_numbering_laws.specs.Maps.{MapsFilled}
 use Rattle.build_numbering_laws.proofs.Order.{appearing}
 use Rattle.build_numbering_laws.proofs.Partial.{total, total-answering, partial-build}
@@ -82,34 +85,40 @@ module _ (from : List ℕ) (over : Group) (gens table : List ℕ) (start : ℕ) 
       let Y = refused-maps size lent (total source 0) n room M room 0 q in
       zeros (Y .0) (Y .1)
 
-  by-steps : (b : Renumbering) → renumberIn size lent (total source 0) n room M room 0 ≡ b
+  rows : room * (2 * n + 4) ≤ tableNeed (length gens) room
+  rows = le-refl size
+
+  by-steps : AllAnswered source 0 n room (appearing I .0) (appearing I .1) → (b : Renumbering) → renumberIn size lent (total source 0) n room M room 0 ≡ b
       → fromGenerators from over gens table start work inn outw room ≡ mapsBack over table start work inn outw M n n room b
       → BySteps from over gens table start work inn outw room (fromGenerators from over gens table start work inn outw room)
-  by-steps (renumbering b i o) q z =
+  by-steps a (renumbering b i o) q z =
       let e = sym (ap builtOf q) ∙ is-built in
       record {
         count = appearing I .0;
         elt = appearing I .1;
         appearing = A;
+        answered = a;
         inn′ = i;
         outw′ = o;
         maps = subst (MapsAfter M room (appearing I .0) (appearing I .1) i o) e (maps-after b i o q);
         is = z ∙ ap (λ (x : Built). mapsBack over table start work inn outw M n n room (renumbering x i o)) e;
       }
 
-  stopped : {r : Refusal} {t w i o : List ℕ} (x g : ℕ) → productOf from (handles over) gens x g ≡ reached.Refused r
+  stopped : {r : Refusal} {t w i o : List ℕ} → RefusedAt (productOf from (handles over) gens) 0 n room (appearing I .0) (appearing I .1) r
       → renumberIn size lent (productOf from (handles over) gens) n room M room 0 ≡ renumbering (built (counted.Refused r) t w) i o
       → Stopped from over gens table start work inn outw room (fromGenerators from over gens table start work inn outw room)
-  stopped {r} {t} {w} {i} {o} x g q e =
+  stopped {r} {t} {w} {i} {o} b e =
       let Z = refused-stretches size lent (productOf from (handles over) gens) n room M room 0 e in
       let Y = refused-maps size lent (productOf from (handles over) gens) n room M room 0 e in
       let l : length (take (workNeed n room) work) ≡ workNeed n room = called.work-long from over gens table start work inn outw room S in
       record {
-        element = x;
-        generator = g;
+        count = appearing I .0;
+        elt = appearing I .1;
+        appearing = A;
         refusal = r;
-        number = composes-17 from (handles over) x (getD gens g 0) .of r q;
-        refused = q;
+        number = composes-17 from (handles over) (appearing I .1 (b .row)) (getD gens (b .column) 0) .of r (b .refused);
+        asked = b;
+        reached = A .reached (omega (arith, row-known (b .before .known), count-within (A .by-rule) (b .before .known)));
         is = called.is-build from over gens table start work inn outw room S
             ∙ ap (λ (b : Renumbering). mapsBack over table start work inn outw M n n room b) e
             ∙ rw (Z .0, Z .1, Y .0, Y .1, l);
@@ -118,16 +127,17 @@ module _ (from : List ℕ) (over : Group) (gens table : List ℕ) (start : ℕ) 
   -- "17 as met": on every input that starts.
   pub generators-any : BySteps from over gens table start work inn outw room (fromGenerators from over gens table start work inn outw room)
       ⊎ Stopped from over gens table start work inn outw room (fromGenerators from over gens table start work inn outw room)
-  generators-any = go (partial-build size lent (productOf from (handles over) gens) n room M room 0) where
-    go : (renumberIn size lent source n room M room 0 ≡ renumberIn size lent (total source 0) n room M room 0)
-        ⊎ ((r : Refusal) × (x : ℕ) × (g : ℕ) × (t : List ℕ) × (i : List ℕ) × (o : List ℕ) × (source x g ≡ reached.Refused r)
+  generators-any = go (partial-build source 0 A I small room room lo hi (le-refl room) size (S .few) rows lent) where
+    go : ((renumberIn size lent source n room M room 0 ≡ renumberIn size lent (total source 0) n room M room 0)
+        × AllAnswered source 0 n room (appearing I .0) (appearing I .1))
+        ⊎ ((r : Refusal) × RefusedAt source 0 n room (appearing I .0) (appearing I .1) r × (t : List ℕ) × (i : List ℕ) × (o : List ℕ)
         × (renumberIn size lent source n room M room 0 ≡ renumbering (built (counted.Refused r) (zeroed t) (zeroed lent)) (zeroed i) (zeroed o)))
         → BySteps from over gens table start work inn outw room (fromGenerators from over gens table start work inn outw room)
         ⊎ Stopped from over gens table start work inn outw room (fromGenerators from over gens table start work inn outw room)
-    go (inl e) =
-        inl (by-steps (renumberIn size lent (total source 0) n room M room 0) refl
+    go (inl (e, a)) =
+        inl (by-steps a (renumberIn size lent (total source 0) n room M room 0) refl
         (called.is-build from over gens table start work inn outw room S ∙ ap (λ (b : Renumbering). mapsBack over table start work inn outw M n n room b) e))
-    go (inr (r, x, g, t, i, o, q, e)) = inr (stopped x g q e)
+    go (inr (r, b, t, i, o, e)) = inr (stopped b e)
 
 -- What is accepted is an accepted factor, whatever the arguments and the buffers were.
 module _ (from : List ℕ) (over : Group) (gens table : List ℕ) (start : ℕ) (work inn outw : List ℕ) (room : ℕ) {s : Subgroup} {t w i o : List ℕ}

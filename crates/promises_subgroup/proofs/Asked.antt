@@ -22,6 +22,7 @@ use Rattle.group_handles.proofs.Admitted.{few-factors}
 use Rattle.group_handles.proofs.Caps.{cap-small}
 use Rattle.group_handles.proofs.Joins.{fit-both, handles-of}
 use Rattle.build_numbering.specs.Renumber as appear
+use Rattle.build_numbering_laws.specs.Source.{answered}
 use Rattle.subgroup_build.specs.declared.Subgroup.{Subgroup}
 use Rattle.subgroup_build.specs.declared.Subgrouped.{Subgrouped}
 use Rattle.subgroup.specs.declared.Within.the-variants as within
@@ -102,6 +103,9 @@ module _ {from table : ℕ} {s : Subgroup} {inn outw : List ℕ} (K : Askable fr
   pub maps-answer : MapAnswers from table s inn outw
   maps-answer = record { outward = λ {e} h. outward h; inward = λ {x} h. inward h; carried = formulas }
 
+pub reach-once : {x y : ℕ} → reach x ≡ reach y → x ≡ y
+reach-once q = ap (answered 0) q
+
 -- What `product_left` and `product_right` give is known by the same maps.
 multiplied-fine : (g h : Group) (t : Subgroup) {s : Subgroup} → multiplied g h t ≡ record { answer = Fine; subgroup = s } → (s ≡ t) × (sidesLimited t ≡ true)
 unfolding multiplied ifLimited
@@ -120,6 +124,15 @@ fitting-fine : (b : Bool) (x : Subgrouped) {s : Subgroup} → pick b x (refusedS
     → (b ≡ true) × (x ≡ record { answer = Fine; subgroup = s })
 fitting-fine true x e = (refl, e)
 fitting-fine false x e = absurd (refused-fine (ap (λ (y : Subgrouped). y .answer) e))
+
+module _ (from table : ℕ) (s : Subgroup) (g : Group) where
+  pub left-value : {t : Subgroup} → leftProduct from table g s ≡ record { answer = Fine; subgroup = t } → t ≡ leftOf g s
+  unfolding leftProduct
+  left-value {t} q = multiplied-fine g (s .below) (leftOf g s) (fitting-fine (sidesFit from table s && allFit from (handles g)) _ q .1) .0
+
+  pub right-value : {t : Subgroup} → rightProduct from table s g ≡ record { answer = Fine; subgroup = t } → t ≡ rightOf s g
+  unfolding rightProduct
+  right-value {t} q = multiplied-fine (s .above) g (rightOf s g) (fitting-fine (sidesFit from table s && allFit from (handles g)) _ q .1) .0
 
 module _ {from table : ℕ} {s : Subgroup} {inn outw : List ℕ} (K : Askable from table s inn outw) (g : Group) where
   parts-fit : fitsIn table (s .factor) && (allFit from (handles (s .below)) && (allFit from (handles (s .over)) && allFit from (handles (s .above)))) ≡ true

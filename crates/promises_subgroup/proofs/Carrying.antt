@@ -1,11 +1,9 @@
 -- The two maps that the index formulas make of a factor's are those of a direct product.
-use Prim.Native.Nat.{ℕ, _+_, _*_, _/_, _%_, _<_, _≤_}
-use mathlib.Core.Path.{_≡_, sym, _∙_, ap}
-use mathlib.Core.Logic.{_↔_}
-use native.Mathlib.Decide.{ℕ-discrete}
+use Prim.Native.Nat.{ℕ, _*_, _/_, _%_, _<_, _≤_}
+use mathlib.Core.Path.{_≡_, _∙_, ap}
 use native.Mathlib.Omega.{arith}
 use Rattle.build_numbering.specs.Renumber as appear
-use Rattle.subgroup.specs.Indices.{factorIndices, unfactorIndices, withWithin, overOf, subOf}
+use Rattle.subgroup.specs.Indices.{factorIndices, withWithin, overOf, subOf}
 use Rattle.subgroup.proofs.IndexLaws.{unfactor-small, below-is, within-is, above-is, below-small, within-small, above-small, unfactor-factor, sub-none, sub-some}
 use Rattle.promises_subgroup.specs.Carried.{MapsUndo}
 
@@ -59,12 +57,6 @@ module _ (B A : ℕ) {M N : ℕ} {toOver toSub : ℕ → ℕ} (C : MapsUndo M N 
     part-some : ¬ (subOf B M N toSub x ≡ appear.noNumber) → ¬ (toSub (x / B % M) ≡ appear.noNumber)
     part-some f q = f (sub-none B M N toSub x q)
 
-    pub none-exactly : B * (N * A) ≤ appear.noNumber → subOf B M N toSub x ≡ appear.noNumber ↔ toSub (x / B % M) ≡ appear.noNumber
-    none-exactly small = (λ q. by q (ℕ-discrete (toSub (x / B % M)) appear.noNumber), sub-none B M N toSub x) where
-      by : subOf B M N toSub x ≡ appear.noNumber → Dec (toSub (x / B % M) ≡ appear.noNumber) → toSub (x / B % M) ≡ appear.noNumber
-      by q (yes z) = z
-      by q (no k) = absurd (omega (arith, member-small k))
-
   -- The maps of the index formulas undo each other, as those of the factor do.
   pub carried-product : B * (N * A) ≤ appear.noNumber → MapsUndo (B * (M * A)) (B * (N * A)) (overOf B M N toOver) (subOf B M N toSub)
   carried-product small = record {
@@ -74,11 +66,3 @@ module _ (B A : ℕ) {M N : ℕ} {toOver toSub : ℕ → ℕ} (C : MapsUndo M N 
     sub-below = λ {x} h f. member-small h (part-some h f);
     back-and-there = λ {x} h f. member-back h (part-some h f);
   }
-
--- Two elements of the subgroup are two of the overgroup; and what the second map knows is what the first gives.
-module _ {M N : ℕ} {toOver toSub : ℕ → ℕ} (C : MapsUndo M N toOver toSub) where
-  pub over-once : {d e : ℕ} → d < N → e < N → toOver d ≡ toOver e → d ≡ e
-  over-once h k q = sym (C .there-and-back h) ∙ ap toSub q ∙ C .there-and-back k
-
-  pub over-known : {e : ℕ} → e < N → ¬ (toSub (toOver e) ≡ appear.noNumber)
-  over-known {e} h q = omega (arith, C .small, C .there-and-back h)

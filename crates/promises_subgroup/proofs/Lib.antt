@@ -4,7 +4,6 @@ pub mod Narrow
 pub mod Stretches
 pub mod Held
 pub mod Overgroup
-pub mod Factors
 pub mod Called
 pub mod Leaving
 pub mod Asked
@@ -20,5 +19,8 @@ pub mod Altered
 pub mod Leaves
 pub mod Wrote
 pub mod Unaltered
+pub mod Beside
+pub mod SideGenerators
+pub mod OneBuffer
 pub mod Answers
 pub mod AlteredCases

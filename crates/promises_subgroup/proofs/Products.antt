@@ -10,6 +10,7 @@ use Rattle.build_numbering.specs.Renumber as appear
 use Rattle.theory_products.specs.Product.{Part, pair, product, Each, none, more, IsGroup}
 use Rattle.theory_radix.proofs.RadixLaws.{low, high, joined-small, low-small, high-small}
 use Rattle.theory_products.proofs.ProductLaws.{product-group}
+use Rattle.theory_products.proofs.StepLaws.{WhichFactor, left, right, side, element-left, element-right}
 use Rattle.subgroup.specs.Indices.{Indices, factorIndices, unfactorIndices, withWithin, overOf, subOf}
 use Rattle.promises_subgroup.specs.Carried.{MapsUndo, Homomorphic}
 use Rattle.subgroup.proofs.IndexLaws.{unfactor-is, below-small, within-small, above-small}
@@ -155,3 +156,23 @@ pub three-products-inverse : {ps os : List Part} → Each IsGroup ps → Each Is
 three-products-inverse {ps} {os} Ps Os rs a =
     product-append-inverse Ps (os ++ rs) a
     ∙ ap (λ (x : ℕ). product ps .inv (a % product ps .elements) + product ps .elements * x) (product-append-inverse Os rs (a / product ps .elements))
+
+-- The generators of a product of two: the first's, and after these the second's, times the elements of the first.
+pub append-first : (ps qs : List Part) {g : ℕ} → g < product ps .generators → product (ps ++ qs) .step 0 g ≡ product ps .step 0 g
+append-first [] qs h = absurd (omega arith)
+append-first (p ∷ ps) qs {g} h = go (side (p .generators) (product ps .generators) g h) (λ k l. append-first ps qs l) where
+  go : WhichFactor (p .generators) (product ps .generators) g
+      → ((k : ℕ) → k < product ps .generators → product (ps ++ qs) .step 0 k ≡ product ps .step 0 k)
+      → pair p (product (ps ++ qs)) .step 0 g ≡ pair p (product ps) .step 0 g
+  go (left l) ih = element-left p (product (ps ++ qs)) l ∙ sym (element-left p (product ps) l)
+  go (right k l q) ih =
+      ap (pair p (product (ps ++ qs)) .step 0) q ∙ element-right p (product (ps ++ qs)) k ∙ ap (λ (x : ℕ). 0 + p .elements * x) (ih k l)
+      ∙ sym (element-right p (product ps) k) ∙ ap (pair p (product ps) .step 0) (sym q)
+
+pub append-second : (ps qs : List Part) (g : ℕ) → product (ps ++ qs) .step 0 (product ps .generators + g) ≡ product ps .elements * product qs .step 0 g
+append-second [] qs g = rw (zero-add g, one-mul (product qs .step 0 g))
+append-second (p ∷ ps) qs g =
+    ap (pair p (product (ps ++ qs)) .step 0) (add-assoc (p .generators) (product ps .generators) g)
+    ∙ element-right p (product (ps ++ qs)) (product ps .generators + g)
+    ∙ zero-add (p .elements * product (ps ++ qs) .step 0 (product ps .generators + g))
+    ∙ ap (λ (x : ℕ). p .elements * x) (append-second ps qs g) ∙ sym (mul-assoc (p .elements) (product ps .elements) (product qs .step 0 g))

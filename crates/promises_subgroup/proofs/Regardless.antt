@@ -12,7 +12,6 @@ use lib.ListN.{length, getD, take, replicate, length-replicate}
 use Rattle.egg.specs.declared.Factor.{Factor}
 use Rattle.egg.specs.declared.Refusal.{Refusal}
 use Rattle.egg.specs.declared.Reached.{Reached}
-use Rattle.egg.specs.declared.Reached.the-variants as reached
 use Rattle.egg.specs.declared.Counted.the-variants as counted
 use Rattle.egg.specs.Factor.{hasRoom, stretch}
 use Rattle.egg.proofs.Rooms as rooms
@@ -22,6 +21,7 @@ use Rattle.build_lending.specs.Lending.{tableNeed, workNeed, lentRight, within}
 use Rattle.build_lending.proofs.Lending.{lent-table, lent-enough}
 use Rattle.factor_laws.specs.Refuses.{ReachedIn}
 use Rattle.factor_laws.proofs.Refuses.{reached-element, reached-on, compose-in}
+use Rattle.build_reading_laws.proofs.OnePlace.{readable-not-refused}
 use Rattle.build_laws.specs.Taken.{Holding}
 use Rattle.promises.specs.Unaltered.{Wrote, part}
 use Rattle.build_laws.proofs.Lent.{handle, within-cell}
@@ -34,7 +34,7 @@ use Rattle.group_handles.proofs.Lists.{positive}
 use Rattle.group_digits.proofs.Walks.{Below, element, below-element, below-on, digit-below}
 use Rattle.build_numbering.specs.Build.{renumbering, renumberIn}
 use Rattle.theory.specs.Orbit.{Inside, numberedStep, Appearing}
-use Rattle.build_numbering_laws.specs.Source.{Answering}
+use Rattle.build_numbering_laws.specs.Source.{Answering, AnsweredTo, AllAnswered, whole, until, RefusedAt}
 use Rattle.build_numbering_laws.specs.Maps.{MapsFilled}
 use Rattle.build_numbering_laws.proofs.Order.{appearing}
 use Rattle.build_numbering_laws.proofs.Partial.{ranged-inside, total, total-answering, partial-build}
@@ -73,18 +73,6 @@ pub steps-inside : (from : List ℕ) (over : Group) (gens : List ℕ) → allFit
 steps-inside from over gens fits =
     ranged-inside (record { ranged = λ {x} {g} {y} hx hg q. below-element (composes-below from (handles over) x (getD gens g 0) hx) refl q })
     0 (positive (length from) (handles over) fits)
-
--- An accepted build is that of the steps.
-pub accepted-total : (size : ℕ) (w : List ℕ) (source : ℕ → ℕ → Reached) (n room M K x₀ : ℕ) {c : ℕ} {t w₁ i o : List ℕ}
-    → renumberIn size w source n room M K x₀ ≡ renumbering (built (counted.Count c) t w₁) i o
-    → renumberIn size w (total source x₀) n room M K x₀ ≡ renumbering (built (counted.Count c) t w₁) i o
-accepted-total size w source n room M K x₀ {c} {t} {w₁} {i} {o} q = go (partial-build size w source n room M K x₀) where
-  go : (renumberIn size w source n room M K x₀ ≡ renumberIn size w (total source x₀) n room M K x₀)
-      ⊎ ((r : Refusal) × (x : ℕ) × (g : ℕ) × (t : List ℕ) × (i : List ℕ) × (o : List ℕ) × (source x g ≡ reached.Refused r)
-      × (renumberIn size w source n room M K x₀ ≡ renumbering (built (counted.Refused r) (zeroed t) (zeroed w)) (zeroed i) (zeroed o)))
-      → renumberIn size w (total source x₀) n room M K x₀ ≡ renumbering (built (counted.Count c) t w₁) i o
-  go (inl e) = sym e ∙ q
-  go (inr (r, x, g, t, i, o, z, e)) = absurd (not-refused (sym e ∙ q))
 
 -- A front that was written, put back.
 front-wrote : (l : List ℕ) (k : ℕ) → k ≤ length l → (p : List ℕ) → length p ≡ k → Wrote (record { entry = l; start = 0; need = k; exit = within l 0 k p })
@@ -137,15 +125,31 @@ module _ (from : List ℕ) (over : Group) (gens : List ℕ) (k : ℕ) (table : L
     abbrev src : ℕ → ℕ → ℕ
     src = numberedStep (appearing I .0) (appearing I .1) (stepsRead from over gens)
 
-    same : renumberIn (tableNeed k room) v (total (productOf from (handles over) gens) 0) (length gens) room (elementsOf (handles over)) room 0
-        ≡ renumbering (built (counted.Count c) t w) i o
-    same = accepted-total (tableNeed k room) v (productOf from (handles over) gens) n room M room 0 q
-
     answering : Answering n M (stepsRead from over gens) (total (productOf from (handles over) gens) 0)
     answering = total-answering n M (productOf from (handles over) gens) 0
 
     rows : room * (2 * length gens + 4) ≤ tableNeed k room
     rows = fewer-rows (length gens) k room few
+
+    -- An accepted build is that of the steps, all of which were answered.
+    of-steps : (renumberIn (tableNeed k room) v (total (productOf from (handles over) gens) 0) (length gens) room (elementsOf (handles over)) room 0
+        ≡ renumbering (built (counted.Count c) t w) i o)
+        × AllAnswered (productOf from (handles over) gens) 0 (length gens) room (appearing I .0) (appearing I .1)
+    of-steps = go (partial-build (productOf from (handles over) gens) 0 A I small room room lo hi (le-refl room) (tableNeed k room) eight rows v) where
+      go : ((renumberIn (tableNeed k room) v (productOf from (handles over) gens) n room M room 0 ≡ renumberIn (tableNeed k room) v source n room M room 0)
+          × AllAnswered (productOf from (handles over) gens) 0 n room (appearing I .0) (appearing I .1))
+          ⊎ ((r : Refusal) × RefusedAt (productOf from (handles over) gens) 0 n room (appearing I .0) (appearing I .1) r
+          × (t : List ℕ) × (i : List ℕ) × (o : List ℕ)
+          × (renumberIn (tableNeed k room) v (productOf from (handles over) gens) n room M room 0
+          ≡ renumbering (built (counted.Refused r) (zeroed t) (zeroed v)) (zeroed i) (zeroed o)))
+          → (renumberIn (tableNeed k room) v source n room M room 0 ≡ renumbering (built (counted.Count c) t w) i o)
+          × AllAnswered (productOf from (handles over) gens) 0 n room (appearing I .0) (appearing I .1)
+      go (inl (e, a)) = (sym e ∙ q, a)
+      go (inr (r, b, t, i, o, e)) = absurd (not-refused (sym e ∙ q))
+
+    same : renumberIn (tableNeed k room) v (total (productOf from (handles over) gens) 0) (length gens) room (elementsOf (handles over)) room 0
+        ≡ renumbering (built (counted.Count c) t w) i o
+    same = of-steps .0
 
     H : Holding src n room (tableNeed k room) c t
     H = renumber-holds A I small source answering room room lo hi (le-refl room) (tableNeed k room) v eight rows enough same
@@ -167,12 +171,17 @@ module _ (from : List ℕ) (over : Group) (gens : List ℕ) (k : ℕ) (table : L
     F : MapsFilled M room room (appearing I .1) c i o
     F = filled-maps .1
 
-    whole : c ≡ appearing I .0
-    whole = filled-maps .0
+    whole-count : c ≡ appearing I .0
+    whole-count = filled-maps .0
+
+    all-answered : AllAnswered (productOf from (handles over) gens) 0 n room (appearing I .0) (appearing I .1)
+        → AnsweredTo (productOf from (handles over) gens) 0 n (appearing I .1) c 0
+    all-answered (whole R a) = subst (λ (m : ℕ). AnsweredTo (productOf from (handles over) gens) 0 n (appearing I .1) m 0) (sym whole-count) a
+    all-answered (until stop a) = absurd (readable-not-refused (own .taken .readable) stop)
 
     numbered-so : Holding (numberedStep c (appearing I .1) (stepsRead from over gens)) n room (tableNeed n room) c (take (tableNeed n room) t)
     numbered-so =
-        subst (λ (m : ℕ). Holding (numberedStep m (appearing I .1) (stepsRead from over gens)) n room (tableNeed n room) c (take (tableNeed n room) t)) (sym whole) own
+        subst (λ (m : ℕ). Holding (numberedStep m (appearing I .1) (stepsRead from over gens)) n room (tableNeed n room) c (take (tableNeed n room) t)) (sym whole-count) own
 
     pub regardless : Regardless from over gens k table start work inn outw room
         (record { below = groupOf []; factor = handle start (length gens) room c; over = over; above = groupOf [] })
@@ -189,7 +198,8 @@ module _ (from : List ℕ) (over : Group) (gens : List ℕ) (k : ℕ) (table : L
           value = refl;
           handle = refl;
           elt = appearing I .1;
-          appearing = subst (λ (m : ℕ). Appearing n M (stepsRead from over gens) 0 m (appearing I .1)) (sym whole) A;
+          appearing = subst (λ (m : ℕ). Appearing n M (stepsRead from over gens) 0 m (appearing I .1)) (sym whole-count) A;
+          answered = all-answered (of-steps .1);
           taken = numbered-so .taken;
           accepted = record {
             fits = handle-fits table start k room has most n c t few (H .size-kept) (H .sound .table .origin) (F .within);

@@ -143,7 +143,7 @@ module _ {from from′ : List ℕ} (over : Group) (fits : allFit (length from) (
 
 -- Factors that are unaltered, the subgroup's own and those of its overgroup, keep their stretches, and the handles fit.
 module _ {t t′ : List ℕ} where
-  each-of : {hs : List Factor} → AllUnaltered t t′ hs → EachSame t t′ hs
+  pub each-of : {hs : List Factor} → AllUnaltered t t′ hs → EachSame t t′ hs
   each-of none = all
   each-of (more U Us) = also (U .stretches) (each-of Us)
 
@@ -175,7 +175,7 @@ module _ {from from′ table table′ : List ℕ} (s : Subgroup) (U : Unaltered 
 
 -- All that holds of a subgroup as it was made holds still, where its factor is unaltered, the stretches of the overgroup's factors hold the same, and the needed
 -- parts of the maps do.
-parts-same : {t t′ : List ℕ} {hs : List Factor} → EachSame t t′ hs → parts t′ hs ≡ parts t hs
+pub parts-same : {t t′ : List ℕ} {hs : List Factor} → EachSame t t′ hs → parts t′ hs ≡ parts t hs
 parts-same all = refl
 parts-same (also q S) = rw (q, parts-same S)
 

@@ -6,7 +6,6 @@ use mathlib.Core.Bool.{true}
 use mathlib.Core.List.{List, [], _∷_}
 use lib.ListN.{length, getD, take, replicate}
 use Rattle.egg.specs.declared.Refusal.{Refusal}
-use Rattle.egg.specs.declared.Reached.the-variants as reached
 use Rattle.egg.specs.declared.Verdict.the-variants as verdict
 use Rattle.egg.specs.declared.Counted.the-variants as counted
 use Rattle.build_reading.specs.Reading.{readAll}
@@ -18,8 +17,8 @@ use Rattle.build_laws.specs.Taken.{Taken}
 use Rattle.group_handles.specs.declared.Group.{Group}
 use Rattle.group_handles.specs.Handles.{handles, elementsOf, allFit, groupOf}
 use Rattle.build_numbering.specs.Build.{renumbering}
-use Rattle.theory.specs.Orbit.{numberedStep, Appearing}
-use Rattle.build_numbering_laws.specs.Source.{outOf}
+use Rattle.theory.specs.Orbit.{Orbit, numberedStep, Appearing}
+use Rattle.build_numbering_laws.specs.Source.{outOf, AnsweredTo, AllAnswered, RefusedAt}
 use Rattle.build_numbering_laws.specs.Maps.{MapsFilled}
 use Rattle.subgroup_build.specs.declared.Subgroup.{Subgroup}
 use Rattle.subgroup_build.specs.Lent.{subgroupOf, Subgrouping, subgrouping, mapsBack}
@@ -28,7 +27,8 @@ use Rattle.subgroup_build.specs.Generated.{smallEnough}
 use Rattle.promises_subgroup.specs.Carried.{MapsUndo}
 use Rattle.promises_subgroup.specs.Leaves.{mapsFor, AllWrote}
 
--- The steps that are read, where the overgroup's `compose` answers.
+-- The steps that are read: what the overgroup's `compose` answers, and a step to 0 where it refuses. What follows says each time that no such step was taken:
+-- every product that was asked for was answered, or the first that was not is the refusal.
 abbrev pub stepsRead : List ℕ → Group → List ℕ → ℕ → ℕ → ℕ
 stepsRead from over gens = outOf 0 (productOf from (handles over) gens)
 
@@ -39,11 +39,12 @@ pub data MapsAfter (M room count : ℕ) (elt : ℕ → ℕ) (inn outw : List ℕ
   filled : {t w : List ℕ} → MapsFilled M room room elt count inn outw → MapsAfter M room count elt inn outw (built (counted.Count count) t w)
   zeros : {r : Refusal} {t w : List ℕ} → inn ≡ replicate M 0 → outw ≡ replicate room 0 → MapsAfter M room count elt inn outw (built (counted.Refused r) t w)
 
--- The call comes to the build from composed rows of the steps that are read, numbered in order of first appearance.
+-- The build is that of composed rows: of these steps, numbered in order of first appearance; and each product that it asked for was answered (`AllAnswered`).
 pub record BySteps (from : List ℕ) (over : Group) (gens table : List ℕ) (start : ℕ) (work inn outw : List ℕ) (room : ℕ) (m : Subgrouping) : Type 0 where
   pub count : ℕ
   pub elt : ℕ → ℕ
   pub appearing : Appearing (length gens) (elementsOf (handles over)) (stepsRead from over gens) 0 count elt
+  pub answered : AllAnswered (productOf from (handles over) gens) 0 (length gens) room count elt
   pub inn′ : List ℕ
   pub outw′ : List ℕ
   pub maps : MapsAfter (elementsOf (handles over)) room count elt inn′ outw′
@@ -53,21 +54,24 @@ pub record BySteps (from : List ℕ) (over : Group) (gens table : List ℕ) (sta
       (renumbering (finishedPlaced (readAll (numberedStep count elt (stepsRead from over gens)) (length gens) room (replicate (tableNeed (length gens) room) 0))
       (length gens) (take (workNeed (length gens) room) work)) inn′ outw′)
 
--- Or a product that was asked for was refused, by 17; then that refusal stands, and the needed stretches and maps are zero.
+-- Or a product that was asked for was refused, by 17, as the first (`RefusedAt`): its element has been reached, by products that were answered, its generator is
+-- one of those given, and nothing was refused before it. Then that refusal stands, and the needed stretches and maps are zero.
 pub record Stopped (from : List ℕ) (over : Group) (gens table : List ℕ) (start : ℕ) (work inn outw : List ℕ) (room : ℕ) (m : Subgrouping) : Type 0 where
-  pub element : ℕ
-  pub generator : ℕ
+  pub count : ℕ
+  pub elt : ℕ → ℕ
+  pub appearing : Appearing (length gens) (elementsOf (handles over)) (stepsRead from over gens) 0 count elt
   pub refusal : Refusal
   pub number : RefusalIn (17 ∷ []) refusal
-  pub refused : productOf from (handles over) gens element generator ≡ reached.Refused refusal
+  pub asked : RefusedAt (productOf from (handles over) gens) 0 (length gens) room count elt refusal
+  pub reached : Orbit (length gens) (stepsRead from over gens) 0 (elt (asked .row))
   pub is : m ≡ subgrouping (subgroupOf over (record { answer = verdict.Refused refusal; factor = noFactor }))
       (within table start (start + tableNeed (length gens) room) (replicate (tableNeed (length gens) room) 0))
       (within work 0 (workNeed (length gens) room) (replicate (workNeed (length gens) room) 0))
       (within inn 0 (elementsOf (handles over)) (replicate (elementsOf (handles over)) 0)) (within outw 0 room (replicate room 0))
 
--- What is accepted all the same, by these elements, with stretches as k generators need them: an accepted factor, so a group, whose steps are those
--- that were read, in their numbering; maps that hold this numbering and undo each other; zeros beyond the last element and in the work; and the
--- excess of all four buffers as it was.
+-- What is accepted all the same, by these elements, with stretches as k generators need them: an accepted factor, so a group, whose steps are those that were
+-- read, in their numbering, the product of each of its elements by each of its generators being one that was answered; maps that hold this numbering and undo
+-- each other; zeros beyond the last element and in the work; and the excess of all four buffers as it was.
 pub record Regardless (from : List ℕ) (over : Group) (gens : List ℕ) (k : ℕ) (table : List ℕ) (start : ℕ) (work inn outw : List ℕ) (room : ℕ) (s : Subgroup)
     (t w i o : List ℕ) : Type 1 where
   pub fits : allFit (length from) (handles over) ≡ true
@@ -76,6 +80,7 @@ pub record Regardless (from : List ℕ) (over : Group) (gens : List ℕ) (k : �
   pub handle : s .factor ≡ record { start = start; room = room; generators = length gens; elements = s .factor .elements }
   pub elt : ℕ → ℕ
   pub appearing : Appearing (length gens) (elementsOf (handles over)) (stepsRead from over gens) 0 (s .factor .elements) elt
+  pub answered : AnsweredTo (productOf from (handles over) gens) 0 (length gens) elt (s .factor .elements) 0
   pub taken : Taken (numberedStep (s .factor .elements) elt (stepsRead from over gens)) (length gens) room (s .factor .elements)
   pub accepted : Accepted t (s .factor)
   pub steps : {e g : ℕ} → e < s .factor .elements → g < length gens

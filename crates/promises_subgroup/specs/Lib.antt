@@ -4,6 +4,7 @@ pub mod Generates
 pub mod Leaves
 pub mod Asked
 pub mod Unaltered
+pub mod Beside
 pub mod Refuses
 pub mod Altered
 pub mod Answers

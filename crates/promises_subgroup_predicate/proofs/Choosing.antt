@@ -20,7 +20,7 @@ use Rattle.build_numbering.specs.Build.{Renumbering, renumbering}
 use Rattle.theory.specs.Orbit.{Orbit, origin, onward}
 use Rattle.theory.specs.Subgroup.{rightBy}
 use Rattle.subgroup_predicate_choices.specs.Choices.{Picked, isNewMember, chooses}
-use Rattle.promises_subgroup_predicate.specs.Predicate.{Reach, Chosen, Knows, Faithful, Ends, accepted, refused, too-many}
+use Rattle.promises_subgroup_predicate.specs.Predicate.{Reach, Gathered, Chosen, Knows, Faithful, Ends, accepted, refused, too-many}
 
 -- The same by generators that are the same.
 pub orbit-as : (op : ℕ → ℕ → ℕ) {n : ℕ} {f g : ℕ → ℕ} {y : ℕ} → ((i : ℕ) → i < n → f i ≡ g i) → Orbit n (rightBy op f) 0 y → Orbit n (rightBy op g) 0 y
@@ -49,6 +49,41 @@ module _ (gens : List ℕ) (x : ℕ) where
     by (yes k) = inl k
     by (no k) = inr (omega (arith, more-length))
 
+-- What was gathered is so still later, and with one more member.
+module _ {byte : ℕ → ℕ} {x : ℕ} {gens : List ℕ} (G : Gathered byte x gens) where
+  pub gathered-later : {y : ℕ} → x ≤ y → Gathered byte y gens
+  gathered-later l = record { few = G .few; before = λ {g} h. omega (arith, G .before h); ascending = G .ascending; members = G .members }
+
+  pub gathered-more : length gens < 8 → ¬ (byte x ≡ 0) → Gathered byte (x + 1) (gens ++ (x ∷ []))
+  gathered-more room m = record {
+    few = omega (arith, more-length gens x);
+    before = λ {g} h. sooner g (last-or gens x h);
+    ascending = λ {g} {h} l k. rising g h l (last-or gens x k);
+    members = λ {g} h. member g (last-or gens x h);
+  } where
+    sooner : (g : ℕ) → (g < length gens) ⊎ (g ≡ length gens) → getD (gens ++ (x ∷ [])) g 0 < x + 1
+    sooner g (inl k) = rw (old gens x k) (omega (arith, G .before k))
+    sooner g (inr q) = rw (new gens x q) (omega arith)
+
+    rising : (g h : ℕ) → g < h → (h < length gens) ⊎ (h ≡ length gens) → getD (gens ++ (x ∷ [])) g 0 < getD (gens ++ (x ∷ [])) h 0
+    rising g h l (inl k) = let i : g < length gens = omega arith in rw (old gens x k, old gens x i) (G .ascending l k)
+    rising g h l (inr q) = let i : g < length gens = omega arith in rw (new gens x q, old gens x i) (G .before i)
+
+    member : (g : ℕ) → (g < length gens) ⊎ (g ≡ length gens) → ¬ (byte (getD (gens ++ (x ∷ [])) g 0) ≡ 0)
+    member g (inl k) = rw (old gens x k) (G .members k)
+    member g (inr q) = rw (new gens x q) m
+
+pub nothing-gathered : {byte : ℕ → ℕ} → Gathered byte 0 []
+nothing-gathered = record {
+  few = omega arith;
+  before = λ h. absurd (omega arith);
+  ascending = λ h k. absurd (omega arith);
+  members = λ h. absurd (omega arith);
+}
+
+pub new-byte : (inn : List ℕ) (byte : ℕ → ℕ) (x : ℕ) → isNewMember inn byte x ≡ true → ¬ (byte x ≡ 0)
+new-byte inn byte x h q = eqb-false (byte x) 0 (not-true _ (and-second (eqb (getD inn x 0) appear.noNumber) _ h)) q
+
 module _ {op : ℕ → ℕ → ℕ} {byte : ℕ → ℕ} {x : ℕ} {gens : List ℕ} (C : Chosen op byte x gens) where
   -- x is no member, or is generated already.
   pub chosen-same : (byte x ≡ 0) ⊎ Reach op gens (length gens) x → Chosen op byte (x + 1) gens
@@ -72,24 +107,18 @@ module _ {op : ℕ → ℕ → ℕ} {byte : ℕ → ℕ} {x : ℕ} {gens : List 
   -- x is chosen.
   pub chosen-more : length gens < 8 → ¬ (byte x ≡ 0) → ¬ Reach op gens (length gens) x → Chosen op byte (x + 1) (gens ++ (x ∷ []))
   chosen-more room m n = record {
-    few = omega (arith, more-length gens x);
-    before = λ {g} h. sooner g (last-or gens x h);
-    ascending = λ {g} {h} l k. rising g h l (last-or gens x k);
-    members = λ {g} h. member g (last-or gens x h);
+    few = together .few;
+    before = together .before;
+    ascending = together .ascending;
+    members = together .members;
     outside = λ {g} h r. out g r (last-or gens x h);
     complete = λ {y} h k. seen y h k (decLt y x);
   } where
-    sooner : (g : ℕ) → (g < length gens) ⊎ (g ≡ length gens) → getD (gens ++ (x ∷ [])) g 0 < x + 1
-    sooner g (inl k) = rw (old gens x k) (omega (arith, C .before k))
-    sooner g (inr q) = rw (new gens x q) (omega arith)
+    so-far : Gathered byte x gens
+    so-far = record { few = C .few; before = C .before; ascending = C .ascending; members = C .members }
 
-    rising : (g h : ℕ) → g < h → (h < length gens) ⊎ (h ≡ length gens) → getD (gens ++ (x ∷ [])) g 0 < getD (gens ++ (x ∷ [])) h 0
-    rising g h l (inl k) = let i : g < length gens = omega arith in rw (old gens x k, old gens x i) (C .ascending l k)
-    rising g h l (inr q) = let i : g < length gens = omega arith in rw (new gens x q, old gens x i) (C .before i)
-
-    member : (g : ℕ) → (g < length gens) ⊎ (g ≡ length gens) → ¬ (byte (getD (gens ++ (x ∷ [])) g 0) ≡ 0)
-    member g (inl k) = rw (old gens x k) (C .members k)
-    member g (inr q) = rw (new gens x q) m
+    together : Gathered byte (x + 1) (gens ++ (x ∷ []))
+    together = gathered-more so-far room m
 
     out : (g : ℕ) → Reach op (gens ++ (x ∷ [])) g (getD (gens ++ (x ∷ [])) g 0) → (g < length gens) ⊎ (g ≡ length gens) → ⊥
     out g r (inl k) = C .outside k (reach-less gens x op (omega arith) (subst (Reach op (gens ++ (x ∷ [])) g) (old gens x k) r))
@@ -119,7 +148,7 @@ pick-ends P false d a c b = b refl
 module _ {op : ℕ → ℕ → ℕ} {byte : ℕ → ℕ} {M L : ℕ} {again : List ℕ → List ℕ → Renumbering} (F : Faithful op M L again) where
   module _ {x : ℕ} {gens : List ℕ} (C : Chosen op byte x gens) (l : x < M) {inn w : List ℕ} (K : Knows op M L gens inn w) where
     pub new-member : isNewMember inn byte x ≡ true → ¬ (byte x ≡ 0)
-    new-member h q = eqb-false (byte x) 0 (not-true _ (and-second (eqb (getD inn x 0) appear.noNumber) _ h)) q
+    new-member h = new-byte inn byte x h
 
     pub new-outside : isNewMember inn byte x ≡ true → ¬ Reach op gens (length gens) x
     new-outside h = K .missing l (eqb-true (getD inn x 0) appear.noNumber (and-first (eqb (getD inn x 0) appear.noNumber) _ h))

@@ -55,14 +55,14 @@ module _ (from : List ℕ) (over : Group) (members table : List ℕ) (start : �
 
   predicate-late : Predicated from over members table start work inn outw room → RefusalIn predicateAfter r
   predicate-late S = by (told-stops from over members table start work inn outw room S z) where
-    by : ToldStops from over room r → RefusalIn predicateAfter r
-    by (ninth q) = rw q
-    by (stopped gens x g few m q) = each-in (λ x. member x predicateAfter) (r .number) (17 ∷ []) refl m
-    by (by-steps gens count elt v t′ w′ few A q) =
+    by : ToldStops from over members room r → RefusalIn predicateAfter r
+    by (ninth gens x G e l m q) = rw q
+    by (stopped gens count elt G m A asked o) = each-in (λ x. member x predicateAfter) (r .number) (17 ∷ []) refl m
+    by (by-steps gens count elt v t′ w′ G A a q) =
         each-in (λ x. member x predicateAfter) (r .number) generatorsAfter refl
-        (steps-number from over gens (S .fits) (told.small from over members table start work inn outw room S) A room (tableNeed 8 room) v few
+        (steps-number from over gens (S .fits) (told.small from over members table start work inn outw room S) A room (tableNeed 8 room) v (G .few)
         (told.lo from over members table start work inn outw room S) (told.hi from over members table start work inn outw room S)
-        (eight-rows (length gens) room (tableNeed 8 room) few (le-refl (tableNeed 8 room))) q)
+        (eight-rows (length gens) room (tableNeed 8 room) (G .few) (le-refl (tableNeed 8 room))) q)
 
   early-told : {f : Refusal} {s′ : Subgroup} → ¬ (Predicated from over members table start work inn outw room) → RefusalIn predicateBefore f
       → subgrouping (record { answer = verdict.Refused f; subgroup = s′ }) table work inn outw ≡ subgrouping (record { answer = verdict.Refused r; subgroup = s }) t w i o

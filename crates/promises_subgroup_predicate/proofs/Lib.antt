@@ -11,6 +11,7 @@ pub mod Firsts
 pub mod ToldExactly
 pub mod RoomierToldCalls
 pub mod AlteredTold
+pub mod Beside
 pub mod Leaves
 pub mod Wrote
 pub mod Unaltered
