@@ -305,6 +305,12 @@ uint64_t hg_subgroup_generator(const uint32_t *from, size_t from_len, const uint
     size_t table_len, const uint32_t *sub, size_t sub_len, const uint32_t *outw, size_t outw_len,
     uint8_t g);
 
+/* Answers how many generators the subgroup has, with those of the groups that were multiplied
+ * on. Refuses in this order: 17 for a handle that does not fit, 15 for too many factors or
+ * elements. */
+uint64_t hg_subgroup_generators(const uint32_t *from, size_t from_len, const uint32_t *table,
+    size_t table_len, const uint32_t *sub, size_t sub_len);
+
 /* Writes into out whether a subgroup can have a product's factors below it: then these go in
  * front of those that it has below. Refuses in this order: 17 for a handle that does not fit, 15
  * for more than 8 factors or too many elements on a side. */

@@ -117,6 +117,13 @@ def product_commands(rng):
     yield from ("clear", "factor enum 2 3", "factor enum 1", "prod")
     for power in (-(2**31), 1 - 2**31, -2, -1, 0, 1, 2, 2**31 - 2, 2**31 - 1):
         yield from ("powi %d %d" % (e, power) for e in (0, 3, 9, 11, 12))
+    # Lists of digits that are too short, too long, and with digits that their factor does not have.
+    for count in (0, 1, 1, 1, 2, 2, 2, 2, 3, 3):
+        yield " ".join(["join", *(str(rng.choice((0, 1, 2, 5, 6))) for _ in range(count))])
+    # Factors multiplied on beside a subgroup, until they are too many.
+    for _ in range(3):
+        yield from ("clear", *["factor enum 1"] * rng.randint(1, 3), "prod", "sub 1")
+        yield from (line for _ in range(8) for line in (rng.choice(("subleft enum 1", "subright enum 1", "subright enum 0")), "subgens"))
     # One factor more than fits: 15 by the count, and by the size.
     yield from ("clear", *["factor enum 1"] * 9, "prod", "clear", *["factor enum 8" + " 2" * 28] * 4, "prod", "clear")
     yield from (*["factor enum 8" + " 2" * 28] * 3, *["factor enum 1"] * 7 + [cycle(rng.randint(2, 9))], "prod", "clear")

@@ -586,6 +586,10 @@ def differences():
             + ["inverse 12", "word 13", "split 100", "period 13", "powi 13 1", "inject 0 9"],
         ),
         (
+            "Digits out of range, and too few of them",
+            ["factor " + S3, "factor " + Z2, "prod", "join 3", "join 6 0", "join 3 2", "join 6", "join"],
+        ),
+        (
             "Generators and factors out of range",
             ["factor " + S3, "factor " + Z2, "prod", "step 0 3", "project 2 0", "sub 12"],
         ),
@@ -617,6 +621,12 @@ def differences():
         (
             "An overgroup above 65,535 elements",
             ["quiet 1", "factor " + Z2_8, "factor " + Z2_8, "prod", "sub 1"],
+        ),
+        (
+            "A ninth factor beside a subgroup",
+            ["quiet 1", "factor " + Z2, "prod", "sub 1", *["subleft " + Z2] * 8, "subgens"]
+            + ["sub 1", *["subright " + Z2] * 7, "subgens", "subright " + Z2]
+            + ["clear", *["factor enum 0"] * 8, "prod", "sub", "subleft enum 0"],
         ),
         (
             "A predicate short of the overgroup",

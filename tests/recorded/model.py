@@ -442,7 +442,7 @@ class Subgroup:
         self.factor = read(len(generators), room, number)
         self.generators = list(generators)
         self.over_count, self.below, self.above = over.count, 1, 1
-        self.sides = []
+        self.over_factors, self.sides = len(over.factors), []
 
     def multiplied(self, factor, left):
         s = object.__new__(Subgroup)
@@ -452,6 +452,9 @@ class Subgroup:
             s.below *= factor.count
         else:
             s.above *= factor.count
+        # "More than 8 factors, product too large", of the overgroup or of the subgroup, whose own factor is one.
+        if len(s.sides) + max(1, s.over_factors) > MOST_FACTORS or max(s.counts()) > MOST_PRODUCT:
+            raise Refused(15)
         return s
 
     def counts(self):
@@ -657,6 +660,8 @@ class Model:
             return [spaced("ok", *(p.step(0, g) for g in range(p.n)))]
         if name == "join":
             check_arguments(zip(numbers, [f.count for f in p.factors]))
+            if len(numbers) < len(p.factors):
+                raise Refused(4)  # a lent list short
             return [str(p.join(numbers))]
         bounds = {
             "step": (p.count, p.n),

@@ -3,14 +3,14 @@
 // (17); a count that is missing is 0.
 ghost use mathlib.Core.Path.{_≡_};
 ghost use lib.ListN.{length, getD};
-ghost use Rattle.capi_values.specs.Bridge.{reachedCode, paperInto};
+ghost use Rattle.capi_values.specs.Bridge.{reachedCode, countedCode, paperInto};
 ghost use Rattle.capi_handles.specs.Product.{byteOf, productOf, productAt};
 ghost use Rattle.group_handles.specs.Handles.{handles, seen};
 ghost use Rattle.subgroup.specs.Outline.{outlineOf, Measured};
 ghost use Rattle.subgroup_build.specs.Generated.{fromGenerators};
 ghost use Rattle.subgroup_predicate.specs.Predicate.{fromPredicate};
 ghost use Rattle.subgroup_sides.specs.Sides.{leftProduct, rightProduct};
-ghost use Rattle.subgroup.specs.Questions.{toOverAnswer, toSubAnswer, generatorAnswer};
+ghost use Rattle.subgroup.specs.Questions.{toOverAnswer, toSubAnswer, generatorAnswer, generatorCountAnswer};
 ghost use Rattle.capi_subgroup.specs.Subgroup.{subgroupFrom, withinCode, subgroupedInto, Bridged, bridged};
 use egg::GeneratorId;
 use egg::GroupElementId;
@@ -126,7 +126,7 @@ pub extern "C" fn hg_subgroup_predicate(
     ensures { λ x. ⌜ Bridged.holds (now (table .exit)) (now (work .exit)) (now (inn .exit)) (now (outw .exit)) (now (out .exit)) ≡ bridged (fromPredicate (now (from .entry)) (productOf (now (handles .entry)) count) (now (members .entry)) (now (table .entry)) start (now (work .entry)) (now (inn .entry)) (now (outw .entry)) room) (now (out .entry)) ⌝ }
 {
     let over = capi_handles::inner::product_of(handles, count);
-    let m = subgroup_predicate::from_predicate(
+    let m = subgroup::from_predicate(
         from,
         over,
         members,
@@ -185,6 +185,16 @@ pub extern "C" fn hg_subgroup_generator(
 {
     let s = subgroup_from(sub);
     capi_values::inner::reached_code(subgroup::generator(from, table, s, outw, GeneratorId(g)))
+}
+
+// Answers how many generators the subgroup has, with those of the groups that were multiplied on. Refuses in this order: 17 for a handle that does
+// not fit, 15 for too many factors or elements.
+#[no_mangle]
+pub extern "C" fn hg_subgroup_generators(from: &[u32], table: &[u32], sub: &[u32]) -> u64
+    ensures { λ r. ⌜ r ≡ countedCode (generatorCountAnswer (length (now (from .entry))) (length (now (table .entry))) (subgroupFrom (now (sub .entry)))) ⌝ }
+{
+    let s = subgroup_from(sub);
+    capi_values::inner::counted_code(subgroup::generator_count(from, table, s))
 }
 
 // Writes into out whether a subgroup can have a product's factors below it: then these go in front of those that it has below. Refuses in this order:

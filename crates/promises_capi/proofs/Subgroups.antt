@@ -12,6 +12,8 @@ use Rattle.capi_subgroup.proofs.hg_subgroup_back.Kinds as hg-subgroup-back-kind
 use Rattle.capi_subgroup.proofs.hg_subgroup_back.Reads as hg-subgroup-back-reads
 use Rattle.capi_subgroup.proofs.hg_subgroup_generator.Kinds as hg-subgroup-generator-kinds
 use Rattle.capi_subgroup.proofs.hg_subgroup_generator.Reads as hg-subgroup-generator-reads
+use Rattle.capi_subgroup.proofs.hg_subgroup_generators.Kinds as hg-subgroup-generators-kinds
+use Rattle.capi_subgroup.proofs.hg_subgroup_generators.Reads as hg-subgroup-generators-reads
 use Rattle.capi_subgroup.proofs.hg_subgroup_left.Kinds as hg-subgroup-left-kinds
 use Rattle.capi_subgroup.proofs.hg_subgroup_left.Reads as hg-subgroup-left-reads
 use Rattle.capi_subgroup.proofs.hg_subgroup_right.Kinds as hg-subgroup-right-kinds
@@ -38,6 +40,9 @@ hg-subgroup-back-unique = λ κs args a b x y p q. p ∙ sym q
 
 pub hg-subgroup-generator-unique : Unique 4 hg-subgroup-generator-kinds.ps hg-subgroup-generator-kinds.r hg-subgroup-generator-reads.Post (λ κs a x. a)
 hg-subgroup-generator-unique = λ κs args a b x y p q. p ∙ sym q
+
+pub hg-subgroup-generators-unique : Unique 3 hg-subgroup-generators-kinds.ps hg-subgroup-generators-kinds.r hg-subgroup-generators-reads.Post (λ κs a x. a)
+hg-subgroup-generators-unique = λ κs args a b x y p q. p ∙ sym q
 
 -- The list of the answer: these functions hand nothing back.
 pub hg-subgroup-left-unique : Unique 5 hg-subgroup-left-kinds.ps hg-subgroup-left-kinds.r hg-subgroup-left-reads.Post (λ κs a x. x .1 .1 .1 .1 .1 .0 .now)

@@ -107,7 +107,7 @@ pub reach-once : {x y : ℕ} → reach x ≡ reach y → x ≡ y
 reach-once q = ap (answered 0) q
 
 -- What `product_left` and `product_right` give is known by the same maps.
-multiplied-fine : (g h : Group) (t : Subgroup) {s : Subgroup} → multiplied g h t ≡ record { answer = Fine; subgroup = s } → (s ≡ t) × (sidesLimited t ≡ true)
+pub multiplied-fine : (g h : Group) (t : Subgroup) {s : Subgroup} → multiplied g h t ≡ record { answer = Fine; subgroup = s } → (s ≡ t) × (sidesLimited t ≡ true)
 unfolding multiplied ifLimited
 multiplied-fine g h t {s} q = by (joinable g h) (sidesLimited t) refl q where
   no : {x : Subgrouped} → x ≡ refusedSubgroup 15 → x ≡ record { answer = Fine; subgroup = s } → ⊥
@@ -120,7 +120,7 @@ multiplied-fine g h t {s} q = by (joinable g h) (sidesLimited t) refl q where
   by true false l e = absurd (no refl e)
   by false b l e = absurd (no refl e)
 
-fitting-fine : (b : Bool) (x : Subgrouped) {s : Subgroup} → pick b x (refusedSubgroup 17) ≡ record { answer = Fine; subgroup = s }
+pub fitting-fine : (b : Bool) (x : Subgrouped) {s : Subgroup} → pick b x (refusedSubgroup 17) ≡ record { answer = Fine; subgroup = s }
     → (b ≡ true) × (x ≡ record { answer = Fine; subgroup = s })
 fitting-fine true x e = (refl, e)
 fitting-fine false x e = absurd (refused-fine (ap (λ (y : Subgrouped). y .answer) e))

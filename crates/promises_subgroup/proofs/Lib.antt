@@ -24,3 +24,4 @@ pub mod SideGenerators
 pub mod OneBuffer
 pub mod Answers
 pub mod AlteredCases
+pub mod Whole

@@ -14,8 +14,8 @@ use Rattle.egg.specs.declared.Verdict.the-variants as verdict
 use Rattle.egg.specs.Table.{pick}
 use Rattle.egg.specs.Factor.{stretch}
 use Rattle.build_checks_laws.specs.Numbers.{RefusalIn}
-use Rattle.factor_laws.specs.Refuses.{VerdictIn, ReachedIn}
-use Rattle.factor_laws.proofs.Refuses.{reached-element, reached-refused, reached-pick, reached-on, reached-if, reached-widen, step-in, verdict-fine, verdict-refused, verdict-pick}
+use Rattle.factor_laws.specs.Refuses.{VerdictIn, ReachedIn, CountedIn}
+use Rattle.factor_laws.proofs.Refuses.{counted-count, counted-if, reached-element, reached-refused, reached-pick, reached-on, reached-if, reached-widen, step-in, verdict-fine, verdict-refused, verdict-pick}
 use Rattle.group_handles.specs.declared.Group.{Group}
 use Rattle.group_handles.specs.Handles.{handles, allFit, generatorsOf}
 use Rattle.promises_group.proofs.Refuses.{stepped-in}
@@ -25,7 +25,7 @@ use Rattle.subgroup_build.specs.declared.Subgrouped.{Subgrouped}
 use Rattle.subgroup.specs.declared.Within.{Within}
 use Rattle.subgroup.specs.declared.Within.the-variants as within
 use Rattle.subgroup_sides.specs.Sides.{sidesFit, sidesLimited, admitsSides, leftOf, rightOf, ifLimited, joinable, multiplied, leftProduct, rightProduct, strideOf, overCount}
-use Rattle.subgroup.specs.Questions.{ifWithin, carriedOver, carriedBack, toOverAnswer, toSubAnswer, generatorAnswer}
+use Rattle.subgroup.specs.Questions.{ifWithin, carriedOver, carriedBack, toOverAnswer, toSubAnswer, generatorAnswer, admitsHandles, generatorCountAnswer, ifGrouped, overgroupAnswer}
 use Rattle.subgroup_sides.specs.Generators.{sideGenerator}
 use Rattle.promises_subgroup.specs.Refuses.{WithinIn, SubgroupRefuses}
 
@@ -61,6 +61,16 @@ admits-in from table s map need a la =
     verdict-pick (sidesFit from table s && leb need map) _ _
     (verdict-pick (leb la a) _ _ (verdict-refused _ refl) (verdict-pick (sidesLimited s) _ _ verdict-fine (verdict-refused _ refl)))
     (verdict-refused _ refl)
+
+-- What is asked of the handles alone.
+handles-in : (from table : ℕ) (s : Subgroup) → VerdictIn (15 ∷ 17 ∷ []) (admitsHandles from table s)
+unfolding admitsHandles
+handles-in from table s =
+    verdict-pick (sidesFit from table s) _ _ (verdict-pick (sidesLimited s) _ _ verdict-fine (verdict-refused _ refl)) (verdict-refused _ refl)
+
+grouped-in : {l : List ℕ} (v : Verdict) (g : Group) → VerdictIn l v → VerdictIn l (ifGrouped v g .answer)
+grouped-in verdict.Fine g h = h
+grouped-in (verdict.Refused r) g h = h
 
 -- The products.
 subgroup-pick : {l : List ℕ} (b : Bool) (x y : Subgrouped) → VerdictIn l (x .answer) → VerdictIn l (y .answer) → VerdictIn l (pick b x y .answer)
@@ -114,5 +124,21 @@ module _ (from table : List ℕ) (s : Subgroup) where
       reached-if _ _ (admits-in (length from) (length table) s _ _ _ _)
       (reached-on (sideGenerator from table s (g .0)) _ (side-in from table s (g .0)) (λ e. over-in s outw e))
 
+  counted : CountedIn (15 ∷ 17 ∷ []) (generatorCountAnswer (length from) (length table) s)
+  unfolding generatorCountAnswer
+  counted = counted-if _ _ (handles-in (length from) (length table) s) (counted-count _)
+
+  overgroups : VerdictIn (15 ∷ 17 ∷ []) (overgroupAnswer (length from) (length table) s .answer)
+  unfolding overgroupAnswer
+  overgroups = grouped-in (admitsHandles (length from) (length table) s) _ (handles-in (length from) (length table) s)
+
   pub subgroup-refuses : SubgroupRefuses from table s
-  subgroup-refuses = record { lefts = lefts; rights = rights; outward = outward; inward = inward; generators = generators }
+  subgroup-refuses = record {
+    lefts = lefts;
+    rights = rights;
+    outward = outward;
+    inward = inward;
+    generators = generators;
+    counted = counted;
+    overgroups = overgroups;
+  }

@@ -14,12 +14,23 @@ use Rattle.subgroup.proofs.to_subgroup.Kinds as to-subgroup-kinds
 use Rattle.subgroup.proofs.to_subgroup.Reads as to-subgroup-reads
 use Rattle.subgroup.proofs.generator.Kinds as generator-kinds
 use Rattle.subgroup.proofs.generator.Reads as generator-reads
+use Rattle.subgroup.proofs.trivial.Kinds as trivial-kinds
+use Rattle.subgroup.proofs.trivial.Reads as trivial-reads
+use Rattle.subgroup.proofs.generator_count.Kinds as generator-count-kinds
+use Rattle.subgroup.proofs.generator_count.Reads as generator-count-reads
+use Rattle.subgroup.proofs.overgroup.Kinds as overgroup-kinds
+use Rattle.subgroup.proofs.overgroup.Reads as overgroup-reads
 use Rattle.promises.specs.Unique.{Unique}
 
 -- The call that makes a subgroup: the verdict and the value, the table, the work and both maps. The overgroup's buffer and the list are only read.
 pub from-generators-unique : Unique 6 from-generators-kinds.ps from-generators-kinds.r from-generators-reads.Post
     (λ κs a x. subgrouping a (x .1 .1 .1 .0 .now) (x .1 .1 .1 .1 .1 .0 .now) (x .1 .1 .1 .1 .1 .1 .0 .now) (x .1 .1 .1 .1 .1 .1 .1 .0 .now))
 from-generators-unique = λ κs args a b x y p q. p ∙ sym q
+
+-- The same call without generators, of the group of one element.
+pub trivial-unique : Unique 4 trivial-kinds.ps trivial-kinds.r trivial-reads.Post
+    (λ κs a x. subgrouping a (x .0 .now) (x .1 .1 .0 .now) (x .1 .1 .1 .0 .now) (x .1 .1 .1 .1 .0 .now))
+trivial-unique = λ κs args a b x y p q. p ∙ sym q
 
 -- The products with further factors, and the questions: they write to no buffer.
 pub product-left-unique : Unique 2 product-left-kinds.ps product-left-kinds.r product-left-reads.Post (λ κs a x. a)
@@ -36,3 +47,9 @@ to-subgroup-unique = λ κs args a b x y p q. p ∙ sym q
 
 pub generator-unique : Unique 3 generator-kinds.ps generator-kinds.r generator-reads.Post (λ κs a x. a)
 generator-unique = λ κs args a b x y p q. p ∙ sym q
+
+pub generator-count-unique : Unique 2 generator-count-kinds.ps generator-count-kinds.r generator-count-reads.Post (λ κs a x. a)
+generator-count-unique = λ κs args a b x y p q. p ∙ sym q
+
+pub overgroup-unique : Unique 2 overgroup-kinds.ps overgroup-kinds.r overgroup-reads.Post (λ κs a x. a)
+overgroup-unique = λ κs args a b x y p q. p ∙ sym q

@@ -9,3 +9,4 @@ pub mod Refuses
 pub mod Altered
 pub mod Answers
 pub mod AlteredCases
+pub mod Whole

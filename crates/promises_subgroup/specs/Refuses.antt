@@ -9,13 +9,13 @@ use Rattle.egg.specs.declared.Refusal.{Refusal}
 use Rattle.egg.specs.declared.GroupElementId.{GroupElementId}
 use Rattle.egg.specs.declared.GeneratorId.{GeneratorId}
 use Rattle.build_checks_laws.specs.Numbers.{RefusalIn}
-use Rattle.factor_laws.specs.Refuses.{VerdictIn, ReachedIn}
+use Rattle.factor_laws.specs.Refuses.{VerdictIn, ReachedIn, CountedIn}
 use Rattle.group_handles.specs.declared.Group.{Group}
 use Rattle.subgroup_build.specs.declared.Subgroup.{Subgroup}
 use Rattle.subgroup.specs.declared.Within.{Within}
 use Rattle.subgroup.specs.declared.Within.the-variants as within
 use Rattle.subgroup_sides.specs.Sides.{leftProduct, rightProduct}
-use Rattle.subgroup.specs.Questions.{toOverAnswer, toSubAnswer, generatorAnswer}
+use Rattle.subgroup.specs.Questions.{toOverAnswer, toSubAnswer, generatorAnswer, generatorCountAnswer, overgroupAnswer}
 
 -- If the question is refused, then by one of these numbers. "Not in the subgroup" is an answer, and no refusal.
 pub record WithinIn (l : List ℕ) (x : Within) : Type 0 where
@@ -28,3 +28,5 @@ pub record SubgroupRefuses (from table : List ℕ) (s : Subgroup) : Type 0 where
   pub outward : (outw : List ℕ) (e : GroupElementId) → ReachedIn (14 ∷ 15 ∷ 17 ∷ []) (toOverAnswer (length from) (length table) s outw e)
   pub inward : (inn : List ℕ) (x : GroupElementId) → WithinIn (14 ∷ 15 ∷ 17 ∷ []) (toSubAnswer (length from) (length table) s inn x)
   pub generators : (outw : List ℕ) (g : GeneratorId) → ReachedIn (14 ∷ 15 ∷ 17 ∷ []) (generatorAnswer from table s outw g)
+  pub counted : CountedIn (15 ∷ 17 ∷ []) (generatorCountAnswer (length from) (length table) s)
+  pub overgroups : VerdictIn (15 ∷ 17 ∷ []) (overgroupAnswer (length from) (length table) s .answer)

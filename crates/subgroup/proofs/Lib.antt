@@ -1,3 +1,4 @@
 pub mod IndexLaws
 pub mod Carries
 pub mod Outlines
+pub mod Handles

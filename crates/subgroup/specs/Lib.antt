@@ -1,3 +1,4 @@
 pub mod Indices
 pub mod Questions
 pub mod Outline
+pub mod Trivial

@@ -10,16 +10,21 @@ use Rattle.egg.specs.declared.Verdict.{Verdict}
 use Rattle.egg.specs.declared.Verdict.the-variants as verdict
 use Rattle.egg.specs.declared.Reached.{Reached}
 use Rattle.egg.specs.declared.Reached.the-variants as reached
+use Rattle.egg.specs.declared.Counted.{Counted}
+use Rattle.egg.specs.declared.Counted.the-variants as counted
 use Rattle.egg.specs.Table.{pick}
+use Rattle.egg.specs.Scan.{refusedOf}
 use Rattle.egg.specs.Factor.{Paper, refusalPaper, refusedReach}
-use Rattle.egg.specs.Answers.{ifReach, onReached}
-use Rattle.group_handles.specs.Handles.{elementsOf, generatorsOf, capped}
+use Rattle.egg.specs.Answers.{ifReach, ifCount, onReached}
+use Rattle.group_handles.specs.declared.Group.{Group}
+use Rattle.group_handles.specs.declared.Grouped.{Grouped}
+use Rattle.group_handles.specs.Handles.{elementsOf, generatorsOf, capped, groupOf, noGroup}
 use Rattle.build_numbering.specs.Renumber.{noNumber}
 use Rattle.subgroup_build.specs.declared.Subgroup.{Subgroup}
 use Rattle.subgroup.specs.declared.Within.{Within}
 use Rattle.subgroup.specs.declared.Within.the-variants as within
 use Rattle.subgroup.specs.Indices.{overOf, subOf}
-use Rattle.subgroup_sides.specs.Sides.{overSide, subSide, strideOf, overCount, admitsSides}
+use Rattle.subgroup_sides.specs.Sides.{overSide, subSide, strideOf, overCount, sidesFit, sidesLimited, admitsSides}
 use Rattle.subgroup_sides.specs.Generators.{sideGenerator}
 
 -- Document 01's number and places for each case of the answer. "A definition sets out this paper's number and values for each of its cases"; ""Not in
@@ -74,3 +79,20 @@ unfoldable pub generatorAnswer : (from table : List ℕ) (s : Subgroup) (outw : 
 generatorAnswer from table s outw g =
     ifReach (admitsSides (length from) (length table) s (length outw) (s .factor .elements) (g .0) (generatorsOf (subSide s)))
     (onReached (sideGenerator from table s (g .0)) (λ e. carriedOver s outw e))
+
+-- The questions that read neither map nor table, and have no argument: "17 in the handle, .. then 15".
+unfoldable pub admitsHandles : (from table : ℕ) (s : Subgroup) → Verdict
+admitsHandles from table s = pick (sidesFit from table s) (pick (sidesLimited s) verdict.Fine (refusedOf 15 0 0 0)) (refusedOf 17 0 0 0)
+
+-- How many generators `generator` can be asked for: those below, the factor's own, and those above. (005 has them as the length of `subgroup_generators`.)
+unfoldable pub generatorCountAnswer : (from table : ℕ) (s : Subgroup) → Counted
+generatorCountAnswer from table s = ifCount (admitsHandles from table s) (counted.Count (generatorsOf (subSide s)))
+
+-- A product beside its verdict; beside a refusal it fits no buffer.
+abbrev pub ifGrouped : Verdict → Group → Grouped
+ifGrouped verdict.Fine g = record { answer = verdict.Fine; group = g }
+ifGrouped (verdict.Refused r) g = record { answer = verdict.Refused r; group = noGroup }
+
+-- `overgroup`, "the original group that this is a subgroup of": the factors below, those that the subgroup stands for, and those above.
+unfoldable pub overgroupAnswer : (from table : ℕ) (s : Subgroup) → Grouped
+overgroupAnswer from table s = ifGrouped (admitsHandles from table s) (groupOf (overSide s))

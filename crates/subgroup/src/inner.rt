@@ -3,18 +3,21 @@ ghost use mathlib.Core.Path.{_≡_};
 ghost use mathlib.Core.Bool.{true};
 ghost use Prim.Native.Nat.{_*_, _<_, _≤_};
 ghost use lib.ListN.{length};
+ghost use Rattle.egg.specs.declared.Verdict.{Verdict};
 ghost use Rattle.egg.specs.Answers.{onReached};
+ghost use Rattle.group_handles.specs.Handles.{groupOf, noGroup};
 ghost use Rattle.subgroup.specs.Indices.{factorIndices, unfactorIndices, withWithin};
-ghost use Rattle.subgroup_sides.specs.Sides.{sidesFit, sidesLimited};
+ghost use Rattle.subgroup_sides.specs.Sides.{overSide, sidesFit, sidesLimited};
 ghost use Rattle.subgroup.specs.Outline.{outlineBy, outlineOf, Measured, outlineLimited, admitsOutline, overByOutline, backByOutline};
 ghost use Rattle.subgroup_sides.specs.Generators.{sideGenerator};
-ghost use Rattle.subgroup.specs.Questions.{carriedOver, carriedBy, carriedBackBy};
+ghost use Rattle.subgroup.specs.Questions.{carriedOver, carriedBy, carriedBackBy, admitsHandles};
 use super::Within;
 use egg::GeneratorId;
 use egg::GroupElementId;
 use egg::Reached;
 use egg::Refusal;
 use egg::Verdict;
+use group_handles::Grouped;
 use group_handles::inner::Seen;
 use subgroup_build::Subgroup;
 
@@ -196,4 +199,40 @@ pub fn generator_over(
         return r;
     };
     carry_over(outw, o, e)
+}
+
+// 17 in the handles, then 15.
+pub fn admit_handles(from: &[u32], table: &[u32], s: Subgroup) -> Verdict
+    ensures { λ r. ⌜ r ≡ admitsHandles (length (now (from .entry))) (length (now (table .entry))) s ⌝ }
+{
+    if !subgroup_sides::inner::sides_fit(from, table, s) {
+        return egg::inner::refused(17, 0, 0, 0);
+    }
+    if !subgroup_sides::inner::sides_limited(s) {
+        return egg::inner::refused(15, 0, 0, 0);
+    }
+    Verdict::Fine
+}
+
+// No product, which fits no buffer.
+pub fn no_group(why: Refusal) -> Grouped
+    ensures { λ r. ⌜ r ≡ record { answer = Verdict.Refused why; group = noGroup } ⌝ }
+{
+    let group = group_handles::of(build_lending::inner::no_factor());
+    let answer = Verdict::Refused(why);
+    Grouped { answer, group }
+}
+
+// The factors below, over and above as one product.
+pub fn over_group(s: Subgroup) -> Grouped
+    requires { ⌜ sidesLimited s ≡ true ⌝ }
+    ensures { λ r. ⌜ r ≡ record { answer = Verdict.Fine; group = groupOf (overSide s) } ⌝ }
+{
+    let below = s.below;
+    let over = s.over;
+    let above = s.above;
+    let high = group_handles::inner::joined(over, above);
+    let group = group_handles::inner::joined(below, high);
+    let answer = Verdict::Fine;
+    Grouped { answer, group }
 }

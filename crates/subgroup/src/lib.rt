@@ -6,16 +6,20 @@ ghost use mathlib.Core.Path.{_≡_};
 ghost use Rattle.subgroup_build.specs.Lent.{Subgrouping};
 ghost use Rattle.subgroup_build.specs.Generated.{fromGenerators};
 ghost use Rattle.subgroup_sides.specs.Sides.{leftProduct, rightProduct};
-ghost use Rattle.subgroup.specs.Questions.{toOverAnswer, toSubAnswer, generatorAnswer};
+ghost use Rattle.subgroup.specs.Questions.{toOverAnswer, toSubAnswer, generatorAnswer, generatorCountAnswer, overgroupAnswer};
+ghost use Rattle.subgroup.specs.Trivial.{trivialSubgroup};
 ghost use lib.ListN.{length};
+use egg::Counted;
 use egg::GeneratorId;
 use egg::GroupElementId;
 use egg::Reached;
 use egg::Refusal;
 use egg::Verdict;
 use group_handles::Group;
+use group_handles::Grouped;
 pub use subgroup_build::Subgroup;
 pub use subgroup_build::Subgrouped;
+pub use subgroup_predicate::from_predicate;
 
 pub mod inner;
 
@@ -56,6 +60,20 @@ pub fn from_generators(
             room,
         ),
     }
+}
+
+// The trivial subgroup, of the group of one element: it needs four entries of table, none of work, and one place in each map.
+pub fn trivial(
+    table: &mut [u32],
+    start: usize,
+    work: &mut [u32],
+    inn: &mut [u32],
+    outw: &mut [u32],
+) -> Subgrouped
+    ensures { λ r. ⌜ Subgrouping.subgrouping r (now (table .exit)) (now (work .exit)) (now (inn .exit)) (now (outw .exit)) ≡ trivialSubgroup (now (table .entry)) start (now (work .entry)) (now (inn .entry)) (now (outw .entry)) ⌝ }
+{
+    let over = group_handles::trivial();
+    from_generators(&[], over, &[], table, start, work, inn, outw, 1)
 }
 
 // Answers the subgroup of g · overgroup that is g · subgroup. Refuses in this order: 17 for a handle that does not fit, 15 for more than 8 factors or
@@ -124,5 +142,26 @@ pub fn generator(from: &[u32], table: &[u32], s: Subgroup, outw: &[u32], g: Gene
     match inner::admit(o, outw.len(), n, g.0 as u32, k) {
         Verdict::Refused(why) => Reached::Refused(why),
         Verdict::Fine => inner::generator_over(from, table, s, o, outw, g),
+    }
+}
+
+// How many generators the subgroup has.
+pub fn generator_count(from: &[u32], table: &[u32], s: Subgroup) -> Counted
+    ensures { λ r. ⌜ r ≡ generatorCountAnswer (length (now (from .entry))) (length (now (table .entry))) s ⌝ }
+{
+    match inner::admit_handles(from, table, s) {
+        Verdict::Refused(why) => Counted::Refused(why),
+        Verdict::Fine => Counted::Count(subgroup_sides::inner::sub_generators(s)),
+    }
+}
+
+// Hands back the group that this is a subgroup of, with the groups that were multiplied on. Refuses in this order: 17 for a handle that does not fit,
+// 15 for a side too large.
+pub fn overgroup(from: &[u32], table: &[u32], s: Subgroup) -> Grouped
+    ensures { λ r. ⌜ r ≡ overgroupAnswer (length (now (from .entry))) (length (now (table .entry))) s ⌝ }
+{
+    match inner::admit_handles(from, table, s) {
+        Verdict::Refused(why) => inner::no_group(why),
+        Verdict::Fine => inner::over_group(s),
     }
 }

@@ -116,7 +116,7 @@ pub fn few_factors(s: Subgroup) -> bool
 }
 
 // Whether both sides have at most 8 factors and 4,294,967,295 elements.
-fn sides_limited(s: Subgroup) -> bool
+pub fn sides_limited(s: Subgroup) -> bool
     ensures { λ r. ⌜ r ≡ sidesLimited s ⌝ }
 {
     if !few_factors(s) {

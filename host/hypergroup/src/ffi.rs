@@ -149,6 +149,7 @@ unsafe extern "C" {
     fn hg_subgroup_over(f: In, fl: usize, t: In, tn: usize, s: In, sn: usize, b: In, bl: usize, e: u32) -> u64;
     fn hg_subgroup_back(f: In, fl: usize, t: In, tn: usize, s: In, sn: usize, i: In, il: usize, x: u32) -> u64;
     fn hg_subgroup_generator(f: In, fl: usize, t: In, tn: usize, s: In, sn: usize, b: In, bl: usize, g: u8) -> u64;
+    fn hg_subgroup_generators(f: In, fl: usize, t: In, tn: usize, s: In, sn: usize) -> u64;
     fn hg_subgroup_left(f: In, fl: usize, t: In, tn: usize, h: In, hn: usize, count: u8, s: In, sn: usize, o: Out, on: usize);
     fn hg_subgroup_right(f: In, fl: usize, t: In, tn: usize, s: In, sn: usize, h: In, hn: usize, count: u8, o: Out, on: usize);
 }
@@ -492,6 +493,11 @@ pub fn subgroup_back(from: &[u32], table: &[u32], s: &Sides, inward: &[u32], x: 
 #[inline]
 pub fn subgroup_generator(from: &[u32], table: &[u32], s: &Sides, outward: &[u32], g: u8) -> Answer<u32> {
     coded(ask_subgroup!(hg_subgroup_generator, from, table, s, outward.as_ptr(), outward.len(), g))
+}
+
+/// How many generators the subgroup has, with those of what is multiplied on.
+pub fn subgroup_generators(from: &[u32], table: &[u32], s: &Sides) -> Answer<u32> {
+    coded(ask_subgroup!(hg_subgroup_generators, from, table, s))
 }
 
 /// Whether the factors of `g`, which stand where the overgroup's do, can be multiplied on below the subgroup.

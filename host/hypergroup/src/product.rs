@@ -44,7 +44,7 @@ impl Product {
         Self::of(table, listed)
     }
 
-    fn of(table: Vec<u32>, factors: Vec<Handle>) -> Result<Self, Refusal> {
+    pub(crate) fn of(table: Vec<u32>, factors: Vec<Handle>) -> Result<Self, Refusal> {
         let handles: Handles = factors.iter().copied().collect();
         let elements = raw::product_count(&table, &handles)?;
         let generators = raw::product_generators(&table, &handles)? as u8;

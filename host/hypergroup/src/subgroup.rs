@@ -28,6 +28,7 @@ pub struct Subgroup {
     inward: Vec<u32>,
     outward: Vec<u32>,
     sides: Sides,
+    generators: u8,
 }
 
 impl Subgroup {
@@ -74,13 +75,20 @@ impl Subgroup {
         let lent = SubgroupBuffers { table: &mut table, work: &mut work, inward: &mut inward, outward: &mut outward };
         let handle = call(from, &handles.iter().copied().collect(), lent)?;
         let factor = Factor::new(table, handle);
-        Ok(Self::of(from.to_vec(), [vec![], handles.to_vec(), vec![]], factor, inward, outward))
+        Self::of(from.to_vec(), [vec![], handles.to_vec(), vec![]], factor, inward, outward)
     }
 
-    fn of(from: Vec<u32>, [below, over, above]: [Vec<Handle>; 3], factor: Factor, inward: Vec<u32>, outward: Vec<u32>) -> Self {
+    fn of(
+        from: Vec<u32>,
+        [below, over, above]: [Vec<Handle>; 3],
+        factor: Factor,
+        inward: Vec<u32>,
+        outward: Vec<u32>,
+    ) -> Result<Self, Refusal> {
         let listed = |side: &[Handle]| side.iter().copied().collect::<Handles>();
         let sides = Sides::new(factor.stretch().1, &listed(&below), &listed(&over), &listed(&above));
-        Subgroup { from, below, over, above, factor, inward, outward, sides }
+        let generators = raw::subgroup_generators(&from, factor.table(), &sides)? as u8;
+        Ok(Subgroup { from, below, over, above, factor, inward, outward, sides, generators })
     }
 
     /// The factor that the generators made, with its own numbers. What is multiplied on is no part of it.
@@ -100,8 +108,17 @@ impl Subgroup {
 
     /// How many generators the subgroup has, with what is multiplied on.
     pub fn generator_count(&self) -> u8 {
-        let sides = self.below.iter().chain(&self.above).map(|h| h.generators);
-        sides.sum::<u8>() + self.factor.generator_count()
+        self.generators
+    }
+
+    /// All generators of the subgroup, with what is multiplied on; [`Self::generator`] has each as an element of the overgroup.
+    pub fn generators(&self) -> impl ExactSizeIterator<Item = Generator> + DoubleEndedIterator + use<> {
+        (0..self.generators).map(Generator)
+    }
+
+    /// The group that this is a subgroup of, with what is multiplied on.
+    pub fn overgroup(&self) -> Result<Product, Refusal> {
+        Product::of(self.from.clone(), [&self.below[..], &self.over, &self.above].concat())
     }
 
     /// The element of the overgroup that an element of the subgroup is.
@@ -128,14 +145,14 @@ impl Subgroup {
         let (from, mut below) = self.with(factors);
         raw::subgroup_left(&from, self.factor.table(), &below.iter().copied().collect(), &self.sides)?;
         below.extend(&self.below);
-        Ok(self.between(from, below, self.above.clone()))
+        self.between(from, below, self.above.clone())
     }
 
     /// The same with the slower digits.
     pub fn multiplied_right(&self, factors: &Product) -> Result<Self, Refusal> {
         let (from, more) = self.with(factors);
         raw::subgroup_right(&from, self.factor.table(), &self.sides, &more.iter().copied().collect())?;
-        Ok(self.between(from, self.below.clone(), [&self.above[..], &more].concat()))
+        self.between(from, self.below.clone(), [&self.above[..], &more].concat())
     }
 
     /// The overgroup's buffer with more factors behind it, and their handles there.
@@ -145,7 +162,7 @@ impl Subgroup {
         ([&self.from[..], table].concat(), handles.iter().map(|h| Handle { start: h.start + shift, ..*h }).collect())
     }
 
-    fn between(&self, from: Vec<u32>, below: Vec<Handle>, above: Vec<Handle>) -> Self {
+    fn between(&self, from: Vec<u32>, below: Vec<Handle>, above: Vec<Handle>) -> Result<Self, Refusal> {
         Self::of(from, [below, self.over.clone(), above], self.factor.clone(), self.inward.clone(), self.outward.clone())
     }
 }

@@ -44,7 +44,7 @@ impl Sub {
 
     fn generators(&self) -> Answer<Vec<u32>> {
         let generator = |g| raw::subgroup_generator(&self.from, &self.table, &self.sides(), &self.outward, g as u8);
-        (0..self.counts().0).map(generator).collect()
+        (0..raw::subgroup_generators(&self.from, &self.table, &self.sides())?).map(generator).collect()
     }
 }
 
