@@ -126,17 +126,7 @@ pub extern "C" fn hg_subgroup_predicate(
     ensures { λ x. ⌜ Bridged.holds (now (table .exit)) (now (work .exit)) (now (inn .exit)) (now (outw .exit)) (now (out .exit)) ≡ bridged (fromPredicate (now (from .entry)) (productOf (now (handles .entry)) count) (now (members .entry)) (now (table .entry)) start (now (work .entry)) (now (inn .entry)) (now (outw .entry)) room) (now (out .entry)) ⌝ }
 {
     let over = capi_handles::inner::product_of(handles, count);
-    let m = subgroup::from_predicate(
-        from,
-        over,
-        members,
-        table,
-        start,
-        work,
-        inn,
-        outw,
-        room,
-    );
+    let m = subgroup::from_predicate(from, over, members, table, start, work, inn, outw, room);
     write_subgrouped(out, m);
 }
 

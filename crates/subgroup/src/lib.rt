@@ -62,7 +62,8 @@ pub fn from_generators(
     }
 }
 
-// The trivial subgroup, of the group of one element: it needs four entries of table, none of work, and one place in each map.
+// Makes the trivial subgroup, of the group of one element: it needs four entries of table, none of work, and one place in each map. Refuses with 4
+// where one of these is short.
 pub fn trivial(
     table: &mut [u32],
     start: usize,
@@ -145,7 +146,7 @@ pub fn generator(from: &[u32], table: &[u32], s: Subgroup, outw: &[u32], g: Gene
     }
 }
 
-// How many generators the subgroup has.
+// Answers how many generators the subgroup has, with those of the groups that were multiplied on. Refuses as `overgroup` does.
 pub fn generator_count(from: &[u32], table: &[u32], s: Subgroup) -> Counted
     ensures { λ r. ⌜ r ≡ generatorCountAnswer (length (now (from .entry))) (length (now (table .entry))) s ⌝ }
 {
