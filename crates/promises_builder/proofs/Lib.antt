@@ -7,6 +7,7 @@ pub mod Outcome
 pub mod Stopping
 pub mod Ways
 pub mod Builds
+pub mod Roomier
 pub mod Refused
 pub mod Cases
 pub mod Leaves

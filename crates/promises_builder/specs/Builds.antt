@@ -1,5 +1,5 @@
--- This file defines when `build` starts, and what it is for it to refuse by a number with its places.
-use Prim.Native.Nat.{ℕ, _≤_}
+-- This file defines when `build` starts, what it is for it to refuse by a number with its places, and what two builders have in common.
+use Prim.Native.Nat.{ℕ, _≤_, _<_}
 use mathlib.Core.Path.{_≡_}
 use mathlib.Core.Bool.{true}
 use mathlib.Core.List.{List}
@@ -11,6 +11,7 @@ use Rattle.egg.specs.Factor.{fitsIn}
 use Rattle.builder.specs.declared.Builder.{Builder}
 use Rattle.build_lending.specs.Lending.{workNeed, making}
 use Rattle.builder.specs.Calls.{builds}
+use Rattle.promises_builder.specs.Own.{ownAt}
 
 -- The arguments of `build` are right, so that it starts: the handle fits, and the work is long enough.
 pub record BuildRight (t : List ℕ) (b : Builder) (w : List ℕ) : Type 0 where
@@ -20,3 +21,7 @@ pub record BuildRight (t : List ℕ) (b : Builder) (w : List ℕ) : Type 0 where
 -- `build` refuses the builder b by r, whatever it leaves.
 abbrev pub RefusedBy : List ℕ → Builder → List ℕ → Refusal → Type 0
 RefusedBy t b w r = (f : Factor) × (t′ : List ℕ) × (w′ : List ℕ) × (builds t b w ≡ making (record { answer = verdict.Refused r; factor = f }) t′ w′)
+
+-- The other builder, with the marked table and handle, has stored the same steps of the same elements.
+abbrev pub SameSteps : List ℕ → Factor → List ℕ → Factor → Type 0
+SameSteps t f t′ f′ = (e g : ℕ) → e < f .elements → g < f .generators → ownAt t′ f′ e g ≡ ownAt t f e g

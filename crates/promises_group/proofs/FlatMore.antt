@@ -1,9 +1,9 @@
--- `flatten` on paper, with no premise on its arguments; "more room never changes an accepted table"; and what is written.
+-- `flatten` on paper, with no premise on its arguments; and "more room never changes an accepted table".
 use Prim.Native.Nat.{ℕ, _+_, _*_, _≤_}
-use mathlib.Core.Path.{_≡_, refl, sym, ap, _∙_, subst}
-use mathlib.Core.Logic.{_↔_}
+use mathlib.Core.Path.{_≡_, refl, sym, ap, _∙_}
+use mathlib.Core.Logic.{_↔_, _⊎_, inl, inr, ⊎-elim}
 use mathlib.Core.Bool.{Bool, true, false}
-use mathlib.Core.List.{List, [], _∷_}
+use mathlib.Core.List.{List, _∷_}
 use native.Mathlib.Nat.{le-refl, mul-le-mul}
 use native.Mathlib.Omega.{arith}
 use borrow.Author.Tests.{ltb-false}
@@ -14,30 +14,31 @@ use Rattle.egg.specs.declared.Factor.{Factor}
 use Rattle.egg.specs.declared.Verdict.{Verdict}
 use Rattle.egg.specs.declared.Verdict.the-variants as verdict
 use Rattle.egg.specs.Table.{pick}
-use Rattle.egg.proofs.Rooms.{within-length}
 use Rattle.build_reading.specs.Reading.{readAll}
-use Rattle.build_lending.specs.Finish.{Built, finishedPlaced}
+use Rattle.build_lending.specs.Finish.{finishedPlaced}
 use Rattle.build_lending.specs.Lending.{tableNeed, workNeed, lentRight, refusedMade, Making, making, lentBack}
+use Rattle.egg.specs.Factor.{Paper, verdictPaper}
+use Rattle.build_reading_laws.proofs.Readings.{refused-number}
 use Rattle.build_checks_laws.specs.Numbers.{RefusalIn}
+use Rattle.promises_refusals.specs.Papers.{paperOf, paper}
 use Rattle.factor_laws.specs.Papers.{valuePaper}
-use Rattle.promises.specs.Leaves.{composedNumbers, tableFor}
-use Rattle.promises.specs.Unaltered.{Wrote, part}
+use Rattle.promises.specs.Leaves.{composedNumbers}
 use Rattle.promises.specs.Papers.{madePaper}
 use Rattle.promises.specs.Roomier.{Roomier}
 use Rattle.build_laws.proofs.Lent.{by-build, refused-making}
 use Rattle.build_laws.proofs.Built.{built-holds}
 use Rattle.promises.proofs.Never.{leaves-number}
-use Rattle.promises.proofs.Unaltered.{leaves-wrote}
 use Rattle.promises.proofs.Papers.{made-fine}
 use Rattle.promises.proofs.Roomier.{built-roomier, lent-roomier, roomier-at}
 use Rattle.group_handles.specs.declared.Group.{Group}
-use Rattle.group_handles.specs.Handles.{handles, generatorsOf, admits}
+use Rattle.group_handles.specs.Handles.{handles, generatorsOf, allFit, admits}
+use Rattle.group_handles.proofs.Admitted.{goes-on}
 use Rattle.group_flatten.specs.Flat.{flatIn, ifMaking, flatInto, flat}
-use Rattle.promises_group.specs.Products.{AcceptedProduct, direct}
+use Rattle.promises_group.specs.Products.{AllAccepted, AcceptedProduct, direct}
 use Rattle.promises_group.specs.Flattening.{FlatRight, Flattens}
-use Rattle.promises_group.proofs.Parts.{parts-generators}
 use Rattle.promises_group.proofs.FlatExactly as exactly
 use Rattle.promises_group.proofs.FlatLeaves.{flat-leaves}
+use Rattle.promises_group.proofs.FlatAnswers.{flat-17}
 
 -- An accepted call had right arguments.
 module _ (from : List ℕ) (g : Group) (table : List ℕ) (start : ℕ) (work : List ℕ) (room : ℕ) (f : Factor) (t w : List ℕ) where
@@ -77,17 +78,51 @@ pub flat-number : (from : List ℕ) (g : Group) (table : List ℕ) (start : ℕ)
     → flat from g table start work room ≡ making (record { answer = verdict.Refused r; factor = f }) t w → RefusalIn (17 ∷ 15 ∷ 1 ∷ 4 ∷ composedNumbers) r
 flat-number from g table start work room r f t w h = leaves-number (17 ∷ 15 ∷ 1 ∷ 4 ∷ composedNumbers) refl refl (flat-leaves from g table start work room r f t w h)
 
-module _ {from : List ℕ} {g : Group} (A : AcceptedProduct from g) (table : List ℕ) (start : ℕ) (work : List ℕ) (room : ℕ) where
-  -- The number is 0 exactly when the arguments are right and the product's numbers are what is accepted.
-  pub flat-paper : madePaper (flat from g table start work room) ≡ valuePaper 0 ↔ FlatRight from g table start work room × Flattens (direct from g) room
-  flat-paper = (
-    λ q.
-        let (f, t, w, h) = made-fine (17 ∷ 15 ∷ 1 ∷ 4 ∷ composedNumbers) refl (flat from g table start work room) (flat-number from g table start work room) q in
-        let R = flat-begun from g table start work room f t w h in
-        (R, exactly.flat-exactly A table start work room R .0 (f, t, w, h)),
-    λ a. let (f, t, w, h) = exactly.flat-exactly A table start work room (a .0) .1 (a .1) in ap madePaper h,
-  )
+-- Over factors that are accepted wherever their handles fit: neither 17 in a handle nor 15 is excluded.
+module _ (from : List ℕ) (g : Group) (unaltered : allFit (length from) (handles g) ≡ true → AllAccepted from (handles g)) (table : List ℕ) (start : ℕ)
+    (work : List ℕ) (room : ℕ)
+  where
+    right-product : FlatRight from g table start work room → AcceptedProduct from g
+    right-product R =
+        let G = goes-on (length from) g 0 1 0 1 refl (R .admitted) in
+        record { factors = unaltered (G .fits); within = G .within }
 
+    -- The number is 0 exactly when the arguments are right and the product's numbers are what is accepted.
+    pub flat-paper : madePaper (flat from g table start work room) ≡ valuePaper 0 ↔ FlatRight from g table start work room × Flattens (direct from g) room
+    flat-paper = (
+      λ q.
+          let (f, t, w, h) = made-fine (17 ∷ 15 ∷ 1 ∷ 4 ∷ composedNumbers) refl (flat from g table start work room) (flat-number from g table start work room) q in
+          let R = flat-begun from g table start work room f t w h in
+          (R, exactly.flat-exactly (right-product R) table start work room R .0 (f, t, w, h)),
+      λ a.
+          let (f, t, w, h) = exactly.flat-exactly (right-product (a .0)) table start work room (a .0) .1 (a .1) in
+          ap madePaper h,
+    )
+
+    -- 17 is given exactly when a handle does not fit: every step can be read.
+    pub flat-17-handle : (a b c : ℕ) → paperOf (flat from g table start work room) ≡ paper 17 a b c
+        ↔ ((allFit (length from) (handles g) ≡ false) × ((a ≡ 0) × ((b ≡ 0) × (c ≡ 0))))
+    flat-17-handle a b c = (
+      λ q.
+          let h = flat-17 from g table start work room a b c .0 q in
+          (⊎-elim (λ z. z) (λ u. absurd (not-met (u .0) (flat from g table start work room) refl q)) (h .0), h .1),
+      λ h. flat-17 from g table start work room a b c .1 (inl (h .0), h .1),
+    ) where
+      never : {k : ℕ} → (k ≡ 7) ⊎ ((k ≡ 5) ⊎ (k ≡ 6)) → k ≡ 17 → ⊥
+      never (inl z) q = omega arith
+      never (inr (inl z)) q = omega arith
+      never (inr (inr z)) q = omega arith
+
+      not-met : FlatRight from g table start work room → (m : Making) → flat from g table start work room ≡ m → paperOf m ≡ paper 17 a b c → ⊥
+      not-met R (making m t w) e = by (m .answer) refl where
+        by : (v : Verdict) → m .answer ≡ v → verdictPaper v ≡ paper 17 a b c → ⊥
+        by verdict.Fine i z = omega (arith, ap (λ (p : Paper). p .number) z)
+        by (verdict.Refused r) i z =
+            let h : flat from g table start work room ≡ making (record { answer = verdict.Refused r; factor = m .factor }) t w =
+            e ∙ ap (λ (v : Verdict). making (record { answer = v; factor = m .factor }) t w) i in
+            never (refused-number (exactly.flat-stops (right-product R) table start work room R r .0 (m .factor, t, w, h))) (ap (λ (p : Paper). p .number) z)
+
+module _ {from : List ℕ} {g : Group} (A : AcceptedProduct from g) (table : List ℕ) (start : ℕ) (work : List ℕ) (room : ℕ) where
   module _ (f : Factor) (t w table′ : List ℕ) (start′ : ℕ) (work′ : List ℕ) (room′ : ℕ) where
     pub flat-roomier : flat from g table start work room ≡ making (record { answer = verdict.Fine; factor = f }) t w → room ≤ room′
         → FlatRight from g table′ start′ work′ room′
@@ -109,19 +144,3 @@ module _ {from : List ℕ} {g : Group} (A : AcceptedProduct from g) (table : Lis
         roomier-at (b .3 .1 .0) (b .3 .1 .1 .0)
         (lent-roomier table start n room (exactly.has A table start work room R) table′ start′ work′ room′ (exactly.has A table′ start′ work′ room′ R′) more (b .1) (E .0)
         (H .size-kept) (exactly.is-build A table′ start′ work′ room′ R′ ∙ ap (lentBack table′ start′ work′ n room′) (E .1)))
-
-  -- What it wrote of the table is its stretch, accepted or refused; so factors and products elsewhere in that buffer are as they were.
-  pub flat-wrote : (v : Verdict) (f : Factor) (t w : List ℕ) → flat from g table start work room ≡ making (record { answer = v; factor = f }) t w
-      → Wrote (tableFor table start (generatorsOf (handles g)) room t)
-  flat-wrote verdict.Fine f t w h =
-      let n : ℕ = direct from g .generators in
-      let src : ℕ → ℕ → ℕ = direct from g .step in
-      let R = flat-begun from g table start work room f t w h in
-      let has = exactly.has A table start work room R in
-      let b = by-build table start work n room (finishedPlaced (readAll src n room (replicate (tableNeed n room) 0)) n (take (workNeed n room) work))
-      (sym (exactly.is-build A table start work room R) ∙ h) in
-      let H = built-holds src n room (tableNeed n room) (take (workNeed n room) work) (exactly.few A table start work room R) (exactly.lo A table start work room R)
-      (exactly.hi A table start work room R) (le-refl (tableNeed n room)) (exactly.work-lent A table start work room R) (b .3 .0) in
-      subst (λ (k : ℕ). Wrote (tableFor table start k room t)) (parts-generators from (handles g))
-      (part (b .1) (within-length (length table) start room n has) (H .size-kept) (b .3 .1 .1 .0))
-  flat-wrote (verdict.Refused r) f t w h = leaves-wrote (flat-leaves from g table start work room r f t w h)

@@ -11,7 +11,10 @@ pub mod Shortest
 pub mod FlatExactly
 pub mod Unaltered
 pub mod Papers
+pub mod FlatReads
 pub mod FlatLeaves
+pub mod FlatAnswers
 pub mod FlatMore
+pub mod FlatRegardless
 pub mod Refuses
 pub mod Unique

@@ -33,7 +33,7 @@ use Rattle.group_handles.specs.Counts.{onCounted, onElement}
 use Rattle.group_words.specs.Words.{lengths, readables, writesBy, writes, leaves}
 use Rattle.group.specs.Questions.{countAnswer, generatorsAnswer, generatorAnswer, stepAnswer, projectAnswer, injectAnswer, splitAnswer, splitLeaves, joinAnswer}
 use Rattle.group_digits.specs.Splits.{splitTail, digitsLeft, digitRight, digitsRight, fewer, joinTail}
-use Rattle.group.specs.Questions.{composeAnswer, inverseAnswer, conjugateAnswer, powiAnswer, periodAnswer, lengthAnswer, writeAnswer, written}
+use Rattle.group.specs.Questions.{composeAnswer, inverseAnswer, conjugateAnswer, powiAnswer, periodAnswer, lengthAnswer, writeAnswer, written, wordPart}
 use Rattle.promises_group.specs.Refuses.{ProductRefuses}
 
 abbrev asked : List ℕ
@@ -247,6 +247,10 @@ module _ (t : List ℕ) (g : Group) where
   unfolding written
   write-untouched e out r q = letters-kept (writeAnswer t g e (length out)) t (handles g) (e .0) out r q
 
+  nothing-handed : (e : GroupElementId) (out : List ℕ) (r : Refusal) → writeAnswer t g e (length out) ≡ counted.Refused r → wordPart t g e out ≡ []
+  unfolding wordPart
+  nothing-handed e out r q = rw q
+
   pub product-refuses : ProductRefuses t g
   product-refuses = record {
     makes = makes;
@@ -267,4 +271,5 @@ module _ (t : List ℕ) (g : Group) where
     writes = writes-asked;
     split-untouched = split-untouched;
     write-untouched = write-untouched;
+    nothing-handed = nothing-handed;
   }

@@ -14,7 +14,7 @@ use Rattle.factor_laws.specs.Refuses.{ReachedIn, CountedIn, VerdictIn}
 use Rattle.group_handles.specs.declared.Group.{Group}
 use Rattle.group_handles.specs.Handles.{joins}
 use Rattle.group.specs.Questions.{countAnswer, generatorsAnswer, generatorAnswer, stepAnswer, projectAnswer, injectAnswer, splitAnswer, splitLeaves, joinAnswer}
-use Rattle.group.specs.Questions.{composeAnswer, inverseAnswer, conjugateAnswer, powiAnswer, periodAnswer, lengthAnswer, writeAnswer, written}
+use Rattle.group.specs.Questions.{composeAnswer, inverseAnswer, conjugateAnswer, powiAnswer, periodAnswer, lengthAnswer, writeAnswer, written, wordPart}
 
 -- Each call of the product g, with the only numbers by which it is ever refused.
 pub record ProductRefuses (t : List ℕ) (g : Group) : Type 0 where
@@ -38,3 +38,5 @@ pub record ProductRefuses (t : List ℕ) (g : Group) : Type 0 where
   -- What the lent list and the byte buffer hold after a refusal.
   pub split-untouched : (e : GroupElementId) (out : List ℕ) (r : Refusal) → splitAnswer t g e (length out) ≡ counted.Refused r → splitLeaves t g e out ≡ out
   pub write-untouched : (e : GroupElementId) (out : List ℕ) (r : Refusal) → writeAnswer t g e (length out) ≡ counted.Refused r → written t g e out ≡ out
+  -- And of the word that is chosen: "refused: the empty start, the number by a second call".
+  pub nothing-handed : (e : GroupElementId) (out : List ℕ) (r : Refusal) → writeAnswer t g e (length out) ≡ counted.Refused r → wordPart t g e out ≡ []

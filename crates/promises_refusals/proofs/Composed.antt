@@ -14,18 +14,17 @@ use lib.ListN.{length, take, replicate}
 use Rattle.egg.specs.declared.Refusal.{Refusal}
 use Rattle.egg.specs.declared.Verdict.{Verdict}
 use Rattle.egg.specs.declared.Verdict.the-variants as verdict
-use Rattle.egg.specs.Factor.{Paper, refusalPaper, verdictPaper, hasRoom}
-use Rattle.egg.proofs.Rooms.{false-true, and-first, and-second, positive, limited, within-length}
+use Rattle.egg.specs.Factor.{Paper, refusalPaper, verdictPaper}
+use Rattle.egg.proofs.Rooms.{false-true, and-first, and-second}
 use Rattle.build_reading.specs.Reading.{readAll, composedAt}
 use Rattle.build_lending.specs.Finish.{finishedPlaced}
 use Rattle.build_lending.specs.Lending.{tableNeed, workNeed, lentRight, refusedMade, Making, making, lentBack}
-use Rattle.build_lending.proofs.Lending.{lent-table, lent-enough}
 use Rattle.factor.specs.Composed.{composedIn, composed}
 use Rattle.build_laws.specs.Taken.{Taken}
 use Rattle.promises.proofs.Composed.{composed-is-build, work-lent}
 use Rattle.promises_refusals.specs.Faults.{Fault}
 use Rattle.promises_refusals.specs.Papers.{answerOf, paperOf, paper, Enough, ComposedPaper, many, short, taken, fault, OneAnswer}
-use Rattle.promises_refusals.proofs.Lent.{lent-refused, lent-accepted}
+use Rattle.promises_refusals.proofs.Lent.{enough-right, right-enough, lent-refused, lent-accepted}
 use Rattle.promises_refusals.proofs.Numbers.{fault-numbers}
 
 module _ (table : List ℕ) (start : ℕ) (work rows : List ℕ) (n room : ℕ) where
@@ -34,24 +33,16 @@ module _ (table : List ℕ) (start : ℕ) (work rows : List ℕ) (n room : ℕ) 
   lent = lentRight (length table) start (length work) room n && leb (room * n) (length rows)
 
   pub lent-right : n ≤ 8 → Enough table start work rows n room → lentRight (length table) start (length work) room n ≡ true
-  unfolding lentRight hasRoom
-  lent-right hn E =
-      simp (le-leb _ _ hn, le-leb _ _ (E .some-room), le-leb _ _ (E .most-room), le-leb _ _ (E .table-long), le-leb _ _ (E .work-long))
+  lent-right hn E = enough-right table start work n room hn (E .lent)
 
   enough-lent : n ≤ 8 → Enough table start work rows n room → lent ≡ true
   enough-lent hn E = rw (lent-right hn E) (le-leb _ _ (E .rows-long))
 
   lent-is-enough : lent ≡ true → Enough table start work rows n room
-  lent-is-enough h =
-      let l = and-first (lentRight (length table) start (length work) room n) _ h in
-      let r = lent-table (length table) start (length work) room n l in
-      record {
-        some-room = positive (length table) start room n r;
-        most-room = limited (length table) start room n r;
-        table-long = within-length (length table) start room n r;
-        work-long = leb-true _ _ (lent-enough (length table) start (length work) room n l);
-        rows-long = leb-true _ _ (and-second (lentRight (length table) start (length work) room n) _ h);
-      }
+  lent-is-enough h = record {
+    lent = right-enough table start work n room (and-first (lentRight (length table) start (length work) room n) _ h);
+    rows-long = leb-true _ _ (and-second (lentRight (length table) start (length work) room n) _ h);
+  }
 
   is-many : 8 < n → composed table start work rows n room ≡ making (refusedMade 1 n) table work
   unfolding composed
@@ -78,10 +69,10 @@ module _ (table : List ℕ) (start : ℕ) (work rows : List ℕ) (n room : ℕ) 
     long = work-lent table start work rows n room hn (lent-right hn E) (E .rows-long)
 
     accepts : answerOf outcome ≡ verdict.Fine ↔ ((N : ℕ) × Taken (composedAt rows n) n room N)
-    accepts = lent-accepted table start work (composedAt rows n) n room (tableNeed n room) w hn (E .some-room) (E .most-room) (le-refl (tableNeed n room)) long
+    accepts = lent-accepted table start work (composedAt rows n) n room (tableNeed n room) w hn (E .lent .some-room) (E .lent .most-room) (le-refl (tableNeed n room)) long
 
     refuses : (r : Refusal) → answerOf outcome ≡ verdict.Refused r ↔ Fault (composedAt rows n) n room r
-    refuses = lent-refused table start work (composedAt rows n) n room (tableNeed n room) w hn (E .some-room) (E .most-room) (le-refl (tableNeed n room)) long
+    refuses = lent-refused table start work (composedAt rows n) n room (tableNeed n room) w hn (E .lent .some-room) (E .lent .most-room) (le-refl (tableNeed n room)) long
 
     some-built : (v : Verdict) → answerOf outcome ≡ v → ComposedPaper table start work rows n room (verdictPaper v)
     some-built verdict.Fine q = taken hn E (accepts .0 q .1)

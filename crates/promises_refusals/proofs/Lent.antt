@@ -1,23 +1,46 @@
--- The same of any call that puts such a build back into the buffers that its stretches were lent from, whatever its source of numbers.
+-- The same of any call that puts such a build back into the buffers that its stretches were lent from, whatever its source of numbers; and what it is for
+-- these to be long enough.
 use Prim.Native.Nat.{ℕ, _+_, _*_, _≤_}
 use mathlib.Core.Path.{_≡_, refl, sym, ap}
 use mathlib.Core.Logic.{_↔_}
+use mathlib.Core.Bool.{true}
 use mathlib.Core.List.{List}
+use borrow.Author.Tests.{le-leb, leb-true}
 use lib.ListN.{length, replicate}
 use Rattle.egg.specs.declared.Refusal.{Refusal}
 use Rattle.egg.specs.declared.Verdict.the-variants as verdict
 use Rattle.egg.specs.declared.Counted.the-variants.{Count, Refused}
+use Rattle.egg.specs.Factor.{hasRoom}
+use Rattle.egg.proofs.Rooms.{positive, limited, within-length}
 use Rattle.egg.proofs.Scans.{refused-fine}
 use Rattle.build_lending.specs.Finish.{Built, built, finishedPlaced}
-use Rattle.build_lending.specs.Lending.{lentBack}
+use Rattle.build_lending.specs.Lending.{lentRight, lentBack}
+use Rattle.build_lending.proofs.Lending.{lent-table, lent-enough}
 use Rattle.build_reading.specs.Reading.{readAll}
 use Rattle.build_laws.specs.Taken.{Taken}
 use Rattle.build_laws.proofs.Built.{built-holds, taken-built}
 use Rattle.promises_refusals.specs.Faults.{Fault}
-use Rattle.promises_refusals.specs.Papers.{answerOf}
+use Rattle.promises_refusals.specs.Papers.{answerOf, EnoughLent}
 use Rattle.promises_refusals.proofs.Built.{built-fault, fault-built}
 
-same-verdict : {r s : Refusal} → verdict.Refused r ≡ verdict.Refused s → r ≡ s
+-- The test for 4, and what it says.
+module _ (table : List ℕ) (start : ℕ) (work : List ℕ) (n room : ℕ) where
+  pub enough-right : n ≤ 8 → EnoughLent table start work n room → lentRight (length table) start (length work) room n ≡ true
+  unfolding lentRight hasRoom
+  enough-right hn E =
+      simp (le-leb _ _ hn, le-leb _ _ (E .some-room), le-leb _ _ (E .most-room), le-leb _ _ (E .table-long), le-leb _ _ (E .work-long))
+
+  pub right-enough : lentRight (length table) start (length work) room n ≡ true → EnoughLent table start work n room
+  right-enough l =
+      let r = lent-table (length table) start (length work) room n l in
+      record {
+        some-room = positive (length table) start room n r;
+        most-room = limited (length table) start room n r;
+        table-long = within-length (length table) start room n r;
+        work-long = leb-true _ _ (lent-enough (length table) start (length work) room n l);
+      }
+
+pub same-verdict : {r s : Refusal} → verdict.Refused r ≡ verdict.Refused s → r ≡ s
 same-verdict h = cc
 
 -- What the call answers is what the build came to.

@@ -9,3 +9,6 @@ pub mod EachNumber
 pub mod Words
 pub mod Useless
 pub mod Orders
+pub mod Enumerates
+pub mod AsMet
+pub mod Asked

@@ -2,3 +2,5 @@ pub mod Firsts
 pub mod Faults
 pub mod Papers
 pub mod Orders
+pub mod AsMet
+pub mod Asked

@@ -1,4 +1,5 @@
--- This file states what the check of an accepted factor against pair orders answers: 2, 3 and 13 in the words of the theory, with their places.
+-- This file states what is answered for pair orders: by the check of an accepted factor, 2, 3 and 13 in the words of the theory, with their places;
+-- and by an enumeration whose run does not start, 1 to 4.
 use Prim.Native.Nat.{ℕ, _≤_, _<_}
 use mathlib.Core.Path.{_≡_}
 use mathlib.Core.List.{List}
@@ -9,7 +10,7 @@ use Rattle.egg.specs.Answers.{numbered}
 use Rattle.theory.specs.Words.{walk}
 use Rattle.theory.specs.Presentation.{pairs-below, pair-place, order-of, alternate, Holds}
 use Rattle.promises_refusals.specs.Firsts.{FirstOf}
-use Rattle.promises_refusals.specs.Papers.{paper}
+use Rattle.promises_refusals.specs.Papers.{paper, EnoughLent}
 
 -- The k-th order is within "pair orders 2 to 32,767".
 abbrev pub OrderRight : List ℕ → ℕ → Type 0
@@ -44,3 +45,10 @@ pub data CheckPaper (n N : ℕ) (step : ℕ → ℕ → ℕ) (o : List ℕ) : Pa
   wrong-orders : {r : Refusal} → OrdersFault o n r → CheckPaper n N step o (refusalPaper r)
   fails : {r : Refusal} → OrdersRight o n → RelationFault n step o r → CheckPaper n N step o (refusalPaper r)
   holds : OrdersRight o n → Holds n N (order-of o) step → CheckPaper n N step o (paper 0 0 0 0)
+
+-- The answers of an enumeration whose arguments are not right. "The first that applies, in numeric order .., is given": 1, "more than 8 generators", with the
+-- count; 2 or 3; 4, "room 0 or above 65,535, or a lent buffer short".
+pub data EnumeratePaper (table : List ℕ) (start : ℕ) (work o : List ℕ) (n room : ℕ) : Paper → Type 0 where
+  many : 8 < n → EnumeratePaper table start work o n room (paper 1 n 0 0)
+  unordered : {r : Refusal} → n ≤ 8 → OrdersFault o n r → EnumeratePaper table start work o n room (refusalPaper r)
+  short : n ≤ 8 → OrdersRight o n → ¬ (EnoughLent table start work n room) → EnumeratePaper table start work o n room (paper 4 0 0 0)

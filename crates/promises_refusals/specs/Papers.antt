@@ -26,13 +26,17 @@ paperOf m = verdictPaper (answerOf m)
 abbrev pub paper : ℕ → ℕ → ℕ → ℕ → Paper
 paper k a b c = record { number = k; a = a; b = b; c = c }
 
--- What is lent is enough; where it is not, 4 is given, "room 0 or above 65,535, or a lent buffer short". "A build with n generators and room R needs
--- exactly R(2n+4) entries of table and R(6n²+4n) of work. A composed list needs Rn entries."
-pub record Enough (table : List ℕ) (start : ℕ) (work rows : List ℕ) (n room : ℕ) : Type 0 where
+-- What a build is lent is enough; where it is not, 4 is given, "room 0 or above 65,535, or a lent buffer short". "A build with n generators and room R
+-- needs exactly R(2n+4) entries of table and R(6n²+4n) of work."
+pub record EnoughLent (table : List ℕ) (start : ℕ) (work : List ℕ) (n room : ℕ) : Type 0 where
   pub some-room : 1 ≤ room
   pub most-room : room ≤ 65535
   pub table-long : start + tableNeed n room ≤ length table
   pub work-long : workNeed n room ≤ length work
+
+-- What a call on composed rows is lent is enough, the list of rows too: "A composed list needs Rn entries."
+pub record Enough (table : List ℕ) (start : ℕ) (work rows : List ℕ) (n room : ℕ) : Type 0 where
+  pub lent : EnoughLent table start work n room
   pub rows-long : room * n ≤ length rows
 
 -- The answers on composed rows: 1, "more than 8 generators", with the count; 4; 0 for acceptance, where some group has the rows by the numbering
