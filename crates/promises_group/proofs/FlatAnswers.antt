@@ -37,7 +37,7 @@ use Rattle.group_handles.specs.Handles.{handles, generatorsOf, allFit, limited,
 use Rattle.group_handles.proofs.Admitted.{few-factors, few-elements, admits-fine}
 use Rattle.group_digits.specs.Digits.{stepIn}
 use Rattle.group_flatten.specs.Flat.{flatIn, flatInto, flat}
-use Rattle.promises_group.specs.Flattening.{FlatRight, GroupWithin, numberOf, stepRead, Unread, Answered, FlatPaper, no-handle, too-large, many, short, unread, fault, taken}
+use Rattle.promises_group.specs.Flattening.{FlatRight, GroupWithin, numberOf, stepRead, StepUnread, StepsAnswered, FlatPaper, no-handle, too-large, many, short, unread, fault, taken}
 use Rattle.promises_group.proofs.FlatReads.{Reads, by-numbers, not-read, reads}
 
 reach-refused : {k : ℕ} {x : Reached} → x ≡ reach k → x ≡ refusedReach 17 0 → ⊥
@@ -96,12 +96,12 @@ module _ (from : List ℕ) (g : Group) (table : List ℕ) (start : ℕ) (work : 
   met : {e x : ℕ} {t : List ℕ} → readAll src n room (replicate size 0) ≡ placed (Refused (numbered 7 e x 65536)) t → Fault src n room (numbered 7 e x 65536)
   met q = faults.unread (refused-read src n room size (R .generators) (enough .some-room) (enough .most-room) (le-refl size) q)
 
-  stopped : {e x : ℕ} → Fault src n room (numbered 7 e x 65536) → stepIn from (handles g) e x ≡ refusedReach 17 0 → Unread from (handles g) room
+  stopped : {e x : ℕ} → Fault src n room (numbered 7 e x 65536) → stepIn from (handles g) e x ≡ refusedReach 17 0 → StepUnread from (handles g) room
   stopped {e} {x} F s =
       let S = fault-7 F refl in
       record { element = e; generator = x; count = S .count; before = S .before; column = S .column; refused = s }
 
-  unread-fault : (U : Unread from (handles g) room) → Fault src n room (numbered 7 (U .element) (U .generator) 65536)
+  unread-fault : (U : StepUnread from (handles g) room) → Fault src n room (numbered 7 (U .element) (U .generator) 65536)
   unread-fault U =
       skips (record {
         count = U .count;
@@ -122,7 +122,7 @@ module _ (from : List ℕ) (g : Group) (table : List ℕ) (start : ℕ) (work : 
     by (verdict.Refused r) q = let F = refuses r .0 q in fault R F (λ k. let a = ahead F k in own r (a .0) (a .1) k)
   started-some (not-read e x t s q z) = rw (is-numbers z) (unread R (stopped (met q) s))
 
-  unread-given : Unread from (handles g) room
+  unread-given : StepUnread from (handles g) room
       → Reads from (handles g) room (tableNeed (generatorsOf (handles g)) room) (take (workNeed (generatorsOf (handles g)) room) work)
       → paperOf (flat from g table start work room) ≡ paper 17 0 0 0
   unread-given U (by-numbers e own) =
@@ -131,13 +131,13 @@ module _ (from : List ℕ) (g : Group) (table : List ℕ) (start : ℕ) (work : 
       absurd (reach-refused (own (numbered 7 (U .element) (U .generator) 65536) (a .0) (a .1) refl) (U .refused))
   unread-given U (not-read e x t s q z) = ap paperOf (is-numbers z)
 
-  fault-given : {r : Refusal} → Fault src n room r → Answered from (handles g) r
+  fault-given : {r : Refusal} → Fault src n room r → StepsAnswered from (handles g) r
       → Reads from (handles g) room (tableNeed (generatorsOf (handles g)) room) (take (workNeed (generatorsOf (handles g)) room) work)
       → paperOf (flat from g table start work room) ≡ refusalPaper r
   fault-given {r} F A (by-numbers e own) = ap paperOf (is-numbers e) ∙ ap verdictPaper (refuses r .1 F)
   fault-given {r} F A (not-read e x t s q z) =
       let k : r ≡ numbered 7 e x 65536 = fault-once src n room (R .generators) (enough .some-room) (enough .most-room) F (met q) in
-      let B : Answered from (handles g) (numbered 7 e x 65536) = subst (Answered from (handles g)) k A in
+      let B : StepsAnswered from (handles g) (numbered 7 e x 65536) = subst (StepsAnswered from (handles g)) k A in
       absurd (reach-refused (B refl) s)
 
   taken-given : {N : ℕ} → Taken src n room N
@@ -216,13 +216,13 @@ module _ (from : List ℕ) (g : Group) (table : List ℕ) (start : ℕ) (work : 
 
   -- 17, in a handle or as met.
   pub flat-17 : (a b c : ℕ) → paperOf (flat from g table start work room) ≡ paper 17 a b c
-      ↔ (((allFit (length from) (handles g) ≡ false) ⊎ (FlatRight from g table start work room × Unread from (handles g) room)) × ((a ≡ 0) × ((b ≡ 0) × (c ≡ 0))))
+      ↔ (((allFit (length from) (handles g) ≡ false) ⊎ (FlatRight from g table start work room × StepUnread from (handles g) room)) × ((a ≡ 0) × ((b ≡ 0) × (c ≡ 0))))
   flat-17 a b c = (
     λ q. by (flat-answers (paper 17 a b c) .0 q) refl,
     λ h. rw (h .1 .0, h .1 .1 .0, h .1 .1 .1) (⊎-elim (λ q. flat-given-paper (no-handle q)) (λ u. flat-given-paper (unread (u .0) (u .1))) (h .0)),
   ) where
     by : {p : Paper} → FlatPaper from g table start work room p → p .number ≡ 17
-        → ((allFit (length from) hs ≡ false) ⊎ (FlatRight from g table start work room × Unread from hs room)) × ((p .a ≡ 0) × ((p .b ≡ 0) × (p .c ≡ 0)))
+        → ((allFit (length from) hs ≡ false) ⊎ (FlatRight from g table start work room × StepUnread from hs room)) × ((p .a ≡ 0) × ((p .b ≡ 0) × (p .c ≡ 0)))
     by (no-handle q) k = (inl q, (refl, (refl, refl)))
     by (too-large q wrong) k = absurd (omega arith)
     by (many q L h) k = absurd (omega arith)

@@ -27,7 +27,7 @@ use Rattle.promises.proofs.ReadLengths.{placedTable, place-length}
 use Rattle.group_handles.specs.Handles.{generatorsOf}
 use Rattle.group_digits.specs.Digits.{stepIn}
 use Rattle.group_flatten.specs.Flat.{placeBy, rowBy, rowsBy, flatIn}
-use Rattle.promises_group.specs.Flattening.{numberOf, stepRead, Answered}
+use Rattle.promises_group.specs.Flattening.{numberOf, stepRead, StepsAnswered}
 
 -- An answer that is no refusal but 17, which has no places.
 data Only17 : Reached → Type 0 where
@@ -62,7 +62,7 @@ module _ (from : List ℕ) (hs : List Factor) (room size : ℕ) where
   -- The count is within the room and the table as long as it was; a refusal by 7 has the product's own number.
   abbrev Fair : Placed → Type 0
   Fair (placed (Count c) t) = (c ≤ room) × (length t ≡ size)
-  Fair (placed (Refused r) t) = Answered from hs r
+  Fair (placed (Refused r) t) = StepsAnswered from hs r
 
   -- Two readings go the same way; or the first is stopped by 17, where the second meets a number beyond every count.
   data Came (p q : Placed) : Type 0 where
@@ -88,7 +88,7 @@ module _ (from : List ℕ) (hs : List Factor) (room size : ℕ) where
   -- One place whose number was answered.
   Told : Placed → Type 0
   Told (placed (Count c) t) = c ≤ room
-  Told (placed (Refused r) t) = Answered from hs r
+  Told (placed (Refused r) t) = StepsAnswered from hs r
 
   told-fair : (p : Placed) → length (placedTable p) ≡ size → Told p → Fair p
   unfolding Told
@@ -154,7 +154,7 @@ module _ (from : List ℕ) (hs : List Factor) (room size : ℕ) where
 -- are refused by 7, and all is zero.
 pub data Reads (from : List ℕ) (hs : List Factor) (room size : ℕ) (w : List ℕ) : Type 0 where
   by-numbers : flatIn size w from hs (generatorsOf hs) room ≡ finishedPlaced (readAll (stepRead from hs) (generatorsOf hs) room (replicate size 0)) (generatorsOf hs) w
-      → ((r : Refusal) (t : List ℕ) → readAll (stepRead from hs) (generatorsOf hs) room (replicate size 0) ≡ placed (Refused r) t → Answered from hs r)
+      → ((r : Refusal) (t : List ℕ) → readAll (stepRead from hs) (generatorsOf hs) room (replicate size 0) ≡ placed (Refused r) t → StepsAnswered from hs r)
       → Reads from hs room size w
   not-read : (e x : ℕ) (t : List ℕ) → stepIn from hs e x ≡ refusedReach 17 0
       → readAll (stepRead from hs) (generatorsOf hs) room (replicate size 0) ≡ placed (Refused (numbered 7 e x 65536)) t

@@ -75,7 +75,7 @@ abbrev pub stepRead : List ℕ → List Factor → ℕ → ℕ → ℕ
 stepRead from hs e x = numberOf (stepIn from hs e x)
 
 -- "17 in what they read": nothing is refused before (element, generator), and the product's step there is refused by 17.
-pub record Unread (from : List ℕ) (hs : List Factor) (room : ℕ) : Type 0 where
+pub record StepUnread (from : List ℕ) (hs : List Factor) (room : ℕ) : Type 0 where
   pub element : ℕ
   pub generator : ℕ
   pub count : ℕ
@@ -84,8 +84,8 @@ pub record Unread (from : List ℕ) (hs : List Factor) (room : ℕ) : Type 0 whe
   pub refused : stepIn from hs element generator ≡ refusedReach 17 0
 
 -- A number that skips ahead, 7, is the product's own at that place.
-abbrev pub Answered : List ℕ → List Factor → Refusal → Type 0
-Answered from hs r = r .number ≡ 7 → stepIn from hs (r .a) (r .b) ≡ reach (r .c)
+abbrev pub StepsAnswered : List ℕ → List Factor → Refusal → Type 0
+StepsAnswered from hs r = r .number ≡ 7 → stepIn from hs (r .a) (r .b) ≡ reach (r .c)
 
 -- Every answer of `flatten`, on every input, with the case in which it comes: 17 in a handle; 15; 1 with the count; 4; 17 as met; the fault of the steps that
 -- are read, with its number and places; or 0, where some group has these steps.
@@ -96,9 +96,9 @@ pub data FlatPaper (from : List ℕ) (g : Group) (table : List ℕ) (start : ℕ
       → FlatPaper from g table start work room (paper 1 (generatorsOf (handles g)) 0 0)
   short : allFit (length from) (handles g) ≡ true → GroupWithin g → generatorsOf (handles g) ≤ 8 → ¬ (EnoughLent table start work (generatorsOf (handles g)) room)
       → FlatPaper from g table start work room (paper 4 0 0 0)
-  unread : FlatRight from g table start work room → Unread from (handles g) room → FlatPaper from g table start work room (paper 17 0 0 0)
+  unread : FlatRight from g table start work room → StepUnread from (handles g) room → FlatPaper from g table start work room (paper 17 0 0 0)
   fault : {r : Refusal} → FlatRight from g table start work room → Fault (stepRead from (handles g)) (generatorsOf (handles g)) room r
-      → Answered from (handles g) r → FlatPaper from g table start work room (refusalPaper r)
+      → StepsAnswered from (handles g) r → FlatPaper from g table start work room (refusalPaper r)
   taken : {N : ℕ} → FlatRight from g table start work room → Taken (stepRead from (handles g)) (generatorsOf (handles g)) room N
       → FlatPaper from g table start work room (paper 0 0 0 0)
 
