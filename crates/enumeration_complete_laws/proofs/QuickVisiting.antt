@@ -13,7 +13,8 @@ use Rattle.egg.specs.declared.GeneratorId.{GeneratorId}
 use Rattle.egg.specs.declared.Refusal.{Refusal}
 use Rattle.egg.specs.declared.Counted.the-variants as counted
 use Rattle.egg.specs.Table.{startOf, lengthOf}
-use Rattle.build_reading.specs.Build.{setStep, setWord, numbered, adds}
+use Rattle.build_reading.specs.Build.{setStep, setWord, adds}
+use Rattle.egg.specs.Answers.{numbered}
 use Rattle.enumeration_quick_loops.specs.Loops.{loopFrom}
 use Rattle.enumeration_quick_run.specs.Sweeps.{swept, setBoth, settles, sweeps}
 use Rattle.theory.specs.Appearance.{Ahead, recorded}

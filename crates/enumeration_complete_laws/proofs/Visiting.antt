@@ -12,7 +12,8 @@ use Rattle.egg.specs.declared.GeneratorId.{GeneratorId}
 use Rattle.egg.specs.declared.Refusal.{Refusal}
 use Rattle.egg.specs.declared.Counted.the-variants as counted
 use Rattle.egg.specs.Table.{startOf, lengthOf}
-use Rattle.build_reading.specs.Build.{setStep, setWord, numbered, adds}
+use Rattle.build_reading.specs.Build.{setStep, setWord, adds}
+use Rattle.egg.specs.Answers.{numbered}
 use Rattle.enumeration_wake.specs.Waking.{State}
 use Rattle.enumeration_run.specs.Run.{visit, visits}
 use Rattle.theory.specs.Appearance.{First, last-of}

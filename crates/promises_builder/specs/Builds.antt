@@ -22,6 +22,7 @@ pub record BuildRight (t : List ℕ) (b : Builder) (w : List ℕ) : Type 0 where
 abbrev pub RefusedBy : List ℕ → Builder → List ℕ → Refusal → Type 0
 RefusedBy t b w r = (f : Factor) × (t′ : List ℕ) × (w′ : List ℕ) × (builds t b w ≡ making (record { answer = verdict.Refused r; factor = f }) t′ w′)
 
--- The other builder, with the marked table and handle, has stored the same steps of the same elements.
+-- The other builder, with the marked table and handle, has stored the same steps of the same elements. Document 01:
+-- "More room never changes an accepted table."
 abbrev pub SameSteps : List ℕ → Factor → List ℕ → Factor → Type 0
 SameSteps t f t′ f′ = (e g : ℕ) → e < f .elements → g < f .generators → ownAt t′ f′ e g ≡ ownAt t f e g

@@ -33,7 +33,8 @@ use Rattle.factor_laws.specs.Accepted.{factorStep}
 use Rattle.enumeration_run_laws.proofs.Ending.{never-paused}
 use Rattle.build_laws.proofs.Lent.{by-build, refused-making}
 use Rattle.promises.proofs.Derived.{Related, enumerated-related}
-use Rattle.promises.proofs.Enumerated.{begun, enumerates-is-build, enumeration-accepted}
+use Rattle.promises.proofs.Enumerated.{begun, enumeration-accepted}
+use Rattle.enumeration.proofs.Handle.{enumerates-is-build}
 use Rattle.promises.proofs.NoneTwice.{enumeration-exactly}
 use Rattle.promises.proofs.Stops.{enumeration-stops}
 use Rattle.promises.proofs.Leaves.{enumeration-refused}

@@ -31,7 +31,7 @@ use Rattle.enumeration_complete_laws.proofs.Running.{enumerated-done, readable}
 use Rattle.enumeration_complete_laws.specs.Ends.{WholeTable}
 use Rattle.enumeration_complete_laws.proofs.QuickRunning.{swiftly-ends, whole-looped, whole-parents}
 use Rattle.build_laws.proofs.Lent.{by-build}
-use Rattle.promises.proofs.Enumerated.{enumerates-is-build}
+use Rattle.enumeration.proofs.Handle.{enumerates-is-build}
 use Rattle.promises_enumeration.specs.Presented.{FittingTable}
 use Rattle.promises_enumeration.proofs.Orders.{right-exact}
 use Rattle.promises_enumeration.proofs.Accepting.{fitting-accepted}

@@ -19,7 +19,7 @@ use Rattle.theory.proofs.Counting.{numbered-table}
 use Rattle.theory.proofs.Shortest.{recorded-best}
 use Rattle.theory.proofs.Relations.{append-right, relator-word}
 use Rattle.theory.proofs.Deduction.{strike}
-use Rattle.build_numbering_laws.specs.Orbit.{Inside, numberedStep, Orbit, origin, onward, Appearing}
+use Rattle.theory.specs.Orbit.{Inside, numberedStep, Orbit, origin, onward, Appearing}
 use Rattle.build_numbering_laws.proofs.Order.{appearing, step-outside}
 use Rattle.theory_coxeter.specs.Tables.{PresentedTable}
 use Rattle.promises_enumeration.specs.Presented.{FittingTable}

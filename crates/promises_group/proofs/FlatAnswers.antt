@@ -37,7 +37,7 @@ use Rattle.group_handles.specs.Handles.{handles, generatorsOf, allFit, limited,
 use Rattle.group_handles.proofs.Admitted.{few-factors, few-elements, admits-fine}
 use Rattle.group_digits.specs.Digits.{stepIn}
 use Rattle.group_flatten.specs.Flat.{flatIn, flatInto, flat}
-use Rattle.promises_group.specs.Flattening.{FlatRight, GroupWithin, numberOf, stepRead, StepUnread, StepsAnswered, FlatPaper, no-handle, too-large, many, short, unread, fault, taken}
+use Rattle.promises_group.specs.Flattening.{FlatRight, GroupWithin, numberRead, stepRead, StepUnread, StepsAnswered, FlatPaper, no-handle, too-large, many, short, unread, fault, taken}
 use Rattle.promises_group.proofs.FlatReads.{Reads, by-numbers, not-read, reads}
 
 reach-refused : {k : ℕ} {x : Reached} → x ≡ reach k → x ≡ refusedReach 17 0 → ⊥
@@ -107,7 +107,7 @@ module _ (from : List ℕ) (g : Group) (table : List ℕ) (start : ℕ) (work : 
         count = U .count;
         before = U .before;
         column = U .column;
-        number = ap numberOf (U .refused);
+        number = ap numberRead (U .refused);
         ahead = omega (arith, U .before .within, enough .most-room);
       })
 

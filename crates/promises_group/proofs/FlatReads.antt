@@ -27,7 +27,7 @@ use Rattle.promises.proofs.ReadLengths.{placedTable, place-length}
 use Rattle.group_handles.specs.Handles.{generatorsOf}
 use Rattle.group_digits.specs.Digits.{stepIn}
 use Rattle.group_flatten.specs.Flat.{placeBy, rowBy, rowsBy, flatIn}
-use Rattle.promises_group.specs.Flattening.{numberOf, stepRead, StepsAnswered}
+use Rattle.promises_group.specs.Flattening.{numberRead, stepRead, StepsAnswered}
 
 -- An answer that is no refusal but 17, which has no places.
 data Only17 : Reached → Type 0 where
@@ -126,7 +126,7 @@ module _ (from : List ℕ) (hs : List Factor) (room size : ℕ) where
   module _ (hi : room ≤ 65535) where
     came-place : (t : List ℕ) (n count e x : ℕ) → count ≤ room → length t ≡ size → {s : Reached} → Only17 s → stepIn from hs e x ≡ s → {f f′ : ℕ → List ℕ → Placed}
         → ((c : ℕ) (l : List ℕ) → c ≤ room → length l ≡ size → Came (f c l) (f′ c l))
-        → Came (thenPlaced (placeBy t n room count e x s) f) (thenPlaced (readPlace t n room count e x (numberOf s)) f′)
+        → Came (thenPlaced (placeBy t n room count e x s) f) (thenPlaced (readPlace t n room count e x (numberRead s)) f′)
     came-place t n count e x h long (element v) q rest =
         came-then (readPlace t n room count e x (v .0))
         (told-fair (readPlace t n room count e x (v .0)) (place-length t n room count e x (v .0) ∙ long) (place-told t n count e x (v .0) h q)) rest

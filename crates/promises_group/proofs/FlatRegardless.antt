@@ -34,14 +34,14 @@ use Rattle.group_handles.specs.declared.Group.{Group}
 use Rattle.group_handles.specs.Handles.{handles, generatorsOf}
 use Rattle.group_digits.specs.Digits.{stepIn}
 use Rattle.group_flatten.specs.Flat.{flatIn, flat}
-use Rattle.promises_group.specs.Flattening.{FlatRight, numberOf, stepRead, workFor, FlatRegardless}
+use Rattle.promises_group.specs.Flattening.{FlatRight, numberRead, stepRead, workFor, FlatRegardless}
 use Rattle.promises_group.proofs.FlatReads.{Reads, by-numbers, not-read}
 use Rattle.promises_group.proofs.FlatLeaves.{flat-leaves}
 use Rattle.promises_group.proofs.FlatAnswers.{flat-is, work-long, flat-reads}
 use Rattle.promises_group.proofs.FlatMore.{flat-begun}
 
 -- A number below 65,536 was answered.
-answered-of : (r : Reached) → numberOf r < 65536 → r ≡ reach (numberOf r)
+answered-of : (r : Reached) → numberRead r < 65536 → r ≡ reach (numberRead r)
 answered-of (reached.Element v) h = refl
 answered-of (reached.Refused r) h = absurd (omega arith)
 

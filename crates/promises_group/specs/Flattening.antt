@@ -65,14 +65,15 @@ pub record FlatMade (table : List ℕ) (start : ℕ) (work : List ℕ) (n room :
 abbrev pub workFor : (work : List ℕ) (n room : ℕ) (w : List ℕ) → Lent
 workFor work n room w = record { entry = work; start = 0; need = workNeed n room; exit = w }
 
--- The number that is read for a step of the product. One that cannot be read is none: 65,536 stands for it, which lies beyond every count.
-abbrev pub numberOf : Reached → ℕ
-numberOf (reached.Element v) = v .0
-numberOf (reached.Refused r) = 65536
+-- The number that is read for a step of the product ("`flatten` keeps product numbers"). One that cannot be read has none: 65,536 stands for it, which
+-- lies beyond every count.
+abbrev pub numberRead : Reached → ℕ
+numberRead (reached.Element v) = v .0
+numberRead (reached.Refused r) = 65536
 
 -- The steps that are read, whatever the factors' stretches hold.
 abbrev pub stepRead : List ℕ → List Factor → ℕ → ℕ → ℕ
-stepRead from hs e x = numberOf (stepIn from hs e x)
+stepRead from hs e x = numberRead (stepIn from hs e x)
 
 -- "17 in what they read": nothing is refused before (element, generator), and the product's step there is refused by 17.
 pub record StepUnread (from : List ℕ) (hs : List Factor) (room : ℕ) : Type 0 where
@@ -88,7 +89,7 @@ abbrev pub StepsAnswered : List ℕ → List Factor → Refusal → Type 0
 StepsAnswered from hs r = r .number ≡ 7 → stepIn from hs (r .a) (r .b) ≡ reach (r .c)
 
 -- Every answer of `flatten`, on every input, with the case in which it comes: 17 in a handle; 15; 1 with the count; 4; 17 as met; the fault of the steps that
--- are read, with its number and places; or 0, where some group has these steps.
+-- are read, with its number and places; or 0, where some group has these steps. "The first that applies .. is given, and each is given only then."
 pub data FlatPaper (from : List ℕ) (g : Group) (table : List ℕ) (start : ℕ) (work : List ℕ) (room : ℕ) : Paper → Type 1 where
   no-handle : allFit (length from) (handles g) ≡ false → FlatPaper from g table start work room (paper 17 0 0 0)
   too-large : allFit (length from) (handles g) ≡ true → ¬ (GroupWithin g) → FlatPaper from g table start work room (paper 15 0 0 0)
@@ -102,7 +103,7 @@ pub data FlatPaper (from : List ℕ) (g : Group) (table : List ℕ) (start : ℕ
   taken : {N : ℕ} → FlatRight from g table start work room → Taken (stepRead from (handles g)) (generatorsOf (handles g)) room N
       → FlatPaper from g table start work room (paper 0 0 0 0)
 
--- What an accepted call gives, whatever the factors' stretches hold: its arguments were right; each step that was read was answered, and some group has them by
+-- What an accepted call gives, whatever the factors' stretches hold ("Demand 1 and 17 need no premise"): its arguments were right; each step that was read was answered, and some group has them by
 -- the numbering rule; the factor is accepted, so a group, and its steps are those; and the buffers are as after any acceptance.
 pub record FlatRegardless (from : List ℕ) (g : Group) (table : List ℕ) (start : ℕ) (work : List ℕ) (room : ℕ) (f : Factor) (t w : List ℕ) : Type 1 where
   pub right : FlatRight from g table start work room
