@@ -22,8 +22,12 @@ def letters(word):
     return " ".join((word + [str(256 + len(word))] * 5)[:5])
 
 
-def group(name, factors):
-    made = ["clear", *("factor enum " + f for f in factors), "prod"]
+def product(*factors):
+    return ["clear", *("factor enum " + f for f in factors), "prod"]
+
+
+def group(name, made):
+    """The questions to the product that the last of these commands makes."""
     generators, elements = map(int, cases(run(made))[-1][1][0].split()[1:])
 
     def ask(commands):
@@ -64,17 +68,40 @@ def forged():
     yield "word 0: " + letters([])
 
 
-def maps():
-    """Both maps of the subgroup of S3 that element 1 generates."""
-    made = ["clear", "factor enum 2 3", "prod", "sub 1"]
-    yield "subgroup"
-    for name, command, count in (("over", "s2o", 2), ("back", "o2s", 6)):
+# The subgroup of S3 that element 1 generates, and the same with the group of two elements multiplied on below.
+SUBGROUP = [*product("2 3"), "sub 1"]
+BELOW = [*SUBGROUP, "subleft enum 1"]
+
+
+def maps(name, made):
+    """Both maps of a subgroup."""
+    yield name
+    inside, outside = map(int, cases(run(made))[-1][1][0].split()[2::2])
+    for way, command, count in (("over", "s2o", inside), ("back", "o2s", outside)):
         answers = cases(run([*made, *("%s %d" % (command, x) for x in range(count))]))[len(made):]
-        yield "%s: %s %s" % (name, " ".join(lines[0] for _, lines in answers), RANGE)
+        yield "%s: %s %s" % (way, " ".join(lines[0] for _, lines in answers), RANGE)
+
+
+def generators(name, made):
+    """How many generators a subgroup has."""
+    yield "%s: %d" % (name, len(cases(run([*made, "subgens"]))[-1][1][0].split()) - 1)
 
 
 def text():
-    parts = (group("product", ["2 3", "1"]), group("alone", ["2 3"]), group("none", []), forged(), maps())
+    parts = (
+        group("product", product("2 3", "1")),
+        group("alone", product("2 3")),
+        group("none", product()),
+        forged(),
+        maps("subgroup", SUBGROUP),
+        generators("generators", SUBGROUP),
+        generators("below", BELOW),
+        group("overgroup", [*BELOW, "overgroup"]),
+        ["refused: refused 17 " + FACTORS],  # of a value that does not fit its buffer, and of one with too many factors
+        maps("trivial", ["clear", "subtrivial"]),
+        generators("generators", ["clear", "subtrivial"]),
+        ["overgroup: %s" % cases(run(["clear", "subtrivial", "overgroup"]))[-1][1][0].split()[2]],
+    )
     return "".join(line + "\n" for part in parts for line in part)
 
 

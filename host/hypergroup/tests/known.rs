@@ -230,6 +230,10 @@ fn subgroups() {
     assert_eq!(refused(sub.to_subgroup(Element(12))), (14, [0; 3]));
     let even = Subgroup::from_predicate(&over, 12, |x| sub.to_subgroup(x).unwrap().is_some()).unwrap();
     assert_eq!(even.element_count(), 6);
+    // The trivial subgroup, of the group of one element.
+    let trivial = Subgroup::new(&Product::new([]).unwrap(), &[], 1).unwrap();
+    assert_eq!((trivial.generator_count(), trivial.element_count(), trivial.overgroup_count()), (0, 1, 1));
+    assert_eq!((trivial.to_overgroup(Element(0)), trivial.to_subgroup(Element(0))), (Ok(Element(0)), Ok(Some(Element(0)))));
     assert!(over.elements().all(|x| even.to_subgroup(x).unwrap().is_some() == sub.to_subgroup(x).unwrap().is_some()));
     let large = Factor::from_orders(2, &[4096], 8192).unwrap();
     assert_eq!(refused(Subgroup::new(&Product::new([&large, &large]).unwrap(), &[Element(1)], 2)).0, 15);
@@ -245,6 +249,11 @@ fn subgroups_with_factors_multiplied_on() {
     assert_eq!((left.element_count(), left.overgroup_count(), left.generator_count()), (6, 12, 2));
     assert_eq!((both.element_count(), both.overgroup_count(), both.generator_count()), (36, 72, 4));
     let within = Product::new([&z2, &s3, &s3]).unwrap();
+    // Its overgroup answers as that product, and its generators are the product's but for those of the part that it is in.
+    let whole = both.overgroup().unwrap();
+    assert_eq!((whole.element_count(), whole.generator_count()), (72, 5));
+    assert!(within.elements().all(|x| whole.inverse(x) == within.inverse(x) && whole.word(x) == within.word(x)));
+    assert_eq!(both.generators().map(|g| both.generator(g).unwrap().0).collect::<Vec<_>>(), [1, 6, 12, 24]);
     for e in (0..both.element_count()).map(Element) {
         let x = both.to_overgroup(e).unwrap();
         assert_eq!(both.to_subgroup(x), Ok(Some(e)));

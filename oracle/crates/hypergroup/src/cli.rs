@@ -285,6 +285,16 @@ impl Oracle {
                 self.say_subgroup(&s);
                 self.sub = Some(s);
             }
+            "subtrivial" => {
+                let s = SubgroupAction::trivial();
+                self.say_subgroup(&s);
+                self.sub = Some(s);
+            }
+            "overgroup" => {
+                self.group = self.subgroup()?.overgroup().clone();
+                let (n, count) = (self.group.generators().len(), self.group.element_count());
+                self.say(format!("ok {n} {count}"));
+            }
             "subleft" | "subright" => {
                 let s = self.subgroup()?.clone();
                 let g = factor(&w[1..])?;
