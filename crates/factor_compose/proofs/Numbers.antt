@@ -17,19 +17,19 @@ rows-small n {count} {w} q h k = let p : count ≤ 4294967295 = omega arith in l
 
 -- The product along the shorter of two words, by the numbers that were read.
 module _ (s : List ℕ) (n count a b : ℕ) {len i own back : ℕ} (q : len ≡ lengthOf s n b) (more : 5 < len) (h : len ≤ 4096) (p : i ≡ inverseOf s n b)
-    (k : i < count) (v : own ≡ lengthOf s n a) (w : back ≡ lengthOf s n i) (o : back ≤ len) where
+    (k : i < count) (v : own ≡ lengthOf s n a) (g : own ≤ 4096) (w : back ≡ lengthOf s n i) (o : back ≤ len) where
   shorter-way : (t : Bool) → ltb own len ≡ t → {x z : ℕ} → backAlong (pick t own back) s n count (pick t i a) (pick t a i) ≡ Element (record { 0 = x })
       → z ≡ inverseOf s n x → pick t z x < count → composeIn s n count a b ≡ Element (record { 0 = pick t z x })
   shorter-way true l {x} u m j = sym (compose-first s n count a b q more h p k v (ltb-true _ _ l)) ∙ rw u (sym (inverse-element s n count x m j))
-  shorter-way false l u m j = sym (compose-back s n count a b q more h p k v (ltb-false _ _ l) w o) ∙ u
+  shorter-way false l u m j = sym (compose-back s n count a b q more h p k v (ltb-false _ _ l) g w o) ∙ u
 
   pub product-reached : {t : Bool} {letters from word x z r : ℕ} → t ≡ ltb own len → letters ≡ pick t own back → from ≡ pick t i a → word ≡ pick t a i
       → backAlong letters s n count from word ≡ Element (record { 0 = x }) → z ≡ inverseOf s n x → r ≡ pick t z x → r < count
       → composeIn s n count a b ≡ Element (record { 0 = r })
-  product-reached {t} {letters} {from} {word} {x} {z} {r} l d e f u m g j =
+  product-reached {t} {letters} {from} {word} {x} {z} {r} l d e f u m y j =
       let u′ : backAlong (pick t own back) s n count (pick t i a) (pick t a i) ≡ Element (record { 0 = x }) = rw (← d, ← e, ← f) u in
-      let j′ : pick t z x < count = rw (← g) j in
-      shorter-way t (sym l) u′ m j′ ∙ rw (← g)
+      let j′ : pick t z x < count = rw (← y) j in
+      shorter-way t (sym l) u′ m j′ ∙ rw (← y)
 
 -- Either way the walk starts at an element, along an element's word.
 pub chosen-inside : {count x y r : ℕ} (t : Bool) → r ≡ pick t x y → x < count → y < count → r < count

@@ -47,6 +47,9 @@ fn product_number(s: &[u32], n: u8, count: u32, a: GroupElementId, b: GroupEleme
         return count;
     }
     let own = factor_quick_walks::inner::recorded(s, n, count, GroupElementId(first), 2);
+    if 4096 < own {
+        return count;
+    }
     let other = factor_quick_walks::inner::recorded(s, n, count, GroupElementId(i), 2);
     if len < other {
         return count;

@@ -58,7 +58,7 @@ module _ {t : List ℕ} {f : Factor} (A : Accepted t f) where
     pub write-answer : (size : ℕ) → length (factorWord t f e) ≤ size
         → writeAnswer t f (record { 0 = e }) size ≡ Count (length (factorWord t f e))
     unfolding writeAnswer
-    write-answer size room = rw (admits-fine (length t) f (A .fits) he origin) (write-in (A .sound) (A .hops) few-elements size he room)
+    write-answer size room = rw (admits-fine (length t) f (A .fits) he origin) (write-in (A .sound) (A .ruled) (A .hops) few-elements size he room)
 
     pub written-is : (out : List ℕ) → length (factorWord t f e) ≤ length out
         → written t f (record { 0 = e }) out
@@ -78,12 +78,12 @@ module _ {t : List ℕ} {f : Factor} (A : Accepted t f) where
     pub compose-answer : composeAnswer t f (record { 0 = a }) (record { 0 = b })
         ≡ reach (compose (factorStep t f) (factorWord t f) a b)
     unfolding composeAnswer
-    compose-answer = rw (admits-fine (length t) f (A .fits) ha hb) (compose-in (A .sound) (A .hops) few-elements ha hb)
+    compose-answer = rw (admits-fine (length t) f (A .fits) ha hb) (compose-in (A .sound) (A .ruled) (A .hops) few-elements ha hb)
 
     pub conjugate-answer : conjugateAnswer t f (record { 0 = a }) (record { 0 = b })
         ≡ reach (conjugate (compose (factorStep t f) (factorWord t f)) (inverse (factorBack t f) (factorWord t f)) a b)
     unfolding conjugateAnswer
-    conjugate-answer = rw (admits-fine (length t) f (A .fits) ha hb) (conjugate-in (A .sound) (A .hops) few-elements ha hb)
+    conjugate-answer = rw (admits-fine (length t) f (A .fits) ha hb) (conjugate-in (A .sound) (A .ruled) (A .hops) few-elements ha hb)
 
   pub count-answer : countAnswer t f ≡ Count (f .elements)
   unfolding countAnswer

@@ -1,23 +1,22 @@
 -- The written word is the recorded one: its letters are read from the last to the first, five from one row, and each is a generator's number and so a byte.
 use Prim.Native.Nat.{ℕ, zero, suc, _+_, _≤_, _<_}
 use mathlib.Core.Path.{_≡_, refl, sym, ap, _∙_}
-use mathlib.Core.Bool.{true}
 use mathlib.Core.List.{List, [], _∷_, _++_, append-assoc}
 use native.Mathlib.Nat.{mod-eq-of-lt, zero-add}
 use native.Mathlib.Omega.{arith}
-use borrow.Author.Tests.{le-ltb, lt-ltb}
+use borrow.Author.Tests.{le-ltb}
 use lib.ListN.{length, drop, set, length-set}
 use Rattle.egg.specs.declared.Counted.the-variants.{Count}
 use Rattle.egg.specs.Table.{parentOf, lastOf, lengthOf}
-use Rattle.factor_words.specs.Words.{lengthIn, readableBy, readable, spellBy, spellFrom, spell, writeIn}
+use Rattle.factor_words.specs.Words.{lengthIn, spellBy, spellFrom, spell, writeIn}
 use Rattle.factor_words.proofs.Words.{drop-set-here}
 use Rattle.build_word_cells.specs.Hops.{hopFrom, Hops}
 use Rattle.build_word_cells.proofs.Hops.{hop-element, hop-letter, hop-before}
 use Rattle.theory_products.specs.Product.{shift}
 use Rattle.theory_products.proofs.WordLaws.{shift-append, shift-zero}
 use Rattle.build_checks_laws.specs.Stored.{wordOf}
-use Rattle.build_checks_laws.specs.Sound.{Sound}
-use Rattle.factor_laws.proofs.Steps.{no-letters, rest-of, not-first, parent-length, parent-below}
+use Rattle.build_checks_laws.specs.Sound.{Sound, Ruled}
+use Rattle.factor_laws.proofs.Steps.{no-letters, rest-of, not-first, parent-length, parent-below, word-readable}
 
 module _ {s : List ℕ} {n N : ℕ} (S : Sound s n N) where
   pub length-in : {e : ℕ} → e < N → lengthIn s n e ≡ Count (length (wordOf s n e))
@@ -25,29 +24,15 @@ module _ {s : List ℕ} {n N : ℕ} (S : Sound s n N) where
   length-in {e} he = simp (le-ltb _ _ (S .short he)) (ap Count (S .stored .lengths he))
 
   -- Where the rows have five letters each.
-  module _ (H : Hops s n N) (few : N ≤ 65535) where
-    readable-by : (k j : ℕ) {e : ℕ} → e < N → k ≡ length (wordOf s n e) → readableBy k j s n N (hopFrom j s n e) ≡ true
-    unfolding readableBy
-    readable-by zero j he q = refl
-    readable-by (suc k) zero {e} he q =
-        let pos = not-first S e q in
-        rw (hop-element s n e (omega arith))
-        (simp (lt-ltb _ _ he, lt-ltb _ _ (S .parents .generator pos he), rest-of H he, readable-by k 4 (parent-below S pos he) (parent-length S pos he q)))
-    readable-by (suc k) (suc j) {e} he q =
-        let pos = not-first S e q in
-        rw (hop-letter j s n e, hop-before j s n e)
-        (simp (lt-ltb _ _ (S .parents .generator pos he), readable-by k j (parent-below S pos he) (parent-length S pos he q)))
-
-    pub word-readable : (k : ℕ) {e : ℕ} → e < N → k ≡ length (wordOf s n e) → readable k s n N e ≡ true
-    word-readable k {e} he q = rw (hop-element s n e (omega arith)) at (readable-by k 0 he q)
-
+  module _ (R : Ruled s n N) (H : Hops s n N) (few : N ≤ 65535) where
     pub write-in : {e : ℕ} (size : ℕ) → e < N → length (wordOf s n e) ≤ size → writeIn s n N e size ≡ Count (length (wordOf s n e))
     unfolding writeIn
     write-in {e} size he room =
         let q = S .stored .lengths he in
         let fits : lengthOf s n e ≤ size = omega arith in
-        simp (le-ltb _ _ (S .short he), le-ltb _ _ fits, word-readable (lengthOf s n e) he q) (ap Count q)
+        simp (le-ltb _ _ (S .short he), le-ltb _ _ fits, word-readable S R H few (lengthOf s n e) he q) (ap Count q)
 
+  module _ (H : Hops s n N) (few : N ≤ 65535) where
     -- Each letter moved up by o, as behind factors that have o generators together.
     module _ (o : ℕ) (small : o + n ≤ 256) where
       -- The last letter of a word, behind those before it.

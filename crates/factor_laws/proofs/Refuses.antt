@@ -27,7 +27,8 @@ use Rattle.egg.proofs.Rooms.{some}
 use Rattle.egg.proofs.Scans.{refused-fine, says-scan}
 use Rattle.factor.specs.Questions.{admits, composeAnswer, inverseAnswer, conjugateAnswer, countAnswer, generatorAnswer, lengthAnswer, writeAnswer, written, wordPart}
 use Rattle.egg.specs.Answers.{ifReach, ifCount, onReached}
-use Rattle.factor_questions.specs.Walks.{along, readBack, ahead, backBy, composeIn, inverseIn, conjugateIn, generatorIn}
+use Rattle.factor_questions.specs.Walks.{follow, along, readBack, backBy, composeIn, inverseIn, conjugateIn, generatorIn}
+use Rattle.factor_word_letters.specs.Spell.{letters}
 use Rattle.factor_words.specs.Words.{lengthIn, readable, writeIn}
 use Rattle.factor_relations.specs.Relations.{turned, returnsTo, relationAt, doubledRow, pairsRow, relations}
 use Rattle.factor.specs.Relations.{checkAnswer}
@@ -111,15 +112,14 @@ module _ (s : List ℕ) (n count : ℕ) where
   unfolding readBack
   back-in e g = search reads
 
+  follow-in : (from : ℕ) (w : List ℕ) → ReachedIn (17 ∷ []) (follow s n count from w)
+  unfolding follow
+  follow-in from [] = reached-element _
+  follow-in from (g ∷ w) = reached-on (readStep s n count from g) (λ x. follow s n count x w) (step-in from g) (λ x. follow-in x w)
+
   along-in : (k from e : ℕ) → ReachedIn (17 ∷ []) (along k s n count from e)
   unfolding along
-  along-in zero from e = reached-element _
-  along-in (suc k) from e = search (reads, along-in k, step-in)
-
-  ahead-in : (k from c : ℕ) → ReachedIn (17 ∷ []) (ahead k s n count from c)
-  unfolding ahead
-  ahead-in zero from c = reached-element _
-  ahead-in (suc k) from c = search (reads, ahead-in k, step-in)
+  along-in k from e = reached-pick (readable k s n count e) _ _ (follow-in from (letters k s n e)) refused-17
 
   back-by-in : (k j from c : ℕ) → ReachedIn (17 ∷ []) (backBy k j s n count from c)
   unfolding backBy
@@ -133,7 +133,7 @@ module _ (s : List ℕ) (n count : ℕ) where
 
   pub compose-in : (a b : ℕ) → ReachedIn (17 ∷ []) (composeIn s n count a b)
   unfolding composeIn
-  compose-in a b = search (reads, along-in, ahead-in, back-by-in, inverse-in) depth 6
+  compose-in a b = search (reads, along-in, back-by-in, inverse-in) depth 8
 
   pub conjugate-in : (a b : ℕ) → ReachedIn (17 ∷ []) (conjugateIn s n count a b)
   unfolding conjugateIn

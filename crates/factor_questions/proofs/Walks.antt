@@ -5,15 +5,15 @@ use mathlib.Core.List.{List}
 use native.Mathlib.Omega.{arith}
 use borrow.Author.Tests.{lt-ltb, le-ltb, le-leb, lt-leb}
 use Rattle.egg.specs.declared.Reached.the-variants.{Element}
-use Rattle.egg.specs.Table.{hopOf, lengthOf, inverseOf}
+use Rattle.egg.specs.Table.{lengthOf, inverseOf}
 use Rattle.egg.specs.Factor.{refusedReach, readStep}
-use Rattle.factor_questions.specs.Walks.{along, ahead, backAlong, inverseIn, composeIn, generatorIn}
+use Rattle.factor_questions.specs.Walks.{along, backAlong, inverseIn, composeIn, generatorIn}
 use Rattle.egg.specs.Answers.{onReached}
 
 module _ (s : List ℕ) (n count a b : ℕ) {len : ℕ} (q : len ≡ lengthOf s n b) where
-  pub compose-ahead : len ≤ 5 → {c : ℕ} → c ≡ hopOf s n b → ahead len s n count a c ≡ composeIn s n count a b
+  pub compose-short : len ≤ 5 → along len s n count a b ≡ composeIn s n count a b
   unfolding composeIn
-  compose-ahead h p = rw (← q, ← p) (simp (le-leb _ _ h))
+  compose-short h = rw (← q) (simp (le-leb _ _ h))
 
   pub compose-long : 4096 < len → refusedReach 17 0 ≡ composeIn s n count a b
   unfolding composeIn
@@ -29,14 +29,26 @@ module _ (s : List ℕ) (n count a b : ℕ) {len : ℕ} (q : len ≡ lengthOf s 
       unfolding composeIn
       compose-first z = rw (← q, ← p, ← v) (simp (lt-leb _ _ more, le-ltb _ _ h, lt-leb _ _ k, lt-ltb _ _ z))
 
-      module _ (o : len ≤ own) {back : ℕ} (w : back ≡ lengthOf s n i) where
-        pub compose-along : len < back → along len s n count a b ≡ composeIn s n count a b
+      module _ (o : len ≤ own) where
+        pub compose-own : 4096 < own → refusedReach 17 0 ≡ composeIn s n count a b
         unfolding composeIn
-        compose-along z = rw (← q, ← p, ← v, ← w) (simp (lt-leb _ _ more, le-ltb _ _ h, lt-leb _ _ k, le-ltb _ _ o, lt-ltb _ _ z))
+        compose-own z = rw (← q, ← p, ← v) (simp (lt-leb _ _ more, le-ltb _ _ h, lt-leb _ _ k, le-ltb _ _ o, lt-ltb _ _ z))
 
-        pub compose-back : back ≤ len → backAlong back s n count a i ≡ composeIn s n count a b
-        unfolding composeIn
-        compose-back z = rw (← q, ← p, ← v, ← w) (simp (lt-leb _ _ more, le-ltb _ _ h, lt-leb _ _ k, le-ltb _ _ o, le-ltb _ _ z))
+        module _ (l : own ≤ 4096) {back : ℕ} (w : back ≡ lengthOf s n i) where
+          pub compose-other : 4096 < back → refusedReach 17 0 ≡ composeIn s n count a b
+          unfolding composeIn
+          compose-other z = rw (← q, ← p, ← v, ← w) (simp (lt-leb _ _ more, le-ltb _ _ h, lt-leb _ _ k, le-ltb _ _ o, le-ltb _ _ l, lt-ltb _ _ z))
+
+          pub compose-along : back ≤ 4096 → len < back → along len s n count a b ≡ composeIn s n count a b
+          unfolding composeIn
+          compose-along m z =
+              rw (← q, ← p, ← v, ← w) (simp (lt-leb _ _ more, le-ltb _ _ h, lt-leb _ _ k, le-ltb _ _ o, le-ltb _ _ l, le-ltb _ _ m, lt-ltb _ _ z))
+
+          pub compose-back : back ≤ len → backAlong back s n count a i ≡ composeIn s n count a b
+          unfolding composeIn
+          compose-back z =
+              let m : back ≤ 4096 = omega arith in
+              rw (← q, ← p, ← v, ← w) (simp (lt-leb _ _ more, le-ltb _ _ h, lt-leb _ _ k, le-ltb _ _ o, le-ltb _ _ l, le-ltb _ _ m, le-ltb _ _ z))
 
 module _ (s : List ℕ) (n count a : ℕ) {i : ℕ} (q : i ≡ inverseOf s n a) where
   pub inverse-beyond : count ≤ i → refusedReach 17 0 ≡ inverseIn s n count a

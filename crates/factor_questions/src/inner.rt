@@ -6,10 +6,10 @@ use egg::GeneratorId;
 use egg::GroupElementId;
 use egg::Reached;
 
-// The product a·b. A word of b with at most five letters is walked by the cell that has them all. Where the word of a
-// is shorter than that of b, the walk goes back along it from the inverse of b, to the inverse of the product. Else the
-// walk goes back along the word of b's inverse, so that the letters come in the order in which they are walked and
-// nothing waits for a return; or, where that word is longer, forward along b's own.
+// Forward along a word of at most five letters. Back along the word of the inverse the letters come in the order in which they are
+// walked, so that none has to be kept; where that word is longer, forward along the element's own.
+// Where the first's word is shorter than the second's, back along that from the second's inverse, to the inverse of the
+// product.
 pub fn compose_with_care(
     s: &[u32],
     n: u8,
@@ -21,7 +21,7 @@ pub fn compose_with_care(
 {
     let len = egg::inner::word_length(s, n, b);
     if len <= 5 {
-        return factor_word_walks::inner::ahead(&s[..], n, count, a, egg::inner::hop(s, n, b), len);
+        return factor_word_walks::inner::along(&s[..], n, count, a, b, len);
     }
     if 4096 < len {
         return egg::inner::refuse(17, 0);
@@ -44,7 +44,13 @@ pub fn compose_with_care(
             Reached::Element(x) => inverse_in(s, n, count, x),
         };
     }
+    if 4096 < own {
+        return egg::inner::refuse(17, 0);
+    }
     let back = egg::inner::word_length(s, n, GroupElementId(i));
+    if 4096 < back {
+        return egg::inner::refuse(17, 0);
+    }
     if len < back {
         return factor_word_walks::inner::along(&s[..], n, count, a, b, len);
     }

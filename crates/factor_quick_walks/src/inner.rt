@@ -2,12 +2,14 @@
 // number is looked at before it is used, and where one is out of range there is no answer, which is said by 0 or by the
 // count.
 ghost use mathlib.Core.Path.{_≡_};
-ghost use Prim.Native.Nat.{_+_, _*_, _-_, _<_, _≤_};
+ghost use Prim.Native.Nat.{ℕ, _+_, _*_, _-_, _<_, _≤_};
 ghost use lib.ListN.{length, getD};
 ghost use lib.Dec.{ltb};
-ghost use Rattle.egg.specs.Table.{startOf};
+ghost use mathlib.Core.Bool.{true};
+ghost use Rattle.egg.specs.Table.{startOf, hopOf};
+ghost use Rattle.factor_word_letters.specs.Spell.{cellBy};
 ghost use Rattle.factor_word_walks.specs.Letters.{LettersBack};
-ghost use Rattle.factor_word_walks.specs.Walks.{ahead, backAlong};
+ghost use Rattle.factor_word_walks.specs.Walks.{along, backAlong};
 ghost use Rattle.factor_quick_walks.specs.Letters.{Onward};
 use egg::GroupElementId;
 use egg::Reached;
@@ -81,16 +83,19 @@ fn advance_two(s: &[u32], n: u8, count: u32, y: u32, cell: u32, letters: u32) ->
     one_letter(s, n, count, x, cell, 3, letters)
 }
 
-// Walks from an element along the letters in a cell, the first of the word first; answers the count where a number is
-// out of range. The empty word is a branch: who multiplies again and again by the identity, as powers do, need not wait
-// for any row.
+// From an element along the letters in a cell, the first of them first; the count where a number is out of range, or where the
+// cell has something above the word's letters, as in an accepted table it has not. The empty word
+// is a branch: who multiplies again and again by the identity, as powers do, need not wait for any row.
 pub fn advance(s: &[u32], n: u8, count: u32, from: GroupElementId, cell: u32, letters: u32) -> u32
     requires { ⌜ (count * (2 * n + 4) ≤ length (now s)) × ((from .0 < count) × (letters ≤ 5)) ⌝ }
-    ensures { λ r. ⌜ (r < count → ahead letters (now (s .entry)) n count (from .0) cell ≡ Reached.Element (record { 0 = r })) ⌝ }
+    ensures { λ r. ⌜ (r < count → (e : ℕ) → e < count → cell ≡ hopOf (now (s .entry)) n e → along letters (now (s .entry)) n count (from .0) e ≡ Reached.Element (record { 0 = r })) ⌝ }
 {
     let start = from.0;
     if letters == 0 {
         return start;
+    }
+    if 0 < (cell >> (3 * letters)) {
+        return count;
     }
     let x = advance_two(s, n, count, start + 1, cell, letters);
     if x == 0 {
@@ -111,11 +116,19 @@ pub fn advance(s: &[u32], n: u8, count: u32, from: GroupElementId, cell: u32, le
     last - 1
 }
 
-// Walks from the element that is stored as `from` back along the lowest letters of a cell: answers what is stored for
-// the element that they lead to, or 0 where a number is out of range.
-fn retrace_letters(s: &[u32], n: u8, count: u32, from: u32, cell: u32, letters: u32) -> u32
+// From the element that is stored as `from` back along the letters lowest in a cell: what is stored for the element that they
+// lead to, or 0 where a number is out of range. What stands above the letters has to be below `limit`.
+fn retrace_letters(
+    s: &[u32],
+    n: u8,
+    count: u32,
+    from: u32,
+    cell: u32,
+    letters: u32,
+    limit: u32,
+) -> u32
     requires { ⌜ (count * (2 * n + 4) ≤ length (now s)) × ((0 < from) × (from ≤ count)) ⌝ }
-    ensures { λ r. ⌜ (0 < r → (r ≤ count) × LettersBack (now (s .entry)) n count (from - 1) cell letters (Reached.Element (record { 0 = r - 1 }))) ⌝ }
+    ensures { λ r. ⌜ (0 < r → (r ≤ count) × ((cellBy letters n limit cell ≡ true) × LettersBack (now (s .entry)) n count (from - 1) cell letters (Reached.Element (record { 0 = r - 1 })))) ⌝ }
 {
     let mut y = from;
     let mut c = cell;
@@ -136,11 +149,14 @@ fn retrace_letters(s: &[u32], n: u8, count: u32, from: u32, cell: u32, letters: 
         c = c / 8;
         left -= 1;
     }
+    if limit <= c {
+        return 0;
+    }
     y
 }
 
-// Walks from an element back along the last `letters` letters of the word of e, five for each cell that is read;
-// answers the count where a number is out of range.
+// From an element back along a word, five letters for each cell that is read; the count where a number is out of range. Above
+// five letters stands an element, and above the word's first letters, in an accepted table, nothing.
 pub fn retrace(
     s: &[u32],
     n: u8,
@@ -149,7 +165,7 @@ pub fn retrace(
     e: GroupElementId,
     letters: u32,
 ) -> u32
-    requires { ⌜ (count * (2 * n + 4) ≤ length (now s)) × (from .0 < count) ⌝ }
+    requires { ⌜ (count * (2 * n + 4) ≤ length (now s)) × ((from .0 < count) × (e .0 < count)) ⌝ }
     ensures { λ r. ⌜ (r < count → backAlong letters (now (s .entry)) n count (from .0) (e .0) ≡ Reached.Element (record { 0 = r })) ⌝ }
 {
     let start = from.0;
@@ -157,11 +173,8 @@ pub fn retrace(
     let mut at = e.0;
     let mut left = letters;
     while 5 < left {
-        if count <= at {
-            return count;
-        }
         let c = recorded(s, n, count, GroupElementId(at), 1);
-        let x = retrace_letters(s, n, count, y, c, 5);
+        let x = retrace_letters(s, n, count, y, c, 5, count);
         if x == 0 {
             return count;
         }
@@ -169,11 +182,8 @@ pub fn retrace(
         at = c / 32768;
         left -= 5;
     }
-    if count <= at {
-        return count;
-    }
     let c = recorded(s, n, count, GroupElementId(at), 1);
-    let x = retrace_letters(s, n, count, y, c, left);
+    let x = retrace_letters(s, n, count, y, c, left, 1);
     if x == 0 {
         return count;
     }

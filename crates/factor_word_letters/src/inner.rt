@@ -4,14 +4,14 @@ ghost use mathlib.Core.Path.{_≡_};
 ghost use mathlib.Core.Bool.{true};
 ghost use Prim.Native.Nat.{_+_, _≤_};
 ghost use lib.ListN.{length, drop};
-ghost use Rattle.factor_word_letters.specs.Spell.{readable, spellFrom, spell};
-ghost use Rattle.factor_word_letters.specs.Letters.{lettersInBelow, lettersPut};
+ghost use Rattle.factor_word_letters.specs.Spell.{cellWithin, readable, spellFrom, spell};
+ghost use Rattle.factor_word_letters.specs.Letters.{lettersPut};
 use egg::GroupElementId;
 
-// Answers true where all five letters in a number are generators. In an accepted table those before a word's first
-// letter are too: the identity's row has zeros there, and where there is a word there is a generator 0.
-fn five_below(n: u8, c: u32) -> bool
-    ensures { λ r. ⌜ (r ≡ true → lettersInBelow 5 5 n c ≡ true) ⌝ }
+// Whether a cell of letters is in range as a whole: its five letters are generators, and what stands above them is an element.
+// Before a word's first letter an accepted table has zeros there, and where there is a word there is a generator 0.
+pub fn cell_within(n: u8, count: u32, c: u32) -> bool
+    ensures { λ r. ⌜ r ≡ cellWithin n count c ⌝ }
 {
     let m = n as u32;
     if m <= c % 8 {
@@ -26,35 +26,13 @@ fn five_below(n: u8, c: u32) -> bool
     if m <= c / 8 / 8 / 8 % 8 {
         return false;
     }
-    c / 8 / 8 / 8 / 8 % 8 < m
+    if m <= c / 8 / 8 / 8 / 8 % 8 {
+        return false;
+    }
+    c / 8 / 8 / 8 / 8 / 8 < count
 }
 
-// Answers whether the letters in a number that belong to the word are generators: `left` letters, but no more than
-// five.
-fn letters_below(n: u8, c: u32, left: u32) -> bool
-    ensures { λ r. ⌜ r ≡ lettersInBelow left 5 n c ⌝ }
-{
-    if five_below(n, c) {
-        return true;
-    }
-    let mut rest = c;
-    let mut word = left;
-    let mut here: u32 = 5;
-    while 0 < here {
-        if word == 0 {
-            return true;
-        }
-        if (n as u32) <= rest % 8 {
-            return false;
-        }
-        rest /= 8;
-        word -= 1;
-        here -= 1;
-    }
-    true
-}
-
-// Answers whether every letter of the word can be read; it is asked first, so that nothing is written where one cannot.
+// Whether every cell of the word can be read, so that nothing is written where one cannot.
 pub fn readable(s: &[u32], n: u8, count: u32, e: GroupElementId, len: u32) -> bool
     ensures { λ r. ⌜ r ≡ readable len (now (s .entry)) n count (e .0) ⌝ }
 {
@@ -65,7 +43,7 @@ pub fn readable(s: &[u32], n: u8, count: u32, e: GroupElementId, len: u32) -> bo
             return false;
         }
         let c = egg::inner::hop(s, n, GroupElementId(at));
-        if !letters_below(n, c, left) {
+        if !cell_within(n, count, c) {
             return false;
         }
         if left <= 5 {
@@ -135,14 +113,12 @@ fn put_five(c: u32, place: usize, held: &mut [u8])
     held[place] = (c / 8 / 8 / 8 / 8 % 8) as u8;
 }
 
-// Writes the letters of a word to an array of our own, from the last to the first, and answers whether each can be
-// read: so one walk is enough, and nothing is written to the caller's buffer where one cannot. The word stands behind
-// four places, so that the first letters need no case of their own: they are taken by five like the others, and what is
-// before the first goes to these places. Where it answers false, the letter that is no generator may be one of those,
-// and the caller has to look with care.
+// The letters of a word to a list of our own, from the last to the first, and whether each can be read: so one walk is
+// enough, and nothing is written where one cannot. The word stands there behind four places, so that the first letters
+// need no turn of their own: they are taken by five like the others, and what is before the first goes to these places.
 pub fn gather(s: &[u32], n: u8, count: u32, e: GroupElementId, len: u32, held: &mut [u8]) -> bool
     requires { ⌜ len + 4 ≤ length (now held) ⌝ }
-    ensures { λ r. ⌜ (r ≡ true → (readable len (now (s .entry)) n count (e .0) ≡ true) × (drop 4 (now (held .exit)) ≡ spell len (now (s .entry)) n (e .0) (drop 4 (now (held .entry))))) ⌝ }
+    ensures { λ r. ⌜ (r ≡ readable len (now (s .entry)) n count (e .0)) × (r ≡ true → drop 4 (now (held .exit)) ≡ spell len (now (s .entry)) n (e .0) (drop 4 (now (held .entry)))) ⌝ }
 {
     let mut at = e.0;
     let mut left = len;
@@ -151,7 +127,7 @@ pub fn gather(s: &[u32], n: u8, count: u32, e: GroupElementId, len: u32, held: &
             return false;
         }
         let five = egg::inner::hop(s, n, GroupElementId(at));
-        if !five_below(n, five) {
+        if !cell_within(n, count, five) {
             return false;
         }
         put_five(five, (left - 1) as usize, held);

@@ -1,38 +1,85 @@
 // Walks through a factor's own stretch along the letters of recorded words; every number is looked at before it is
 // used, and 17 is the answer where one is out of range.
 ghost use mathlib.Core.Path.{_≡_};
-ghost use Rattle.factor_word_walks.specs.Walks.{along, readBack, ahead, backAlong};
+ghost use Prim.Native.Nat.{_≤_};
+ghost use Rattle.factor_word_walks.specs.Walks.{follow, along, readBack, backAlong};
 ghost use Rattle.factor_word_walks.specs.Letters.{LettersBack};
 use egg::GeneratorId;
 use egg::GroupElementId;
 use egg::Reached;
 
-// Walks from an element along the last `left` letters of the word that ends at e.
+// From an element along the letters of a word.
+fn follow(s: &[u32], n: u8, count: u32, from: GroupElementId, word: &[u8]) -> Reached
+    ensures { λ r. ⌜ r ≡ follow (now (s .entry)) n count (from .0) (now (word .entry)) ⌝ }
+{
+    let mut x = from;
+    let mut i = 0;
+    while i < word.len() {
+        let g = word[i];
+        let next = egg::inner::next(s, n, count, x, GeneratorId(g));
+        let Reached::Element(y) = next else {
+            return next;
+        };
+        x = y;
+        i += 1;
+    }
+    Reached::Element(x)
+}
+
+// A word's letters stand in the table from the last to the first, and are walked from the first to the last: they are gathered in
+// a list of our own, so that the stack does not grow with the word. Few letters need no long list, which would have to be zeroed.
+fn along_short(
+    s: &[u32],
+    n: u8,
+    count: u32,
+    from: GroupElementId,
+    e: GroupElementId,
+    len: u32,
+) -> Reached
+    requires { ⌜ len ≤ 64 ⌝ }
+    ensures { λ r. ⌜ r ≡ along len (now (s .entry)) n count (from .0) (e .0) ⌝ }
+{
+    let mut held = [0; 68];
+    if !factor_word_letters::inner::gather(&s[..], n, count, e, len, &mut held) {
+        return egg::inner::refuse(17, 0);
+    }
+    follow(&s[..], n, count, from, &held[4..(len as usize) + 4])
+}
+
+fn along_long(
+    s: &[u32],
+    n: u8,
+    count: u32,
+    from: GroupElementId,
+    e: GroupElementId,
+    len: u32,
+) -> Reached
+    requires { ⌜ len ≤ 4096 ⌝ }
+    ensures { λ r. ⌜ r ≡ along len (now (s .entry)) n count (from .0) (e .0) ⌝ }
+{
+    let mut held = [0; 4100];
+    if !factor_word_letters::inner::gather(&s[..], n, count, e, len, &mut held) {
+        return egg::inner::refuse(17, 0);
+    }
+    follow(&s[..], n, count, from, &held[4..(len as usize) + 4])
+}
+
+// From an element along the last `len` letters of the word that ends at e.
 pub fn along(
     s: &[u32],
     n: u8,
     count: u32,
     from: GroupElementId,
     e: GroupElementId,
-    left: u32,
+    len: u32,
 ) -> Reached
-    ensures { λ r. ⌜ r ≡ along left (now (s .entry)) n count (from .0) (e .0) ⌝ }
+    requires { ⌜ len ≤ 4096 ⌝ }
+    ensures { λ r. ⌜ r ≡ along len (now (s .entry)) n count (from .0) (e .0) ⌝ }
 {
-    if left == 0 {
-        return Reached::Element(from);
+    if len <= 64 {
+        return along_short(&s[..], n, count, from, e, len);
     }
-    let p = egg::inner::parent(s, n, e);
-    if count <= p {
-        return egg::inner::refuse(17, 0);
-    }
-    let g = egg::inner::last(s, n, e);
-    if (n as u32) <= g {
-        return egg::inner::refuse(17, 0);
-    }
-    match along(&s[..], n, count, from, GroupElementId(p), left - 1) {
-        Reached::Refused(why) => Reached::Refused(why),
-        Reached::Element(x) => egg::inner::next(s, n, count, x, GeneratorId((g % 256) as u8)),
-    }
+    along_long(&s[..], n, count, from, e, len)
 }
 
 // The step back in the stretch of a factor, or 17 where the number read is out of range.
@@ -49,24 +96,7 @@ fn previous(s: &[u32], n: u8, count: u32, e: GroupElementId, g: GeneratorId) -> 
     Reached::Element(GroupElementId(x - 1))
 }
 
-// Walks from an element along the k letters that stand in c, the last of the word lowest.
-pub fn ahead(s: &[u32], n: u8, count: u32, from: GroupElementId, c: u32, k: u32) -> Reached
-    ensures { λ r. ⌜ r ≡ ahead k (now (s .entry)) n count (from .0) c ⌝ }
-{
-    if k == 0 {
-        return Reached::Element(from);
-    }
-    let g = c % 8;
-    if (n as u32) <= g {
-        return egg::inner::refuse(17, 0);
-    }
-    match ahead(&s[..], n, count, from, c / 8, k - 1) {
-        Reached::Refused(why) => Reached::Refused(why),
-        Reached::Element(x) => egg::inner::next(s, n, count, x, GeneratorId(g as u8)),
-    }
-}
-
-// Walks from an element back along the lowest letters of a number, the last of the word first.
+// From an element back along the letters that are lowest in a cell that has been tested, the last letter first.
 fn letters_back(
     s: &[u32],
     n: u8,
@@ -82,9 +112,6 @@ fn letters_back(
     let mut left = letters;
     while 0 < left {
         let letter = c % 8;
-        if (n as u32) <= letter {
-            return egg::inner::refuse(17, 0);
-        }
         let back = previous(s, n, count, x, GeneratorId(letter as u8));
         let Reached::Element(y) = back else {
             return back;
@@ -117,6 +144,9 @@ pub fn back_along(
             return egg::inner::refuse(17, 0);
         }
         let c = egg::inner::hop(s, n, GroupElementId(at));
+        if !factor_word_letters::inner::cell_within(n, count, c) {
+            return egg::inner::refuse(17, 0);
+        }
         let back = letters_back(&s[..], n, count, x, c, 5);
         let Reached::Element(y) = back else {
             return back;
@@ -131,12 +161,9 @@ pub fn back_along(
     if count <= at {
         return egg::inner::refuse(17, 0);
     }
-    letters_back(
-        &s[..],
-        n,
-        count,
-        x,
-        egg::inner::hop(s, n, GroupElementId(at)),
-        left,
-    )
+    let c = egg::inner::hop(s, n, GroupElementId(at));
+    if !factor_word_letters::inner::cell_within(n, count, c) {
+        return egg::inner::refuse(17, 0);
+    }
+    letters_back(&s[..], n, count, x, c, left)
 }

@@ -19,25 +19,6 @@ pub fn length_in(s: &[u32], n: u8, e: GroupElementId) -> Counted
     Counted::Count(len)
 }
 
-// Writes a word in two walks, of which the first only looks, and answers whether it was written. They look at the
-// word's own letters alone: in an altered table numbers that are no letters may stand before its first.
-fn write_with_care(
-    s: &[u32],
-    n: u8,
-    count: u32,
-    e: GroupElementId,
-    len: u32,
-    out: &mut [u8],
-) -> bool
-    ensures { λ r. ⌜ (r ≡ readable len (now (s .entry)) n count (e .0)) × (now (out .exit) ≡ pick r (spell len (now (s .entry)) n (e .0) (now (out .entry))) (now (out .entry))) ⌝ }
-{
-    if !factor_word_letters::inner::readable(&s[..], n, count, e, len) {
-        return false;
-    }
-    factor_word_letters::inner::spell_from(&s[..], n, e, len, 0, 0, out);
-    true
-}
-
 // Writes a short word when all of it has been read, and answers whether it was. Few letters need no long array, which
 // would have to be zeroed. The array is lent to nothing but `gather`, so that the compiler knows that the copy's two
 // ends are apart.
@@ -47,7 +28,7 @@ fn write_short(s: &[u32], n: u8, count: u32, e: GroupElementId, len: u32, out: &
 {
     let mut held = [0; 68];
     if !factor_word_letters::inner::gather(&s[..], n, count, e, len, &mut held) {
-        return write_with_care(&s[..], n, count, e, len, out);
+        return false;
     }
     bytes::copy(&held[4..(len as usize) + 4], out);
     true
@@ -60,7 +41,7 @@ fn write_long(s: &[u32], n: u8, count: u32, e: GroupElementId, len: u32, out: &m
 {
     let mut held = [0; 4100];
     if !factor_word_letters::inner::gather(&s[..], n, count, e, len, &mut held) {
-        return write_with_care(&s[..], n, count, e, len, out);
+        return false;
     }
     bytes::copy(&held[4..(len as usize) + 4], out);
     true

@@ -13,9 +13,10 @@ use Rattle.egg.specs.declared.Refusal.{Refusal}
 use Rattle.egg.specs.declared.GroupElementId.{GroupElementId}
 use Rattle.egg.specs.declared.Reached.{Reached}
 use Rattle.egg.specs.declared.Reached.the-variants.{Element, Refused}
-use Rattle.egg.specs.Table.{pick, startOf, parentOf, hopOf, lastOf, lengthOf, inverseOf}
+use Rattle.egg.specs.Table.{pick, startOf, hopOf, lengthOf, inverseOf}
 use Rattle.egg.specs.Factor.{stretch, refusedReach, readStep}
-use Rattle.factor_questions.specs.Walks.{along, readBack, ahead, backBy, backAlong, composeIn, inverseIn, conjugateIn}
+use Rattle.factor_word_letters.specs.Spell.{cellWithin, readable, letters}
+use Rattle.factor_questions.specs.Walks.{follow, along, readBack, backBy, backAlong, composeIn, inverseIn, conjugateIn}
 use Rattle.egg.specs.Answers.{onReached}
 use Rattle.theory_radix.proofs.RadixLaws.{joined-small, high-small, range-pos}
 use Rattle.group_digits.specs.declared.inner.Asked.{Asked}
@@ -141,19 +142,14 @@ module _ (s : List ℕ) (n N : ℕ) where
       small : (x : ℕ) → (x ≡ 0 → ⊥) → x ≤ N → x - 1 < N
       small x p q = omega arith
 
+  follow-below : (from : ℕ) (w : List ℕ) → from < N → Below N (follow s n N from w)
+  unfolding follow
+  follow-below from [] h = element h
+  follow-below from (g ∷ w) h = below-on (readStep s n N from g) (step-below from g) (λ x hx. follow-below x w hx)
+
   along-below : (k from e : ℕ) → from < N → Below N (along k s n N from e)
   unfolding along
-  along-below zero from e h = element h
-  along-below (suc k) from e h =
-      below-pick (leb N (parentOf s n e)) (λ p. refusal)
-      (λ p. below-pick (leb n (lastOf s n e)) (λ q. refusal)
-      (λ q. below-any (along k s n N from (parentOf s n e)) (λ x. step-below x (lastOf s n e))))
-
-  ahead-below : (k from c : ℕ) → from < N → Below N (ahead k s n N from c)
-  unfolding ahead
-  ahead-below zero from c h = element h
-  ahead-below (suc k) from c h =
-      below-pick (leb n (c % 8)) (λ p. refusal) (λ p. below-any (ahead k s n N from (c / 8)) (λ x. step-below x (c % 8)))
+  along-below k from e h = below-pick (readable k s n N e) (λ p. follow-below from (letters k s n e) h) (λ p. refusal)
 
   back-step-below : (e g : ℕ) → Below N (readBack s n N e g)
   unfolding readBack
@@ -170,10 +166,10 @@ module _ (s : List ℕ) (n N : ℕ) where
   back-below zero j from c h = element h
   back-below (suc k) zero from c h =
       below-pick (leb N c) (λ p. refusal)
-      (λ p. below-pick (leb n (hopOf s n c % 8)) (λ q. refusal)
-      (λ q. below-on (readBack s n N from (hopOf s n c % 8)) (back-step-below from (hopOf s n c % 8)) (λ x hx. back-below k 4 x (hopOf s n c / 8) hx)))
+      (λ p. below-pick (cellWithin n N (hopOf s n c))
+      (λ q. below-on (readBack s n N from (hopOf s n c % 8)) (back-step-below from (hopOf s n c % 8)) (λ x hx. back-below k 4 x (hopOf s n c / 8) hx)) (λ q. refusal))
   back-below (suc k) (suc j) from c h =
-      below-pick (leb n (c % 8)) (λ q. refusal) (λ q. below-on (readBack s n N from (c % 8)) (back-step-below from (c % 8)) (λ x hx. back-below k j x (c / 8) hx))
+      below-on (readBack s n N from (c % 8)) (back-step-below from (c % 8)) (λ x hx. back-below k j x (c / 8) hx)
 
   inverse-below : (a : ℕ) → Below N (inverseIn s n N a)
   unfolding inverseIn
@@ -182,12 +178,14 @@ module _ (s : List ℕ) (n N : ℕ) where
   pub compose-below : (a b : ℕ) → a < N → Below N (composeIn s n N a b)
   unfolding composeIn
   compose-below a b h =
-      below-pick (leb (lengthOf s n b) 5) (λ p. ahead-below (lengthOf s n b) a (hopOf s n b) h)
+      below-pick (leb (lengthOf s n b) 5) (λ p. along-below (lengthOf s n b) a b h)
       (λ p. below-pick (ltb 4096 (lengthOf s n b)) (λ l. refusal)
       (λ l. below-pick (leb N (inverseOf s n b)) (λ q. refusal)
       (λ q. below-pick (ltb (lengthOf s n a) (lengthOf s n b)) (λ r. below-any (backAlong (lengthOf s n a) s n N (inverseOf s n b) a) inverse-below)
-      (λ r. below-pick (ltb (lengthOf s n b) (lengthOf s n (inverseOf s n b))) (λ o. along-below (lengthOf s n b) a b h)
-      (λ o. back-below (lengthOf s n (inverseOf s n b)) 0 a (inverseOf s n b) h)))))
+      (λ r. below-pick (ltb 4096 (lengthOf s n a)) (λ u. refusal)
+      (λ u. below-pick (ltb 4096 (lengthOf s n (inverseOf s n b))) (λ v. refusal)
+      (λ v. below-pick (ltb (lengthOf s n b) (lengthOf s n (inverseOf s n b))) (λ o. along-below (lengthOf s n b) a b h)
+      (λ o. back-below (lengthOf s n (inverseOf s n b)) 0 a (inverseOf s n b) h)))))))
 
   conjugate-below : (a b : ℕ) → a < N → Below N (conjugateIn s n N a b)
   unfolding conjugateIn

@@ -14,6 +14,7 @@ use Rattle.build_lending.specs.Finish.{finished}
 use Rattle.build_lending.specs.Lending.{lentRight, within}
 use Rattle.factor.specs.Composed.{composedIn, composed}
 use Rattle.factor.specs.Questions as factor
+use Rattle.factor_word_letters.specs.Spell.{lettersBy}
 use Rattle.factor_questions.specs.Walks as walks
 use Rattle.factor_words.specs.Words as words
 use Rattle.factor_relations.specs.Relations.{turned, doubledRow, pairsRow, relations}
@@ -41,7 +42,7 @@ use Rattle.image.specs.Read.{readImage}
 use Rattle.promises_cases.specs.Cases.{KnownCases}
 
 pub known-cases : KnownCases
-unfolding putAt startOf scan pairCode pairCount ordersRight hasRoom fitsIn stretch readStep setStep setWord adds readPlace readRow readFrom checks.missingRow checks.missing checks.check8 checks.rangeRow checks.linksOf checks.ranges checks.wrongRow checks.wrong checks.check-table checks.wiped checks.arriveRow checks.arrivals checks.countsRight inverses.invertFrom inverses.fillInverses inverses.inversesRight lefts.identityRow lefts.columnsRow lefts.spelledRow lefts.spelled lefts.check-steps lefts.fillLeft lefts.goesRow lefts.allGo lefts.lefts checks.check-rest checks.check-group hopFrom withHops finished lentRight within composedIn composed factor.admits walks.along walks.readBack walks.ahead walks.backBy walks.composeIn walks.inverseIn walks.conjugateIn factor.composeAnswer factor.conjugateAnswer words.readableBy words.lengthIn words.spellBy words.writeIn factor.writeAnswer factor.written factor.wordPart turned doubledRow pairsRow relations checkAnswer rows.workWidth rows.placeAt rows.rowsAt rows.storedRow rows.writeRow legs.backFrom legs.forwardFrom legs.filled rows.appended rows.waits rows.addedRow rows.addRowsFrom carrying.learns carrying.woken carrying.wakes carrying.wakesAll facts.emptied facts.updated facts.settleFrom enumerated runs visits discovered advanced enumeratedIn enumerates limited admits digitwise byHalving powers periodFrom periods lengths readables spells writes splitTail group.splitAnswer group.splitLeaves group.composeAnswer group.inverseAnswer group.powiAnswer group.periodAnswer group.writeAnswer group.written group.wordPart cells.halves built headNumber imageNumber rowNumbers rowsOf spelledBytes imageOf knownRow allKnown writeCount writtenImage imageIn readImage
+unfolding putAt startOf scan pairCode pairCount ordersRight hasRoom fitsIn stretch readStep setStep setWord adds readPlace readRow readFrom checks.missingRow checks.missing checks.check8 checks.rangeRow checks.linksOf checks.ranges checks.wrongRow checks.wrong checks.check-table checks.wiped checks.arriveRow checks.arrivals checks.countsRight inverses.invertFrom inverses.fillInverses inverses.inversesRight lefts.identityRow lefts.columnsRow lefts.spelledRow lefts.spelled lefts.check-steps lefts.fillLeft lefts.goesRow lefts.allGo lefts.lefts checks.check-rest checks.check-group hopFrom withHops finished lentRight within composedIn composed factor.admits lettersBy walks.follow walks.along walks.readBack walks.backBy walks.composeIn walks.inverseIn walks.conjugateIn factor.composeAnswer factor.conjugateAnswer words.readableBy words.lengthIn words.spellBy words.writeIn factor.writeAnswer factor.written factor.wordPart turned doubledRow pairsRow relations checkAnswer rows.workWidth rows.placeAt rows.rowsAt rows.storedRow rows.writeRow legs.backFrom legs.forwardFrom legs.filled rows.appended rows.waits rows.addedRow rows.addRowsFrom carrying.learns carrying.woken carrying.wakes carrying.wakesAll facts.emptied facts.updated facts.settleFrom enumerated runs visits discovered advanced enumeratedIn enumerates limited admits digitwise byHalving powers periodFrom periods lengths readables spells writes splitTail group.splitAnswer group.splitLeaves group.composeAnswer group.inverseAnswer group.powiAnswer group.periodAnswer group.writeAnswer group.written group.wordPart cells.halves built headNumber imageNumber rowNumbers rowsOf spelledBytes imageOf knownRow allKnown writeCount writtenImage imageIn readImage
 known-cases = record {
   square-made = refl;
   square-rows = refl;

@@ -16,7 +16,8 @@ use Rattle.egg.proofs.Rooms.{has, few}
 use Rattle.factor_laws.specs.Accepted.{factorWord}
 use Rattle.factor_words.specs.Words.{spellBy, spellFrom}
 use Rattle.factor_laws.proofs.Handles.{few-elements}
-use Rattle.factor_laws.proofs.Letters.{word-readable, length-in, spelled}
+use Rattle.factor_laws.proofs.Steps.{word-readable}
+use Rattle.factor_laws.proofs.Letters.{length-in, spelled}
 use Rattle.theory_products.specs.Product.{product, shift}
 use Rattle.theory_radix.proofs.RadixLaws.{low-small, high-small}
 use Rattle.theory_products.proofs.WordLaws.{shift-length, shift-shift, shift-append, shift-zero}
@@ -56,7 +57,7 @@ module _ (t : List ℕ) where
       let N : ℕ = h .elements in
       let M : ℕ = product (parts t hs) .elements in
       let l = low-small N M e he in
-      rw (word-readable (A .sound) (A .hops) (few-elements A) (lengthOf (stretch t h) (h .generators) (e % N)) l (A .sound .stored .lengths l), readables-are As (e / N) (high-small N M e he))
+      rw (word-readable (A .sound) (A .ruled) (A .hops) (few-elements A) (lengthOf (stretch t h) (h .generators) (e % N)) l (A .sound .stored .lengths l), readables-are As (e / N) (high-small N M e he))
 
   spells-are : {hs : List Factor} → AllAccepted t hs → (e o : ℕ) (xs ys : List ℕ) → e < product (parts t hs) .elements → o + generatorsOf hs ≤ 256
       → length (product (parts t hs) .word e) ≤ length ys

@@ -72,11 +72,11 @@ module _ (t : List ℕ) where
   module _ {hs : List Factor} (As : AllAccepted t hs) where
     pub composes-are : (a b : ℕ) → a < product (parts t hs) .elements → b < product (parts t hs) .elements
         → digitwise (digitOf Compose t) hs a b ≡ reach (product (parts t hs) .op a b)
-    composes-are = digits-are Compose op-parted (λ h a b A ha hb. compose-in (A .sound) (A .hops) (few-elements A) ha hb) As
+    composes-are = digits-are Compose op-parted (λ h a b A ha hb. compose-in (A .sound) (A .ruled) (A .hops) (few-elements A) ha hb) As
 
     pub conjugates-are : (a b : ℕ) → a < product (parts t hs) .elements → b < product (parts t hs) .elements
         → digitwise (digitOf Conjugate t) hs a b ≡ reach (conjugate (product (parts t hs) .op) (product (parts t hs) .inv) a b)
-    conjugates-are = digits-are Conjugate conjugate-parted (λ h a b A ha hb. conjugate-in (A .sound) (A .hops) (few-elements A) ha hb) As
+    conjugates-are = digits-are Conjugate conjugate-parted (λ h a b A ha hb. conjugate-in (A .sound) (A .ruled) (A .hops) (few-elements A) ha hb) As
 
     pub inverts-are : (a : ℕ) → a < product (parts t hs) .elements → digitwise (digitOf Inverse t) hs a 0 ≡ reach (product (parts t hs) .inv a)
     inverts-are a ha =

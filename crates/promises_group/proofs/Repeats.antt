@@ -97,7 +97,7 @@ module _ (t : List ℕ) where
   factor-period {h} A a ha =
       let G = part-worded t A .stepped .group .laws in
       let (k, l, P) = period-exists G ha in
-      (k, walk-is G (record { is = λ a b ha hb. compose-in (A .sound) (A .hops) (few-elements A) ha hb }) ha P l, P)
+      (k, walk-is G (record { is = λ a b ha hb. compose-in (A .sound) (A .ruled) (A .hops) (few-elements A) ha hb }) ha P l, P)
 
   pub periods-are : {hs : List Factor} → AllAccepted t hs → (a : ℕ) → a < product (parts t hs) .elements
       → (k : ℕ) × (periods t hs a ≡ Count k) × Period (product (parts t hs) .op) a k

@@ -18,6 +18,7 @@ use Rattle.factor.specs.Questions as factor
 use Rattle.group_handles.specs.declared.Group.{Group}
 use Rattle.group_handles.specs.Handles.{groupOf, limited}
 use Rattle.group_digits.specs.Digits.{digitwise}
+use Rattle.factor_word_letters.specs.Spell.{lettersBy}
 use Rattle.factor_questions.specs.Walks as walks
 use Rattle.factor_words.specs.Words as words
 use Rattle.build_numbering.specs.Renumber.{mapPlace, mapRow, mapRows}
@@ -38,7 +39,7 @@ by-itself : fromGenerators rows two (1 ∷ []) (replicate 14 7) 1 (replicate 21 
       answer = Fine;
       subgroup = record { below = groupOf []; factor = record { start = 1; room = 2; generators = 1; elements = 2 }; over = two; above = groupOf [] };
     }) (7 ∷ rows ++ (7 ∷ [])) (replicate 20 0 ++ (7 ∷ [])) (0 ∷ 1 ∷ 7 ∷ []) (0 ∷ 1 ∷ 7 ∷ [])
-unfolding putAt startOf scan readStep checks.missingRow checks.missing checks.check8 checks.rangeRow checks.linksOf checks.ranges checks.wrongRow checks.wrong checks.check-table checks.wiped checks.arriveRow checks.arrivals checks.countsRight inverses.invertFrom inverses.fillInverses inverses.inversesRight lefts.identityRow lefts.columnsRow lefts.spelledRow lefts.spelled lefts.check-steps lefts.fillLeft lefts.goesRow lefts.allGo lefts.lefts checks.check-rest checks.check-group setStep setWord adds hopFrom withHops finished mapPlace mapRow mapRows renumberIn hasRoom fitsIn stretch lentRight within limited digitwise mapsRight entriesRight smallEnough admitsGenerators generatedInto fromGenerators factor.admits walks.along walks.readBack walks.ahead walks.backBy walks.composeIn walks.inverseIn walks.conjugateIn walks.generatorIn words.lengthIn words.readableBy words.spellBy words.writeIn
+unfolding putAt startOf scan readStep checks.missingRow checks.missing checks.check8 checks.rangeRow checks.linksOf checks.ranges checks.wrongRow checks.wrong checks.check-table checks.wiped checks.arriveRow checks.arrivals checks.countsRight inverses.invertFrom inverses.fillInverses inverses.inversesRight lefts.identityRow lefts.columnsRow lefts.spelledRow lefts.spelled lefts.check-steps lefts.fillLeft lefts.goesRow lefts.allGo lefts.lefts checks.check-rest checks.check-group setStep setWord adds hopFrom withHops finished mapPlace mapRow mapRows renumberIn hasRoom fitsIn stretch lentRight within limited digitwise mapsRight entriesRight smallEnough admitsGenerators generatedInto fromGenerators factor.admits lettersBy walks.follow walks.along walks.readBack walks.backBy walks.composeIn walks.inverseIn walks.conjugateIn walks.generatorIn words.lengthIn words.readableBy words.spellBy words.writeIn
 by-itself = refl
 
 -- The identity for a generator: 9 at (0, 0), and everything that was lent for it is zero.
@@ -48,7 +49,7 @@ by-the-identity : fromGenerators rows two (0 ∷ []) (replicate 14 7) 1 (replica
       answer = refusedOf 9 0 0 0;
       subgroup = record { below = groupOf []; factor = noFactor; over = two; above = groupOf [] };
     }) (7 ∷ replicate 12 0 ++ (7 ∷ [])) (replicate 20 0 ++ (7 ∷ [])) (0 ∷ 0 ∷ 7 ∷ []) (0 ∷ 0 ∷ 7 ∷ [])
-unfolding putAt startOf scan readStep checks.missingRow checks.missing checks.check8 checks.rangeRow checks.linksOf checks.ranges checks.wrongRow checks.wrong checks.check-table checks.wiped checks.arriveRow checks.arrivals checks.countsRight inverses.invertFrom inverses.fillInverses inverses.inversesRight lefts.identityRow lefts.columnsRow lefts.spelledRow lefts.spelled lefts.check-steps lefts.fillLeft lefts.goesRow lefts.allGo lefts.lefts checks.check-rest checks.check-group setStep setWord adds hopFrom withHops finished mapPlace mapRow mapRows renumberIn hasRoom fitsIn stretch lentRight within limited digitwise mapsRight entriesRight smallEnough admitsGenerators generatedInto fromGenerators factor.admits walks.along walks.readBack walks.ahead walks.backBy walks.composeIn walks.inverseIn walks.conjugateIn walks.generatorIn words.lengthIn words.readableBy words.spellBy words.writeIn
+unfolding putAt startOf scan readStep checks.missingRow checks.missing checks.check8 checks.rangeRow checks.linksOf checks.ranges checks.wrongRow checks.wrong checks.check-table checks.wiped checks.arriveRow checks.arrivals checks.countsRight inverses.invertFrom inverses.fillInverses inverses.inversesRight lefts.identityRow lefts.columnsRow lefts.spelledRow lefts.spelled lefts.check-steps lefts.fillLeft lefts.goesRow lefts.allGo lefts.lefts checks.check-rest checks.check-group setStep setWord adds hopFrom withHops finished mapPlace mapRow mapRows renumberIn hasRoom fitsIn stretch lentRight within limited digitwise mapsRight entriesRight smallEnough admitsGenerators generatedInto fromGenerators factor.admits lettersBy walks.follow walks.along walks.readBack walks.backBy walks.composeIn walks.inverseIn walks.conjugateIn walks.generatorIn words.lengthIn words.readableBy words.spellBy words.writeIn
 by-the-identity = refl
 
 -- A map that is too short: 4, and nothing is touched.
@@ -58,5 +59,5 @@ with-a-short-map : fromGenerators rows two (1 ∷ []) (replicate 14 7) 1 (replic
       answer = refusedOf 4 0 0 0;
       subgroup = record { below = groupOf []; factor = noFactor; over = two; above = groupOf [] };
     }) (replicate 14 7) (replicate 21 7) (7 ∷ []) (replicate 3 7)
-unfolding putAt startOf scan readStep checks.missingRow checks.missing checks.check8 checks.rangeRow checks.linksOf checks.ranges checks.wrongRow checks.wrong checks.check-table checks.wiped checks.arriveRow checks.arrivals checks.countsRight inverses.invertFrom inverses.fillInverses inverses.inversesRight lefts.identityRow lefts.columnsRow lefts.spelledRow lefts.spelled lefts.check-steps lefts.fillLeft lefts.goesRow lefts.allGo lefts.lefts checks.check-rest checks.check-group setStep setWord adds hopFrom withHops finished mapPlace mapRow mapRows renumberIn hasRoom fitsIn stretch lentRight within limited digitwise mapsRight entriesRight smallEnough admitsGenerators generatedInto fromGenerators factor.admits walks.along walks.readBack walks.ahead walks.backBy walks.composeIn walks.inverseIn walks.conjugateIn walks.generatorIn words.lengthIn words.readableBy words.spellBy words.writeIn
+unfolding putAt startOf scan readStep checks.missingRow checks.missing checks.check8 checks.rangeRow checks.linksOf checks.ranges checks.wrongRow checks.wrong checks.check-table checks.wiped checks.arriveRow checks.arrivals checks.countsRight inverses.invertFrom inverses.fillInverses inverses.inversesRight lefts.identityRow lefts.columnsRow lefts.spelledRow lefts.spelled lefts.check-steps lefts.fillLeft lefts.goesRow lefts.allGo lefts.lefts checks.check-rest checks.check-group setStep setWord adds hopFrom withHops finished mapPlace mapRow mapRows renumberIn hasRoom fitsIn stretch lentRight within limited digitwise mapsRight entriesRight smallEnough admitsGenerators generatedInto fromGenerators factor.admits lettersBy walks.follow walks.along walks.readBack walks.backBy walks.composeIn walks.inverseIn walks.conjugateIn walks.generatorIn words.lengthIn words.readableBy words.spellBy words.writeIn
 with-a-short-map = refl

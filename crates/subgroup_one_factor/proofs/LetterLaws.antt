@@ -1,19 +1,23 @@
 -- A letter is found, or none is; a list of letters grows by one; a product by a letter is the product.
-use Prim.Native.Nat.{ℕ, _+_, _-_, _%_, _≤_, _<_}
+use Prim.Native.Nat.{ℕ, _+_, _-_, _/_, _%_, _≤_, _<_}
 use mathlib.Core.Path.{_≡_, refl, sym, ap, _∙_}
+use mathlib.Core.Bool.{true}
 use mathlib.Core.List.{List, [], _∷_}
-use native.Mathlib.Nat.{mod-eq-of-lt}
+use native.Mathlib.Nat.{mod-eq-of-lt, mod-lt}
 use native.Mathlib.Decide.{ℕ-discrete, decLt}
 use native.Mathlib.Omega.{arith}
-use borrow.Author.Tests.{lt-leb}
+use borrow.Author.Tests.{lt-ltb}
 use lib.ListN.{length, getD, set, List·getD-eq-default}
 use lib.Seq.{getD-set-same, getD-set-other}
 use Rattle.egg.specs.declared.Factor.{Factor}
 use Rattle.egg.specs.declared.Reached.{Reached}
-use Rattle.egg.specs.Table.{hopOf, lastOf, lengthOf}
+use Rattle.egg.specs.declared.Reached.the-variants.{Element, Refused}
+use Rattle.egg.specs.Table.{hopOf, lengthOf}
 use Rattle.egg.specs.Factor.{stretch, readStep}
-use Rattle.factor_questions.specs.Walks.{ahead, composeIn}
-use Rattle.factor_questions.proofs.Walks.{compose-ahead}
+use Rattle.factor_word_letters.specs.Spell.{cellWithin, readableBy, lettersBy}
+use Rattle.factor_questions.specs.Walks.{follow, along, composeIn}
+use Rattle.egg.specs.Answers.{onReached}
+use Rattle.factor_questions.proofs.Walks.{compose-short}
 use Rattle.group_digits.specs.Digits.{composes}
 use Rattle.subgroup_one_factor.specs.Letters.{OneLetter, Letters}
 use Rattle.subgroup_one_factor.proofs.OneFactor.{one-product}
@@ -21,22 +25,37 @@ use Rattle.subgroup_one_factor.proofs.OneFactor.{one-product}
 pub no-letter : (s : List ℕ) (n b : ℕ) → OneLetter s n b 0
 no-letter s n b = record { small = omega arith; leads = λ h. absurd (omega arith) }
 
--- Along one letter.
-ahead-one : (s : List ℕ) (n count a c : ℕ) → c % 8 < n → ahead 1 s n count a c ≡ readStep s n count a (c % 8)
-unfolding ahead
-ahead-one s n count a c z = simp (lt-leb _ _ z)
+-- No step after the last.
+no-more : (r : Reached) → onReached r (λ x. Element (record { 0 = x })) ≡ r
+no-more (Element x) = refl
+no-more (Refused r) = refl
 
-pub one-letter : (s : List ℕ) (n b : ℕ) {len g : ℕ} → len ≡ lengthOf s n b → len ≡ 1 → g ≡ lastOf s n b → g < n → OneLetter s n b (g + 1)
-one-letter s n b {len} {g} q e w l = record {
+-- A cell that is a letter, and nothing above it, is in range.
+letter-within : (n count c : ℕ) → 0 < count → c < 8 → c < n → cellWithin n count c ≡ true
+letter-within n count c some small below =
+    let d : c % 8 ≡ c = omega arith in
+    let e : c / 8 ≡ 0 = omega arith in
+    let hn : 0 < n = omega arith in
+    rw (d, e, lt-ltb c n below, lt-ltb 0 n hn, lt-ltb 0 count some)
+
+-- Along one letter.
+along-one : (s : List ℕ) (n count a b : ℕ) {c : ℕ} → b < count → c ≡ hopOf s n b → c < 8 → c < n → along 1 s n count a b ≡ readStep s n count a c
+unfolding along readableBy lettersBy follow
+along-one s n count a b {c} h q small below =
+    let d : c % 8 ≡ c = omega arith in
+    let some : 0 < count = omega arith in
+    rw (← q, lt-ltb b count h, letter-within n count c some small below, d) (no-more (readStep s n count a c))
+
+pub one-letter : (s : List ℕ) (n b : ℕ) {len g : ℕ} → len ≡ lengthOf s n b → len ≡ 1 → g ≡ hopOf s n b → g < 8 → g < n → OneLetter s n b (g + 1)
+one-letter s n b {len} {g} q e w small l = record {
   small = omega arith;
-  leads = λ some count a.
+  leads = λ some count a inside.
       let d : g + 1 - 1 ≡ g = omega arith in
       let short : len ≤ 5 = omega arith in
-      let below : lastOf s n b < n = rw w at l in
-      sym (compose-ahead s n count a b q short refl)
-      ∙ ap (λ (x : ℕ). ahead x s n count a (hopOf s n b)) e
-      ∙ ahead-one s n count a (hopOf s n b) below
-      ∙ ap (λ (x : ℕ). readStep s n count a x) (sym (d ∙ w));
+      sym (compose-short s n count a b q short)
+      ∙ ap (λ (x : ℕ). along x s n count a b) e
+      ∙ along-one s n count a b inside w small l
+      ∙ ap (λ (x : ℕ). readStep s n count a x) (sym d);
 }
 
 -- As `Letters`, for the generators before i: what a loop that finds them has done so far.
@@ -72,7 +91,7 @@ letter-step t f a b h {s} {r} p L some below q =
     let q′ : r ≡ readStep (stretch t f) (f .generators) (f .elements) a (h - 1) = rw (← p) q in
     let d : a % f .elements ≡ a = mod-eq-of-lt below in
     one-product t f a b refl
-    (q′ ∙ sym (L .leads some (f .elements) a) ∙ ap (λ (x : ℕ). composeIn (stretch t f) (f .generators) (f .elements) x (b % f .elements)) (sym d))
+    (q′ ∙ sym (L .leads some (f .elements) a (mod-lt b (omega arith))) ∙ ap (λ (x : ℕ). composeIn (stretch t f) (f .generators) (f .elements) x (b % f .elements)) (sym d))
 
 -- The letters in the part that is the stretch.
 pub letters-of : {s s′ : List ℕ} {n count : ℕ} {gens l : List ℕ} → s ≡ s′ → Letters s n count gens l → Letters s′ n count gens l

@@ -11,7 +11,7 @@ use Rattle.factor_questions.specs.Walks.{composeIn}
 -- h is 0, or it is one more than a letter for which the product of any element with b is the step by that letter.
 pub record OneLetter (s : List ℕ) (n b h : ℕ) : Type 0 where
   pub small : h ≤ n
-  pub leads : 0 < h → (count a : ℕ) → composeIn s n count a b ≡ readStep s n count a (h - 1)
+  pub leads : 0 < h → (count a : ℕ) → b < count → composeIn s n count a b ≡ readStep s n count a (h - 1)
 
 -- The same for each element of the list `gens`, with its entry of the list `letters`.
 pub record Letters (s : List ℕ) (n count : ℕ) (gens letters : List ℕ) : Type 0 where

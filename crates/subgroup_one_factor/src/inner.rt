@@ -29,14 +29,18 @@ fn factor_product(from: &[u32], f: Factor, a: GroupElementId, b: GroupElementId)
     )
 }
 
-// Answers one more than the letter by which a product with b is a step, where the word of b has one letter; else 0.
+// One more than the letter by which a product with b is a step, where the word of b has one letter, and its cell nothing above
+// that; else 0.
 fn step_letter(s: &[u32], n: u8, b: GroupElementId) -> u32
     ensures { λ r. ⌜ OneLetter (now (s .entry)) n (b .0) r ⌝ }
 {
     if egg::inner::word_length(s, n, b) != 1 {
         return 0;
     }
-    let letter = egg::inner::last(s, n, b);
+    let letter = egg::inner::hop(s, n, b);
+    if 8 <= letter {
+        return 0;
+    }
     if (n as u32) <= letter {
         return 0;
     }

@@ -3,19 +3,11 @@
 use mathlib.Core.Path.{sym, _∙_}
 use native.Mathlib.Omega.{arith}
 use borrow.Author.Tests.{not-false}
-use Rattle.factor_questions.proofs.Walks.{compose-ahead}
-use Rattle.factor_compose.proofs.Numbers.{product-reached, chosen-inside}
 use borrow.Author.Needs.{needs}
+use Rattle.factor_questions.proofs.Walks.{compose-short}
+use Rattle.factor_compose.proofs.Numbers.{product-reached, chosen-inside}
 use Rattle.factor_compose.proofs.inner.product_number.Statement.{statement}
 use Rattle.factor_compose.proofs.inner.product_number.Tie as tie
-use Rattle.factor_compose.proofs.inner.product_number.Reads as reads
-use Rattle.factor_compose.proofs.inner.product_number.Lts as lts
-use Rattle.factor_quick_walks.proofs.inner.advance.Reads as advance-reads
-use Rattle.factor_quick_walks.proofs.inner.recorded.Reads as recorded-reads
-use Rattle.factor_quick_walks.proofs.inner.retrace.Reads as retrace-reads
-use Rattle.factor_compose.proofs.inner.rows_within.Reads as rows-within-reads
-use Rattle.factor_quick_walks.proofs.inner.fewer.Reads as fewer-reads
-use Rattle.egg.proofs.inner.chosen.Reads as chosen-reads
 
 rows-within-requires : tie.Need-rows-within-requires
 rows-within-requires c κs = search needs
@@ -30,34 +22,37 @@ returns-3 : tie.Need-returns-3
 returns-3 c = λ h. absurd (omega arith)
 
 recorded-requires : tie.Need-recorded-requires
-recorded-requires c κs = ((c .before .before .before .rows-within .ensures) (not-false _ (c .before .before .if1 .left)), ((c .if3 .left), omega arith))
+recorded-requires c κs = (((c .before .before .before .rows-within .ensures)) (not-false _ ((c .before .before .if1 .left))), (((c .if3 .left)), omega arith))
 
 recorded-requires-2 : tie.Need-recorded-requires-2
-recorded-requires-2 c κs = ((c .before .before .before .before .before .rows-within .ensures) (not-false _ (c .before .before .before .before .if1 .left)), ((c .before .before .if3 .left), omega arith))
+recorded-requires-2 c κs = (((c .before .before .before .before .before .rows-within .ensures)) (not-false _ ((c .before .before .before .before .if1 .left))), (((c .before .before .if3 .left)), omega arith))
 
 advance-requires : tie.Need-advance-requires
-advance-requires c κs = ((c .before .before .before .before .before .before .rows-within .ensures) (not-false _ (c .before .before .before .before .before .if1 .left)), ((c .before .before .before .before .if2 .left), (c .before .if4 .taken)))
+advance-requires c κs = (((c .before .before .before .before .before .before .rows-within .ensures)) (not-false _ ((c .before .before .before .before .before .if1 .left))), (((c .before .before .before .before .if2 .left)), ((c .before .if4 .taken))))
 
 returns-4 : tie.Need-returns-4
-returns-4 c = λ h. sym (compose-ahead (c .before .before .before .before .before .before .before .before .before .args .s .now) (c .before .before .before .before .before .before .before .before .before .args .n) (c .before .before .before .before .before .before .before .before .before .args .count) (c .before .before .before .before .before .before .before .before .before .args .a .0) (c .before .before .before .before .before .before .before .before .before .args .b .0) (c .before .before .before .recorded .ensures) (c .before .before .if4 .taken) (c .before .recorded2 .ensures)) ∙ (c .advance .ensures) h
+returns-4 c = λ h. sym (compose-short ((c .before .before .before .before .before .before .before .before .before .args .s .now)) ((c .before .before .before .before .before .before .before .before .before .args .n)) ((c .before .before .before .before .before .before .before .before .before .args .count)) ((c .before .before .before .before .before .before .before .before .before .args .a .0)) ((c .before .before .before .before .before .before .before .before .before .args .b .0)) ((c .before .before .before .recorded .ensures)) ((c .before .before .if4 .taken))) ∙ ((c .advance .ensures)) h ((c .before .before .before .before .before .before .before .before .before .args .b .0)) ((c .before .before .before .before .if3 .left)) ((c .before .recorded2 .ensures))
 
 returns-5 : tie.Need-returns-5
 returns-5 c = λ h. absurd (omega arith)
 
 recorded-requires-3 : tie.Need-recorded-requires-3
-recorded-requires-3 c κs = ((c .before .before .before .before .before .before .rows-within .ensures) (not-false _ (c .before .before .before .before .before .if1 .left)), ((c .before .before .before .if3 .left), omega arith))
+recorded-requires-3 c κs = (((c .before .before .before .before .before .before .rows-within .ensures)) (not-false _ ((c .before .before .before .before .before .if1 .left))), (((c .before .before .before .if3 .left)), omega arith))
 
 returns-6 : tie.Need-returns-6
 returns-6 c = λ h. absurd (omega arith)
 
 recorded-requires-4 : tie.Need-recorded-requires-4
-recorded-requires-4 c κs = ((c .before .before .before .before .before .before .before .before .rows-within .ensures) (not-false _ (c .before .before .before .before .before .before .before .if1 .left)), ((c .before .before .before .before .before .before .if2 .left), omega arith))
-
-recorded-requires-5 : tie.Need-recorded-requires-5
-recorded-requires-5 c κs = ((c .before .before .before .before .before .before .before .before .before .rows-within .ensures) (not-false _ (c .before .before .before .before .before .before .before .before .if1 .left)), ((c .before .if6 .left), omega arith))
+recorded-requires-4 c κs = (((c .before .before .before .before .before .before .before .before .rows-within .ensures)) (not-false _ ((c .before .before .before .before .before .before .before .if1 .left))), (((c .before .before .before .before .before .before .if2 .left)), omega arith))
 
 returns-7 : tie.Need-returns-7
 returns-7 c = λ h. absurd (omega arith)
+
+recorded-requires-5 : tie.Need-recorded-requires-5
+recorded-requires-5 c κs = (((c .before .before .before .before .before .before .before .before .before .before .rows-within .ensures)) (not-false _ ((c .before .before .before .before .before .before .before .before .before .if1 .left))), (((c .before .before .if6 .left)), omega arith))
+
+returns-8 : tie.Need-returns-8
+returns-8 c = λ h. absurd (omega arith)
 
 fewer-requires : tie.Need-fewer-requires
 fewer-requires c κs = search needs
@@ -72,22 +67,22 @@ chosen-requires-3 : tie.Need-chosen-requires-3
 chosen-requires-3 c κs = search needs
 
 retrace-requires : tie.Need-retrace-requires
-retrace-requires c κs = ((c .before .before .before .before .before .before .before .before .before .before .before .before .before .before .before .rows-within .ensures) (not-false _ (c .before .before .before .before .before .before .before .before .before .before .before .before .before .before .if1 .left)), chosen-inside (c .before .before .before .fewer .result) (c .before .chosen2 .ensures) (c .before .before .before .before .before .before .before .if6 .left) (c .before .before .before .before .before .before .before .before .before .before .before .before .before .if2 .left))
-
-returns-8 : tie.Need-returns-8
-returns-8 c = λ h. absurd (omega arith)
-
-recorded-requires-6 : tie.Need-recorded-requires-6
-recorded-requires-6 c κs = ((c .before .before .before .before .before .before .before .before .before .before .before .before .before .before .before .before .before .rows-within .ensures) (not-false _ (c .before .before .before .before .before .before .before .before .before .before .before .before .before .before .before .before .if1 .left)), ((c .if8 .left), omega arith))
+retrace-requires c κs = (((c .before .before .before .before .before .before .before .before .before .before .before .before .before .before .before .before .rows-within .ensures)) (not-false _ ((c .before .before .before .before .before .before .before .before .before .before .before .before .before .before .before .if1 .left))), (chosen-inside ((c .before .before .before .fewer .result)) ((c .before .chosen2 .ensures)) ((c .before .before .before .before .before .before .before .before .if6 .left)) ((c .before .before .before .before .before .before .before .before .before .before .before .before .before .before .if2 .left)), chosen-inside ((c .before .before .before .fewer .result)) ((c .chosen3 .ensures)) ((c .before .before .before .before .before .before .before .before .before .before .before .before .before .before .if2 .left)) ((c .before .before .before .before .before .before .before .before .if6 .left))))
 
 returns-9 : tie.Need-returns-9
 returns-9 c = λ h. absurd (omega arith)
 
+recorded-requires-6 : tie.Need-recorded-requires-6
+recorded-requires-6 c κs = (((c .before .before .before .before .before .before .before .before .before .before .before .before .before .before .before .before .before .before .rows-within .ensures)) (not-false _ ((c .before .before .before .before .before .before .before .before .before .before .before .before .before .before .before .before .before .if1 .left))), (((c .if9 .left)), omega arith))
+
+returns-10 : tie.Need-returns-10
+returns-10 c = λ h. absurd (omega arith)
+
 chosen-requires-4 : tie.Need-chosen-requires-4
 chosen-requires-4 c κs = search needs
 
-returns-10 : tie.Need-returns-10
-returns-10 c = λ h. product-reached (c .before .before .before .before .before .before .before .before .before .before .before .before .before .before .before .before .before .before .before .before .before .before .args .s .now) (c .before .before .before .before .before .before .before .before .before .before .before .before .before .before .before .before .before .before .before .before .before .before .args .n) (c .before .before .before .before .before .before .before .before .before .before .before .before .before .before .before .before .before .before .before .before .before .before .args .count) (c .before .before .before .before .before .before .before .before .before .before .before .before .before .before .before .before .before .before .before .before .before .before .args .a .0) (c .before .before .before .before .before .before .before .before .before .before .before .before .before .before .before .before .before .before .before .before .before .before .args .b .0) (c .before .before .before .before .before .before .before .before .before .before .before .before .before .before .before .before .recorded .ensures) (c .before .before .before .before .before .before .before .before .before .before .before .before .before .before .before .if4 .left) (c .before .before .before .before .before .before .before .before .before .before .before .before .before .before .if5 .left) (c .before .before .before .before .before .before .before .before .before .before .before .before .before .recorded3 .ensures) (c .before .before .before .before .before .before .before .before .before .before .before .before .if6 .left) (c .before .before .before .before .before .before .before .before .before .before .before .recorded4 .ensures) (c .before .before .before .before .before .before .before .before .before .before .recorded5 .ensures) (c .before .before .before .before .before .before .before .before .before .if7 .left) (c .before .before .before .before .before .before .before .before .fewer .ensures) (c .before .before .before .before .before .before .before .chosen .ensures) (c .before .before .before .before .before .before .chosen2 .ensures) (c .before .before .before .before .before .chosen3 .ensures) ((c .before .before .before .before .retrace .ensures) (c .before .before .before .if8 .left)) (c .before .before .recorded6 .ensures) (c .chosen4 .ensures) h
+returns-11 : tie.Need-returns-11
+returns-11 c = λ h. product-reached ((c .before .before .before .before .before .before .before .before .before .before .before .before .before .before .before .before .before .before .before .before .before .before .before .args .s .now)) ((c .before .before .before .before .before .before .before .before .before .before .before .before .before .before .before .before .before .before .before .before .before .before .before .args .n)) ((c .before .before .before .before .before .before .before .before .before .before .before .before .before .before .before .before .before .before .before .before .before .before .before .args .count)) ((c .before .before .before .before .before .before .before .before .before .before .before .before .before .before .before .before .before .before .before .before .before .before .before .args .a .0)) ((c .before .before .before .before .before .before .before .before .before .before .before .before .before .before .before .before .before .before .before .before .before .before .before .args .b .0)) ((c .before .before .before .before .before .before .before .before .before .before .before .before .before .before .before .before .before .recorded .ensures)) ((c .before .before .before .before .before .before .before .before .before .before .before .before .before .before .before .before .if4 .left)) ((c .before .before .before .before .before .before .before .before .before .before .before .before .before .before .before .if5 .left)) ((c .before .before .before .before .before .before .before .before .before .before .before .before .before .before .recorded3 .ensures)) ((c .before .before .before .before .before .before .before .before .before .before .before .before .before .if6 .left)) ((c .before .before .before .before .before .before .before .before .before .before .before .before .recorded4 .ensures)) ((c .before .before .before .before .before .before .before .before .before .before .before .if7 .left)) ((c .before .before .before .before .before .before .before .before .before .before .recorded5 .ensures)) ((c .before .before .before .before .before .before .before .before .before .if8 .left)) ((c .before .before .before .before .before .before .before .before .fewer .ensures)) ((c .before .before .before .before .before .before .before .chosen .ensures)) ((c .before .before .before .before .before .before .chosen2 .ensures)) ((c .before .before .before .before .before .chosen3 .ensures)) (((c .before .before .before .before .retrace .ensures)) ((c .before .before .before .if9 .left))) ((c .before .before .recorded6 .ensures)) ((c .chosen4 .ensures)) h
 
 pub product-number-spec : {M : Type 1} → statement M
 product-number-spec =
@@ -105,15 +100,16 @@ product-number-spec =
     recorded-requires-3
     returns-6
     recorded-requires-4
-    recorded-requires-5
     returns-7
+    recorded-requires-5
+    returns-8
     fewer-requires
     chosen-requires
     chosen-requires-2
     chosen-requires-3
     retrace-requires
-    returns-8
-    recorded-requires-6
     returns-9
+    recorded-requires-6
+    returns-10
     chosen-requires-4
-    returns-10)
+    returns-11)

@@ -4,79 +4,54 @@ use native.Mathlib.Omega.{arith}
 use borrow.Author.Needs.{needs}
 use Rattle.factor_word_walks.specs.Walks.{backAlong}
 use Rattle.factor_word_walks.proofs.Walks.{row-more}
-use Rattle.factor_quick_walks.proofs.Numbers.{retrace-start, retrace-last}
+use Rattle.factor_quick_walks.proofs.Numbers.{five-above, retrace-start, retrace-last}
 use Rattle.factor_quick_walks.proofs.inner.retrace.Statement.{statement}
 use Rattle.factor_quick_walks.proofs.inner.retrace.Tie as tie
-use Rattle.factor_quick_walks.proofs.inner.retrace.Reads as reads
-use Rattle.factor_quick_walks.proofs.inner.retrace.Lts as lts
-use Rattle.factor_quick_walks.proofs.inner.recorded.Reads as recorded-reads
-use Rattle.factor_quick_walks.proofs.inner.retrace_letters.Reads as retrace-letters-reads
 
 abbrev Inv-loop : tie.InvT-loop
-Inv-loop s n count letters start y₀ at₀ left₀ y at left = (0 < y) × ((y ≤ count) × (backAlong left s n count (y - 1) at ≡ backAlong letters s n count start at₀))
+Inv-loop s n count letters start y₀ at₀ left₀ y at left = (0 < y) × ((y ≤ count) × ((at < count) × (backAlong left s n count (y - 1) at ≡ backAlong letters s n count start at₀)))
 
 abbrev μ-loop : tie.MeasureT-loop
 μ-loop s n count letters start y₀ at₀ left₀ y at left = left
 
--- src/inner.rt:155:17
 add-y : tie.Need-add-y Inv-loop μ-loop
-add-y c = omega (arith, (c .before .pre .1), (c .before .fits .count .fits))
+add-y c = omega (arith, ((c .before .pre .1 .0)), ((c .before .fits .count .fits)))
 
--- src/inner.rt:158:5
 loop-holds : tie.Need-loop-holds Inv-loop μ-loop
-loop-holds c = (omega arith, (omega (arith, (c .before .pre .1)), retrace-start ((c .before .args .s .now)) ((c .before .args .n)) ((c .before .args .count)) ((c .before .args .letters)) ((c .before .args .from .0)) ((c .before .args .e .0))))
+loop-holds c = (omega arith, (omega (arith, ((c .before .pre .1 .0))), ((c .before .pre .1 .1), retrace-start (((c .before .args .s .now))) (((c .before .args .n))) (((c .before .args .count))) (((c .before .args .letters))) (((c .before .args .from .0))) (((c .before .args .e .0))))))
 
--- src/inner.rt:160:13
+recorded-requires : tie.Need-recorded-requires Inv-loop μ-loop
+recorded-requires c κs = (((c .before .before .before .pre .0)), (((c .before .loop .inv .1 .1 .0)), omega arith))
+
+retrace-letters-requires : tie.Need-retrace-letters-requires Inv-loop μ-loop
+retrace-letters-requires c κs = (((c .before .before .before .before .pre .0)), (((c .before .before .loop .inv .0)), ((c .before .before .loop .inv .1 .0))))
+
 returns : tie.Need-returns Inv-loop μ-loop
 returns c = λ h. absurd (omega arith)
 
--- src/inner.rt:162:13
-recorded-requires : tie.Need-recorded-requires Inv-loop μ-loop
-recorded-requires c κs = ((c .before .before .before .before .pre .0), ((c .if1 .left), omega arith))
-
--- src/inner.rt:163:13
-retrace-letters-requires : tie.Need-retrace-letters-requires Inv-loop μ-loop
-retrace-letters-requires c κs = ((c .before .before .before .before .before .pre .0), ((c .before .before .before .loop .inv .0), (c .before .before .before .loop .inv .1 .0)))
-
--- src/inner.rt:165:13
-returns-2 : tie.Need-returns-2 Inv-loop μ-loop
-returns-2 c = λ h. absurd (omega arith)
-
--- src/inner.rt:169:9
 sub-left : tie.Need-sub-left Inv-loop μ-loop
 sub-left c = search needs
 
--- src/inner.rt:158:5
 loop-less : tie.Need-loop-less Inv-loop μ-loop
 loop-less c = search needs
 
--- src/inner.rt:158:5
 loop-again : tie.Need-loop-again Inv-loop μ-loop
-loop-again c = let found = ((c .before .retrace-letters .ensures)) (omega (arith, (c .if2 .left))) in (omega (arith, (c .if2 .left)), (found .0, row-more ((c .before .before .before .before .before .before .before .args .s .now)) ((c .before .before .before .before .before .before .before .args .n)) ((c .before .before .before .before .before .before .before .args .count)) (((c .before .before .before .before .before .loop .y)) - 1) ((c .before .before .before .before .before .loop .at)) ((c .before .before .before .if1 .left)) ((c .before .before .recorded .ensures)) ((c .before .before .before .before .loop-test .taken)) (found .1) refl ∙ ((c .before .before .before .before .before .loop .inv .1 .1))))
+loop-again c = let found = (((c .before .retrace-letters .ensures))) (omega (arith, ((c .if1 .left)))) in (omega (arith, ((c .if1 .left))), (found .0, (five-above ((c .before .before .before .before .before .before .args .n)) ((c .before .before .before .before .before .before .args .count)) ((c .before .before .recorded .result)) (found .1 .0), row-more (((c .before .before .before .before .before .before .args .s .now))) (((c .before .before .before .before .before .before .args .n))) (((c .before .before .before .before .before .before .args .count))) ((((c .before .before .before .before .loop .y))) - 1) (((c .before .before .before .before .loop .at))) (((c .before .before .before .before .loop .inv .1 .1 .0))) (((c .before .before .recorded .ensures))) (found .1 .0) (((c .before .before .before .loop-test .taken))) (found .1 .1) refl ∙ (((c .before .before .before .before .loop .inv .1 .1 .1))))))
 
--- src/inner.rt:172:9
-returns-3 : tie.Need-returns-3 Inv-loop μ-loop
-returns-3 c = λ h. absurd (omega arith)
-
--- src/inner.rt:174:9
 recorded-requires-2 : tie.Need-recorded-requires-2 Inv-loop μ-loop
-recorded-requires-2 c κs = ((c .before .before .before .before .pre .0), ((c .if3 .left), omega arith))
+recorded-requires-2 c κs = (((c .before .before .before .pre .0)), (((c .before .loop .inv .1 .1 .0)), omega arith))
 
--- src/inner.rt:175:9
 retrace-letters-requires-2 : tie.Need-retrace-letters-requires-2 Inv-loop μ-loop
-retrace-letters-requires-2 c κs = ((c .before .before .before .before .before .pre .0), ((c .before .before .before .loop .inv .0), (c .before .before .before .loop .inv .1 .0)))
+retrace-letters-requires-2 c κs = (((c .before .before .before .before .pre .0)), (((c .before .before .loop .inv .0)), ((c .before .before .loop .inv .1 .0))))
 
--- src/inner.rt:177:9
-returns-4 : tie.Need-returns-4 Inv-loop μ-loop
-returns-4 c = λ h. absurd (omega arith)
+returns-2 : tie.Need-returns-2 Inv-loop μ-loop
+returns-2 c = λ h. absurd (omega arith)
 
--- src/inner.rt:179:5
 sub-result : tie.Need-sub-result Inv-loop μ-loop
-sub-result c = omega (arith, (c .if4 .left))
+sub-result c = omega (arith, ((c .if2 .left)))
 
--- src/inner.rt:143:1
-returns-5 : tie.Need-returns-5 Inv-loop μ-loop
-returns-5 c = λ h. let found = ((c .before .retrace-letters2 .ensures)) (omega (arith, (c .if4 .left))) in sym ((c .before .before .before .before .before .loop .inv .1 .1)) ∙ retrace-last ((c .before .before .before .before .before .before .before .args .s .now)) ((c .before .before .before .before .before .before .before .args .n)) ((c .before .before .before .before .before .before .before .args .count)) (((c .before .before .before .before .before .loop .y)) - 1) ((c .before .before .before .before .before .loop .at)) ((c .before .before .before .if3 .left)) ((c .before .before .recorded2 .ensures)) ((c .before .before .before .before .loop-test .left)) (found .1)
+returns-3 : tie.Need-returns-3 Inv-loop μ-loop
+returns-3 c = λ h. let found = (((c .before .retrace-letters2 .ensures))) (omega (arith, ((c .if2 .left)))) in sym (((c .before .before .before .before .loop .inv .1 .1 .1))) ∙ retrace-last (((c .before .before .before .before .before .before .args .s .now))) (((c .before .before .before .before .before .before .args .n))) (((c .before .before .before .before .before .before .args .count))) ((((c .before .before .before .before .loop .y))) - 1) (((c .before .before .before .before .loop .at))) (((c .before .before .before .before .loop .inv .1 .1 .0))) (((c .before .before .recorded2 .ensures))) (found .1 .0) (((c .before .before .before .loop-test .left))) (found .1 .1)
 
 pub retrace-spec : {M : Type 1} → statement M
 retrace-spec =
@@ -86,16 +61,14 @@ retrace-spec =
     μ-loop
     add-y
     loop-holds
-    returns
     recorded-requires
     retrace-letters-requires
-    returns-2
+    returns
     sub-left
     loop-less
     loop-again
-    returns-3
     recorded-requires-2
     retrace-letters-requires-2
-    returns-4
+    returns-2
     sub-result
-    returns-5)
+    returns-3)

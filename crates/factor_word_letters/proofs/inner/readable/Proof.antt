@@ -23,14 +23,14 @@ returns c = readable-out (c .before .before .before .before .args .s .now) (c .b
 hop-requires : tie.Need-hop-requires Inv-loop μ-loop
 hop-requires c κs = search needs
 
-letters-below-requires : tie.Need-letters-below-requires Inv-loop μ-loop
-letters-below-requires c κs = search needs
+cell-within-requires : tie.Need-cell-within-requires Inv-loop μ-loop
+cell-within-requires c κs = search needs
 
 returns-2 : tie.Need-returns-2 Inv-loop μ-loop
-returns-2 c = readable-no (c .before .before .before .before .before .before .before .args .s .now) (c .before .before .before .before .before .before .before .args .n) (c .before .before .before .before .before .before .before .args .count) (c .before .before .before .before .before .loop .at) (c .before .before .before .before .loop-test .taken) (c .before .before .before .if1 .left) (c .before .before .hop .ensures) (c .before .letters-below .ensures) (not-true _ (c .if2 .taken)) ∙ (c .before .before .before .before .before .loop .inv)
+returns-2 c = readable-no (c .before .before .before .before .before .before .before .args .s .now) (c .before .before .before .before .before .before .before .args .n) (c .before .before .before .before .before .before .before .args .count) (c .before .before .before .before .before .loop .at) (c .before .before .before .before .loop-test .taken) (c .before .before .before .if1 .left) (c .before .before .hop .ensures) (c .before .cell-within .ensures) (not-true _ (c .if2 .taken)) ∙ (c .before .before .before .before .before .loop .inv)
 
 returns-3 : tie.Need-returns-3 Inv-loop μ-loop
-returns-3 c = readable-last (c .before .before .before .before .before .before .before .before .args .s .now) (c .before .before .before .before .before .before .before .before .args .n) (c .before .before .before .before .before .before .before .before .args .count) (c .before .before .before .before .before .before .loop .at) (c .before .before .before .before .before .loop-test .taken) (c .before .before .before .before .if1 .left) (c .before .before .before .hop .ensures) (c .before .before .letters-below .ensures) (not-false _ (c .before .if2 .left)) (c .if3 .taken) ∙ (c .before .before .before .before .before .before .loop .inv)
+returns-3 c = readable-last (c .before .before .before .before .before .before .before .before .args .s .now) (c .before .before .before .before .before .before .before .before .args .n) (c .before .before .before .before .before .before .before .before .args .count) (c .before .before .before .before .before .before .loop .at) (c .before .before .before .before .before .loop-test .taken) (c .before .before .before .before .if1 .left) (c .before .before .before .hop .ensures) (c .before .before .cell-within .ensures) (not-false _ (c .before .if2 .left)) (c .if3 .taken) ∙ (c .before .before .before .before .before .before .loop .inv)
 
 sub-left : tie.Need-sub-left Inv-loop μ-loop
 sub-left c = search needs
@@ -39,7 +39,7 @@ loop-less : tie.Need-loop-less Inv-loop μ-loop
 loop-less c = omega (arith, (c .before .before .before .before .before .loop-test .taken))
 
 loop-again : tie.Need-loop-again Inv-loop μ-loop
-loop-again c = readable-more (c .before .before .before .before .before .before .before .before .args .s .now) (c .before .before .before .before .before .before .before .before .args .n) (c .before .before .before .before .before .before .before .before .args .count) (c .before .before .before .before .before .before .loop .at) (c .before .before .before .before .before .loop-test .taken) (c .before .before .before .before .if1 .left) (c .before .before .before .hop .ensures) (c .before .before .letters-below .ensures) (not-false _ (c .before .if2 .left)) ∙ (c .before .before .before .before .before .before .loop .inv)
+loop-again c = readable-more (c .before .before .before .before .before .before .before .before .args .s .now) (c .before .before .before .before .before .before .before .before .args .n) (c .before .before .before .before .before .before .before .before .args .count) (c .before .before .before .before .before .before .loop .at) (c .before .before .before .before .before .loop-test .taken) (c .before .before .before .before .if1 .left) (c .before .before .before .hop .ensures) (c .before .before .cell-within .ensures) (not-false _ (c .before .if2 .left)) ∙ (c .before .before .before .before .before .before .loop .inv)
 
 returns-4 : tie.Need-returns-4 Inv-loop μ-loop
 returns-4 c = readable-end (c .before .before .before .args .s .now) (c .before .before .before .args .n) (c .before .before .before .args .count) (c .before .loop .at) (c .loop-test .left) ∙ (c .before .loop .inv)
@@ -53,7 +53,7 @@ readable-spec =
     loop-holds
     returns
     hop-requires
-    letters-below-requires
+    cell-within-requires
     returns-2
     returns-3
     sub-left
