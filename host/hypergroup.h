@@ -13,7 +13,7 @@
  * - A list that a call writes overlaps no other list of that call. An image and its work are apart.
  *   Lists that are only read may overlap.
  * - Nothing else writes to a lent list, or reads one that is written, while the call runs.
- * - 256 KB of stack: a word of 4,096 letters is walked by calls, one in the other.
+ * - 64 KB of stack. No call needs more for a longer word or a larger group.
  * That is all. Every other value of every argument is answered, or refused with a number.
  *
  * What comes back

@@ -131,8 +131,8 @@ fn altered((table, h): &(Vec<u32>, Handle), at: usize, number: u32, e: u32, a: u
     [word, product, bytes(raw::conjugate(&table, *h, a, b))]
 }
 
-/// Each letter of a cell is read up to the last generator, the element above the letters up to the last one, and what is beyond is 17: on every way that a product
-/// goes, and in the first and the second cell of a word.
+/// A cell that is read is tested as a whole: each of its letters up to the last generator, the element above the letters up to the last one, and what is beyond is
+/// 17: on every way that a product goes, and in the first and the second cell of a word.
 #[test]
 fn letters() {
     let h3 = enumerated(3, &[5, 2, 3], 120);
@@ -147,7 +147,6 @@ fn letters() {
     {
         let at = letters_at(h3.1, e);
         let cell = h3.0[at];
-        let own = raw::length(&h3.0, h3.1, e).unwrap();
         for k in 0..5 {
             for letter in 0..8 {
                 let [word, product, conjugate] = altered(&h3, at, cell & !(7 << (3 * k)) | letter << (3 * k), word, a, b);
@@ -159,8 +158,8 @@ fn letters() {
         }
         for element in [0, 119, 120, 121, 65_535, 131_071] {
             let [word, product, conjugate] = altered(&h3, at, cell & 32_767 | element << 15, word, a, b);
-            // Where the word ends with these letters the element is not read.
-            match element < 120 || own == 5 {
+            // Where the word starts with these letters the element is not walked to, but it is in the cell that is read.
+            match element < 120 {
                 true => assert!(word.is_ok() && product.is_ok() && conjugate.is_ok()),
                 false => assert_eq!((word, product, conjugate), (Err(17), Err(17), Err(17))),
             }
@@ -168,7 +167,8 @@ fn letters() {
     }
 }
 
-/// What stands in a cell above a word's own letters changes no answer, whether or not it could be a letter; nor does the step that such a letter would take.
+/// What stands in a cell above a word's own letters changes no answer as long as it could be letters and an element, nor does the step that such a letter would take;
+/// else it is 17, as the whole cell is tested where it is read. The empty word reads none.
 #[test]
 fn above_a_short_word() {
     let h3 = enumerated(3, &[5, 2, 3], 120);
@@ -177,8 +177,11 @@ fn above_a_short_word() {
         if own <= 5 {
             let at = letters_at(h3.1, e);
             let unaltered = altered(&h3, at, h3.0[at], e, 119, e);
-            for above in [u32::MAX, 0o11111, 0o22222, 0o12121] {
-                assert_eq!(altered(&h3, at, h3.0[at] & !(u32::MAX << (3 * own)) | above << (3 * own), e, 119, e), unaltered);
+            for above in [1, 2, 3, 7, 119, 120, 0o11111, 0o22222, 0o12121, 0o77777, u32::MAX] {
+                let cell = h3.0[at] & !(u32::MAX << (3 * own)) | above << (3 * own);
+                let within = (0..5).all(|k| cell >> (3 * k) & 7 < 3) && cell >> 15 < 120;
+                let answers = altered(&h3, at, cell, e, 119, e);
+                if own == 0 || within { assert_eq!(answers, unaltered) } else { assert_eq!(answers, [Err(17), Err(17), Err(17)]) }
             }
         }
     }
@@ -205,6 +208,34 @@ fn letters_of_eight() {
     }
     assert_eq!(altered(&eight, at + 1, 4096, 255, 1, 255)[0].as_ref().map(Vec::len), Ok(4096));
     assert_eq!(altered(&eight, at + 1, 4097, 255, 1, 255), [Err(17), Err(17), Err(17)]);
+}
+
+/// A recorded length is tested wherever it is read: at 4,096 a product goes another way and is the same, at 4,097 and above it is 17, as the length itself is.
+#[test]
+fn lengths() {
+    let h3 = enumerated(3, &[5, 2, 3], 120);
+    let six = (0..120).find(|&e| raw::length(&h3.0, h3.1, e) == Ok(6) && raw::inverse(&h3.0, h3.1, e) != Ok(e)).unwrap();
+    let back = raw::inverse(&h3.0, h3.1, six).unwrap();
+    let product = raw::compose(&h3.0, h3.1, 119, six).unwrap();
+    // The lengths of the first, of the second's inverse and of the second itself.
+    for (e, in_range) in [(119, true), (back, true), (six, false)] {
+        let at = letters_at(h3.1, e) + 1;
+        for (number, fine) in [(4096, true), (4097, false), (4_000_000_000, false), (u32::MAX, false)] {
+            let mut table = h3.0.clone();
+            table[at] = number;
+            assert_eq!(raw::length(&table, h3.1, e).map_err(|x| x.number), if fine { Ok(4096) } else { Err(17) });
+            let [_, composed, _] = altered(&h3, at, number, e, 119, six);
+            match fine {
+                true if in_range => assert_eq!(composed, Ok(product.to_be_bytes().to_vec())),
+                true => {}
+                false => assert_eq!(composed, Err(17)),
+            }
+        }
+    }
+    // S3, whose words have at most three letters: a cell that no table can hold.
+    let s3 = s3();
+    assert_eq!(altered(&s3, letters_at(s3.1, 1), 4_294_967_288, 1, 3, 1), [Err(17), Err(17), Err(17)]);
+    assert_eq!(altered(&s3, letters_at(s3.1, 1), 0, 1, 3, 1)[1], Ok(5u32.to_be_bytes().to_vec()));
 }
 
 #[test]
