@@ -16,7 +16,7 @@ use Rattle.egg.specs.declared.Counted.the-variants as counted
 use Rattle.egg.specs.Table.{pick, stepOf, parentOf, lastOf, lengthOf}
 use Rattle.build_reading.specs.Build.{isNew, setStep, setWord, adds}
 use Rattle.egg.specs.Answers.{numbered}
-use Rattle.enumeration_run.specs.Run.{onAdds}
+use Rattle.enumeration_run.specs.Run.{afterAdding}
 use Rattle.enumeration_run_laws.specs.Invariant.{RunOk}
 use Rattle.enumeration_run.specs.Limits.{Limits}
 use Rattle.enumeration_loop_laws.specs.Rings.{Looped}
@@ -47,7 +47,7 @@ module _ {n N : ℕ} {o : List ℕ} (F : List ℕ) (looped : Looped n N o (stepO
   ComesBy v = Comes (v .answer) (v .table)
 
   adding : (full long : Bool) → leb room c ≡ full → leb 4096 (lengthOf q n x) ≡ long
-      → ComesBy (onAdds
+      → ComesBy (afterAdding
       (pick full (record { answer = reached.Refused (numbered 5 x g 0); table = q })
       (pick long (record { answer = reached.Refused (numbered 6 x g 0); table = q })
       (record { answer = reached.Element new; table = setStep (setWord q n new e γ (lengthOf q n x + 1)) n e γ new })))

@@ -16,7 +16,7 @@ use Rattle.egg.specs.declared.Counted.the-variants as counted
 use Rattle.egg.specs.Table.{pick, startOf, lengthOf}
 use Rattle.build_reading.specs.Build.{isNew, setStep, setWord, adds}
 use Rattle.egg.specs.Answers.{numbered}
-use Rattle.enumeration_run.specs.Run.{onAdds, advanced}
+use Rattle.enumeration_run.specs.Run.{afterAdding, advanced}
 use Rattle.enumeration_run.specs.declared.inner.Run.{Run}
 use Rattle.enumeration_run.specs.declared.inner.Ran.{Ran}
 use Rattle.enumeration_run.specs.declared.inner.Ran.the-variants as ran
@@ -98,7 +98,7 @@ module _ (n : ℕ) {room lt : ℕ} (o : List ℕ) (small : room ≤ 65535) (fits
         (both .0, grows-on (written-grows F e g len) (both .1), omega arith)
 
     adding-two-way : (full long : Bool) → leb room count ≡ full
-        → let v = onAdds
+        → let v = afterAdding
         (pick full (record { answer = reached.Refused (numbered 5 (e .0) (g .0) 0); table = t })
         (pick long (record { answer = reached.Refused (numbered 6 (e .0) (g .0) 0); table = t })
         (record {

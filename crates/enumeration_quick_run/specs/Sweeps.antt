@@ -16,7 +16,7 @@ use Rattle.build_reading.specs.Build.{isNew, setStep, adds}
 use Rattle.enumeration_run.specs.declared.inner.Run.{Run}
 use Rattle.enumeration_run.specs.declared.inner.Ran.{Ran}
 use Rattle.enumeration_run.specs.declared.inner.Ran.the-variants as ran
-use Rattle.enumeration_run.specs.Run.{onAdds, advanced, startOfRun}
+use Rattle.enumeration_run.specs.Run.{afterAdding, advanced, startOfRun}
 use Rattle.enumeration_quick_loops.specs.Loops.{loopFrom}
 
 -- What a visit leaves: the element count or a refusal, and the table.
@@ -37,7 +37,7 @@ setBoth t n e g r = setStep (setStep t n e g r) n r g e
 unfoldable pub settles : (n room count : ℕ) (e : GroupElementId) (g : GeneratorId) (loop : ℕ) (t : List ℕ) → Swept
 settles n room count e g loop t =
     pick (eqb loop 0)
-    (onAdds (adds t n room count e g)
+    (afterAdding (adds t n room count e g)
     (λ new t₁. swept (counted.Count (count + 1)) (setStep t₁ n new g e))
     (λ why t₁. swept (counted.Refused why) t₁))
     (swept (counted.Count count) (setBoth t n e g (record { 0 = loop - 1 })))

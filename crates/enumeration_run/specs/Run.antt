@@ -37,19 +37,19 @@ abbrev pub visit : Counted → List ℕ → List ℕ → Visit
 visit a t w = record { answer = a; table = t; work = w }
 
 -- What comes after an element was to be added, by the answer: f goes on from the element, h from a refusal; the table goes with either.
-abbrev pub onReached : {A : Type 0} → Reached → List ℕ → (GroupElementId → List ℕ → A) → (Refusal → List ℕ → A) → A
-onReached (reached.Element e) t f h = f e t
-onReached (reached.Refused r) t f h = h r t
+abbrev pub afterReaching : {A : Type 0} → Reached → List ℕ → (GroupElementId → List ℕ → A) → (Refusal → List ℕ → A) → A
+afterReaching (reached.Element e) t f h = f e t
+afterReaching (reached.Refused r) t f h = h r t
 
 -- The same from what adding it left.
-abbrev pub onAdds : {A : Type 0} → Adds → (GroupElementId → List ℕ → A) → (Refusal → List ℕ → A) → A
-onAdds a f h = onReached (a .answer) (a .table) f h
+abbrev pub afterAdding : {A : Type 0} → Adds → (GroupElementId → List ℕ → A) → (Refusal → List ℕ → A) → A
+afterAdding a f h = afterReaching (a .answer) (a .table) f h
 
 -- The visit of one place (element, generator) of 000's inner loop: a known step is skipped; else there is a new element, or 5 or 6.
 unfoldable pub visits : (n : ℕ) (o : List ℕ) (room count : ℕ) (e : GroupElementId) (g : GeneratorId) (t w : List ℕ) → Visit
 visits n o room count e g t w =
     pick (isNew t n e g)
-    (onAdds (adds t n room count e g)
+    (afterAdding (adds t n room count e g)
     (λ new t₁. visit (counted.Count (count + 1)) (discovered n o e g new t₁ w .table) (discovered n o e g new t₁ w .work))
     (λ why t₁. visit (counted.Refused why) t₁ w))
     (visit (counted.Count count) t w)

@@ -25,7 +25,7 @@ use Rattle.egg.specs.Answers.{numbered}
 use Rattle.enumeration_rows.specs.Rows.{placeAt, addedRows}
 use Rattle.enumeration_wake.specs.Waking.{State, state, link, belowAt}
 use Rattle.enumeration_facts.specs.Facts.{settleFrom}
-use Rattle.enumeration_run.specs.Run.{discovered, Visit, visit, onAdds, visits, advanced, RunResult, outcome, onVisit, after, runs, startOfRun, enumerated}
+use Rattle.enumeration_run.specs.Run.{discovered, Visit, visit, afterAdding, visits, advanced, RunResult, outcome, onVisit, after, runs, startOfRun, enumerated}
 use Rattle.enumeration_run.specs.declared.inner.Run.{Run}
 use Rattle.enumeration_run.specs.declared.inner.Ran.{Ran}
 use Rattle.enumeration_run.specs.declared.inner.Ran.the-variants as ran
@@ -175,7 +175,7 @@ module _ {n : ℕ} {o : List ℕ} {room lt lw : ℕ} (L : Limits n o room lt lw)
           }
 
     adding : getD t (startOf n x + g) 0 ≡ 0 → (full long : Bool) → leb room c ≡ full → leb 4096 (lengthOf t n x) ≡ long
-        → VisitedBy x g (onAdds
+        → VisitedBy x g (afterAdding
         (pick full (record { answer = reached.Refused (numbered 5 x g 0); table = t })
         (pick long (record { answer = reached.Refused (numbered 6 x g 0); table = t })
         (record { answer = reached.Element made; table = setStep (written t n c e γ (lengthOf t n x + 1)) n e γ made })))
@@ -192,7 +192,7 @@ module _ {n : ℕ} {o : List ℕ} {room lt lw : ℕ} (L : Limits n o room lt lw)
     visited = by (isNew t n e γ) refl where
       by : (b : Bool) → isNew t n e γ ≡ b
           → VisitedBy x g (pick b
-          (onAdds (adds t n room c e γ)
+          (afterAdding (adds t n room c e γ)
           (λ made t₁. visit (counted.Count (c + 1)) (discovered n o e γ made t₁ w .table) (discovered n o e γ made t₁ w .work)) (λ why t₁. visit (counted.Refused why) t₁ w))
           (visit (counted.Count c) t w))
       by true q = adding (eqb-true _ _ q) (leb room c) (leb 4096 (lengthOf t n x)) refl refl

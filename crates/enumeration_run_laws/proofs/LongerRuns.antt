@@ -19,7 +19,7 @@ use Rattle.build_reading.specs.Build.{isNew, setStep, setWord, Adds, adds}
 use Rattle.egg.specs.Answers.{numbered}
 use Rattle.enumeration_rows.specs.Rows.{workWidth, placeAt, addedRows}
 use Rattle.enumeration_wake.specs.Waking.{State, state, link, belowAt}
-use Rattle.enumeration_run.specs.Run.{discovered, Visit, visit, onAdds, visits, advanced, RunResult, outcome, after, runs}
+use Rattle.enumeration_run.specs.Run.{discovered, Visit, visit, afterAdding, visits, advanced, RunResult, outcome, after, runs}
 use Rattle.enumeration_run.specs.declared.inner.Run.{Run}
 use Rattle.enumeration_run.specs.declared.inner.Ran.the-variants as ran
 use Rattle.enumeration_run.specs.Limits.{Limits}
@@ -86,7 +86,7 @@ module _ {n : ℕ} {o : List ℕ} {room lt lw : ℕ} (L : Limits n o room lt lw)
         (pick long (record { answer = reached.Refused (numbered 6 (e .0) (g .0) 0); table = t₀ }) (record { answer = reached.Element fresh; table = stepped t₀ size }))
 
     abbrev came : List ℕ → Adds → Visit
-    came w₀ x = onAdds x (λ new t₁. visit (counted.Count (count + 1)) (discovered n o e g new t₁ w₀ .table) (discovered n o e g new t₁ w₀ .work)) (λ why t₁. visit (counted.Refused why) t₁ w₀)
+    came w₀ x = afterAdding x (λ new t₁. visit (counted.Count (count + 1)) (discovered n o e g new t₁ w₀ .table) (discovered n o e g new t₁ w₀ .work)) (λ why t₁. visit (counted.Refused why) t₁ w₀)
 
     adding-longer : (full long : Bool) (size : ℕ) → leb room count ≡ full → IsCount (came w (chosen full long t size) .answer)
         → came (longer b w) (chosen (leb room′ count) long (longer a t) size) ≡ longerVisit a b (came w (chosen full long t size))

@@ -21,7 +21,7 @@ use Rattle.build_reading.specs.Build.{isNew, setStep, adds}
 use Rattle.egg.specs.Answers.{numbered}
 use Rattle.enumeration_rows.specs.Rows.{workWidth, placeAt, addedRows}
 use Rattle.enumeration_wake.specs.Waking.{state, link, belowAt}
-use Rattle.enumeration_run.specs.Run.{discovered, Visit, visit, onAdds, visits, advanced, RunResult, outcome, onVisit, after, runs, startOfRun, enumerated}
+use Rattle.enumeration_run.specs.Run.{discovered, Visit, visit, afterAdding, visits, advanced, RunResult, outcome, onVisit, after, runs, startOfRun, enumerated}
 use Rattle.enumeration_run.specs.declared.inner.Run.{Run}
 use Rattle.enumeration_run.specs.declared.inner.Ran.{Ran}
 use Rattle.enumeration_run.specs.declared.inner.Ran.the-variants as ran
@@ -128,7 +128,7 @@ module _ {n : ℕ} {o : List ℕ} {room lt lw : ℕ} (L : Limits n o room lt lw)
 
     -- A place whose step is not known: refused, or a new element.
     adding-ok : (full-room long : Bool) → leb room count ≡ full-room
-        → VisitOk (onAdds
+        → VisitOk (afterAdding
         (pick full-room (record { answer = reached.Refused (numbered 5 (e .0) (g .0) 0); table = t })
         (pick long (record { answer = reached.Refused (numbered 6 (e .0) (g .0) 0); table = t })
         (record { answer = reached.Element new; table = setStep (written t n count e g (lengthOf t n (e .0) + 1)) n e g new })))
@@ -142,7 +142,7 @@ module _ {n : ℕ} {o : List ℕ} {room lt lw : ℕ} (L : Limits n o room lt lw)
     visits-ok = by (isNew t n e g) where
       by : (b : Bool)
           → VisitOk (pick b
-          (onAdds (adds t n room count e g)
+          (afterAdding (adds t n room count e g)
           (λ made t₁. visit (counted.Count (count + 1)) (discovered n o e g made t₁ w .table) (discovered n o e g made t₁ w .work)) (λ why t₁. visit (counted.Refused why) t₁ w))
           (visit (counted.Count count) t w))
       by true = adding-ok (leb room count) (leb 4096 (lengthOf t n (e .0))) refl

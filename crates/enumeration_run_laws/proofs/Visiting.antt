@@ -17,7 +17,7 @@ use Rattle.egg.specs.declared.Counted.the-variants as counted
 use Rattle.egg.specs.Table.{pick}
 use Rattle.build_reading.specs.Build.{isNew, adds}
 use Rattle.enumeration_rows.specs.Rows.{addedRows}
-use Rattle.enumeration_run.specs.Run.{discovered, Visit, visit, onReached, visits, advanced, RunResult, outcome, onVisit, runs, startOfRun, enumerated}
+use Rattle.enumeration_run.specs.Run.{discovered, Visit, visit, afterReaching, visits, advanced, RunResult, outcome, onVisit, runs, startOfRun, enumerated}
 use Rattle.enumeration_run.specs.declared.inner.Run.{Run}
 use Rattle.enumeration_run.specs.declared.inner.Ran.the-variants as ran
 use Rattle.enumeration_run_laws.specs.Paused.{IsDone, IsPaused, doneOf}
@@ -49,7 +49,7 @@ module _ (n : ℕ) (o : List ℕ) (room : ℕ) where
     by : (b : Bool) (a : Reached) (t₀ : List ℕ)
         → Grows count
         (pick {A = Visit} b
-        (onReached a t₀ (λ new t₁. visit (counted.Count (count + 1)) (discovered n o e g new t₁ w .table) (discovered n o e g new t₁ w .work)) (λ why t₁. visit (counted.Refused why) t₁ w))
+        (afterReaching a t₀ (λ new t₁. visit (counted.Count (count + 1)) (discovered n o e g new t₁ w .table) (discovered n o e g new t₁ w .work)) (λ why t₁. visit (counted.Refused why) t₁ w))
         (visit (counted.Count count) t w) .answer)
     by true (reached.Element x) t₀ = omega arith
     by true (reached.Refused r) t₀ = tt
