@@ -1,6 +1,7 @@
 #!/usr/bin/env python3
-"""Every file that README.md or a page of docs/ names exists, and every statement that docs/PROMISES.md or a page of
-docs/promises/ names in a table stands, declared pub, in the file beside it.
+"""Every file that README.md or a page of docs/ names exists, alone or in a command; every name in backticks is a word of
+the sources, and of the file that is named after it; and every statement that docs/PROMISES.md or a page of docs/promises/ names in a table stands, declared pub,
+in the file beside it.
 
 In these pages the last column of every table is `file` and the one before it has the names. A row names one file or
 several, then each name stands in one of them. Definitions stand in specs/, statements in proofs/. A row without a file or
@@ -10,18 +11,50 @@ import os
 import re
 import sys
 
-bad, seen = [], 0
+# Names that are none of ours: of the compiler's and the prover's own.
+FOREIGN = {"nonnull", "noundef", "noalias", "dereferenceable", "nm", "sub-t11", "cast-t19", "struct-known"}
+
+
+def words_of_sources():
+    words = set(re.findall(r"\w+", open("crates.txt", encoding="utf-8").read()))
+    for root in ("crates", "host", "tests", "tools", "oracle", "docs/src"):
+        for folder, folders, files in os.walk(root):
+            folders[:] = [f for f in folders if f != "target"]
+            words.update(folders)
+            for file in files:
+                words.update((file, os.path.splitext(file)[0]))
+                if file.endswith((".rt", ".antt", ".rs", ".h", ".c", ".py", ".sh", ".edit", ".toml")) or "." not in file:
+                    text = open(os.path.join(folder, file), encoding="utf-8").read()
+                    words.update(re.findall(r"\w+", text) + re.findall(r"[\w′'-]+", text))
+    return words
+
+
+bad, seen, words = [], 0, words_of_sources()
 promises = ["docs/PROMISES.md", *sorted(glob.glob("docs/promises/*.md"))]
 pages = ["README.md", *sorted(glob.glob("docs/*.md") + glob.glob("docs/orders/*.md")), *promises[1:]]
 for page in pages:
     text = open(page, encoding="utf-8").read()
-    named = set(re.findall(r"`((?:crates/(?!hyp)|docs/|tests/|tools/|oracle/|host/)[\w./-]+)`", text))
+    spans = re.findall(r"`([^`\n]+)`", text)
+    named = {path for span in spans for path in re.findall(r"(?<![\w./-])(?:crates/(?!hyp|NAME)|docs/|tests/|tools/|oracle/|host/)[\w./-]*\w", span)}
     # Links are from the folder of the page.
     linked = {os.path.normpath(os.path.join(os.path.dirname(page), to)) for to in re.findall(r"\]\((?!https?:)([^)#]+)", text)}
     for path in sorted(named | linked):
         seen += 1
         if not os.path.exists(path):
             bad.append(f"{page} names {path}, which is not there")
+    for name, path in re.findall(r"`([\w-]+)`,? (?:in |of |\()`((?:crates|host|tests)/[\w./-]+\.\w+)`(?=[),.;])", text):
+        seen += 1
+        if os.path.isfile(path) and name not in re.findall(r"[\w′'-]+", open(path, encoding="utf-8").read()):
+            bad.append(f"{page}: {name} does not stand in {path}")
+    # The documents that decide speak of what is to be built as well.
+    if page in ("docs/01-scope.md", "docs/02-change-requests.md"):
+        continue
+    prose = re.findall(r"`([^`\n]+)`", re.sub(r"(?ms)^ *```.*?^ *```$", "", text))
+    for name in {s for s in prose if re.fullmatch(r"[A-Za-z][\w-]*(?:(?:::|\.)[\w-]+)*(?:\(\))?\*?", s)} - FOREIGN:
+        for part in re.split(r"::|\.", name.removesuffix("()")):
+            seen += 1
+            if part not in words and not (part.endswith("*") and any(w.startswith(part[:-1]) for w in words)):
+                bad.append(f"{page} names {name}, and {part} stands in no source")
 
 
 def declared(name, path):
