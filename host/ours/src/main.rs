@@ -135,7 +135,7 @@ impl Ours {
     /// `START ROOM N COUNT`, or these after the factor's place.
     fn forge(&mut self, w: &[&str]) -> Result<(), No> {
         let (k, w): (usize, _) = if w.len() == 5 { (number(w, 0)?, &w[1..]) } else { (0, w) };
-        let h = Handle { start: number(w, 0)?, room: number(w, 1)?, generators: number(w, 2)?, elements: number(w, 3)? };
+        let h = Handle::new(number(w, 0)?, number(w, 1)?, number(w, 2)?, number(w, 3)?);
         if let Some(b) = &mut self.builder {
             b.handle = h;
         } else if let Some(place) = self.product.factors.get_mut(k) {
@@ -236,7 +236,7 @@ fn main() {
         }
         match ours.answer(&words) {
             Ok(()) => {}
-            Err(No::Refused(Refusal { number, places: [a, b, c] })) => ours.say(format!("refused {number} {a} {b} {c}")),
+            Err(No::Refused(Refusal { number, places: [a, b, c], .. })) => ours.say(format!("refused {number} {a} {b} {c}")),
             Err(No::Says(s)) => ours.say(s),
         }
         ours.out.flush().unwrap();
