@@ -26,6 +26,8 @@ fn main() {
     } else {
         println!("cargo:warning={lacking}. What links nothing (cargo check, doc, clippy) works without it.");
         println!("cargo:rustc-link-lib=static=hypergroup ({})", lacking.replace(':', " "));
+        // A file that is never there: so this looks again each time, also for an archive that is copied here with an old date.
+        println!("cargo:rerun-if-changed=nothing");
     }
 }
 
