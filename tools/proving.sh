@@ -8,11 +8,12 @@ since() {
     printf '%3d:%02d' $((took / 60)) $((took % 60))
 }
 
-# alone WHO: two rt in one target/ would read each other's notes. Whatever is started after this keeps the lock until it ends.
+# alone WHO: two rt in one target/ would read each other's notes. The lock is the top folder's, since `rt ci` removes target/; whatever is started after
+# this keeps it until it ends.
 alone() {
     command -v rt >/dev/null || { echo "$1: there is no rt, the Rattle toolchain, on this PATH; it proves the library and compiles it" >&2; exit 1; }
     mkdir -p target
-    exec 9>>target/lock
+    exec 9<.
     flock -n 9 && return
     echo "$1: another build is at work in target/; this one waits until it has ended" >&2
     flock 9
