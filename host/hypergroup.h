@@ -1,10 +1,34 @@
 /* hypergroup, proved: its calls for C and C++ on x86-64 Linux.
  *
- * Each group of functions is in the archive that is named above it; `rt staticlib NAME` writes
- * target/staticlib/libNAME.a. They link in any order, one or several in one program, and need nothing
- * but memset and its like of the C library. libcapi_image.a is enough for a host that has images checked
- * and walked. No call allocates, keeps a pointer, or has a state: any number of threads may call at
- * once, each on buffers of its own.
+ * `./archives` makes target/staticlib/libhypergroup.a, which has every function: cc host.c -Ihost
+ * -Ltarget/staticlib -lhypergroup. Beside it each group of functions is in the archive that is named above
+ * it: libcapi_image.a is enough for a host that has images checked and walked. They link in any order, one
+ * or several in one program, and need nothing but memset and memcpy of the C library. No call allocates,
+ * keeps a pointer, or has a state: any number of threads may call at once, each on buffers of its own.
+ *
+ * An example: a group is built from pair orders in lent lists, and a product is asked of it.
+ *
+ *     #include "hypergroup.h"
+ *     #include <stdio.h>
+ *
+ *     enum { TURNS = 2, ROOM = 100, TABLE = HG_TABLE(TURNS, ROOM), WORK = HG_WORK(TURNS, ROOM) };
+ *     static uint32_t table[TABLE], work[WORK];
+ *
+ *     int main(void) {
+ *         // Two turns, each its own inverse; the one and then the other has order 3.
+ *         const uint32_t orders[] = {3};
+ *         uint32_t out[5];
+ *         hg_enumerate(table, TABLE, 0, work, WORK, orders, 1, TURNS, ROOM, out, 5);
+ *         if (out[0] != HG_ACCEPTED) {
+ *             printf("refused: %u, at %u, %u, %u\n", out[0], out[1], out[2], out[3]);
+ *             return 1;
+ *         }
+ *         // The handle of what was built: the start, the room, the generators, the elements.
+ *         uint64_t product = hg_compose(table, TABLE, 0, ROOM, TURNS, out[4], 1, 3);
+ *         if (HG_REFUSED(product)) return 1;
+ *         printf("%u elements, and 1 * 3 is %u\n", out[4], HG_VALUE(product));
+ *         return 0;
+ *     }
  *
  * What a caller owes
  * - A list is a pointer and a length: in bytes for uint8_t, in numbers for uint32_t. All of it is
@@ -16,16 +40,37 @@
  * - 64 KB of stack. No call needs more for a longer word or a larger group.
  * That is all. Every other value of every argument is answered, or refused with a number.
  *
+ * How long a list has to be, with n generators and the room R, which is how many elements the factor may
+ * have; a longer one is taken, and what is beyond is as it was
+ * - table: start + R(2n + 4), HG_TABLE. A factor may be built into any stretch of a table, from start on.
+ *   The table is kept for the questions; work is needed while the call runs.
+ * - work: R(6n^2 + 4n), HG_WORK. For an image N(32n^2 + 100) bytes, HG_IMAGE_WORK.
+ * - rows, of hg_composed: Rn, element by element; those of elements that are not reached are not read.
+ * - orders: n(n - 1)/2 exactly, for the pairs (0,1),(0,2),(1,2),(0,3),(1,3),(2,3),(0,4)..; each from 2 to
+ *   32,767, the order of the one generator and then the other.
+ * - For hg_product_flatten n is the generators of all factors together; for hg_image_read R is the N of
+ *   the image.
+ * - inn and outw, a subgroup's maps: as many as the overgroup has elements, and R. members: a byte for
+ *   each element of the overgroup. For hg_subgroup n is how many elements gens has, for
+ *   hg_subgroup_predicate 8, whatever comes out.
+ * - out of a word: its length, at most 4,096 bytes (hg_length, hg_product_length). Of hg_product_split: as
+ *   many as there are factors. Of hg_image_write: 8 + 2nN bytes, HG_IMAGE.
+ * - out of any other call: 4 numbers; 5 of hg_product and of whatever builds; 6 of hg_subgroup and
+ *   hg_subgroup_predicate.
+ *
  * What comes back
- * - hg_image_check: 0, or the refusal's number. The work needs N * (32 * n * n + 100) bytes, n being
- *   byte 5 of the image and N the number in bytes 6 and 7, the higher first. After a bad head (16, 1)
- *   or short work (4) the work is as it was; else that many bytes of it are 0. The rest of a longer
- *   work is as it was.
- * - hg_image_walk: the element reached, below 65,536; or 65,536 + the refusal's number.
- * - A question of a factor: the element or the count; or the refusal's number * 2^32 + its first place.
- * - A build, and a check against orders: in `out` the refusal's number (0: accepted) and its three
- *   places; after a build also the element count, as the fifth. A shorter `out` gets what it has room
- *   for. A handle is `start`, `room`, `n`, `count`.
+ * - hg_image_check: 0, or the refusal's number. n is byte 5 of the image and N the number in bytes 6 and
+ *   7, the higher first. After a bad head (16, 1) or short work (4) the work is as it was; else the bytes
+ *   that it needs are 0.
+ * - hg_image_walk: the element reached, below 65,536; or HG_WALK_REFUSED + the refusal's number.
+ * - A question of a factor: the element or the count; or the refusal's number * 2^32 + its first place:
+ *   HG_REFUSED and HG_VALUE. Refused, it writes nothing.
+ * - A build, and a check against orders: each returns the refusal's number, 0 for accepted. out gets that
+ *   number and its three places; after a build also the element count, as the fifth. An out too short for
+ *   that is 4 before anything else, and nothing is written. A handle is `start`, `room`, `n`, `count`.
+ * - What a build leaves: refused before it starts (1 to 4, 14, and 15 to 17 given then), every list but
+ *   out as it was; refused later, 0 in all that it needs of table, work and maps; accepted, 0 in the
+ *   work, and in table and maps beyond the last element.
  * - The builder: hg_begin and hg_add as a build, the fifth number being how many elements the builder
  *   knows, 0 where the build has ended; the second is the element that hg_add made. hg_set: 1 for a
  *   new step, 0 for a known one, or a refusal as of a question.
@@ -34,7 +79,7 @@
  *   (1, a handle that fits no buffer, after a refusal).
  * - A subgroup is 128 numbers: the handle of its factor, how many factors are below, over and above it,
  *   and 40 numbers of handles for each of these three. hg_subgroup and hg_subgroup_predicate: as a
- *   build, the sixth number being how many generators it has. hg_subgroup_back: 4,294,967,295 where
+ *   build, the sixth number being how many generators it has. hg_subgroup_back: HG_NOT_A_MEMBER where
  *   the element is not in the subgroup.
  */
 #ifndef HYPERGROUP_H
@@ -47,6 +92,44 @@
 #ifdef __cplusplus
 extern "C" {
 #endif
+
+/* The refusals. In brackets: what its places are, which are 0 where none is said. */
+enum {
+    HG_ACCEPTED = 0,
+    HG_TOO_MANY_GENERATORS = 1, /* more than 8 generators (how many) */
+    HG_ORDER_COUNT = 2,         /* the list of orders is not n(n - 1)/2 long */
+    HG_BAD_ORDER = 3,           /* an order outside 2 to 32,767 (its index in the list) */
+    HG_BAD_ROOM = 4,            /* a room of 0 or above 65,535, or a lent list too short */
+    HG_BEYOND_ROOM = 5,         /* an element is needed beyond the room (element, generator) */
+    HG_WORD_TOO_LONG = 6,       /* its word would pass 4,096 generators (element, generator) */
+    HG_SKIPS_AHEAD = 7,         /* a composed number skips ahead (element, generator, number) */
+    HG_MISSING_STEP = 8,        /* a successor or predecessor is missing (element, generator) */
+    HG_FIXED_POINT = 9,         /* a fixed point, a wrong row (element, generator) or count (element, n) */
+    HG_BAD_INVERSE = 10,        /* the inverse of the inverse differs (element, inverse, its inverse) */
+    HG_IDENTITY_ROW = 11,       /* the identity's row is not 1 to n (generator) */
+    HG_NO_GROUP = 12,           /* no group has these right steps */
+    HG_RELATION_FAILS = 13,     /* a relation fails (element, generator, generator) */
+    HG_OUT_OF_RANGE = 14,       /* an element, generator or factor out of range (which of these, from 0,
+                                   each entry of a word or list counted) */
+    HG_TOO_LARGE = 15,          /* over 8 factors, 2^32 - 1 elements, or 65,535 in an overgroup; or a
+                                   predicate that needs a ninth generator */
+    HG_BAD_IMAGE = 16,          /* the image is malformed */
+    HG_BAD_HANDLE = 17          /* the handle does not fit its list, or a number read from it is out of
+                                   range, or no power in a period walk is the identity */
+};
+
+/* Of a question's answer: the refusal's number, 0 where it is none; and the element or the count. */
+#define HG_REFUSED(answer) ((uint32_t)((answer) >> 32))
+#define HG_VALUE(answer) ((uint32_t)((answer) & 0xffffffffu))
+
+#define HG_WALK_REFUSED 65536u
+#define HG_NOT_A_MEMBER 4294967295u
+
+/* How many numbers a build needs of table and of work; how many bytes an image has, and its check needs. */
+#define HG_TABLE(n, room) ((size_t)(room) * (2 * (size_t)(n) + 4))
+#define HG_WORK(n, room) ((size_t)(room) * (6 * (size_t)(n) * (size_t)(n) + 4 * (size_t)(n)))
+#define HG_IMAGE(n, elements) (8 + 2 * (size_t)(n) * (size_t)(elements))
+#define HG_IMAGE_WORK(n, elements) ((size_t)(elements) * (32 * (size_t)(n) * (size_t)(n) + 100))
 
 /* The functions. tools/header.py writes them. */
 

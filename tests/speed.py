@@ -8,8 +8,8 @@ GAP (Debian's gap-core, installed if it is missing) is beside where it can do th
 trivial subgroup, in a numbering of its own and with no checks.
 
 Our archives are for x86-64. Elsewhere they would run under an emulator, and no time would mean anything: there the same
-proved modules are compiled for the machine's own processor, by tools/here.sh in the place of host/build.sh, which is not what
-is shipped.
+proved modules are compiled for the machine's own processor (host/build.sh makes target/here/ours), which is not what is
+shipped.
 
 Arguments choose the tables (enumerations, questions, products, ones, subgroups, maps, images); without any, all are
 measured."""
@@ -198,7 +198,7 @@ if __name__ == "__main__":
     if platform.machine() != "x86_64":
         OURS = (HERE.parent / "target" / "here" / "ours", "--echo")
         if not OURS[0].exists():
-            sys.exit("%s is not there: tools/here.sh makes it" % OURS[0].relative_to(HERE.parent))
+            sys.exit("%s is not there: host/build.sh makes it" % OURS[0].relative_to(HERE.parent))
     tables = {f.__name__: f for f in (enumerations, questions, products, ones, subgroups, maps, images)}
     for name in sys.argv[1:] or tables:
         print("\n%s\n" % name.capitalize())

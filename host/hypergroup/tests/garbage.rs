@@ -275,11 +275,13 @@ fn questions_of_products() {
 #[test]
 fn builds() {
     let mut r = Random(3);
+    let mut met = [[0; 18]; 4];
     for _ in 0..20_000 {
         let (n, room, start) = (r.below(4) as u8, r.below(6) as u32, r.below(30) as usize);
         let (table, work, rows) = (r.list(300), r.list(400), r.list(40));
         let (mut t, mut w) = (table.clone(), work.clone());
-        let answer = match r.below(4) {
+        let kind = r.below(4);
+        let answer = match kind {
             0 => raw::composed(&mut t, start, &mut w, &rows, n, room),
             1 => raw::enumerate(&mut t, start, &mut w, &rows[..rows.len().min(3)], n, room),
             2 => raw::build(&mut t, Handle::new(start, room, n, r.below(6) as u32), &mut w),
@@ -307,7 +309,11 @@ fn builds() {
             Err(Refusal { number: 16 | 17, .. }) => assert!(untouched || zero()),
             Err(_) => assert!(zero()),
         }
+        met[kind as usize][answer.err().map_or(0, |x| x.number as usize)] += 1;
     }
+    // By rows, by orders, by a builder's steps and as a product: else the test would look at little.
+    let due: [&[usize]; 4] = [&[0, 4, 5, 7, 9], &[0, 2, 3, 4, 5], &[0, 4, 7, 8, 9, 17], &[0, 4, 17]];
+    assert!(due.iter().zip(&met).all(|(due, met)| due.iter().all(|&k| met[k] > 20)), "{met:?}");
 }
 
 /// Enumerations into garbage, and into what an earlier factor has left: the same table as from zeros, with as much room as there are elements, with more, and the
