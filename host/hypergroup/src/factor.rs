@@ -1,10 +1,14 @@
 use crate::raw::{self, Handle};
+use crate::refusal::Said;
 use crate::{Element, Generator, Image, Refusal};
+use alloc::sync::Arc;
+use alloc::{vec, vec::Vec};
 
 /// A group given by its table: what each generator does to each element.
 ///
 /// Elements are numbered from the identity, 0, in the order in which reading the table row by row meets them; the identity's row is
-/// 1 to n. A factor owns its table, so that nothing can alter it.
+/// 1 to n. A factor owns its table, so that nothing can alter it; its clones and the products of it share that table, which has the
+/// rows of its elements and no more, however much room it was built in.
 ///
 /// ```
 /// use hypergroup::{Element, Factor, Generator};
@@ -19,9 +23,9 @@ use crate::{Element, Generator, Image, Refusal};
 /// assert_eq!(s3, Factor::from_orders(2, &[3], 6)?);
 /// # Ok::<(), hypergroup::Refusal>(())
 /// ```
-#[derive(Clone, Debug)]
+#[derive(Clone)]
 pub struct Factor {
-    table: Vec<u32>,
+    table: Arc<[u32]>,
     handle: Handle,
 }
 
@@ -29,7 +33,13 @@ impl Factor {
     /// The group with `generators` generators, each its own inverse, in which the product of each pair of them has the order listed.
     ///
     /// `orders` has one number for each pair, in the order (0,1), (0,2), (1,2), (0,3) and so on. An enumeration takes at most `room`
-    /// elements, from 1 to 65,535; where the group has more, or none can tell, it is refused with 5.
+    /// elements, from 1 to 65,535. While it runs it has a table and work for that many, and keeps what the elements need.
+    ///
+    /// # Errors
+    ///
+    /// 1 for more than 8 generators, 2 for a list that does not have one order for each pair, 3 for an order outside 2 to 32,767, 4 for
+    /// a room outside 1 to 65,535, 5 where the group has more elements than the room, and 6 where one of them has no word of at most
+    /// 4,096 generators. With right arguments there is no other reason.
     ///
     /// ```
     /// use hypergroup::Factor;
@@ -40,15 +50,21 @@ impl Factor {
     /// ```
     pub fn from_orders(generators: u8, orders: &[u32], room: u32) -> Result<Self, Refusal> {
         let (mut table, mut work) = raw::lent(generators, room);
-        let handle = raw::enumerate(&mut table, 0, &mut work, orders, generators, room)?;
-        Ok(Factor { table, handle })
+        let made = raw::enumerate(&mut table, 0, &mut work, orders, generators, room);
+        Ok(Factor::new(&table, made.map_err(|no| no.said(4, Said::Room))?))
     }
 
     /// The group whose right steps are listed: the number that each element, composed with each generator, comes to, by element and
     /// then generator.
     ///
-    /// It is refused where no group has these steps, or where they are not numbered in the order in which they appear. With no
-    /// generators the list is empty, and the group has one element. Rows that are never reached are not read.
+    /// Rows that are never reached are not read, so that there may be too many. With no generators no row has a number, the group has
+    /// one element, and nothing of the list is read.
+    ///
+    /// # Errors
+    ///
+    /// 1 for more than 8 generators; 4 where there are no rows, or the last does not have a number for each generator; 5 where a row
+    /// is missing; 6, where a word would pass 4,096 generators; 7, where elements are not numbered in the order in which they appear; 8
+    /// to 12 where no group has these steps, or the identity's row is not 1 to n.
     ///
     /// ```
     /// use hypergroup::{Element, Factor};
@@ -58,23 +74,80 @@ impl Factor {
     /// # Ok::<(), hypergroup::Refusal>(())
     /// ```
     pub fn from_rows(generators: u8, rows: &[u32]) -> Result<Self, Refusal> {
-        let room = if generators == 0 { 1 } else { rows.len() / usize::from(generators) };
-        let room = room.min(65_535) as u32;
-        let (mut table, mut work) = raw::lent(generators, room);
-        let handle = raw::composed(&mut table, 0, &mut work, rows, generators, room)?;
-        Ok(Factor { table, handle })
+        let n = usize::from(generators);
+        let (room, part) = (rows.len().checked_div(n).unwrap_or(1), rows.len().checked_rem(n).unwrap_or(0));
+        // A list that ends within a row is lent as none, so that the library refuses it as too short.
+        let (lent, said) = if part == 0 { (rows, Said::Rows) } else { (&[][..], Said::PartOfRow) };
+        Self::composed(generators, lent, room.min(65_535) as u32).map_err(|no| no.said(4, said).said(5, Said::Rows))
     }
 
-    pub(crate) fn new(table: Vec<u32>, handle: Handle) -> Self {
+    /// The group whose right steps a function tells: the element that an element, composed with a generator, comes to.
+    ///
+    /// It is asked by element and then generator, as long as it answers with an element that has appeared or with the next one: for
+    /// no element that nothing leads to, and no more once its answers are to be refused. At most `room` elements are taken, from 1 to
+    /// 65,535; memory is used for those that appear.
+    ///
+    /// # Errors
+    ///
+    /// As [`Factor::from_rows`], but for the room: 4 where it is outside 1 to 65,535, and 5 where it is not enough.
+    ///
+    /// ```
+    /// use hypergroup::Factor;
+    /// // The numbers modulo 12, by adding 3 and 4. Elements are numbered as they appear.
+    /// let mut values = vec![0];
+    /// let clock = Factor::from_compose_fn(
+    ///     2,
+    ///     |e, g| {
+    ///         let value = (values[e.0 as usize] + [3, 4][usize::from(g.0)]) % 12;
+    ///         let known = values.iter().position(|&v| v == value).unwrap_or(values.len());
+    ///         if known == values.len() {
+    ///             values.push(value);
+    ///         }
+    ///         hypergroup::Element(known as u32)
+    ///     },
+    ///     100,
+    /// )?;
+    /// assert_eq!(clock.element_count(), 12);
+    /// # Ok::<(), hypergroup::Refusal>(())
+    /// ```
+    pub fn from_compose_fn(generators: u8, compose: impl FnMut(Element, Generator) -> Element, room: u32) -> Result<Self, Refusal> {
+        // Arguments that are to be refused have nothing asked.
+        let right = generators <= 8 && (1..=65_535).contains(&room);
+        let (rows, needed) = if right { asked(generators, compose, room) } else { (vec![], room) };
+        Self::composed(generators, &rows, needed).map_err(|no| no.said(4, Said::Room))
+    }
+
+    fn composed(generators: u8, rows: &[u32], room: u32) -> Result<Self, Refusal> {
+        let (mut table, mut work) = raw::lent(generators, room);
+        let handle = raw::composed(&mut table, 0, &mut work, rows, generators, room)?;
+        Ok(Factor::new(&table, handle))
+    }
+
+    /// Keeps of a table that was just built the rows of its elements, with as much room.
+    ///
+    /// It is the same factor. A row stands where its element's number says, whatever the room is (`stretch` and `startOf` in
+    /// crates/egg/specs); a handle fits with a room that is its count of elements (`fitsIn`); and what makes a factor accepted speaks
+    /// of the rows of its elements (`Accepted`, crates/factor_laws/specs). The same comes from the promises: an image of the factor is
+    /// read back with this room, and "more room never changes an accepted table" (docs/promises) has both start with the same numbers.
+    pub(crate) fn new(table: &[u32], handle: Handle) -> Self {
+        let rows = raw::table_need(handle.generators, handle.elements);
+        let table = table[handle.start..handle.start + rows].into();
+        Factor { table, handle: Handle { start: 0, room: handle.elements, ..handle } }
+    }
+
+    /// A factor that stands in a table buffer with others. Its handle has come from an accepted one.
+    pub(crate) fn within(table: Arc<[u32]>, handle: Handle) -> Self {
         Factor { table, handle }
     }
 
     /// How many elements the group has.
+    #[must_use]
     pub fn element_count(&self) -> u32 {
         self.handle.elements
     }
 
     /// How many generators it has.
+    #[must_use]
     pub fn generator_count(&self) -> u8 {
         self.handle.generators
     }
@@ -103,54 +176,119 @@ impl Factor {
     }
 
     /// The element that a generator is.
+    ///
+    /// # Errors
+    ///
+    /// 14 where there is no such generator.
     #[inline]
     pub fn generator(&self, g: Generator) -> Result<Element, Refusal> {
         raw::generator(&self.table, self.handle, g.0).map(Element)
     }
 
     /// Where one turn leads from an element.
+    ///
+    /// # Errors
+    ///
+    /// 14 where there is no such element (position 0) or generator (position 1).
     #[inline]
     pub fn step(&self, e: Element, g: Generator) -> Result<Element, Refusal> {
         raw::step(&self.table, self.handle, e.0, g.0).map(Element)
     }
 
     /// Where turns lead, one after the other, from an element.
+    ///
+    /// # Errors
+    ///
+    /// 14 where there is no such element or generator.
     pub fn walk(&self, from: Element, turns: impl IntoIterator<Item = Generator>) -> Result<Element, Refusal> {
         turns.into_iter().try_fold(from, |e, g| self.step(e, g))
     }
 
     /// a·b: first the turns of `a`, then those of `b`.
+    ///
+    /// # Errors
+    ///
+    /// 14 where there is no such element: position 0 for `a`, 1 for `b`.
     #[inline]
     pub fn compose(&self, a: Element, b: Element) -> Result<Element, Refusal> {
         raw::compose(&self.table, self.handle, a.0, b.0).map(Element)
     }
 
     /// The element that undoes `a`.
+    ///
+    /// # Errors
+    ///
+    /// 14 where there is no such element.
     #[inline]
     pub fn inverse(&self, a: Element) -> Result<Element, Refusal> {
         raw::inverse(&self.table, self.handle, a.0).map(Element)
     }
 
     /// a·b·a⁻¹.
+    ///
+    /// # Errors
+    ///
+    /// 14 where there is no such element: position 0 for `a`, 1 for `b`.
     #[inline]
     pub fn conjugate(&self, a: Element, b: Element) -> Result<Element, Refusal> {
         raw::conjugate(&self.table, self.handle, a.0, b.0).map(Element)
     }
 
+    /// The power of an element, for any exponent.
+    ///
+    /// # Errors
+    ///
+    /// 14 where there is no such element.
+    ///
+    /// ```
+    /// use hypergroup::{Element, Factor};
+    /// let s3 = Factor::from_orders(2, &[3], 6)?;
+    /// assert_eq!(s3.powi(Element(3), -1)?, Element(4));
+    /// assert_eq!(s3.powi(Element(3), i32::MIN)?, Element(3));
+    /// # Ok::<(), hypergroup::Refusal>(())
+    /// ```
+    #[inline]
+    pub fn powi(&self, a: Element, exponent: i32) -> Result<Element, Refusal> {
+        raw::powi(&self.table, self.handle, a.0, exponent).map(Element)
+    }
+
+    /// The least power, from 1 on, of an element that is the identity.
+    ///
+    /// # Errors
+    ///
+    /// 14 where there is no such element.
+    #[inline]
+    pub fn period(&self, a: Element) -> Result<u32, Refusal> {
+        raw::period(&self.table, self.handle, a.0)
+    }
+
     /// How long the recorded word of an element is.
+    ///
+    /// # Errors
+    ///
+    /// 14 where there is no such element.
     #[inline]
     pub fn word_length(&self, e: Element) -> Result<u32, Refusal> {
         raw::length(&self.table, self.handle, e.0)
     }
 
     /// The recorded word of an element: turns that lead to it from the identity, as few as there can be.
+    ///
+    /// # Errors
+    ///
+    /// 14 where there is no such element.
     pub fn word(&self, e: Element) -> Result<Vec<Generator>, Refusal> {
         let mut letters = vec![0; self.word_length(e)? as usize];
         raw::word(&self.table, self.handle, e.0, &mut letters)?;
         Ok(letters.into_iter().map(Generator).collect())
     }
 
-    /// Checks that the relations of these pair orders hold in this group; 13 names the first that fails.
+    /// Checks that the relations of these pair orders hold in this group, and that each generator is its own inverse.
+    ///
+    /// # Errors
+    ///
+    /// 2 for a list that does not have one order for each pair, 3 for an order outside 2 to 32,767, and 13 for the first relation that
+    /// fails.
     ///
     /// ```
     /// use hypergroup::Factor;
@@ -164,6 +302,10 @@ impl Factor {
     }
 
     /// The bytes that store this table. [`Image::check`] takes them back.
+    ///
+    /// # Errors
+    ///
+    /// None that is known: a factor fits its own table, and the bytes are as many as it needs.
     pub fn to_image(&self) -> Result<Vec<u8>, Refusal> {
         let size = 8 + 2 * usize::from(self.handle.generators) * self.handle.elements as usize;
         let mut bytes = vec![0; size];
@@ -172,6 +314,10 @@ impl Factor {
     }
 
     /// The factor that an image stores; refused as [`Image::check`] refuses it, with the places of what is wrong.
+    ///
+    /// # Errors
+    ///
+    /// Those of [`Image::check`].
     ///
     /// ```
     /// use hypergroup::Factor;
@@ -187,27 +333,58 @@ impl Factor {
             _ => (vec![], vec![]),
         };
         let handle = raw::image_read(bytes, &mut table, 0, &mut work)?;
-        Ok(Factor { table, handle })
+        Ok(Factor::new(&table, handle))
     }
 
     /// The table buffer that this factor stands in.
-    pub(crate) fn table(&self) -> &[u32] {
+    pub(crate) fn table(&self) -> &Arc<[u32]> {
         &self.table
     }
 
-    /// The stretch of table that this factor is, for a product.
-    pub(crate) fn stretch(&self) -> (&[u32], Handle) {
-        let need = raw::table_need(self.handle.generators, self.handle.room);
-        (&self.table[self.handle.start..self.handle.start + need], self.handle)
+    /// Where it stands there.
+    pub(crate) fn handle(&self) -> Handle {
+        self.handle
     }
+
+    /// The rows of its elements.
+    fn rows(&self) -> &[u32] {
+        let start = self.handle.start;
+        &self.table[start..start + raw::table_need(self.handle.generators, self.handle.elements)]
+    }
+}
+
+/// The rows that a function tells, asked in order, with how much room they need: zeros where there was no need to ask.
+///
+/// It is asked no more where the library will refuse: at a number that skips ahead, beyond the room, and at a word of more than 4,096.
+fn asked(generators: u8, mut compose: impl FnMut(Element, Generator) -> Element, room: u32) -> (Vec<u32>, u32) {
+    let n = usize::from(generators);
+    let (mut rows, mut lengths) = (vec![], vec![0]);
+    let mut e = 0;
+    while e < lengths.len() {
+        for g in 0..generators {
+            let to = compose(Element(e as u32), Generator(g)).0;
+            rows.push(to);
+            let count = lengths.len() as u32;
+            if to > count || to == count && (count == room || lengths[e] == 4096) {
+                // With one row more, where there may be one, the refusal is the one that comes with all of the room.
+                let needed = room.min(count + 1);
+                rows.resize(needed as usize * n, 0);
+                return (rows, needed);
+            }
+            if to == count {
+                lengths.push(lengths[e] + 1);
+            }
+        }
+        e += 1;
+    }
+    (rows, lengths.len() as u32)
 }
 
 /// Two factors are equal where their rows are: as many generators and elements, the same steps, and so the same words and inverses.
 impl PartialEq for Factor {
     fn eq(&self, other: &Self) -> bool {
         let (a, b) = (self.handle, other.handle);
-        let rows = raw::table_need(a.generators, a.elements);
-        (a.generators, a.elements) == (b.generators, b.elements) && self.stretch().0[..rows] == other.stretch().0[..rows]
+        (a.generators, a.elements) == (b.generators, b.elements) && self.rows() == other.rows()
     }
 }
 

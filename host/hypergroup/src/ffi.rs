@@ -4,12 +4,16 @@
 //! may be read, and written where it is `&mut`; lists that are written overlap no other, since `&mut` does not; an empty slice has a
 //! pointer that is not null. Every other argument is a number, and the library, which is proved, answers or refuses any.
 use crate::{Generator, Refusal};
+use alloc::vec::Vec;
 
 /// The answer of a call.
 pub type Answer<T> = Result<T, Refusal>;
 
 /// The handle of a factor, or of a builder, in a table buffer: plain numbers, which may be anything.
+///
+/// There may be more of them one day; [`Handle::new`] makes one of those that there are, and fields can be set.
 #[derive(Clone, Copy, Debug, PartialEq, Eq)]
+#[non_exhaustive]
 pub struct Handle {
     /// Where its stretch starts.
     pub start: usize,
@@ -22,6 +26,18 @@ pub struct Handle {
 }
 
 impl Handle {
+    /// A handle with these numbers.
+    #[must_use]
+    pub const fn new(start: usize, room: u32, generators: u8, elements: u32) -> Self {
+        Handle { start, room, generators, elements }
+    }
+
+    /// The same handle for a stretch that starts elsewhere.
+    #[must_use]
+    pub const fn at(self, start: usize) -> Self {
+        Handle { start, ..self }
+    }
+
     fn numbers(self) -> [u32; 5] {
         let start = self.start as u64;
         [start as u32, (start >> 32) as u32, self.room, self.generators.into(), self.elements]
@@ -30,6 +46,7 @@ impl Handle {
 
 /// The factors of a product: five numbers for each, as [`Handles::push`] writes them, and how many of them count.
 #[derive(Clone, Debug, Default, PartialEq, Eq)]
+#[non_exhaustive]
 pub struct Handles {
     /// The numbers. What a list that is too short does not tell is 0.
     pub numbers: Vec<u32>,
@@ -56,6 +73,7 @@ impl FromIterator<Handle> for Handles {
 /// A subgroup: the handle of its factor, and the factors of the overgroup in which it is (`over`), those multiplied on below them
 /// (`below`), which are the faster digits, and those above.
 #[derive(Clone, Debug, Default, PartialEq, Eq)]
+#[non_exhaustive]
 pub struct Sides {
     /// 128 numbers: the factor's five, how many are below, over and above, and 40 for each of these.
     pub numbers: Vec<u32>,
@@ -63,6 +81,7 @@ pub struct Sides {
 
 impl Sides {
     /// The numbers of a subgroup. Of more than eight factors the first eight are told, and how many they are.
+    #[must_use]
     pub fn new(factor: Handle, below: &Handles, over: &Handles, above: &Handles) -> Self {
         let mut numbers = factor.numbers().to_vec();
         numbers.extend([below, over, above].map(|side| u32::from(side.count)));
@@ -77,8 +96,11 @@ impl Sides {
 
 /// What adding an element answers, and the builder that goes on: one with no elements, which fits no buffer, where the build ended.
 #[derive(Clone, Copy, Debug, PartialEq, Eq)]
+#[non_exhaustive]
 pub struct Grown {
+    /// The new element.
     pub answer: Answer<u32>,
+    /// The builder that goes on.
     pub builder: Handle,
 }
 
@@ -182,11 +204,11 @@ macro_rules! ask_subgroup {
 #[inline]
 fn coded(x: u64) -> Answer<u32> {
     let (number, value) = ((x >> 32) as u32, x as u32);
-    if number == 0 { Ok(value) } else { Err(Refusal { number, places: [value, 0, 0] }) }
+    if number == 0 { Ok(value) } else { Err(Refusal::new(number, [value, 0, 0])) }
 }
 
 fn verdict(out: &[u32]) -> Answer<u32> {
-    if out[0] == 0 { Ok(out[1]) } else { Err(Refusal { number: out[0], places: [out[1], out[2], out[3]] }) }
+    if out[0] == 0 { Ok(out[1]) } else { Err(Refusal::new(out[0], [out[1], out[2], out[3]])) }
 }
 
 fn made(out: [u32; 5], start: usize, room: u32, generators: u8) -> Answer<Handle> {
@@ -267,6 +289,7 @@ pub fn image_check(image: &[u8], work: &mut [u8]) -> u32 {
 
 /// Walks a word of generators from an element: the element reached, or 65,536 + the refusal's number.
 #[inline]
+#[must_use]
 pub fn image_walk(image: &[u8], start: u32, word: &[u8]) -> u32 {
     // SAFETY: pointers and lengths of slices, as said at the head of this file.
     unsafe { hg_image_walk(image.as_ptr(), image.len(), start, word.as_ptr(), word.len()) }
@@ -321,9 +344,36 @@ pub fn word(t: &[u32], h: Handle, e: u32, out: &mut [u8]) -> Answer<u32> {
 }
 
 /// The same word by the call that hands back the filled part of its buffer; empty where `word` refuses.
+#[must_use]
 pub fn part(t: &[u32], h: Handle, e: u32) -> Vec<u8> {
     let letter = |k: usize| u8::try_from(ask!(hg_part, t, h, e, k)).ok();
     (0..).map_while(letter).collect()
+}
+
+/// One handle as the list of a product.
+struct One {
+    numbers: [u32; 5],
+    count: u8,
+}
+
+impl One {
+    fn of(h: Handle) -> Self {
+        One { numbers: h.numbers(), count: 1 }
+    }
+}
+
+/// The power of an element of one factor, which is a product's of that factor alone.
+#[inline]
+pub fn powi(t: &[u32], h: Handle, a: u32, i: i32) -> Answer<u32> {
+    let one = One::of(h);
+    coded(ask_product!(hg_product_powi, t, one, a, i))
+}
+
+/// The least power, from 1 on, of an element of one factor that is the identity.
+#[inline]
+pub fn period(t: &[u32], h: Handle, a: u32) -> Answer<u32> {
+    let one = One::of(h);
+    coded(ask_product!(hg_product_period, t, one, a))
 }
 
 /// Checks a factor against pair orders.
@@ -439,11 +489,16 @@ pub fn product_flatten(from: &[u32], p: &Handles, generators: u8, t: &mut [u32],
     made(out, start, room, generators)
 }
 
-/// The lent buffers of a subgroup: its table and work, the map from the overgroup to it, and the map back.
+/// The lent buffers of a subgroup, which are told apart by their names.
+#[derive(Debug)]
 pub struct SubgroupBuffers<'a> {
+    /// Where its factor is built.
     pub table: &'a mut [u32],
+    /// The work of that build.
     pub work: &'a mut [u32],
+    /// The map from the overgroup to it.
     pub inward: &'a mut [u32],
+    /// The map back.
     pub outward: &'a mut [u32],
 }
 
@@ -520,5 +575,5 @@ pub fn subgroup_right(from: &[u32], table: &[u32], s: &Sides, g: &Handles) -> An
 /// Generators as the bytes that an image's walk takes.
 pub(crate) fn letters(word: &[Generator]) -> &[u8] {
     // SAFETY: `Generator` is `repr(transparent)` over `u8`, so the same bytes are as many letters.
-    unsafe { std::slice::from_raw_parts(word.as_ptr().cast(), word.len()) }
+    unsafe { core::slice::from_raw_parts(word.as_ptr().cast(), word.len()) }
 }

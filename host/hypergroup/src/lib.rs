@@ -9,9 +9,9 @@
 //! | | |
 //! |---|---|
 //! | [`Factor`] | a group from pair orders, from composed rows, from an image, or step by step by a [`Builder`] |
-//! | [`Product`] | the direct product of up to eight factors |
+//! | [`Product`] | the direct product of up to eight factors, also of products |
 //! | [`Subgroup`] | a subgroup of a product, with its maps |
-//! | [`Image`] | a stored table: checked, walked, read back |
+//! | [`Image`], [`OwnedImage`] | a stored table: checked, walked, read back; over lent bytes, or its own |
 //! | [`raw`] | the library's calls on lent buffers and plain numbers |
 //!
 //! ```
@@ -30,22 +30,31 @@
 //! assert_eq!(live, image.read()?.compose(Element(2), missed)?);
 //! # Ok::<(), hypergroup::Refusal>(())
 //! ```
-#![warn(missing_docs)]
+//!
+//! Whatever is refused says so by a [`Refusal`]; the numbers that a call can have stand in its documentation under "Errors". Clones of
+//! every type share their tables, but for a [`Builder`]'s, and every type is `Send` and `Sync`. The crate needs no `std`, only `alloc`.
+#![no_std]
+#![warn(missing_docs, clippy::missing_errors_doc, clippy::must_use_candidate)]
+
+extern crate alloc;
 
 mod builder;
 mod factor;
-#[allow(missing_docs)]
+#[allow(clippy::missing_errors_doc)]
 mod ffi;
 mod image;
 mod number;
+mod owned_image;
 mod product;
 mod refusal;
+mod short_debug;
 mod subgroup;
 
 pub use builder::{Builder, Stored};
 pub use factor::Factor;
 pub use image::Image;
 pub use number::{Element, Generator};
+pub use owned_image::OwnedImage;
 pub use product::Product;
 pub use refusal::Refusal;
 pub use subgroup::Subgroup;
@@ -54,6 +63,12 @@ pub use subgroup::Subgroup;
 ///
 /// A refused question writes nothing. Arguments that are refused touch no buffer; a refusal once a build has started leaves the
 /// stretches that it needs zero. How much a build needs is [`table_need`](raw::table_need) and [`work_need`](raw::work_need).
+///
+/// # Errors
+///
+/// Beside the refusals that the same call of a safe type has: 4 where a lent buffer is short, and 17 where a handle does not fit its
+/// buffer or a number that is read there is out of range. Over a table that no call accepted a build from it may be refused by any of
+/// 5 to 12.
 ///
 /// ```
 /// use hypergroup::raw;
@@ -66,13 +81,16 @@ pub use subgroup::Subgroup;
 /// ```
 pub mod raw {
     pub use crate::ffi::*;
+    use alloc::{vec, vec::Vec};
 
     /// The numbers of table that a build with so many generators and so much room needs.
+    #[must_use]
     pub fn table_need(generators: u8, room: u32) -> usize {
         room as usize * (2 * usize::from(generators) + 4)
     }
 
     /// The numbers of work that it needs.
+    #[must_use]
     pub fn work_need(generators: u8, room: u32) -> usize {
         let n = usize::from(generators);
         room as usize * (6 * n * n + 4 * n)

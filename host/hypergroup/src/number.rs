@@ -1,4 +1,4 @@
-use std::fmt;
+use core::fmt;
 
 /// An element of a group: its number in the numbering of its table. The identity is 0.
 #[derive(Clone, Copy, Debug, Default, PartialEq, Eq, PartialOrd, Ord, Hash)]

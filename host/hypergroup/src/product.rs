@@ -1,5 +1,9 @@
 use crate::raw::{self, Handle, Handles};
+use crate::refusal::Said;
 use crate::{Element, Factor, Generator, Refusal};
+use alloc::sync::Arc;
+use alloc::{vec, vec::Vec};
+use core::ops::Mul;
 
 /// The direct product of up to eight factors.
 ///
@@ -17,11 +21,15 @@ use crate::{Element, Factor, Generator, Refusal};
 /// assert_eq!(both.compose(Element(9), Element(7))?, Element(5));
 /// assert_eq!(both.inverse(Element(9))?, Element(10));
 /// assert_eq!(both.period(Element(9))?, 6);
+///
+/// // A product of products has the factors of all of them.
+/// let four = (&both * &both)?;
+/// assert_eq!((four.factor_count(), four.element_count()), (4, 144));
 /// # Ok::<(), hypergroup::Refusal>(())
 /// ```
-#[derive(Clone, Debug)]
+#[derive(Clone)]
 pub struct Product {
-    table: Vec<u32>,
+    table: Arc<[u32]>,
     factors: Vec<Handle>,
     handles: Handles,
     elements: u32,
@@ -31,42 +39,84 @@ pub struct Product {
 impl Product {
     /// The product of these factors, the fastest digit first; of none, the group of one element.
     ///
-    /// Refused with 15 where there are more than 8, or more than 4,294,967,295 elements.
+    /// A factor that is there more than once is kept once, and where all stand in one table, as the clones of a factor do and the
+    /// factors of a product, that table is shared.
+    ///
+    /// # Errors
+    ///
+    /// 15 for more than 8 factors, or more than 4,294,967,295 elements.
     pub fn new<'a>(factors: impl IntoIterator<Item = &'a Factor>) -> Result<Self, Refusal> {
-        let (mut table, mut listed) = (vec![], vec![]);
         // Nine are as many too many as any more.
-        for factor in factors.into_iter().take(9) {
-            // A stretch holds no address, so that it is the same factor wherever it stands.
-            let (stretch, handle) = factor.stretch();
-            listed.push(Handle { start: table.len(), ..handle });
-            table.extend_from_slice(stretch);
-        }
-        Self::of(table, listed)
+        let (table, factors) = gathered(factors.into_iter().take(9).map(|f| (f.table(), f.handle())));
+        Self::of(table, factors)
     }
 
-    pub(crate) fn of(table: Vec<u32>, factors: Vec<Handle>) -> Result<Self, Refusal> {
+    /// The product of these products: of all their factors, one after the other.
+    ///
+    /// # Errors
+    ///
+    /// 15 for more than 8 factors, or more than 4,294,967,295 elements.
+    ///
+    /// ```
+    /// use hypergroup::{Factor, Product};
+    /// let z2 = Product::from(&Factor::from_rows(1, &[1, 0])?);
+    /// let (two, four) = (Product::product([&z2, &z2])?, Product::product([&z2, &z2, &z2, &z2])?);
+    /// assert_eq!((&two * &two)?.element_count(), four.element_count());
+    /// # Ok::<(), hypergroup::Refusal>(())
+    /// ```
+    #[allow(clippy::self_named_constructors)] // It is the original's name.
+    pub fn product<'a>(products: impl IntoIterator<Item = &'a Product>) -> Result<Self, Refusal> {
+        let (table, factors) = gathered(products.into_iter().flat_map(Self::parts).take(9));
+        Self::of(table, factors)
+    }
+
+    /// The product of factors that stand in one table buffer.
+    pub(crate) fn of(table: Arc<[u32]>, factors: Vec<Handle>) -> Result<Self, Refusal> {
         let handles: Handles = factors.iter().copied().collect();
-        let elements = raw::product_count(&table, &handles)?;
+        let said = if factors.len() > 8 { Said::Factors } else { Said::Elements };
+        let elements = raw::product_count(&table, &handles).map_err(|no| no.said(15, said))?;
         let generators = raw::product_generators(&table, &handles)? as u8;
         Ok(Product { table, factors, handles, elements, generators })
     }
 
-    /// The table buffer, and the handles of the factors in it.
-    pub(crate) fn parts(&self) -> (&[u32], &[Handle]) {
-        (&self.table, &self.factors)
+    /// The table buffer, and the list of the factors in it.
+    pub(crate) fn asked(&self) -> (&Arc<[u32]>, &Handles) {
+        (&self.table, &self.handles)
+    }
+
+    /// The handles of the factors, each with the table buffer.
+    pub(crate) fn parts(&self) -> impl ExactSizeIterator<Item = (&Arc<[u32]>, Handle)> + Clone {
+        self.factors.iter().map(|&h| (&self.table, h))
+    }
+
+    /// Its factors, the fastest digit first. They share its table.
+    ///
+    /// ```
+    /// use hypergroup::{Factor, Product};
+    /// let (s3, z2) = (Factor::from_orders(2, &[3], 6)?, Factor::from_rows(1, &[1, 0])?);
+    /// let both = Product::new([&s3, &z2])?;
+    /// assert!(both.factors().eq([s3, z2]));
+    /// # Ok::<(), hypergroup::Refusal>(())
+    /// ```
+    #[must_use]
+    pub fn factors(&self) -> impl ExactSizeIterator<Item = Factor> + DoubleEndedIterator {
+        self.factors.iter().map(|&h| Factor::within(self.table.clone(), h))
     }
 
     /// How many elements the product has.
+    #[must_use]
     pub fn element_count(&self) -> u32 {
         self.elements
     }
 
     /// How many generators it has: at most 64.
+    #[must_use]
     pub fn generator_count(&self) -> u8 {
         self.generators
     }
 
     /// How many factors it has.
+    #[must_use]
     pub fn factor_count(&self) -> usize {
         self.handles.count.into()
     }
@@ -87,41 +137,69 @@ impl Product {
     }
 
     /// The element that a generator is.
+    ///
+    /// # Errors
+    ///
+    /// 14 where there is no such generator.
     #[inline]
     pub fn generator(&self, g: Generator) -> Result<Element, Refusal> {
         raw::product_generator(&self.table, &self.handles, g.0).map(Element)
     }
 
     /// Where one turn leads from an element.
+    ///
+    /// # Errors
+    ///
+    /// 14 where there is no such element (position 0) or generator (position 1).
     #[inline]
     pub fn step(&self, e: Element, g: Generator) -> Result<Element, Refusal> {
         raw::product_step(&self.table, &self.handles, e.0, g.0).map(Element)
     }
 
     /// Where turns lead, one after the other, from an element.
+    ///
+    /// # Errors
+    ///
+    /// 14 where there is no such element or generator.
     pub fn walk(&self, from: Element, turns: impl IntoIterator<Item = Generator>) -> Result<Element, Refusal> {
         turns.into_iter().try_fold(from, |e, g| self.step(e, g))
     }
 
     /// a·b: first the turns of `a`, then those of `b`.
+    ///
+    /// # Errors
+    ///
+    /// 14 where there is no such element: position 0 for `a`, 1 for `b`.
     #[inline]
     pub fn compose(&self, a: Element, b: Element) -> Result<Element, Refusal> {
         raw::product_compose(&self.table, &self.handles, a.0, b.0).map(Element)
     }
 
     /// The element that undoes `a`.
+    ///
+    /// # Errors
+    ///
+    /// 14 where there is no such element.
     #[inline]
     pub fn inverse(&self, a: Element) -> Result<Element, Refusal> {
         raw::product_inverse(&self.table, &self.handles, a.0).map(Element)
     }
 
     /// a·b·a⁻¹.
+    ///
+    /// # Errors
+    ///
+    /// 14 where there is no such element: position 0 for `a`, 1 for `b`.
     #[inline]
     pub fn conjugate(&self, a: Element, b: Element) -> Result<Element, Refusal> {
         raw::product_conjugate(&self.table, &self.handles, a.0, b.0).map(Element)
     }
 
     /// The power of an element, for any exponent.
+    ///
+    /// # Errors
+    ///
+    /// 14 where there is no such element.
     ///
     /// ```
     /// use hypergroup::{Element, Factor, Product};
@@ -136,43 +214,71 @@ impl Product {
     }
 
     /// The least power, from 1 on, of an element that is the identity.
+    ///
+    /// # Errors
+    ///
+    /// 14 where there is no such element.
     #[inline]
     pub fn period(&self, a: Element) -> Result<u32, Refusal> {
         raw::product_period(&self.table, &self.handles, a.0)
     }
 
     /// The element of each factor that `e` is made of.
+    ///
+    /// # Errors
+    ///
+    /// 14 where there is no such element.
     pub fn split(&self, e: Element) -> Result<Vec<Element>, Refusal> {
         let mut digits = [0; 8];
         let count = raw::product_split(&self.table, &self.handles, e.0, &mut digits)?;
         Ok(digits[..count as usize].iter().map(|&d| Element(d)).collect())
     }
 
-    /// The element that is made of these. A longer list is taken; a shorter one is refused with 4.
+    /// The element that is made of these, one for each factor. Of a longer list the rest is not looked at.
+    ///
+    /// # Errors
+    ///
+    /// 14 where a factor has no such element, at its position in the list; then 4 for a list that is too short.
     pub fn join(&self, digits: &[Element]) -> Result<Element, Refusal> {
         let digits: Vec<u32> = digits.iter().map(|e| e.0).collect();
-        raw::product_join(&self.table, &self.handles, &digits).map(Element)
+        raw::product_join(&self.table, &self.handles, &digits).map(Element).map_err(|no| no.said(4, Said::Digits))
     }
 
     /// The element of one factor that `e` has there.
+    ///
+    /// # Errors
+    ///
+    /// 14 where there is no such factor (position 0) or element (position 1).
     #[inline]
     pub fn project(&self, factor: u8, e: Element) -> Result<Element, Refusal> {
         raw::product_project(&self.table, &self.handles, factor, e.0).map(Element)
     }
 
     /// The element that is `x` in one factor and the identity in the others.
+    ///
+    /// # Errors
+    ///
+    /// 14 where there is no such factor (position 0), or the factor has no such element (position 1).
     #[inline]
     pub fn inject(&self, factor: u8, x: Element) -> Result<Element, Refusal> {
         raw::product_inject(&self.table, &self.handles, factor, x.0).map(Element)
     }
 
     /// How long the recorded word of an element is.
+    ///
+    /// # Errors
+    ///
+    /// 14 where there is no such element.
     #[inline]
     pub fn word_length(&self, e: Element) -> Result<u32, Refusal> {
         raw::product_length(&self.table, &self.handles, e.0)
     }
 
     /// The recorded word of an element: the words of its digits, one after the other.
+    ///
+    /// # Errors
+    ///
+    /// 14 where there is no such element.
     pub fn word(&self, e: Element) -> Result<Vec<Generator>, Refusal> {
         let mut letters = vec![0; self.word_length(e)? as usize];
         raw::product_word(&self.table, &self.handles, e.0, &mut letters)?;
@@ -181,16 +287,85 @@ impl Product {
 
     /// One factor that is this product, with the same numbers, where these follow the numbering rule.
     ///
+    /// # Errors
+    ///
+    /// 1 for more than 8 generators; 7 where the numbers do not follow the rule, as those of most products with two large factors do
+    /// not; 5 for more than 65,535 elements; 6 where a word would pass 4,096 generators.
+    ///
     /// ```
     /// use hypergroup::{Factor, Product};
     /// let z2 = Factor::from_rows(1, &[1, 0])?;
-    /// let square = Product::new([&z2, &z2])?.flatten(4)?;
+    /// let square = Product::new([&z2, &z2])?.flatten()?;
     /// assert_eq!(square, Factor::from_orders(2, &[2], 4)?);
     /// # Ok::<(), hypergroup::Refusal>(())
     /// ```
-    pub fn flatten(&self, room: u32) -> Result<Factor, Refusal> {
+    pub fn flatten(&self) -> Result<Factor, Refusal> {
+        self.flatten_with_room(self.elements.min(65_535))
+    }
+
+    /// The same in no more than so much room, so that it takes no more memory: of a large product the numbers mostly skip ahead soon.
+    ///
+    /// # Errors
+    ///
+    /// As [`Product::flatten`], with 4 for a room outside 1 to 65,535, and 5 where it is not enough.
+    pub fn flatten_with_room(&self, room: u32) -> Result<Factor, Refusal> {
         let (mut table, mut work) = raw::lent(self.generators, room);
-        let handle = raw::product_flatten(&self.table, &self.handles, self.generators, &mut table, 0, &mut work, room)?;
-        Ok(Factor::new(table, handle))
+        let made = raw::product_flatten(&self.table, &self.handles, self.generators, &mut table, 0, &mut work, room);
+        Ok(Factor::new(&table, made.map_err(|no| no.said(4, Said::Room))?))
+    }
+}
+
+/// One table buffer with all these factors in it, and their handles there.
+///
+/// The library reads the factors of a product in one buffer. Where they stand in one already it is shared; else each is copied once. A
+/// stretch holds no address, so that it is the same factor wherever it stands.
+pub(crate) fn gathered<'a>(parts: impl Iterator<Item = (&'a Arc<[u32]>, Handle)>) -> (Arc<[u32]>, Vec<Handle>) {
+    let parts: Vec<_> = parts.collect();
+    let handles = parts.iter().map(|&(_, handle)| handle);
+    match parts.first() {
+        Some((shared, _)) if parts.iter().all(|(table, _)| Arc::ptr_eq(table, shared)) => return (Arc::clone(shared), handles.collect()),
+        _ => {}
+    }
+    let (mut all, mut moved) = (vec![], Vec::<Handle>::new());
+    for (k, &(table, handle)) in parts.iter().enumerate() {
+        let earlier = parts[..k].iter().position(|&(t, h)| Arc::ptr_eq(t, table) && h == handle);
+        moved.push(earlier.map_or(handle.at(all.len()), |i| moved[i]));
+        if earlier.is_none() {
+            let rows = raw::table_need(handle.generators, handle.room);
+            all.extend_from_slice(&table[handle.start..handle.start + rows]);
+        }
+    }
+    (all.into(), moved)
+}
+
+/// The group of one element: the product of no factors.
+impl Default for Product {
+    fn default() -> Self {
+        Product { table: Arc::from([]), factors: vec![], handles: Handles::default(), elements: 1, generators: 0 }
+    }
+}
+
+/// The product of one factor, which shares its table.
+impl From<&Factor> for Product {
+    fn from(factor: &Factor) -> Self {
+        Product::new([factor]).expect("one accepted factor is a product")
+    }
+}
+
+/// The product of two products; refused as [`Product::product`].
+impl Mul for &Product {
+    type Output = Result<Product, Refusal>;
+
+    fn mul(self, other: Self) -> Self::Output {
+        Product::product([self, other])
+    }
+}
+
+/// The product of two factors; refused as [`Product::new`].
+impl Mul for &Factor {
+    type Output = Result<Product, Refusal>;
+
+    fn mul(self, other: Self) -> Self::Output {
+        Product::new([self, other])
     }
 }

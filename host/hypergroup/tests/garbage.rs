@@ -25,7 +25,7 @@ impl Random {
     }
     fn handle(&mut self) -> Handle {
         let start = [self.below(20) as usize, usize::MAX, usize::MAX / 4][self.below(12).saturating_sub(9) as usize];
-        Handle { start, room: self.number(), generators: self.byte(), elements: self.number() }
+        Handle::new(start, self.number(), self.byte(), self.number())
     }
 }
 
@@ -86,6 +86,9 @@ fn questions() {
         asked(raw::compose(&table, h, a, b));
         asked(raw::conjugate(&table, h, a, b));
         asked(raw::inverse(&table, h, a));
+        let one: Handles = [h].into_iter().collect();
+        assert_eq!(raw::powi(&table, h, a, b as i32), raw::product_powi(&table, &one, a, b as i32));
+        assert_eq!(raw::period(&table, h, a), raw::product_period(&table, &one, a));
         asked(raw::length(&table, h, a));
         writes(165, r.below(9) as usize, |out| raw::word(&table, h, a, out));
         let mut out = [165; 4096];
@@ -279,7 +282,7 @@ fn builds() {
         let answer = match r.below(4) {
             0 => raw::composed(&mut t, start, &mut w, &rows, n, room),
             1 => raw::enumerate(&mut t, start, &mut w, &rows[..rows.len().min(3)], n, room),
-            2 => raw::build(&mut t, Handle { start, room, generators: n, elements: r.below(6) as u32 }, &mut w),
+            2 => raw::build(&mut t, Handle::new(start, room, n, r.below(6) as u32), &mut w),
             _ => {
                 let mut p = Handles::default();
                 (0..r.below(3)).for_each(|_| p.push(r.handle()));
@@ -333,7 +336,7 @@ fn enumerations_into_anything() {
                 }
                 let (before, lent) = (table.clone(), work.clone());
                 let answer = raw::enumerate(&mut table, start, &mut work, orders, n, room);
-                assert_eq!(answer, wanted.map(|h| Handle { start, ..h }));
+                assert_eq!(answer, wanted.map(|h| h.at(start)));
                 assert!(around(&before, &table, start..start + need) && cleared(&lent, &work, 0..used));
                 assert_eq!(table[start..start + need], clean);
                 assert!(spare.iter().all(|&x| x == 0));
@@ -353,7 +356,7 @@ fn builders() {
         let mut t = before.clone();
         let begun = raw::begin(&mut t, start, room, n);
         match begun {
-            Ok(b) => assert!(b == Handle { start, room, generators: n, elements: 1 } && cleared(&before, &t, stretch(b))),
+            Ok(b) => assert!(b == Handle::new(start, room, n, 1) && cleared(&before, &t, stretch(b))),
             Err(x) => assert!([1, 4].contains(&x.number) && t == before, "{x:?}"),
         }
         let mut b = begun.unwrap_or_else(|_| r.handle());
@@ -372,7 +375,11 @@ fn builders() {
                 let over = grown.builder.elements == 0;
                 match grown.answer {
                     Ok(new) => {
-                        assert!(new == b.elements && grown.builder == Handle { elements: new + 1, ..b } && around(&before, &t, stretch(b)))
+                        assert!(
+                            new == b.elements
+                                && grown.builder == Handle::new(b.start, b.room, b.generators, new + 1)
+                                && around(&before, &t, stretch(b))
+                        )
                     }
                     Err(Refusal { number: 5 | 6, .. }) => assert!(over && cleared(&before, &t, stretch(b))),
                     // 17 for the length that is read ends the build; in the handle, or 14, nothing changes.
@@ -431,7 +438,7 @@ fn subgroups() {
     let mut met = [[0; 18]; 2];
     for _ in 0..20_000 {
         let over: Handles = match r.below(8) {
-            0 => [Handle { elements: r.below(7) as u32, ..handle }].into_iter().collect(),
+            0 => [Handle::new(handle.start, handle.room, handle.generators, r.below(7) as u32)].into_iter().collect(),
             1 => [handle, r.handle()].into_iter().collect(),
             // More than 65,535 elements, or more than 8 factors.
             2 => (0..7 + r.below(3)).map(|_| handle).collect(),
@@ -505,7 +512,7 @@ fn images() {
         let zero = || cleared(&before[0], &t, start..start + end) && cleared(&before[1], &w, 0..need);
         match read {
             Ok(h) => {
-                assert!(h == Handle { start, room: count, generators: n, elements: count });
+                assert!(h == Handle::new(start, count, n, count));
                 assert!(around(&before[0], &t, stretch(h)) && cleared(&before[1], &w, 0..need));
             }
             Err(Refusal { number: 1 | 4, .. }) => assert!(untouched),
@@ -526,7 +533,7 @@ fn images() {
 
 #[test]
 fn empty_lists() {
-    let h = Handle { start: 0, room: 1, generators: 0, elements: 1 };
+    let h = Handle::new(0, 1, 0, 1);
     assert_eq!(raw::count(&[], h).unwrap_err().number, 17);
     assert_eq!(raw::product_count(&[], &Handles::default()), Ok(1));
     assert_eq!(raw::product_split(&[], &Handles::default(), 0, &mut []), Ok(0));

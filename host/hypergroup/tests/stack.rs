@@ -131,7 +131,7 @@ fn products() {
     for g in p.generators() {
         assert_eq!(in_thread(|| p.generator(g)), in_thread(|| p.step(Element(0), g)));
     }
-    assert_eq!(in_thread(|| one.flatten(24_564)).as_ref(), Ok(f));
+    assert_eq!(in_thread(|| one.flatten()).as_ref(), Ok(f));
 }
 
 #[test]
@@ -160,12 +160,12 @@ fn subgroups() {
     let (f, last) = (&long.factor, long.last);
     let over = in_thread(|| Product::new([f])).unwrap();
     // All of the group by three elements, of which the first has the longest word: each product is one along it.
-    let all = in_thread(|| Subgroup::new(&over, &[last, Element(1), Element(2)], 24_564)).unwrap();
+    let all = in_thread(|| Subgroup::new(&over, &[last, Element(1), Element(2)])).unwrap();
     assert_eq!(all.element_count(), 24_564);
     assert_eq!(in_thread(|| all.generator(Generator(0))), Ok(last));
     let mine = in_thread(|| all.to_subgroup(last)).unwrap().unwrap();
     assert_eq!(in_thread(|| all.to_overgroup(mine)), Ok(last));
-    let turns = in_thread(|| Subgroup::from_predicate(&over, 12_282, |e| !long.members[e.0 as usize].1)).unwrap();
+    let turns = in_thread(|| Subgroup::from_predicate_with_room(&over, |e| !long.members[e.0 as usize].1, 12_282)).unwrap();
     assert_eq!(turns.element_count(), 12_282);
     let two = Factor::from_orders(1, &[], 2).unwrap();
     let beside = Product::new([&two]).unwrap();

@@ -10,6 +10,13 @@ struct Lent {
     needed: usize,
 }
 
+/// What a build gives: its table buffer, the verdict, and the same by a safe type.
+pub(crate) struct Made {
+    pub(crate) table: Vec<u32>,
+    pub(crate) answer: Answer<Handle>,
+    pub(crate) safe: Option<safe::Factor>,
+}
+
 impl Ours {
     /// Adds a stretch with a margin on both sides to a table buffer, and lends work with a margin.
     fn lend(&mut self, mut table: Vec<u32>, n: usize, room: u32) -> Lent {
@@ -66,20 +73,25 @@ impl Ours {
         (lent.table, answer)
     }
 
+    /// The same with no other factor in the table buffer; and by a safe type, where no buffer is short and something is to be asked.
     pub(crate) fn build_in(
         &mut self,
         n: usize,
         room: u32,
         call: impl FnOnce(&mut [u32], usize, &mut [u32]) -> Answer<Handle>,
-    ) -> Result<Built, No> {
+        other: impl FnOnce(&Answer<Handle>) -> Option<safe::Factor>,
+    ) -> Result<Built<safe::Factor>, No> {
+        let whole = self.short == Short::default();
         let (table, answer) = self.build_after(vec![], n, room, call);
-        Ok(Built { table, handle: answer? })
+        let safe = if whole { other(&answer) } else { None };
+        Ok(Built { table, handle: answer?, safe })
     }
 
     /// `enum n orders..` or `table n N rows..`, after a table buffer.
-    pub(crate) fn made(&mut self, base: Vec<u32>, w: &[&str]) -> Result<(Vec<u32>, Answer<Handle>), No> {
+    pub(crate) fn made(&mut self, base: Vec<u32>, w: &[&str]) -> Result<Made, No> {
         let n: usize = number(w, 1)?;
         let k = n.min(255) as u8;
+        let whole = self.short == Short::default();
         match w[0] {
             "table" => {
                 let room = self.room.min(number(w, 2)?);
@@ -87,26 +99,31 @@ impl Ours {
                 if self.short.rows > 0 {
                     rows.truncate((room as usize * n).saturating_sub(1));
                 }
-                Ok(self.build_after(base, n, room, |t, start, work| raw::composed(t, start, work, &rows, k, room)))
+                let (table, answer) = self.build_after(base, n, room, |t, start, work| raw::composed(t, start, work, &rows, k, room));
+                let safe = if whole { safe::composed(&answer, k, &rows, room) } else { None };
+                Ok(Made { table, answer, safe })
             }
             "enum" => {
                 let (orders, room) = (numbers(&w[2..])?, self.room);
-                Ok(self.build_after(base, n, room, |t, start, work| raw::enumerate(t, start, work, &orders, k, room)))
+                let (table, answer) = self.build_after(base, n, room, |t, start, work| raw::enumerate(t, start, work, &orders, k, room));
+                let safe = if whole { safe::made(&answer, safe::Factor::from_orders(k, &orders, room)) } else { None };
+                Ok(Made { table, answer, safe })
             }
             _ => unsupported(),
         }
     }
 
-    pub(crate) fn build(&mut self, w: &[&str]) -> Result<Built, No> {
-        let (table, answer) = self.made(vec![], w)?;
-        Ok(Built { table, handle: answer? })
+    pub(crate) fn build(&mut self, w: &[&str]) -> Result<Built<safe::Factor>, No> {
+        let Made { table, answer, safe } = self.made(vec![], w)?;
+        Ok(Built { table, handle: answer?, safe })
     }
 
     /// A factor more, behind the others in their buffer.
     pub(crate) fn add_factor(&mut self, w: &[&str]) -> Result<(), No> {
-        let (space, answer) = self.made(self.space.clone(), w)?;
-        self.space = space;
+        let Made { table, answer, safe } = self.made(self.space.clone(), w)?;
+        self.space = table;
         self.factors.push(answer?);
+        self.safe.push(safe);
         self.say(format!("ok {}", self.factors.len()));
         Ok(())
     }
@@ -114,6 +131,7 @@ impl Ours {
     /// `builder n`, with the current room.
     pub(crate) fn begin(&mut self, n: usize) -> Result<(), No> {
         let room = self.room;
+        let whole = self.short == Short::default();
         let mut lent = self.lend(vec![], n, room);
         let (before, s) = (lent.table.clone(), lent.stretch);
         let answer = raw::begin(&mut lent.table, s.start, room, n.min(255) as u8);
@@ -125,7 +143,9 @@ impl Ours {
             }
             Err(_) => assert!(*t == before, "refused arguments changed a buffer"),
         }
-        self.builder = Some(Built { handle: answer?, table: lent.table });
+        let safe = whole.then(|| safe::Builder::new(n.min(255) as u8, room));
+        safe::same(answer.map(|h| h.elements), safe.as_ref().map(|made| made.as_ref().map(|b| b.element_count()).map_err(|no| *no)))?;
+        self.builder = Some(Built { handle: answer?, table: lent.table, safe: safe.and_then(Result::ok) });
         self.say("ok");
         Ok(())
     }
@@ -136,15 +156,21 @@ impl Ours {
         let before = b.table.clone();
         let line = match w[0] {
             "add" => {
-                let grown = raw::add(&mut b.table, b.handle, number(w, 1)?, number(w, 2)?);
+                let (e, g) = (number(w, 1)?, number(w, 2)?);
+                let grown = raw::add(&mut b.table, b.handle, e, g);
                 held_growth(&before, &b, grown.answer);
                 b.handle = grown.builder;
-                grown.answer.map(|e| e.to_string())
+                let other = b.safe.as_mut().map(|b| safe::reached(b.add(safe::Element(e), safe::Generator(g))));
+                assert!(b.safe.as_ref().is_none_or(|s| s.element_count() == b.handle.elements), "two builders differ");
+                safe::same(grown.answer, other).map(|e| e.to_string())
             }
             "set" => {
-                let stored = raw::set(&mut b.table, b.handle, number(w, 1)?, number(w, 2)?, number(w, 3)?);
+                let (e, g, to) = (number(w, 1)?, number(w, 2)?, number(w, 3)?);
+                let stored = raw::set(&mut b.table, b.handle, e, g, to);
                 assert!(stored.is_ok() || b.table == before, "a refused step changed the table");
-                stored.map(|new| if new { "new" } else { "known" }.into())
+                let other = b.safe.as_mut().map(|b| b.set(safe::Element(e), safe::Generator(g), safe::Element(to)));
+                let new = safe::same(stored, other.map(|stored| stored.map(|how| how == safe::Stored::New)));
+                new.map(|new| if new { "new" } else { "known" }.into())
             }
             _ => return self.finish(b),
         };
@@ -154,8 +180,9 @@ impl Ours {
     }
 
     /// `build`: its factor is the current product then.
-    fn finish(&mut self, b: Built) -> Result<(), No> {
+    fn finish(&mut self, b: Built<safe::Builder>) -> Result<(), No> {
         let h = b.handle;
+        let safe = b.safe.filter(|_| self.short == Short::default()).map(safe::Builder::build);
         // A forged handle says no stretch: all of the table is looked at then.
         let fits = h.generators <= 8 && h.room <= 65_535;
         let end = h.start.saturating_add(if fits { raw::table_need(h.generators, h.room) } else { 0 });
@@ -165,15 +192,17 @@ impl Ours {
         let work = vec![FILL; (needed + margin).saturating_sub(std::mem::take(&mut self.short).work)];
         let lent = Lent { table: b.table, stretch, needed: needed.min(work.len()), work };
         let (lent, answer) = self.call(lent, |t, _, w| raw::build(t, h, w));
-        let b = Built { table: lent.table, handle: answer? };
+        let safe = safe.and_then(|built| safe::made(&answer, built));
+        let b = Built { table: lent.table, handle: answer?, safe };
         self.say_factor(&b)?;
-        self.product = Product::of(b.table, vec![b.handle]);
+        let safe = b.safe.as_ref().map(safe::Product::from);
+        self.product = Product { safe, ..Product::of(b.table, vec![b.handle]) };
         Ok(())
     }
 }
 
 /// 14, and 17 in the handle, change nothing; 5, 6, and 17 for the length that is read end the build, and its stretch is zero.
-fn held_growth(before: &[u32], b: &Built, answer: Answer<u32>) {
+fn held_growth(before: &[u32], b: &Built<safe::Builder>, answer: Answer<u32>) {
     let ended = match answer {
         Ok(_) => return,
         Err(Refusal { number: 5 | 6, .. }) => true,

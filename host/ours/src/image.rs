@@ -21,9 +21,9 @@ impl Ours {
     /// The image of a factor that is made here, or of the one that is the current product, with a margin that must stay.
     pub(crate) fn image(&mut self, w: &[&str]) -> Result<(), No> {
         let made = if w.is_empty() { None } else { Some(self.build(w)?) };
-        let (t, h) = match (&made, self.product.single()) {
-            (Some(b), _) => (&b.table, b.handle),
-            (None, Some(h)) => (&self.product.table, h),
+        let (t, h, safe) = match (&made, self.product.single()) {
+            (Some(b), _) => (&b.table, b.handle, b.safe.clone()),
+            (None, Some(h)) => (&self.product.table, h, self.product.safe.as_ref().and_then(|p| p.factors().next())),
             _ => return unsupported(),
         };
         let size = 8 + 2 * usize::from(h.generators) * h.elements.min(65_536) as usize;
@@ -32,7 +32,8 @@ impl Ours {
         let answer = raw::image_write(t, h, &mut out);
         let len = answer.unwrap_or(0) as usize;
         assert!(out[len..].iter().all(|&x| x == BYTE), "an image wrote past its end");
-        answer?;
+        let safe = safe.filter(|_| short == 0).map(|f| f.to_image());
+        safe::same(answer.map(|_| out[..len].to_vec()), safe)?;
         self.say(format!("ok {}", out[..len].iter().map(|x| format!("{x:02x}")).collect::<String>()));
         Ok(())
     }
@@ -43,7 +44,8 @@ impl Ours {
         // Of a bad head no buffer's length is looked at.
         let right = image.len() == 8 + 2 * usize::from(n) * count as usize;
         let (n, count) = if right { (n, count) } else { (0, 1) };
-        let b = self.build_in(n.into(), count, |t, start, work| raw::image_read(image, t, start, work))?;
+        let read = |answer: &Answer<Handle>| safe::made(answer, safe::Factor::from_image(image));
+        let b = self.build_in(n.into(), count, |t, start, work| raw::image_read(image, t, start, work), read)?;
         self.say_factor(&b)
     }
 
@@ -64,6 +66,9 @@ impl Ours {
             16 => assert!(zero || untouched, "a refusal left something"),
             _ => assert!(zero, "a check left something"),
         }
+        if short == 0 {
+            safe::held_check(image, number);
+        }
         self.say(number);
     }
 
@@ -72,7 +77,9 @@ impl Ours {
         let image = bytes(w, 1)?;
         let start = number(w, 2)?;
         let word = (3..w.len()).map(|i| number(w, i)).collect::<Result<Vec<u8>, No>>()?;
-        self.say(raw::image_walk(&image, start, &word));
+        let walked = raw::image_walk(&image, start, &word);
+        safe::held_walk(&image, start, &word, walked);
+        self.say(walked);
         Ok(())
     }
 }

@@ -19,11 +19,13 @@
 //!   `unimage HEX` prints as `table` does; `imgcheck HEX` and `imgwalk HEX START G..` print the number that comes back. `-` is no byte.
 //!
 //! What this program cannot answer yet it says with `unsupported`. Whatever a call leaves in the buffers is held to document 01 after
-//! every build, a product of one factor to the factor itself, and both ways to make a product to each other; a fault ends the program.
+//! every build, a product of one factor to the factor itself, both ways to make a product to each other, and the calls on buffers to the
+//! crate's safe types, which are asked the same wherever they can be (src/safe.rs); a fault ends the program.
 mod bench;
 mod build;
 mod image;
 mod questions;
+mod safe;
 mod say;
 mod subgroups;
 
@@ -35,26 +37,34 @@ use std::io::{BufRead, BufWriter, Write};
 const FILL: u32 = 0xa5a5_a5a5;
 const MARGIN: usize = 7;
 
-/// A table buffer with a factor in it.
-struct Built {
+/// A table buffer with a factor in it, or a builder; and the same made by a safe type.
+struct Built<S> {
     table: Vec<u32>,
     handle: Handle,
+    safe: Option<S>,
 }
 
 /// A table buffer with the factors of a product in it.
-#[derive(Default)]
 struct Product {
     table: Vec<u32>,
     handles: Handles,
     /// The same, for the calls on one factor.
     factors: Vec<Handle>,
+    /// The same product by the safe types; none where this one is altered.
+    safe: Option<safe::Product>,
+}
+
+impl Default for Product {
+    fn default() -> Self {
+        Product { safe: Some(safe::Product::default()), ..Product::of(vec![], vec![]) }
+    }
 }
 
 impl Product {
     fn of(table: Vec<u32>, factors: Vec<Handle>) -> Self {
         let mut handles = Handles::default();
         factors.iter().for_each(|&h| handles.push(h));
-        Product { table, handles, factors }
+        Product { table, handles, factors, safe: None }
     }
 
     /// The one factor, where there is one.
@@ -93,7 +103,7 @@ fn numbers(w: &[&str]) -> Result<Vec<u32>, No> {
 }
 
 /// What the next call is lent one less of.
-#[derive(Clone, Copy, Default)]
+#[derive(Clone, Copy, Default, PartialEq)]
 struct Short {
     table: usize,
     work: usize,
@@ -111,7 +121,9 @@ struct Ours {
     /// The factors that were made, in one table buffer.
     factors: Vec<Handle>,
     space: Vec<u32>,
-    builder: Option<Built>,
+    /// The same by the safe type.
+    safe: Vec<Option<safe::Factor>>,
+    builder: Option<Built<safe::Builder>>,
     product: Product,
     sub: Option<subgroups::Sub>,
 }
@@ -123,8 +135,14 @@ impl Ours {
 
     fn alter(&mut self, i: usize, v: u32) {
         let table = match &mut self.builder {
-            Some(b) => &mut b.table,
-            None => &mut self.product.table,
+            Some(b) => {
+                b.safe = None;
+                &mut b.table
+            }
+            None => {
+                self.product.safe = None;
+                &mut self.product.table
+            }
         };
         if !table.is_empty() {
             let at = i % table.len();
@@ -135,9 +153,9 @@ impl Ours {
     /// `START ROOM N COUNT`, or these after the factor's place.
     fn forge(&mut self, w: &[&str]) -> Result<(), No> {
         let (k, w): (usize, _) = if w.len() == 5 { (number(w, 0)?, &w[1..]) } else { (0, w) };
-        let h = Handle { start: number(w, 0)?, room: number(w, 1)?, generators: number(w, 2)?, elements: number(w, 3)? };
+        let h = Handle::new(number(w, 0)?, number(w, 1)?, number(w, 2)?, number(w, 3)?);
         if let Some(b) = &mut self.builder {
-            b.handle = h;
+            (b.handle, b.safe) = (h, None);
         } else if let Some(place) = self.product.factors.get_mut(k) {
             *place = h;
             let count = self.product.handles.count;
@@ -149,13 +167,15 @@ impl Ours {
 
     /// The product of the factors, whose number of generators and elements is printed. As in the oracle a refused one leaves the last.
     fn prod(&mut self) -> Result<(), No> {
-        let p = Product::of(self.space.clone(), self.factors.clone());
+        let mut p = Product::of(self.space.clone(), self.factors.clone());
         let counted = raw::product_count(&p.table, &p.handles);
         let (first, rest) = p.factors.split_at(p.factors.len() / 2);
         let half = |part: &[Handle]| Product::of(vec![], part.to_vec()).handles;
         let joined = raw::product(&p.table, &half(first), &half(rest));
         assert_eq!(joined, counted.map(|_| p.handles.count.into()), "two ways to a product differ");
-        let line = format!("ok {} {}", raw::product_generators(&p.table, &p.handles)?, counted?);
+        let counts = raw::product_generators(&p.table, &p.handles).and_then(|n| Ok((n, counted?)));
+        p.safe = safe::product(counts, &self.safe);
+        let line = format!("ok {} {}", counts?.0, counts?.1);
         self.builder = None;
         self.product = p;
         self.say(line);
@@ -176,10 +196,10 @@ impl Ours {
             },
             "alter" => self.alter(number(w, 1)?, number(w, 2)?),
             "forge" => self.forge(&w[1..])?,
-            "forgecount" => self.product.handles.count = number(w, 1)?,
+            "forgecount" => (self.product.handles.count, self.product.safe) = (number(w, 1)?, None),
             "bench" => self.bench(&w[1..])?,
             "clear" => {
-                (self.factors, self.space) = (vec![], vec![]);
+                (self.factors, self.space, self.safe) = (vec![], vec![], vec![]);
                 (self.builder, self.product, self.sub) = (None, Product::default(), None);
             }
             "enum" | "table" => {
@@ -189,7 +209,8 @@ impl Ours {
             "against" => {
                 let bar = w.iter().position(|x| *x == "|").ok_or_else(|| "missing argument".to_string())?;
                 let b = self.build(&w[1..bar])?;
-                raw::check(&b.table, b.handle, &numbers(&w[bar + 1..])?)?;
+                let orders = numbers(&w[bar + 1..])?;
+                safe::same(raw::check(&b.table, b.handle, &orders), b.safe.map(|f| f.check(&orders)))?;
                 self.say("ok");
             }
             "factor" => self.add_factor(&w[1..])?,
@@ -221,6 +242,7 @@ fn main() {
         short: Short::default(),
         factors: vec![],
         space: vec![],
+        safe: vec![],
         builder: None,
         product: Product::default(),
         sub: None,
@@ -236,7 +258,7 @@ fn main() {
         }
         match ours.answer(&words) {
             Ok(()) => {}
-            Err(No::Refused(Refusal { number, places: [a, b, c] })) => ours.say(format!("refused {number} {a} {b} {c}")),
+            Err(No::Refused(Refusal { number, places: [a, b, c], .. })) => ours.say(format!("refused {number} {a} {b} {c}")),
             Err(No::Says(s)) => ours.say(s),
         }
         ours.out.flush().unwrap();

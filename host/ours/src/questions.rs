@@ -1,5 +1,7 @@
-//! Questions about the current product. A product of one factor must answer as the factor itself does, refusals included.
+//! Questions about the current product. A product of one factor must answer as the factor itself does, refusals included, and both as the
+//! safe types do.
 use super::*;
+use safe::{Element, Generator, both_safe, reached, same, spelled};
 
 /// What stands in a byte buffer before it is lent.
 const BYTE: u8 = 0xa5;
@@ -60,56 +62,48 @@ impl Product {
 impl Ours {
     pub(crate) fn question(&mut self, w: &[&str]) -> Result<(), No> {
         let p = &self.product;
-        let (t, hs, single) = (&p.table, &p.handles, p.single());
         let line = match w[0] {
-            "gens" => say::listed(&p.generators()?),
-            "count" => both(raw::product_count(t, hs), single.map(|h| raw::count(t, h)))?.to_string(),
-            "step" => {
-                let (e, g) = (number(w, 1)?, number(w, 2)?);
-                both(raw::product_step(t, hs, e, g), single.map(|h| raw::step(t, h, e, g)))?.to_string()
+            "gens" => {
+                let all = p.generators();
+                say::listed(&both_safe!(p, all, x => x.generators().map(|g| reached(x.generator(g))).collect())?)
             }
-            "compose" => {
-                let (a, b) = (number(w, 1)?, number(w, 2)?);
-                both(raw::product_compose(t, hs, a, b), single.map(|h| raw::compose(t, h, a, b)))?.to_string()
+            "count" => {
+                let count = both(raw::product_count(&p.table, &p.handles), p.single().map(|h| raw::count(&p.table, h)));
+                both_safe!(p, count, x => Ok(x.element_count()))?.to_string()
             }
-            "conjugate" => {
-                let (a, b) = (number(w, 1)?, number(w, 2)?);
-                both(raw::product_conjugate(t, hs, a, b), single.map(|h| raw::conjugate(t, h, a, b)))?.to_string()
-            }
-            "inverse" => {
-                let a = number(w, 1)?;
-                both(raw::product_inverse(t, hs, a), single.map(|h| raw::inverse(t, h, a)))?.to_string()
-            }
-            "length" => {
-                let e = number(w, 1)?;
-                both(raw::product_length(t, hs, e), single.map(|h| raw::length(t, h, e)))?.to_string()
-            }
-            "word" => {
-                let e = number(w, 1)?;
-                say::listed(&both(p.word(e), single.map(|h| word(t, h, e)))?)
-            }
-            "part" => match single {
+            "word" => say::listed(&p.word_of(number(w, 1)?)?),
+            "part" => match p.single() {
                 Some(h) => {
-                    let (e, part) = (number(w, 1)?, raw::part(t, h, number(w, 1)?));
-                    assert_eq!(part, word(t, h, e).unwrap_or_default(), "the part that is handed back is not the word");
+                    let (e, part) = (number(w, 1)?, raw::part(&p.table, h, number(w, 1)?));
+                    assert_eq!(part, word(&p.table, h, e).unwrap_or_default(), "the part that is handed back is not the word");
                     say::listed(&part)
                 }
                 None => return unsupported(),
             },
             "shortword" => p.short_word(number(w, 1)?)?.to_string(),
-            "powi" => raw::product_powi(t, hs, number(w, 1)?, number(w, 2)?)?.to_string(),
-            "period" => raw::product_period(t, hs, number(w, 1)?)?.to_string(),
-            // More places than any product's digits need, or one less than these do.
-            "split" => say::listed(&p.split(number(w, 1)?, 12)?),
-            "shortsplit" => say::listed(&p.split(number(w, 1)?, usize::from(hs.count).saturating_sub(1))?),
-            "join" => raw::product_join(t, hs, &numbers(&w[1..])?)?.to_string(),
-            "project" => raw::product_project(t, hs, number(w, 1)?, number(w, 2)?)?.to_string(),
-            "inject" => raw::product_inject(t, hs, number(w, 1)?, number(w, 2)?)?.to_string(),
-            "checked" => match single {
-                Some(h) => raw::check(t, h, &numbers(&w[1..])?).map(|()| "ok".into())?,
+            "split" => {
+                // More places than any product's digits need.
+                let digits = p.split(number(w, 1)?, 12);
+                let e = Element(number(w, 1)?);
+                let other = p.safe.as_ref().map(|x| x.split(e).map(|digits| digits.iter().map(|d| d.0).collect()));
+                say::listed(&same(digits, other)?)
+            }
+            "shortsplit" => say::listed(&p.split(number(w, 1)?, usize::from(p.handles.count).saturating_sub(1))?),
+            "join" => {
+                let digits = numbers(&w[1..])?;
+                let listed: Vec<Element> = digits.iter().copied().map(Element).collect();
+                let other = p.safe.as_ref().map(|x| reached(x.join(&listed)));
+                same(raw::product_join(&p.table, &p.handles, &digits), other)?.to_string()
+            }
+            "checked" => match p.single() {
+                Some(h) => {
+                    let orders = numbers(&w[1..])?;
+                    let other = p.safe.as_ref().and_then(|x| x.factors().next()).map(|f| f.check(&orders));
+                    same(raw::check(&p.table, h, &orders), other).map(|()| "ok".into())?
+                }
                 None => return unsupported(),
             },
-            _ => return unsupported(),
+            _ => p.number_asked(w)?.to_string(),
         };
         self.say(line);
         Ok(())
@@ -120,8 +114,74 @@ impl Ours {
         let p = std::mem::take(&mut self.product);
         let n = raw::product_generators(&p.table, &p.handles).unwrap_or(0);
         let room = self.room;
-        let b = self.build_in(n as usize, room, |t, start, work| raw::product_flatten(&p.table, &p.handles, n as u8, t, start, work, room));
+        let call = |t: &mut [u32], start, work: &mut [u32]| raw::product_flatten(&p.table, &p.handles, n as u8, t, start, work, room);
+        let b = self.build_in(n as usize, room, call, |answer| {
+            let product = p.safe.as_ref()?;
+            // With room for all of it, and no more than there can be, it need not be told.
+            if (product.element_count()..=65_535).contains(&room) {
+                safe::made(answer, product.flatten());
+            }
+            safe::made(answer, product.flatten_with_room(room))
+        });
         self.product = p;
         self.say_factor(&b?)
+    }
+}
+
+impl Product {
+    fn word_of(&self, e: u32) -> Answer<Vec<u8>> {
+        let written = both(self.word(e), self.single().map(|h| word(&self.table, h, e)));
+        both_safe!(self, written, x => spelled(x.word(Element(e))))
+    }
+
+    /// The questions whose answer is a number.
+    fn number_asked(&self, w: &[&str]) -> Result<u32, No> {
+        let (t, hs, single) = (&self.table, &self.handles, self.single());
+        Ok(match w[0] {
+            "step" => {
+                let (e, g) = (number(w, 1)?, number(w, 2)?);
+                let answer = both(raw::product_step(t, hs, e, g), single.map(|h| raw::step(t, h, e, g)));
+                both_safe!(self, answer, x => reached(x.step(Element(e), Generator(g))))
+            }
+            "compose" => {
+                let (a, b) = (number(w, 1)?, number(w, 2)?);
+                let answer = both(raw::product_compose(t, hs, a, b), single.map(|h| raw::compose(t, h, a, b)));
+                both_safe!(self, answer, x => reached(x.compose(Element(a), Element(b))))
+            }
+            "conjugate" => {
+                let (a, b) = (number(w, 1)?, number(w, 2)?);
+                let answer = both(raw::product_conjugate(t, hs, a, b), single.map(|h| raw::conjugate(t, h, a, b)));
+                both_safe!(self, answer, x => reached(x.conjugate(Element(a), Element(b))))
+            }
+            "inverse" => {
+                let a = number(w, 1)?;
+                let answer = both(raw::product_inverse(t, hs, a), single.map(|h| raw::inverse(t, h, a)));
+                both_safe!(self, answer, x => reached(x.inverse(Element(a))))
+            }
+            "length" => {
+                let e = number(w, 1)?;
+                let answer = both(raw::product_length(t, hs, e), single.map(|h| raw::length(t, h, e)));
+                both_safe!(self, answer, x => x.word_length(Element(e)))
+            }
+            "powi" => {
+                let (a, i) = (number(w, 1)?, number(w, 2)?);
+                let answer = both(raw::product_powi(t, hs, a, i), single.map(|h| raw::powi(t, h, a, i)));
+                both_safe!(self, answer, x => reached(x.powi(Element(a), i)))
+            }
+            "period" => {
+                let a = number(w, 1)?;
+                let answer = both(raw::product_period(t, hs, a), single.map(|h| raw::period(t, h, a)));
+                both_safe!(self, answer, x => x.period(Element(a)))
+            }
+            "project" | "inject" => {
+                let (f, e) = (number(w, 1)?, number(w, 2)?);
+                let (project, inject) = (safe::Product::project, safe::Product::inject);
+                match w[0] {
+                    "project" => same(raw::product_project(t, hs, f, e), self.safe.as_ref().map(|x| reached(project(x, f, Element(e))))),
+                    _ => same(raw::product_inject(t, hs, f, e), self.safe.as_ref().map(|x| reached(inject(x, f, Element(e))))),
+                }
+            }
+            _ => return unsupported(),
+        }?)
     }
 }

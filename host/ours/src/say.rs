@@ -34,13 +34,16 @@ impl Ours {
         }
     }
 
-    pub(crate) fn say_factor(&mut self, b: &Built) -> Result<(), No> {
+    pub(crate) fn say_factor(&mut self, b: &Built<safe::Factor>) -> Result<(), No> {
         let (t, h) = (&b.table, b.handle);
         let (mut digest, mut longest) = (Digest::new(), 0);
         let mut lines = vec![];
         for e in 0..h.elements {
             let (inverse, word) = (raw::inverse(t, h, e)?, questions::word(t, h, e)?);
             let steps = (0..h.generators).map(|g| raw::step(t, h, e, g)).collect::<Answer<Vec<_>>>()?;
+            if let Some(f) = &b.safe {
+                safe::held_element(f, e, inverse, &word, &steps);
+            }
             longest = longest.max(word.len());
             if self.quiet {
                 digest.add(inverse.into());

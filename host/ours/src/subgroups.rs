@@ -1,6 +1,7 @@
 //! Subgroups of the current product.
 use super::*;
 use hypergroup::raw::{Sides, SubgroupBuffers};
+use safe::{Element, reached, same};
 
 /// A subgroup: the overgroup's buffer and factors, the buffer of its own factor, and both maps.
 #[derive(Clone)]
@@ -15,6 +16,8 @@ pub(crate) struct Sub {
     outward: Vec<u32>,
     /// How many elements the part of the overgroup has that the maps speak of.
     mapped: u32,
+    /// The same subgroup by the safe type; none where this one is altered.
+    safe: Option<safe::Subgroup>,
 }
 
 impl Sub {
@@ -35,16 +38,19 @@ impl Sub {
     }
 
     fn over(&self, e: u32) -> Answer<u32> {
-        raw::subgroup_over(&self.from, &self.table, &self.sides(), &self.outward, e)
+        let answer = raw::subgroup_over(&self.from, &self.table, &self.sides(), &self.outward, e);
+        same(answer, self.safe.as_ref().map(|s| reached(s.to_overgroup(Element(e)))))
     }
 
     fn back(&self, x: u32) -> Answer<u32> {
-        raw::subgroup_back(&self.from, &self.table, &self.sides(), &self.inward, x)
+        let answer = raw::subgroup_back(&self.from, &self.table, &self.sides(), &self.inward, x);
+        same(answer, self.safe.as_ref().map(|s| s.to_subgroup(Element(x)).map(|e| e.map_or(u32::MAX, |e| e.0))))
     }
 
     fn generators(&self) -> Answer<Vec<u32>> {
         let generator = |g| raw::subgroup_generator(&self.from, &self.table, &self.sides(), &self.outward, g as u8);
-        (0..raw::subgroup_generators(&self.from, &self.table, &self.sides())?).map(generator).collect()
+        let all = (0..raw::subgroup_generators(&self.from, &self.table, &self.sides())?).map(generator).collect();
+        same(all, self.safe.as_ref().map(|s| s.generators().map(|g| reached(s.generator(g))).collect()))
     }
 }
 
@@ -80,17 +86,52 @@ fn held_maps(answer: &Answer<Handle>, needed: [usize; 2], before: [&[u32]; 2], a
     }
 }
 
+/// The same subgroup by the safe type, which is told the room, and is not told it where that is all that there can be.
+fn made_safe(
+    answer: &Answer<Handle>,
+    over: &safe::Product,
+    room: u32,
+    other: impl Fn(&safe::Product, Option<u32>) -> Option<Answer<safe::Subgroup>>,
+) -> Option<safe::Subgroup> {
+    let held = |made: Answer<safe::Subgroup>| {
+        safe::made(answer, made.as_ref().map(|s| s.factor().clone()).map_err(|no| *no));
+        made.ok()
+    };
+    if room == over.element_count() {
+        held(other(over, None)?);
+    }
+    held(other(over, Some(room))?)
+}
+
 impl Ours {
     /// `sub g0 g1 ..`, of the current product.
     pub(crate) fn sub(&mut self, w: &[&str]) -> Result<(), No> {
         let generators = numbers(w)?;
-        self.sub_built(generators.len(), |from, over, lent, start, room| raw::subgroup(from, over, &generators, lent, start, room))
+        let listed: Vec<Element> = generators.iter().copied().map(Element).collect();
+        self.sub_built(
+            generators.len(),
+            |from, over, lent, start, room| raw::subgroup(from, over, &generators, lent, start, room),
+            |over, room| match room {
+                Some(room) => Some(safe::Subgroup::new_with_room(over, &listed, room)),
+                None => Some(safe::Subgroup::new(over, &listed)),
+            },
+        )
     }
 
     /// `subpred b0 b1 ..`: a number for each element of the current product, not 0 for a member.
     pub(crate) fn sub_predicate(&mut self, w: &[&str]) -> Result<(), No> {
         let members = (0..w.len()).map(|i| number(w, i)).collect::<Result<Vec<u8>, No>>()?;
-        self.sub_built(8, |from, over, lent, start, room| raw::subgroup_predicate(from, over, &members, lent, start, room))
+        let told = |e: Element| members[e.0 as usize] != 0;
+        self.sub_built(
+            8,
+            |from, over, lent, start, room| raw::subgroup_predicate(from, over, &members, lent, start, room),
+            |over, room| match room {
+                // A list that does not have all elements is no predicate.
+                _ if over.elements().nth(members.len()).is_some() && over.element_count() <= 65_535 => None,
+                Some(room) => Some(safe::Subgroup::from_predicate_with_room(over, told, room)),
+                None => Some(safe::Subgroup::from_predicate(over, told)),
+            },
+        )
     }
 
     /// Lends maps as well as table and work, and holds them to document 01.
@@ -98,7 +139,9 @@ impl Ours {
         &mut self,
         n: usize,
         call: impl FnOnce(&[u32], &Handles, SubgroupBuffers<'_>, usize, u32) -> Answer<Handle>,
+        other: impl Fn(&safe::Product, Option<u32>) -> Option<Answer<safe::Subgroup>>,
     ) -> Result<(), No> {
+        let whole = self.short == Short::default();
         let (from, over) = (self.product.table.clone(), self.product.handles.clone());
         let mapped = raw::product_count(&from, &over).unwrap_or(0);
         let size = if mapped <= 65_535 { mapped as usize } else { 0 };
@@ -112,9 +155,11 @@ impl Ours {
             call(&from, &over, SubgroupBuffers { table, work, inward: &mut inward, outward: &mut outward }, start, room)
         });
         held_maps(&answer, [size, room as usize], [&before[0], &before[1]], [&inward, &outward]);
-        let sub = Sub { from, below: vec![], over, above: vec![], table, factor: answer?, inward, outward, mapped };
+        let safe = self.product.safe.as_ref().filter(|_| whole).and_then(|p| made_safe(&answer, p, room, other));
+        let sub = Sub { from, below: vec![], over, above: vec![], table, factor: answer?, inward, outward, mapped, safe };
         self.say_subgroup(&sub)?;
-        self.say_factor(&Built { table: sub.table.clone(), handle: sub.factor })?;
+        let factor = sub.safe.as_ref().map(|s| s.factor().clone());
+        self.say_factor(&Built { table: sub.table.clone(), handle: sub.factor, safe: factor })?;
         self.sub = Some(sub);
         Ok(())
     }
@@ -123,16 +168,22 @@ impl Ours {
     pub(crate) fn sub_beside(&mut self, w: &[&str]) -> Result<(), No> {
         let mut sub = self.sub.clone().ok_or_else(|| "no subgroup".to_string())?;
         let sides = sub.sides();
-        let (from, answer) = self.made(std::mem::take(&mut sub.from), &w[1..])?;
-        let factor = answer?;
-        sub.from = from;
-        let more = [factor].into_iter().collect();
-        if w[0] == "subleft" {
-            raw::subgroup_left(&sub.from, &sub.table, &more, &sides)?;
-            sub.below.insert(0, factor);
+        let made = self.made(std::mem::take(&mut sub.from), &w[1..])?;
+        let factor = made.answer?;
+        sub.from = made.table;
+        let (more, left) = ([factor].into_iter().collect(), w[0] == "subleft");
+        let answer = match left {
+            true => raw::subgroup_left(&sub.from, &sub.table, &more, &sides),
+            false => raw::subgroup_right(&sub.from, &sub.table, &sides, &more),
+        };
+        let multiplied = if left { safe::Subgroup::multiplied_left } else { safe::Subgroup::multiplied_right };
+        let safe = sub.safe.take().zip(made.safe).map(|(s, f)| multiplied(&s, &safe::Product::from(&f)));
+        same(answer, safe.as_ref().map(|made| made.as_ref().map(drop).map_err(|no| *no)))?;
+        sub.safe = safe.and_then(Result::ok);
+        if left {
+            sub.below.insert(0, factor)
         } else {
-            raw::subgroup_right(&sub.from, &sub.table, &sides, &more)?;
-            sub.above.push(factor);
+            sub.above.push(factor)
         }
         self.say_subgroup(&sub)?;
         self.sub = Some(sub);
@@ -141,6 +192,10 @@ impl Ours {
 
     fn say_subgroup(&mut self, sub: &Sub) -> Result<(), No> {
         let (n, inside, outside) = sub.counts();
+        if let Some(s) = &sub.safe {
+            let counts = (s.generator_count().into(), s.element_count(), s.overgroup().element_count());
+            assert_eq!((n, inside, outside), counts, "the safe subgroup has other counts");
+        }
         let over = (0..inside).map(|e| sub.over(e)).collect::<Answer<Vec<_>>>()?;
         let back = (0..outside).map(|x| sub.back(x)).collect::<Answer<Vec<_>>>()?;
         self.say(format!("ok {n} {inside} of {outside}"));
@@ -164,6 +219,7 @@ impl Ours {
     /// `altermap I V` stores V at the I-th number of both maps, `altersub I V` in the subgroup's table.
     pub(crate) fn alter_sub(&mut self, what: &str, i: usize, v: u32) {
         let Some(sub) = &mut self.sub else { return };
+        sub.safe = None;
         let lists = if what == "altermap" { vec![&mut sub.inward, &mut sub.outward] } else { vec![&mut sub.table] };
         for list in lists {
             if !list.is_empty() {

@@ -1,0 +1,70 @@
+//! What the safe types keep, in bytes that are allocated. This file has one test, since it counts what all threads have allocated.
+use hypergroup::{Element, Factor, Product, Subgroup};
+use std::alloc::{GlobalAlloc, Layout, System};
+use std::sync::atomic::{AtomicUsize, Ordering::Relaxed};
+
+/// The system's allocator, with a count of the bytes that are allocated.
+struct Counted;
+
+static HELD: AtomicUsize = AtomicUsize::new(0);
+
+// SAFETY: every call is handed on as it came.
+unsafe impl GlobalAlloc for Counted {
+    unsafe fn alloc(&self, layout: Layout) -> *mut u8 {
+        HELD.fetch_add(layout.size(), Relaxed);
+        unsafe { System.alloc(layout) }
+    }
+    unsafe fn alloc_zeroed(&self, layout: Layout) -> *mut u8 {
+        HELD.fetch_add(layout.size(), Relaxed);
+        unsafe { System.alloc_zeroed(layout) }
+    }
+    unsafe fn dealloc(&self, at: *mut u8, layout: Layout) {
+        HELD.fetch_sub(layout.size(), Relaxed);
+        unsafe { System.dealloc(at, layout) }
+    }
+}
+
+#[global_allocator]
+static COUNTED: Counted = Counted;
+
+/// What a call makes, with the bytes that it keeps.
+fn kept<T>(make: impl FnOnce() -> T) -> (T, usize) {
+    let before = HELD.load(Relaxed);
+    let made = make();
+    (made, HELD.load(Relaxed) - before)
+}
+
+#[test]
+fn factors_are_cut_to_their_elements_and_shared() {
+    // The table of S3 has 6 rows of 8 numbers, and two counts beside it.
+    let rows = 6 * 8 * 4;
+    let (s3, bytes) = kept(|| Factor::from_orders(2, &[3], 65_535).unwrap());
+    assert!((rows..rows + 64).contains(&bytes), "{bytes}");
+    let (clones, bytes) = kept(|| [(); 100].map(|()| s3.clone()));
+    assert_eq!((bytes, clones[99].element_count()), (0, 6));
+    drop(clones);
+
+    // Eight times S3, twenty times: a product has its list of handles, and no table of its own.
+    let (products, bytes) = kept(|| [(); 20].map(|()| Product::new([&s3; 8]).unwrap()));
+    assert_eq!(products[19].element_count(), 1_679_616);
+    assert!(bytes < 20 * 1000, "{bytes}");
+    let (_all, bytes) = kept(|| products.clone());
+    assert!(bytes < 20 * 1000, "{bytes}");
+
+    // Of other factors each is copied once, and what is made of the product again is not copied.
+    let (dihedral, bytes) = kept(|| Factor::from_orders(2, &[4096], 65_535).unwrap());
+    let table = 8192 * 8 * 4;
+    assert!((table..table + 64).contains(&bytes), "{bytes}");
+    let (mixed, bytes) = kept(|| Product::new([&s3, &dihedral, &s3]).unwrap());
+    assert!((table + rows..table + rows + 1000).contains(&bytes), "{bytes}");
+    let (_more, bytes) = kept(|| (mixed.clone(), Product::new(&mixed.factors().collect::<Vec<_>>()).unwrap()));
+    assert!(bytes < 2000, "{bytes}");
+
+    // A subgroup keeps a place for each element of the overgroup, its own rows and a place for each of its elements.
+    let over = Product::from(&dihedral);
+    let (sub, bytes) = kept(|| Subgroup::new(&over, &[Element(1)]).unwrap());
+    assert_eq!(sub.element_count(), 2);
+    assert!((8192 * 4..8192 * 4 + 2000).contains(&bytes), "{bytes}");
+    let (_more, bytes) = kept(|| (sub.clone(), sub.multiplied_left(&over).unwrap()));
+    assert!(bytes < 3000, "{bytes}");
+}
