@@ -330,6 +330,16 @@ void hg_product_flatten(const uint32_t *from, size_t from_len, const uint32_t *h
  * the head says, then 8 to 12. */
 uint32_t hg_image_check(const uint8_t *image, size_t image_len, uint8_t *work, size_t work_len);
 
+/* Answers how many bytes of work a check of the image needs. Refuses what no work can change: 16
+ * or 1 for the head, then 16 where there is no generator and more than one element. */
+uint64_t hg_image_need(const uint8_t *image, size_t image_len);
+
+/* Checks an image in lent bytes as hg_image_check does, writes the verdict into out, its number
+ * and three places, and hands the number back. Refuses with 4 an out shorter than 4, before
+ * anything else. */
+uint32_t hg_image_verdict(const uint8_t *image, size_t image_len, uint8_t *work, size_t work_len,
+    uint32_t *out, size_t out_len);
+
 /* Walks a word of generators from an element and answers the element reached, or 65,536 + the
  * refusal's number. Refuses in this order: 16 or 1 for the head, 14 for the start or a generator
  * out of range, 17 for a number read that is no element. */

@@ -1,13 +1,28 @@
-// The image's four calls as C functions on bytes and numbers, for a host: host/hypergroup.h has them for C. The check and the walk need no factor.
+// The image's calls as C functions on bytes and numbers, for a host: host/hypergroup.h has them for C. The check and the walk need no factor.
 ghost use mathlib.Core.Path.{_≡_};
+ghost use mathlib.Core.List.{[], _∷_};
 ghost use lib.ListN.{length};
 ghost use Rattle.image.specs.Image.{imageNumber, imageWork};
+ghost use Rattle.image.specs.Checked.{imageNeed};
 ghost use Rattle.image.specs.Walked.{walkNumber};
 ghost use Rattle.image.specs.Written.{writeCount, writtenImage};
 ghost use Rattle.image.specs.Read.{readImage};
-ghost use Rattle.capi_values.specs.Bridge.{handle, countedCode, Bridged, bridged};
+ghost use Rattle.capi_values.specs.Bridge.{handle, countedCode, Bridged, bridged, telling, inOut};
+ghost use Rattle.egg.specs.Factor.{verdictPaper};
+ghost use Rattle.capi_image.specs.Verdict.{checkedInto};
 use capi_values::inner;
 use egg::GroupElementId;
+use egg::Verdict;
+
+// The number of a verdict's refusal, or 0.
+fn number(v: Verdict) -> u32
+    ensures { λ r. ⌜ r ≡ verdictPaper v .number ⌝ }
+{
+    match v {
+        Verdict::Fine => 0,
+        Verdict::Refused(why) => why.number,
+    }
+}
 
 // Checks an image in lent bytes and answers the refusal's number, or 0. Refuses in this order: 16 or 1 for the head, 4 for short work, 7, 5 or 6
 // while it reads, 16 for fewer elements than the head says, then 8 to 12.
@@ -16,6 +31,29 @@ pub extern "C" fn hg_image_check(image: &[u8], work: &mut [u8]) -> u32
     ensures { λ r. ⌜ (r ≡ imageNumber (now (image .entry)) (length (now (work .entry)))) × (now (work .exit) ≡ imageWork (now (image .entry)) (now (work .entry))) ⌝ }
 {
     image::check(image, work)
+}
+
+// Answers how many bytes of work a check of the image needs. Refuses what no work can change: 16 or 1 for the head, then 16 where there is no
+// generator and more than one element.
+#[no_mangle]
+pub extern "C" fn hg_image_need(image: &[u8]) -> u64
+    ensures { λ r. ⌜ r ≡ countedCode (imageNeed (now (image .entry))) ⌝ }
+{
+    inner::counted_code(image::need(image))
+}
+
+// Checks an image in lent bytes as hg_image_check does, writes the verdict into out, its number and three places, and hands the number back. Refuses
+// with 4 an out shorter than 4, before anything else.
+#[no_mangle]
+pub extern "C" fn hg_image_verdict(image: &[u8], work: &mut [u8], out: &mut [u32]) -> u32
+    ensures { λ r. ⌜ telling r (now (out .exit)) (now (work .exit) ∷ []) ≡ inOut 4 (now (out .entry)) (now (work .entry) ∷ []) (checkedInto (now (image .entry)) (now (work .entry)) (now (out .entry))) ⌝ }
+{
+    if out.len() < 4 {
+        return 4;
+    }
+    let v = image::verdict(image, work);
+    inner::write_verdict(out, v);
+    number(v)
 }
 
 // Walks a word of generators from an element and answers the element reached, or 65,536 + the refusal's number. Refuses in this order: 16 or 1 for

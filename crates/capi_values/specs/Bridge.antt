@@ -57,3 +57,13 @@ pub data Bridged : Type 0 where
 -- The same for what was made, with its answer written into the list `out`.
 abbrev pub bridged : Making → List ℕ → Bridged
 bridged (making m t w) out = Bridged.holds t w (madeInto m out)
+
+-- What a C function leaves that writes its verdict into `out`: the number that it returns, 0 where nothing is refused; what `out` holds; and what the
+-- other lists hold that it may write, in the order of its parameters.
+pub data Telling : Type 0 where
+  telling : ℕ → List ℕ → List (List ℕ) → Telling
+
+-- The same of a function that writes k numbers. "4 | .. a lent buffer short": where `out` has fewer, 4 is returned before anything else is looked at,
+-- since no other answer could be given whole, and no list is touched. Else it is what the function does.
+unfoldable pub inOut : ℕ → List ℕ → List (List ℕ) → Telling → Telling
+inOut k out lent done = pick (ltb (length out) k) (telling 4 out lent) done

@@ -6,15 +6,21 @@ use native.Mathlib.Nat.{mul-le-mul, le-refl}
 use native.Mathlib.Omega.{arith}
 use borrow.Author.Tests.{eq-eqb, ne-eqb, lt-ltb, le-ltb}
 use borrow.Rule.Slice.PartMut.{midOf}
+use lib.Dec.{ltb, eqb}
 use lib.ListN.{length, take, drop, replicate, length-drop, length-replicate}
 use lib.Seq.{length-take-le}
+use Rattle.egg.specs.declared.Verdict.{Verdict}
+use Rattle.egg.specs.Scan.{refusedOf}
+use Rattle.egg.specs.Table.{pick}
 use Rattle.build_lending.specs.Lending.{tableNeed, workNeed}
 use Rattle.image_cells.specs.Cells.{cells, halves}
 use Rattle.image_cells.proofs.Laws.{cells-length}
-use Rattle.image_check.specs.Short.{SomeWork, judged}
+use Rattle.image_check.specs.Short.{SomeWork, verdictNumber, judged}
 use Rattle.image_check.proofs.Parts.{rest-lent, front-drop, front-count}
-use Rattle.image_check_laws.proofs.Short.{judged-is-built}
+use Rattle.image_check_laws.proofs.Short.{judged-is-ruled, pick-number, ruled-number}
 use Rattle.image.specs.Image.{headGenerators, headElements, headNumber, bytesNeed, imageNumber, imageWork}
+use Rattle.image.specs.Read.{headPlace}
+use Rattle.image.specs.Checked.{imageVerdict}
 use Rattle.image.proofs.Heads.{HeadRight, right-head}
 
 -- A number is at most its square; so the bytes are enough for the table and a cell for each element.
@@ -34,9 +40,11 @@ zeros-long n count pos =
     rw (length-replicate {A = ℕ} (workNeed n count) 0) (omega (arith, mul-le-mul (le-refl count) p))
 
 module _ (l w : List ℕ) {h : ℕ} (qh : h ≡ headNumber l) where
-  pub bad-head : (h ≡ 0 → ⊥) → (h ≡ imageNumber l (length w)) × (w ≡ imageWork l w)
-  unfolding imageNumber imageWork
-  bad-head d = let e : headNumber l ≡ 0 → ⊥ = λ z. d (qh ∙ z) in (simp (ne-eqb _ _ e) qh, simp (ne-eqb _ _ e))
+  pub bad-head : (h ≡ 0 → ⊥) → {k : ℕ} {v : Verdict} → k ≡ headPlace l → v ≡ refusedOf h k 0 0 → (v ≡ imageVerdict l (length w)) × (w ≡ imageWork l w)
+  unfolding imageVerdict imageWork
+  bad-head d qk q =
+      let e : headNumber l ≡ 0 → ⊥ = λ z. d (qh ∙ z) in
+      (simp (ne-eqb _ _ e) (q ∙ rw (qk, qh)), simp (ne-eqb _ _ e))
 
   module _ (z : h ≡ 0) {n count need : ℕ} (qn : n ≡ headGenerators l) (qc : count ≡ headElements l) (qd : need ≡ bytesNeed n count) where
     abbrev right : HeadRight l
@@ -45,12 +53,12 @@ module _ (l w : List ℕ) {h : ℕ} (qh : h ≡ headNumber l) where
     same-need : need ≡ bytesNeed (headGenerators l) (headElements l)
     same-need = qd ∙ rw (qn, qc)
 
-    pub short-work : length w < need → (4 ≡ imageNumber l (length w)) × (w ≡ imageWork l w)
-    unfolding imageNumber imageWork
-    short-work d =
+    pub short-work : length w < need → {v : Verdict} → v ≡ refusedOf 4 0 0 0 → (v ≡ imageVerdict l (length w)) × (w ≡ imageWork l w)
+    unfolding imageVerdict imageWork
+    short-work d q =
         let e : headNumber l ≡ 0 = sym qh ∙ z in
         let f : length w < bytesNeed (headGenerators l) (headElements l) = rw same-need at d in
-        (simp (eq-eqb _ _ e, lt-ltb _ _ f), simp (eq-eqb _ _ e, lt-ltb _ _ f))
+        (simp (eq-eqb _ _ e, lt-ltb _ _ f) q, simp (eq-eqb _ _ e, lt-ltb _ _ f))
 
     pub image-whole : 8 ≤ length l
     image-whole = right .whole
@@ -71,15 +79,15 @@ module _ (l w : List ℕ) {h : ℕ} (qh : h ≡ headNumber l) where
       rows-are : midOf 8 (length l - 8) l ≡ drop 8 l
       rows-are = rest-lent l 8 image-whole
 
-      pub whole-number : {x : ℕ} → count < 65536
-          → SomeWork (length (cells (drop at (take need w)))) (λ z. x ≡ judged (at / 4) z (halves (midOf 8 (length l - 8) l)) n count) → x ≡ imageNumber l (length w)
-      unfolding imageNumber
-      whole-number small j =
+      pub whole-verdict : {v : Verdict} → count < 65536
+          → SomeWork (length (cells (drop at (take need w)))) (λ z. v ≡ judged (at / 4) z (halves (midOf 8 (length l - 8) l)) n count) → v ≡ imageVerdict l (length w)
+      unfolding imageVerdict
+      whole-verdict small j =
           let e : headNumber l ≡ 0 = sym qh ∙ z in
           let f : bytesNeed (headGenerators l) (headElements l) ≤ length w = rw same-need at lent in
           let few : n ≤ 8 = rw qn (right .few) in
           let some : 1 ≤ count = rw qc (right .some) in
-          let b = judged-is-built (halves (midOf 8 (length l - 8) l)) n count (at / 4) (j .work) (replicate (workNeed n count) 0)
+          let b = judged-is-ruled (halves (midOf 8 (length l - 8) l)) n count (at / 4) (j .work) (replicate (workNeed n count) 0)
           few some (omega arith) (rw table-cells (le-refl (tableNeed n count))) (λ _. rw (j .as-long) cells-left) (λ pos. zeros-long n count pos) in
           simp (eq-eqb _ _ e, le-ltb _ _ f) (j .holds ∙ b ∙ rw (table-cells, rows-are, qn, qc))
 
@@ -91,3 +99,12 @@ module _ (l w : List ℕ) {h : ℕ} (qh : h ≡ headNumber l) where
           let f : bytesNeed (headGenerators l) (headElements l) ≤ length w = rw same-need at lent in
           let d : q ≡ replicate need 0 = c ∙ ap (λ (i : ℕ). replicate i 0) (sym (front-count w need lent p k)) in
           simp (eq-eqb _ _ e, le-ltb _ _ f) (rw (front-drop w need lent p k, d, same-need))
+
+-- The number of the verdict is the check's number.
+pub verdict-number : (l : List ℕ) (size : ℕ) → verdictNumber (imageVerdict l size) ≡ imageNumber l size
+unfolding imageVerdict imageNumber
+verdict-number l size =
+    pick-number (eqb (headNumber l) 0) _ _
+    ∙ ap (λ (x : ℕ). pick (eqb (headNumber l) 0) x (headNumber l))
+    (pick-number (ltb size (bytesNeed (headGenerators l) (headElements l))) _ _
+    ∙ ap (λ (x : ℕ). pick (ltb size (bytesNeed (headGenerators l) (headElements l))) 4 x) (ruled-number _ _ _ _ _))

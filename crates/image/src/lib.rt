@@ -3,16 +3,21 @@
 ghost use mathlib.Core.Path.{_≡_};
 ghost use Prim.Native.Nat.{_*_, _≤_};
 ghost use lib.ListN.{length};
+ghost use lib.Dec.{ltb, eqb};
+ghost use mathlib.Core.Bool.{_&&_};
 ghost use Rattle.build_lending.specs.Lending.{tableNeed, Making};
 ghost use Rattle.image_writing.specs.Written.{imageSize};
 ghost use Rattle.image.specs.Written.{writeCount, writtenImage};
 ghost use Rattle.image.specs.Read.{headPlace, readImage};
 ghost use Rattle.image.specs.Walked.{walkNumber};
+ghost use Rattle.image.specs.Checked.{imageVerdict, imageNeed};
+ghost use Rattle.image_check.specs.Short.{verdictNumber};
 ghost use Rattle.image.specs.Image.{headLength, headGenerators, headElements, headNumber, bytesNeed, imageNumber, imageWork, ReadBelow};
 use egg::Counted;
 use egg::Factor;
 use egg::GroupElementId;
 use egg::Made;
+use egg::Refusal;
 use egg::Verdict;
 
 // The length of what follows, as the head says it.
@@ -87,22 +92,63 @@ pub fn bytes_need(n: u8, count: u32) -> usize
     (count as usize) * (32 * m * m + 100)
 }
 
-// Checks an image in lent bytes and answers the refusal's number, or 0 where a group has its table. Refuses in this order: 16 or 1 for the head, 4
-// for short work, 7, 5 or 6 while it reads, 16 for fewer elements than the head says, then 8 to 12.
-pub fn check(image: &[u8], work: &mut [u8]) -> u32
-    ensures { λ r. ⌜ (r ≡ imageNumber (now (image .entry)) (length (now (work .entry)))) × (now (work .exit) ≡ imageWork (now (image .entry)) (now (work .entry))) ⌝ }
+// The place of a bad head: the count of generators for 1, and none for 16.
+fn head_place(image: &[u8], found: u32) -> u32
+    requires { ⌜ found ≡ headNumber (now image) ⌝ }
+    ensures { λ r. ⌜ r ≡ headPlace (now (image .entry)) ⌝ }
+{
+    if found == 1 {
+        generators(image) as u32
+    } else {
+        0
+    }
+}
+
+// True where there is no generator and more than one element, which cannot be reached then.
+fn alone(n: u8, count: u32) -> bool
+    ensures { λ r. ⌜ r ≡ (eqb n 0 && ltb 1 count) ⌝ }
+{
+    if n == 0 { 1 < count } else { false }
+}
+
+// Answers how many bytes of work the check of an image needs. Refuses what the head alone decides, whatever work is lent: 16 or 1 for the head, then
+// 16 where there is no generator and more than one element.
+pub fn need(image: &[u8]) -> Counted
+    ensures { λ r. ⌜ r ≡ imageNeed (now (image .entry)) ⌝ }
 {
     let found = head(image);
     if found != 0 {
-        return found;
+        return Counted::Refused(Refusal {
+            number: found,
+            a: head_place(image, found),
+            b: 0,
+            c: 0,
+        });
+    }
+    let n = generators(image);
+    let count = elements(image);
+    if alone(n, count) {
+        return egg::inner::refused_count(16);
+    }
+    Counted::Count(bytes_need(n, count) as u32)
+}
+
+// Checks an image in lent bytes. Refuses in this order: 16 or 1 for the head, 4 for short work, 7, 5 or 6 while it reads, 16 for fewer elements than
+// the head says, then 8 to 12; with the places that `read` gives.
+pub fn verdict(image: &[u8], work: &mut [u8]) -> Verdict
+    ensures { λ r. ⌜ (r ≡ imageVerdict (now (image .entry)) (length (now (work .entry)))) × (now (work .exit) ≡ imageWork (now (image .entry)) (now (work .entry))) ⌝ }
+{
+    let found = head(image);
+    if found != 0 {
+        return egg::inner::refused(found, head_place(image, found), 0, 0);
     }
     let n = generators(image);
     let count = elements(image);
     let need = bytes_need(n, count);
     if work.len() < need {
-        return 4;
+        return egg::inner::refused(4, 0, 0, 0);
     }
-    let number = image_check::inner::judge(
+    let v = image_check::inner::judge(
         &mut work[..need],
         table_bytes(n, count),
         &image[8..],
@@ -110,7 +156,24 @@ pub fn check(image: &[u8], work: &mut [u8]) -> u32
         count,
     );
     image_cells::inner::clear(&mut work[..need]);
-    number
+    v
+}
+
+// The number of a verdict's refusal, or 0.
+fn number(v: Verdict) -> u32
+    ensures { λ r. ⌜ r ≡ verdictNumber v ⌝ }
+{
+    match v {
+        Verdict::Fine => 0,
+        Verdict::Refused(why) => why.number,
+    }
+}
+
+// Checks an image in lent bytes and answers the number of its verdict: the refusal's, or 0 where a group has its table.
+pub fn check(image: &[u8], work: &mut [u8]) -> u32
+    ensures { λ r. ⌜ (r ≡ imageNumber (now (image .entry)) (length (now (work .entry)))) × (now (work .exit) ≡ imageWork (now (image .entry)) (now (work .entry))) ⌝ }
+{
+    number(verdict(image, work))
 }
 
 // How long the image of a factor is.
@@ -143,18 +206,6 @@ pub fn write(table: &[u32], f: Factor, out: &mut [u8]) -> Counted
             image_writing::inner::put_rows(out, s, n, count);
             Counted::Count(need)
         }
-    }
-}
-
-// The place of a bad head: the count of generators for 1, and none for 16.
-fn head_place(image: &[u8], found: u32) -> u32
-    requires { ⌜ found ≡ headNumber (now image) ⌝ }
-    ensures { λ r. ⌜ r ≡ headPlace (now (image .entry)) ⌝ }
-{
-    if found == 1 {
-        generators(image) as u32
-    } else {
-        0
     }
 }
 

@@ -10,6 +10,7 @@ use Rattle.egg.specs.declared.Verdict.{Verdict}
 use Rattle.egg.specs.declared.Verdict.the-variants.{Fine, Refused}
 use Rattle.egg.specs.declared.Counted.the-variants as counted
 use Rattle.egg.specs.Table.{pick}
+use Rattle.egg.specs.Scan.{refusedOf}
 use Rattle.egg.specs.Factor.{verdictPaper}
 use Rattle.build_checks.specs.Checks.{missing, wrong, verdictOf, check-group}
 use Rattle.build_checks_inverses.specs.Inverses.{fillInverses, inversesRight}
@@ -44,15 +45,25 @@ pub record SomeWork (long : ℕ) (P : List ℕ → Type 0) : Type 0 where
 abbrev pub verdictNumber : Verdict → ℕ
 verdictNumber v = verdictPaper v .number
 
--- The number of what a reading with this room gave: its own refusal, or 16 for fewer elements than the room, or what the checks give then.
+-- The verdict on what a reading with this room gave: its own refusal, or 16 for fewer elements than the room, which has no places, or what the checks
+-- give then.
+abbrev pub verdictBy : (List ℕ → Verdict) → Placed → ℕ → Verdict
+verdictBy check (placed (counted.Refused r) t) room = Refused r
+verdictBy check (placed (counted.Count c) t) room = pick (ltb c room) (refusedOf 16 0 0 0) (check t)
+
+-- Its number.
 abbrev pub numberBy : (List ℕ → Verdict) → Placed → ℕ → ℕ
 numberBy check (placed (counted.Refused r) t) room = r .number
 numberBy check (placed (counted.Count c) t) room = pick (ltb c room) 16 (verdictNumber (check t))
 
--- The number by the short checks, after a reading of the rows into a table of `size` cells.
-unfoldable pub judged : (size : ℕ) (w rows : List ℕ) (n room : ℕ) → ℕ
-judged size w rows n room = numberBy (λ t. short t w n room) (readAll (composedAt rows n) n room (replicate size 0)) room
+-- The verdict by the short checks, after a reading of the rows into a table of `size` cells.
+unfoldable pub judged : (size : ℕ) (w rows : List ℕ) (n room : ℕ) → Verdict
+judged size w rows n room = verdictBy (λ t. short t w n room) (readAll (composedAt rows n) n room (replicate size 0)) room
 
--- The number that reading into 32-bit buffers and all of 8 to 12 give: "reading with room N; fewer than N reached is 16, before 8".
+-- The verdict that reading into 32-bit buffers and all of 8 to 12 give: "reading with room N; fewer than N reached is 16, before 8".
+unfoldable pub ruled : (size : ℕ) (w rows : List ℕ) (n room : ℕ) → Verdict
+ruled size w rows n room = verdictBy (λ t. verdictOf (check-group t w n room)) (readAll (composedAt rows n) n room (replicate size 0)) room
+
+-- Its number.
 unfoldable pub built : (size : ℕ) (w rows : List ℕ) (n room : ℕ) → ℕ
 built size w rows n room = numberBy (λ t. verdictOf (check-group t w n room)) (readAll (composedAt rows n) n room (replicate size 0)) room

@@ -8,7 +8,7 @@ ghost use Rattle.build_checks_inverses.specs.Inverses.{fillInverses};
 ghost use Rattle.build_checks_group.specs.Lefts.{leftOf, fillLeft, allGo, Lefts, lefts};
 ghost use Rattle.build_checks_inverses.specs.Hints.{Hint, Hints, inverseBy};
 ghost use Rattle.image_cells.specs.Cells.{cells, halves};
-ghost use Rattle.image_check.specs.Short.{shortTable, short, SomeWork, verdictNumber, judged};
+ghost use Rattle.image_check.specs.Short.{shortTable, short, SomeWork, judged};
 use egg::Counted;
 use egg::GeneratorId;
 use egg::GroupElementId;
@@ -163,29 +163,19 @@ fn check_all(b: &mut [u8], at: usize, n: u8, count: u32) -> Verdict
     check12(b, at, n, count)
 }
 
-// The number of a verdict's refusal, or 0.
-fn number(v: Verdict) -> u32
-    ensures { λ r. ⌜ r ≡ verdictNumber v ⌝ }
-{
-    match v {
-        Verdict::Fine => 0,
-        Verdict::Refused(why) => why.number,
-    }
-}
-
-// Reads the rows into the table and checks it: the refusal's number, or 0.
-pub fn judge(b: &mut [u8], at: usize, rows: &[u8], n: u8, room: u32) -> u32
+// Reads the rows into the table and checks it.
+pub fn judge(b: &mut [u8], at: usize, rows: &[u8], n: u8, room: u32) -> Verdict
     requires { ⌜ at ≤ length (now b) ⌝ }
     ensures { λ r. ⌜ SomeWork (length (cells (drop at (now (b .entry))))) (λ w. r ≡ judged (at / 4) w (halves (now (rows .entry))) n room) ⌝ }
 {
     image_cells::inner::clear(&mut b[..at]);
     match image_check_reading::inner::placing::read_rows(&mut b[..at], rows, n, room) {
-        Counted::Refused(why) => why.number,
+        Counted::Refused(why) => Verdict::Refused(why),
         Counted::Count(k) => {
             if k < room {
-                return 16;
+                return egg::inner::refused(16, 0, 0, 0);
             }
-            number(check_all(b, at, n, room))
+            check_all(b, at, n, room)
         }
     }
 }

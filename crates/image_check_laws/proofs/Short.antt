@@ -12,7 +12,7 @@ use Rattle.egg.specs.declared.Verdict.{Verdict}
 use Rattle.egg.specs.declared.Verdict.the-variants.{Fine, Refused}
 use Rattle.egg.specs.declared.Counted.the-variants as counted
 use Rattle.egg.specs.Table.{pick, startOf}
-use Rattle.egg.specs.Scan.{andThen}
+use Rattle.egg.specs.Scan.{refusedOf, andThen}
 use Rattle.egg.proofs.Scans.{Says}
 use Rattle.build_checks.specs.Checks.{missing, check8, ranges, wrong, check-table, counted as arrived, countsRight, verdictOf, thenChecked, withTable, check-rest, check-group}
 use Rattle.build_checks_inverses.specs.Inverses.{fillInverses, inversesRight}
@@ -32,7 +32,7 @@ use Rattle.build_checks_laws.proofs.Complete.{in-range, words-right}
 use Rattle.build_checks_laws.proofs.Refused.{Twelve, lefts-late}
 use Rattle.build_reading_laws.specs.Read.{Read}
 use Rattle.build_reading_laws.proofs.Readings.{accepted-read, read-readable}
-use Rattle.image_check.specs.Short.{shortTable, shortRest, short, verdictNumber, numberBy, judged, built}
+use Rattle.image_check.specs.Short.{shortTable, shortRest, short, verdictNumber, verdictBy, numberBy, judged, ruled, built}
 use Rattle.build_reading_laws.proofs.Storing.{read-recorded, words-stored, read-columns}
 
 -- 12 by its loop: fine just if each generator commutes, and else 12 with no places. So it does not depend on the work.
@@ -112,25 +112,39 @@ pub whole-same : {src : ℕ → ℕ → ℕ} {n room size N : ℕ} {t : List ℕ
     (work : 0 < n → N ≤ length w) (work′ : 0 < n → N ≤ length w′) → verdictOf (check-group t w n N) ≡ verdictOf (check-group t w′ n N)
 whole-same few small R w w′ work work′ = sym (short-is-whole few small R w w work work) ∙ short-is-whole few small R w w′ work work′
 
--- The judgement of rows over bytes gives the number that reading them into 32-bit numbers and all of 8 to 12 give.
+-- The judgement of rows over bytes gives the verdict that reading them into 32-bit numbers and all of 8 to 12 give.
 module _ (rows : List ℕ) (n room size : ℕ) (w w′ : List ℕ) (few : n ≤ 8) (lo : 1 ≤ room) (hi : room ≤ 65535) (fits : room * (2 * n + 4) ≤ size)
     (work : 0 < n → room ≤ length w) (work′ : 0 < n → room ≤ length w′) where
-  pub judged-is-built : judged size w rows n room ≡ built size w′ rows n room
-  unfolding judged built
-  judged-is-built = by (readAll (composedAt rows n) n room (replicate size 0)) refl where
+  pub judged-is-ruled : judged size w rows n room ≡ ruled size w′ rows n room
+  unfolding judged ruled
+  judged-is-ruled = by (readAll (composedAt rows n) n room (replicate size 0)) refl where
     enough : (c : ℕ) (t : List ℕ) → readAll (composedAt rows n) n room (replicate size 0) ≡ placed (counted.Count c) t → room ≤ c
-        → verdictNumber (short t w n room) ≡ verdictNumber (verdictOf (check-group t w′ n room))
+        → short t w n room ≡ verdictOf (check-group t w′ n room)
     enough c t q h =
         let R = accepted-read (composedAt rows n) n room size few lo hi fits q in
         let e : c ≡ room = omega (arith, R .within) in
-        ap verdictNumber (short-is-whole few hi (subst (λ (k : ℕ). Read (composedAt rows n) n room size k t) e R) w w′ work work′)
+        short-is-whole few hi (subst (λ (k : ℕ). Read (composedAt rows n) n room size k t) e R) w w′ work work′
 
     counting : (c : ℕ) (t : List ℕ) → readAll (composedAt rows n) n room (replicate size 0) ≡ placed (counted.Count c) t → (b : Bool) → ltb c room ≡ b
-        → pick b 16 (verdictNumber (short t w n room)) ≡ pick b 16 (verdictNumber (verdictOf (check-group t w′ n room)))
+        → pick b (refusedOf 16 0 0 0) (short t w n room) ≡ pick b (refusedOf 16 0 0 0) (verdictOf (check-group t w′ n room))
     counting c t q true e = refl
     counting c t q false e = enough c t q (ltb-false c room e)
 
     by : (p : Placed) → readAll (composedAt rows n) n room (replicate size 0) ≡ p
-        → numberBy (λ t. short t w n room) p room ≡ numberBy (λ t. verdictOf (check-group t w′ n room)) p room
+        → verdictBy (λ t. short t w n room) p room ≡ verdictBy (λ t. verdictOf (check-group t w′ n room)) p room
     by (placed (counted.Refused r) t) q = refl
     by (placed (counted.Count c) t) q = counting c t q (ltb c room) refl
+
+-- The number of that verdict.
+pub pick-number : (b : Bool) (u v : Verdict) → verdictNumber (pick b u v) ≡ pick b (verdictNumber u) (verdictNumber v)
+pick-number true u v = refl
+pick-number false u v = refl
+
+by-number : (check : List ℕ → Verdict) (p : Placed) (room : ℕ) → verdictNumber (verdictBy check p room) ≡ numberBy check p room
+by-number check (placed (counted.Refused r) t) room = refl
+by-number check (placed (counted.Count c) t) room = pick-number (ltb c room) (refusedOf 16 0 0 0) (check t)
+
+pub ruled-number : (size : ℕ) (w rows : List ℕ) (n room : ℕ) → verdictNumber (ruled size w rows n room) ≡ built size w rows n room
+unfolding ruled built
+ruled-number size w rows n room =
+    by-number (λ t. verdictOf (check-group t w n room)) (readAll (composedAt rows n) n room (replicate size 0)) room

@@ -1,4 +1,4 @@
--- Reading an image is `from_composed` on its successors with room N, but for a bad head and for 16 where fewer than N are reached; so the check's number is
+-- Reading an image is `from_composed` on its successors with room N, but for a bad head and for 16 where fewer than N are reached; so the check's verdict is
 -- the reading's, and what is promised of composed rows holds of an image.
 use Prim.Native.Nat.{ℕ, _+_, _*_, _≤_}
 use mathlib.Core.Path.{_≡_, refl, sym, ap, _∙_, subst}
@@ -15,7 +15,8 @@ use Rattle.egg.specs.declared.Verdict.{Verdict}
 use Rattle.egg.specs.declared.Verdict.the-variants as verdict
 use Rattle.egg.specs.declared.Counted.the-variants.{Count, Refused}
 use Rattle.egg.specs.Table.{pick}
-use Rattle.egg.specs.Factor.{verdictPaper}
+use Rattle.egg.specs.Scan.{refusedOf}
+use Rattle.egg.specs.Factor.{Paper, verdictPaper}
 use Rattle.build_checks.specs.Checks.{check-group, verdictOf}
 use Rattle.build_lending.specs.Finish.{finished, finishedPlaced}
 use Rattle.build_lending.specs.Lending.{tableNeed, workNeed, lentRight, refusedMade, Making, making, lentBack}
@@ -24,12 +25,13 @@ use Rattle.factor.specs.Composed.{composedIn, composed}
 use Rattle.image_cells.specs.Cells.{halves}
 use Rattle.build_reading_laws.specs.Read.{Read, Readable}
 use Rattle.build_reading_laws.proofs.Readings.{accepted-read, readable-accepted, refused-read, refused-number}
-use Rattle.image_check.specs.Short.{verdictNumber, numberBy, built}
-use Rattle.promises_image.proofs.Composed.{endsFewer, madeNumber, built-is-composed}
+use Rattle.image_check.specs.Short.{verdictNumber, numberBy, ruled, built}
+use Rattle.promises_image.proofs.Composed.{endsFewer, madeAnswer, madeNumber, ruled-is-composed}
 use Rattle.image.specs.Image.{headGenerators, headElements, headNumber, bytesNeed, imageNumber}
 use Rattle.image_reading.specs.Read.{allPlaced, imageIn}
 use Rattle.image.specs.Read.{headPlace, readImage}
-use Rattle.image.proofs.Checking.{zeros-long}
+use Rattle.image.specs.Checked.{imageVerdict}
+use Rattle.image.proofs.Checking.{zeros-long, verdict-number}
 use Rattle.promises.specs.Composed.{Given}
 use Rattle.build_laws.specs.Taken.{Taken}
 use Rattle.promises.specs.Papers.{madePaper}
@@ -46,11 +48,11 @@ all-placed : (room : ℕ) (p : Placed) → endsFewer p room ≡ false → allPla
 all-placed room (placed (Count c) t) e = rw e
 all-placed room (placed (Refused r) t) e = refl
 
-fewer-number : (table : List ℕ) (start : ℕ) (work : List ℕ) (n room : ℕ) (w : List ℕ) (p : Placed) → endsFewer p room ≡ true
-    → madeNumber (lentBack table start work n room (finishedPlaced (allPlaced room p) n w)) ≡ 16
+fewer-answer : (table : List ℕ) (start : ℕ) (work : List ℕ) (n room : ℕ) (w : List ℕ) (p : Placed) → endsFewer p room ≡ true
+    → madeAnswer (lentBack table start work n room (finishedPlaced (allPlaced room p) n w)) ≡ refusedOf 16 0 0 0
 unfolding finished
-fewer-number table start work n room w (placed (Count c) t) e = rw e
-fewer-number table start work n room w (placed (Refused r) t) e = absurd (let z : _≡_ {A = ℕ} 0 1 = cc in omega arith)
+fewer-answer table start work n room w (placed (Count c) t) e = rw e
+fewer-answer table start work n room w (placed (Refused r) t) e = absurd (let z : _≡_ {A = ℕ} 0 1 = cc in omega arith)
 
 in-same : (size : ℕ) (w rows : List ℕ) (n room : ℕ) → endsFewer (readAll (composedAt rows n) n room (replicate size 0)) room ≡ false
     → imageIn size w rows n room ≡ composedIn size w rows n room
@@ -118,16 +120,23 @@ module _ (l table : List ℕ) (start : ℕ) (work : List ℕ) where
 
     pub fewer-read : lentRight (length table) start (length work) (headElements l) (headGenerators l) ≡ true
         → endsFewer (readAll (composedAt (halves (drop 8 l)) (headGenerators l)) (headGenerators l) (headElements l) (replicate (tableNeed (headGenerators l) (headElements l)) 0)) (headElements l) ≡ true
-        → madeNumber (readImage l table start work) ≡ 16
+        → madeAnswer (readImage l table start work) ≡ refusedOf 16 0 0 0
     unfolding imageIn
-    fewer-read lent e = ap madeNumber (lent-read lent) ∙ fewer-number table start work n N (take (workNeed n N) work) reading e
+    fewer-read lent e = ap madeAnswer (lent-read lent) ∙ fewer-answer table start work n N (take (workNeed n N) work) reading e
 
--- The number of an answer is that of its paper.
-paper-number : (m : Making) → madeNumber m ≡ madePaper m .number
-paper-number (making m t w) = of (m .answer) where
-  of : (v : Verdict) → verdictNumber v ≡ verdictPaper v .number
-  of verdict.Fine = refl
-  of (verdict.Refused r) = refl
+answer-paper : (m : Making) → verdictPaper (madeAnswer m) ≡ madePaper m
+answer-paper (making m t w) = refl
+
+-- The verdict, by the head.
+module _ (l : List ℕ) where
+  pub bad-verdict : (size : ℕ) → (headNumber l ≡ 0 → ⊥) → imageVerdict l size ≡ refusedOf (headNumber l) (headPlace l) 0 0
+  unfolding imageVerdict
+  bad-verdict size d = simp (ne-eqb _ _ d)
+
+  pub lent-verdict : (size : ℕ) → headNumber l ≡ 0 → bytesNeed (headGenerators l) (headElements l) ≤ size
+      → imageVerdict l size ≡ ruled (tableNeed (headGenerators l) (headElements l)) (replicate (workNeed (headGenerators l) (headElements l)) 0) (halves (drop 8 l)) (headGenerators l) (headElements l)
+  unfolding imageVerdict
+  lent-verdict size h long = simp (eq-eqb _ _ h, le-ltb _ _ long)
 
 module _ (l : List ℕ) (B : Bytes l) where
   few-elements : headElements l ≤ 65535
@@ -145,39 +154,46 @@ module _ (l : List ℕ) (B : Bytes l) where
   unfolding imageNumber
   lent-number size h long = simp (eq-eqb _ _ h, le-ltb _ _ long)
 
-  -- The check's number is the reading's, in whatever buffers that are not short; 0 is acceptance.
-  pub number-is-read : (table : List ℕ) (start : ℕ) (work : List ℕ) (size : ℕ)
-      → (headNumber l ≡ 0 → lentRight (length table) start (length work) (headElements l) (headGenerators l) ≡ true)
-      → (headNumber l ≡ 0 → bytesNeed (headGenerators l) (headElements l) ≤ size)
-      → imageNumber l size ≡ madePaper (readImage l table start work) .number
-  number-is-read table start work size lent long = by (eqb (headNumber l) 0) refl ∙ paper-number (readImage l table start work) where
-    n : ℕ
-    n = headGenerators l
+  module _ (table : List ℕ) (start : ℕ) (work : List ℕ) (size : ℕ)
+      (lent : headNumber l ≡ 0 → lentRight (length table) start (length work) (headElements l) (headGenerators l) ≡ true)
+      (long : headNumber l ≡ 0 → bytesNeed (headGenerators l) (headElements l) ≤ size) where
+    same-answer : imageVerdict l size ≡ madeAnswer (readImage l table start work)
+    same-answer = by (eqb (headNumber l) 0) refl where
+      n : ℕ
+      n = headGenerators l
 
-    N : ℕ
-    N = headElements l
+      N : ℕ
+      N = headElements l
 
-    rows : List ℕ
-    rows = halves (drop 8 l)
+      rows : List ℕ
+      rows = halves (drop 8 l)
 
-    p : Placed
-    p = readAll (composedAt rows n) n N (replicate (tableNeed n N) 0)
+      p : Placed
+      p = readAll (composedAt rows n) n N (replicate (tableNeed n N) 0)
 
-    turn : (F : WellFormed l) (h : headNumber l ≡ 0) (b : Bool) → endsFewer p N ≡ b
-        → pick b 16 (madeNumber (composed table start work rows n N)) ≡ madeNumber (readImage l table start work)
-    turn F h true e = sym (fewer-read l table start work F (all-listed F) (lent h) e)
-    turn F h false e = ap madeNumber (sym (read-is-composed l table start work F (all-listed F) e))
+      turn : (F : WellFormed l) (h : headNumber l ≡ 0) (b : Bool) → endsFewer p N ≡ b
+          → pick b (refusedOf 16 0 0 0) (madeAnswer (composed table start work rows n N)) ≡ madeAnswer (readImage l table start work)
+      turn F h true e = sym (fewer-read l table start work F (all-listed F) (lent h) e)
+      turn F h false e = ap madeAnswer (sym (read-is-composed l table start work F (all-listed F) e))
 
-    by : (b : Bool) → eqb (headNumber l) 0 ≡ b → imageNumber l size ≡ madeNumber (readImage l table start work)
-    by false e =
-        let d = eqb-false (headNumber l) 0 e in
-        bad-number size d ∙ sym (ap madeNumber (bad-read l table start work d))
-    by true e =
-        let h = eqb-true (headNumber l) 0 e in
-        let F = formed l h in
-        lent-number size h (long h)
-        ∙ built-is-composed table start work rows n N (F .few) (lent h) (all-listed F) (replicate (workNeed n N) 0) (zeros-long n N)
-        ∙ turn F h (endsFewer p N) refl
+      by : (b : Bool) → eqb (headNumber l) 0 ≡ b → imageVerdict l size ≡ madeAnswer (readImage l table start work)
+      by false e =
+          let d = eqb-false (headNumber l) 0 e in
+          bad-verdict l size d ∙ sym (ap madeAnswer (bad-read l table start work d))
+      by true e =
+          let h = eqb-true (headNumber l) 0 e in
+          let F = formed l h in
+          lent-verdict l size h (long h)
+          ∙ ruled-is-composed table start work rows n N (F .few) (lent h) (all-listed F) (replicate (workNeed n N) 0) (zeros-long n N)
+          ∙ turn F h (endsFewer p N) refl
+
+    -- The check's verdict is the reading's, number and places, in whatever buffers that are not short.
+    pub verdict-is-read : verdictPaper (imageVerdict l size) ≡ madePaper (readImage l table start work)
+    verdict-is-read = ap verdictPaper same-answer ∙ answer-paper (readImage l table start work)
+
+    -- So its number is the reading's; 0 is acceptance.
+    pub number-is-read : imageNumber l size ≡ madePaper (readImage l table start work) .number
+    number-is-read = sym (verdict-number l size) ∙ ap (λ (x : Paper). x .number) verdict-is-read
 
   -- 0 just if the image has a group's right steps with N elements, under the numbering rule and within the limits: "accepted exactly when".
   module _ (F : WellFormed l) where
@@ -291,7 +307,7 @@ module _ (l : List ℕ) (B : Bytes l) (table : List ℕ) (start : ℕ) (work : L
     zero-number = ap madeNumber q
 
     reached : WellFormed l → lentRight (length table) start (length work) (headElements l) (headGenerators l) ≡ true → (b : Bool) → endsFewer p (headElements l) ≡ b → Out
-    reached F lent true e = absurd (omega (arith, fewer-read l table start work F (all-listed l B F) lent e, zero-number))
+    reached F lent true e = absurd (omega (arith, ap verdictNumber (fewer-read l table start work F (all-listed l B F) lent e), zero-number))
     reached F lent false e =
         let a = from-composed F e (sym (read-is-composed l table start work F (all-listed l B F) e) ∙ q) in
         (record { formed = F; taken = subst (λ (k : ℕ). Taken (imageStep l) (headGenerators l) (headElements l) k) (a .1) (a .0 .taken) }, a .0, a .1)

@@ -22,6 +22,7 @@ use Rattle.promises.specs.Composed.{RowsRight}
 use Rattle.promises.specs.Papers.{madePaper}
 use Rattle.promises.specs.Leaves.{Leaves, untouched, zeros, AllCleared, lentFor, composedNumbers}
 use Rattle.promises.proofs.Leaves.{composed-leaves}
+use Rattle.image_check.specs.Short.{verdictNumber}
 use Rattle.promises_image.proofs.Composed.{endsFewer, madeNumber}
 use Rattle.image.specs.Image.{headLength, headGenerators, headElements, headNumber}
 use Rattle.image.specs.Read.{headPlace, readImage}
@@ -105,7 +106,7 @@ module _ (l : List ℕ) (B : Bytes l) (table : List ℕ) (start : ℕ) (work : L
 
     reached : (b : Bool) → endsFewer (readAll (composedAt (halves (drop 8 l)) n) n N (replicate (tableNeed n N) 0)) N ≡ b → Claim
     reached true e =
-        let sixteen : r .number ≡ 16 = sym (ap madeNumber q) ∙ fewer-read l table start work F (all-listed l B F) lent e in
+        let sixteen : r .number ≡ 16 = sym (ap madeNumber q) ∙ ap verdictNumber (fewer-read l table start work F (all-listed l B F) lent e) in
         started (rw sixteen)
     reached false e =
         as-composed (composed-leaves table start work (halves (drop 8 l)) n N r f t w (sym (read-is-composed l table start work F (all-listed l B F) e) ∙ q))

@@ -3,6 +3,7 @@ pub mod Heads
 pub mod Numbers
 pub mod Composed
 pub mod Back
+pub mod Needs
 pub mod Rounds
 pub mod Walks
 pub mod Versions

@@ -3,6 +3,7 @@
 use Prim.Native.Nat.{ℕ}
 use mathlib.Core.Path.{sym, _∙_, ap}
 use mathlib.Core.List.{List}
+use Rattle.egg.specs.declared.Verdict.{Verdict}
 use Rattle.egg.specs.declared.Counted.{Counted}
 use Rattle.build_lending.specs.Lending.{making}
 use Rattle.image.proofs.head.Kinds as head-kinds
@@ -13,6 +14,10 @@ use Rattle.image.proofs.elements.Kinds as elements-kinds
 use Rattle.image.proofs.elements.Reads as elements-reads
 use Rattle.image.proofs.bytes_need.Kinds as bytes-need-kinds
 use Rattle.image.proofs.bytes_need.Reads as bytes-need-reads
+use Rattle.image.proofs.need.Kinds as need-kinds
+use Rattle.image.proofs.need.Reads as need-reads
+use Rattle.image.proofs.verdict.Kinds as verdict-kinds
+use Rattle.image.proofs.verdict.Reads as verdict-reads
 use Rattle.image.proofs.check.Kinds as check-kinds
 use Rattle.image.proofs.check.Reads as check-reads
 use Rattle.image.proofs.walk.Kinds as walk-kinds
@@ -40,7 +45,13 @@ elements-unique = λ κs args a b x y p q. p .at ∙ sym (q .at)
 pub bytes-need-unique : Unique 0 bytes-need-kinds.ps bytes-need-kinds.r bytes-need-reads.Post (λ κs a x. a)
 bytes-need-unique = λ κs args a b x y p q. p ∙ sym q
 
--- The number and the work.
+pub need-unique : Unique 1 need-kinds.ps need-kinds.r need-reads.Post (λ κs a x. a)
+need-unique = λ κs args a b x y p q. p ∙ sym q
+
+-- The verdict and the work; the number and the work.
+pub verdict-unique : Unique 2 verdict-kinds.ps verdict-kinds.r verdict-reads.Post {A = Verdict × List ℕ} (λ κs a x. (a, x .1 .0 .now))
+verdict-unique = λ κs args a b x y p q. ap (λ c. (c, x .1 .0 .now)) (p .0 ∙ sym (q .0)) ∙ ap (λ l. (b, l)) (p .1 ∙ sym (q .1))
+
 pub check-unique : Unique 2 check-kinds.ps check-kinds.r check-reads.Post {A = ℕ × List ℕ} (λ κs a x. (a, x .1 .0 .now))
 check-unique = λ κs args a b x y p q. ap (λ c. (c, x .1 .0 .now)) (p .0 ∙ sym (q .0)) ∙ ap (λ l. (b, l)) (p .1 ∙ sym (q .1))
 

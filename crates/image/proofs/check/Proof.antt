@@ -1,95 +1,29 @@
--- One law for each answer. The work is lent in one part, with the table in its front; what the whole gives is `whole-number` and `whole-work`.
-use mathlib.Core.Path.{_≡_, sym, ap, _∙_}
-use native.Mathlib.Omega.{arith}
-use lib.Seq.{length-take-le}
-use Rattle.image_check.proofs.Parts.{front-count}
-use Rattle.image.proofs.Checking.{bad-head, short-work, image-whole, table-lent, whole-number, whole-work}
+-- The number of the verdict.
+use mathlib.Core.Path.{ap, _∙_}
+use Rattle.image_check.specs.Short.{verdictNumber}
+use Rattle.image.proofs.Checking.{verdict-number}
+use lib.ListN.{length}
 use borrow.Author.Needs.{needs}
 use Rattle.image.proofs.check.Statement.{statement}
 use Rattle.image.proofs.check.Tie as tie
-use Rattle.image.proofs.check.Reads as reads
-use Rattle.image.proofs.check.Lts as lts
-use Rattle.image_cells.proofs.inner.clear.Reads as clear-reads
-use Rattle.image.proofs.bytes_need.Reads as bytes-need-reads
-use Rattle.image.proofs.elements.Reads as elements-reads
-use Rattle.image.proofs.generators.Reads as generators-reads
-use Rattle.image.proofs.head.Reads as head-reads
-use Rattle.image.proofs.table_bytes.Reads as table-bytes-reads
-use Rattle.image_check.proofs.inner.judge.Reads as judge-reads
 
-head-requires : tie.Need-head-requires
-head-requires c κs = search needs
+verdict-requires : tie.Need-verdict-requires
+verdict-requires c κs = search needs
 
-returns : tie.Need-returns
-returns c = bad-head (c .before .before .before .before .args .image .now) (c .before .before .before .before .args .work .now) (c .before .head .ensures) (c .if1 .taken)
-
-generators-requires : tie.Need-generators-requires
-generators-requires c κs = search needs
-
-elements-requires : tie.Need-elements-requires
-elements-requires c κs = search needs
-
-bytes-need-requires : tie.Need-bytes-need-requires
-bytes-need-requires c κs = search needs
-
-returns-2 : tie.Need-returns-2
-returns-2 c = short-work (c .before .before .before .before .before .before .before .before .args .image .now) (c .before .before .before .before .before .before .before .before .args .work .now) (c .before .before .before .before .before .head .ensures) (c .before .before .before .before .if1 .left) (c .before .before .before .generators .ensures) (c .before .before .elements .ensures .at) (c .before .bytes-need .ensures) (c .if2 .taken)
-
-slice-relend-prefix-judge : tie.Need-slice-relend-prefix-judge
-slice-relend-prefix-judge c = search needs
-
-slice-aggregate-judge : tie.Need-slice-aggregate-judge
-slice-aggregate-judge c = sym (length-take-le (c .before .before .bytes-need .result) (c .before .before .before .before .before .before .before .before .before .args .work .now) (c .before .if2 .left))
-
-table-bytes-requires : tie.Need-table-bytes-requires
-table-bytes-requires c κs = search needs
-
-sub-judge : tie.Need-sub-judge
-sub-judge c = omega (arith, image-whole (c .before .before .before .before .before .before .before .before .before .before .args .image .now) (c .before .before .before .before .before .before .before .before .before .before .args .work .now) (c .before .before .before .before .before .before .before .head .ensures) (c .before .before .before .before .before .before .if1 .left) (c .before .before .before .before .before .generators .ensures) (c .before .before .before .before .elements .ensures .at) (c .before .before .before .bytes-need .ensures))
-
-part-judge-start : tie.Need-part-judge-start
-part-judge-start c = omega (arith, image-whole (c .before .before .before .before .before .before .before .before .before .before .args .image .now) (c .before .before .before .before .before .before .before .before .before .before .args .work .now) (c .before .before .before .before .before .before .before .head .ensures) (c .before .before .before .before .before .before .if1 .left) (c .before .before .before .before .before .generators .ensures) (c .before .before .before .before .elements .ensures .at) (c .before .before .before .bytes-need .ensures))
-
-part-judge-end : tie.Need-part-judge-end
-part-judge-end c = search needs
-
-judge-requires : tie.Need-judge-requires
-judge-requires c κs = table-lent (c .before .before .before .before .before .before .before .before .before .before .before .args .image .now) (c .before .before .before .before .before .before .before .before .before .before .before .args .work .now) (c .before .before .before .before .before .before .before .before .head .ensures) (c .before .before .before .before .before .before .before .if1 .left) (c .before .before .before .before .before .before .generators .ensures) (c .before .before .before .before .before .elements .ensures .at) (c .before .before .before .before .bytes-need .ensures) (c .before .table-bytes .ensures) (c .before .before .before .if2 .left)
-
-slice-relend-prefix-clear : tie.Need-slice-relend-prefix-clear
-slice-relend-prefix-clear c = search needs
-
-slice-aggregate-clear : tie.Need-slice-aggregate-clear
-slice-aggregate-clear c = front-count (c .before .before .before .before .before .before .before .before .before .before .before .before .before .before .before .args .work .now) (c .before .before .before .before .before .before .before .before .bytes-need .result) (c .before .before .before .before .before .before .before .if2 .left) (c .before .before .before .judge .last .0) (c .before .before .before .judge .kept .0)
-
-clear-requires : tie.Need-clear-requires
-clear-requires c κs = search needs
+number-requires : tie.Need-number-requires
+number-requires c κs = search needs
 
 same-length : tie.Need-same-length
 same-length c = search needs
 
-returns-3 : tie.Need-returns-3
-returns-3 c = (whole-number (c .before .before .before .before .before .before .before .before .before .before .before .before .before .before .before .before .before .before .args .image .now) (c .before .before .before .before .before .before .before .before .before .before .before .before .before .before .before .before .before .before .args .work .now) (c .before .before .before .before .before .before .before .before .before .before .before .before .before .before .before .head .ensures) (c .before .before .before .before .before .before .before .before .before .before .before .before .before .before .if1 .left) (c .before .before .before .before .before .before .before .before .before .before .before .before .before .generators .ensures) (c .before .before .before .before .before .before .before .before .before .before .before .before .elements .ensures .at) (c .before .before .before .before .before .before .before .before .before .before .before .bytes-need .ensures) (c .before .before .before .before .before .before .before .before .table-bytes .ensures) (c .before .before .before .before .before .before .before .before .before .before .if2 .left) (c .before .before .before .before .before .before .before .before .before .before .before .before .elements .ensures .small) (c .before .before .before .before .before .before .judge .ensures), whole-work (c .before .before .before .before .before .before .before .before .before .before .before .before .before .before .before .before .before .before .args .image .now) (c .before .before .before .before .before .before .before .before .before .before .before .before .before .before .before .before .before .before .args .work .now) (c .before .before .before .before .before .before .before .before .before .before .before .before .before .before .before .head .ensures) (c .before .before .before .before .before .before .before .before .before .before .before .before .before .before .if1 .left) (c .before .before .before .before .before .before .before .before .before .before .before .before .before .generators .ensures) (c .before .before .before .before .before .before .before .before .before .before .before .before .elements .ensures .at) (c .before .before .before .before .before .before .before .before .before .before .before .bytes-need .ensures) (c .before .before .before .before .before .before .before .before .table-bytes .ensures) (c .before .before .before .before .before .before .before .before .before .before .if2 .left) (c .before .before .before .before .before .before .judge .last .0) (c .before .before .clear .last .0) (c .before .before .before .before .before .before .judge .kept .0) (c .before .before .clear .ensures))
+returns : tie.Need-returns
+returns c = ((c .number .ensures) ∙ ap verdictNumber ((c .before .before .before .verdict .ensures .0)) ∙ verdict-number ((c .before .before .before .before .before .before .before .args .image .now)) (length ((c .before .before .before .before .before .before .before .args .work .now))), (c .before .before .before .verdict .ensures .1))
 
 pub check-spec : {M : Type 1} → statement M
 check-spec =
     tie.close
     (tie.spec
-    head-requires
-    returns
-    generators-requires
-    elements-requires
-    bytes-need-requires
-    returns-2
-    slice-relend-prefix-judge
-    slice-aggregate-judge
-    table-bytes-requires
-    sub-judge
-    part-judge-start
-    part-judge-end
-    judge-requires
-    slice-relend-prefix-clear
-    slice-aggregate-clear
-    clear-requires
+    verdict-requires
+    number-requires
     same-length
-    returns-3)
+    returns)

@@ -16,14 +16,14 @@ use Rattle.image_check.proofs.inner.judge.Reads as reads
 use Rattle.image_check.proofs.inner.judge.Lts as lts
 use Rattle.image_cells.proofs.inner.clear.Reads as clear-reads
 use Rattle.image_check.proofs.inner.check_all.Reads as check-all-reads
-use Rattle.image_check.proofs.inner.number.Reads as number-reads
 use Rattle.image_check_reading.proofs.inner.placing.read_rows.Reads as read-rows-reads
+use Rattle.egg.proofs.inner.refused.Reads as refused-reads
 
 slice-relend-prefix-clear : tie.Need-slice-relend-prefix-clear
 slice-relend-prefix-clear c = search needs
 
 slice-aggregate-clear : tie.Need-slice-aggregate-clear
-slice-aggregate-clear c = sym (length-take-le (c .before .before .before .args .at) (c .before .before .before .args .b .now) (c .before .before .before .pre))
+slice-aggregate-clear c = sym (length-take-le ((c .before .before .before .args .at)) ((c .before .before .before .args .b .now)) ((c .before .before .before .pre)))
 
 clear-requires : tie.Need-clear-requires
 clear-requires c κs = search needs
@@ -32,7 +32,7 @@ slice-relend-prefix-read-rows : tie.Need-slice-relend-prefix-read-rows
 slice-relend-prefix-read-rows c = search needs
 
 slice-aggregate-read-rows : tie.Need-slice-aggregate-read-rows
-slice-aggregate-read-rows c = front-count (c .before .before .before .before .before .before .before .args .b .now) (c .before .before .before .before .before .before .before .args .at) (c .before .before .before .before .before .before .before .pre) (c .before .before .before .clear .last .0) (c .before .before .before .clear .kept .0)
+slice-aggregate-read-rows c = front-count ((c .before .before .before .before .before .before .before .args .b .now)) ((c .before .before .before .before .before .before .before .args .at)) ((c .before .before .before .before .before .before .before .pre)) ((c .before .before .before .clear .last .0)) ((c .before .before .before .clear .kept .0))
 
 read-rows-requires : tie.Need-read-rows-requires
 read-rows-requires c κs = search needs
@@ -43,29 +43,29 @@ enum-known-why c = search needs
 enum-known-k : tie.Need-enum-known-k
 enum-known-k c = search needs
 
+refused-requires : tie.Need-refused-requires
+refused-requires c κs = search needs
+
 same-length : tie.Need-same-length
 same-length c = search needs
 
 returns : tie.Need-returns
-returns c = judged-fewer ((c .before .before .before .before .before .before .before .before .before .before .before .before .before .before .args .at) / 4) (cells (drop (c .before .before .before .before .before .before .before .before .before .before .before .before .before .before .args .at) (c .before .before .before .before .before .before .before .before .before .before .before .before .before .before .args .b .now))) (halves (c .before .before .before .before .before .before .before .before .before .before .before .before .before .before .args .rows .now)) (c .before .before .before .before .before .before .before .before .before .before .before .before .before .before .args .n) (c .before .before .before .before .before .before .before .before .before .before .before .before .before .before .args .room) (cells (c .before .before .before .before .before .before .read-rows .last .0)) ((c .before .before .before .before .before .before .read-rows .ensures) ∙ ap (λ (z : List ℕ). readAll (composedAt (halves (c .before .before .before .before .before .before .before .before .before .before .before .before .before .before .args .rows .now)) (c .before .before .before .before .before .before .before .before .before .before .before .before .before .before .args .n)) (c .before .before .before .before .before .before .before .before .before .before .before .before .before .before .args .n) (c .before .before .before .before .before .before .before .before .before .before .before .before .before .before .args .room) z) (front-zero (c .before .before .before .before .before .before .before .before .before .before .before .before .before .before .args .b .now) (c .before .before .before .before .before .before .before .before .before .before .before .before .before .before .args .at) (c .before .before .before .before .before .before .before .before .before .before .before .before .before .before .pre) (c .before .before .before .before .before .before .before .before .before .before .clear .last .0) (c .before .before .before .before .before .before .before .before .before .before .clear .kept .0) (c .before .before .before .before .before .before .before .before .before .before .clear .ensures))) (c .before .before .k .given .1) (c .if1 .taken)
+returns c = judged-fewer (((c .before .before .before .before .before .before .before .before .before .before .before .before .before .before .before .args .at)) / 4) (cells (drop ((c .before .before .before .before .before .before .before .before .before .before .before .before .before .before .before .args .at)) ((c .before .before .before .before .before .before .before .before .before .before .before .before .before .before .before .args .b .now)))) (halves ((c .before .before .before .before .before .before .before .before .before .before .before .before .before .before .before .args .rows .now))) ((c .before .before .before .before .before .before .before .before .before .before .before .before .before .before .before .args .n)) ((c .before .before .before .before .before .before .before .before .before .before .before .before .before .before .before .args .room)) (cells ((c .before .before .before .before .before .before .before .read-rows .last .0))) (((c .before .before .before .before .before .before .before .read-rows .ensures)) ∙ ap (λ (z : List ℕ). readAll (composedAt (halves ((c .before .before .before .before .before .before .before .before .before .before .before .before .before .before .before .args .rows .now))) ((c .before .before .before .before .before .before .before .before .before .before .before .before .before .before .before .args .n))) ((c .before .before .before .before .before .before .before .before .before .before .before .before .before .before .before .args .n)) ((c .before .before .before .before .before .before .before .before .before .before .before .before .before .before .before .args .room)) z) (front-zero ((c .before .before .before .before .before .before .before .before .before .before .before .before .before .before .before .args .b .now)) ((c .before .before .before .before .before .before .before .before .before .before .before .before .before .before .before .args .at)) ((c .before .before .before .before .before .before .before .before .before .before .before .before .before .before .before .pre)) ((c .before .before .before .before .before .before .before .before .before .before .before .clear .last .0)) ((c .before .before .before .before .before .before .before .before .before .before .before .clear .kept .0)) ((c .before .before .before .before .before .before .before .before .before .before .before .clear .ensures)))) ((c .before .before .before .k .given .1)) ((c .before .if1 .taken)) ((c .refused .ensures))
 
 check-all-requires : tie.Need-check-all-requires
 check-all-requires c κs = search needs
-
-number-requires : tie.Need-number-requires
-number-requires c κs = search needs
 
 same-length-2 : tie.Need-same-length-2
 same-length-2 c = search needs
 
 returns-2 : tie.Need-returns-2
-returns-2 c = judged-refused ((c .before .before .before .before .before .before .before .before .before .before .before .before .before .args .at) / 4) (cells (drop (c .before .before .before .before .before .before .before .before .before .before .before .before .before .args .at) (c .before .before .before .before .before .before .before .before .before .before .before .before .before .args .b .now))) (halves (c .before .before .before .before .before .before .before .before .before .before .before .before .before .args .rows .now)) (c .before .before .before .before .before .before .before .before .before .before .before .before .before .args .n) (c .before .before .before .before .before .before .before .before .before .before .before .before .before .args .room) (cells (c .before .before .before .before .before .read-rows .last .0)) ((c .before .before .before .before .before .read-rows .ensures) ∙ ap (λ (z : List ℕ). readAll (composedAt (halves (c .before .before .before .before .before .before .before .before .before .before .before .before .before .args .rows .now)) (c .before .before .before .before .before .before .before .before .before .before .before .before .before .args .n)) (c .before .before .before .before .before .before .before .before .before .before .before .before .before .args .n) (c .before .before .before .before .before .before .before .before .before .before .before .before .before .args .room) z) (front-zero (c .before .before .before .before .before .before .before .before .before .before .before .before .before .args .b .now) (c .before .before .before .before .before .before .before .before .before .before .before .before .before .args .at) (c .before .before .before .before .before .before .before .before .before .before .before .before .before .pre) (c .before .before .before .before .before .before .before .before .before .clear .last .0) (c .before .before .before .before .before .before .before .before .before .clear .kept .0) (c .before .before .before .before .before .before .before .before .before .clear .ensures))) (c .before .why .given .1)
+returns-2 c = judged-refused (((c .before .before .before .before .before .before .before .before .before .before .before .before .before .args .at)) / 4) (cells (drop ((c .before .before .before .before .before .before .before .before .before .before .before .before .before .args .at)) ((c .before .before .before .before .before .before .before .before .before .before .before .before .before .args .b .now)))) (halves ((c .before .before .before .before .before .before .before .before .before .before .before .before .before .args .rows .now))) ((c .before .before .before .before .before .before .before .before .before .before .before .before .before .args .n)) ((c .before .before .before .before .before .before .before .before .before .before .before .before .before .args .room)) (cells ((c .before .before .before .before .before .read-rows .last .0))) (((c .before .before .before .before .before .read-rows .ensures)) ∙ ap (λ (z : List ℕ). readAll (composedAt (halves ((c .before .before .before .before .before .before .before .before .before .before .before .before .before .args .rows .now))) ((c .before .before .before .before .before .before .before .before .before .before .before .before .before .args .n))) ((c .before .before .before .before .before .before .before .before .before .before .before .before .before .args .n)) ((c .before .before .before .before .before .before .before .before .before .before .before .before .before .args .room)) z) (front-zero ((c .before .before .before .before .before .before .before .before .before .before .before .before .before .args .b .now)) ((c .before .before .before .before .before .before .before .before .before .before .before .before .before .args .at)) ((c .before .before .before .before .before .before .before .before .before .before .before .before .before .pre)) ((c .before .before .before .before .before .before .before .before .before .clear .last .0)) ((c .before .before .before .before .before .before .before .before .before .clear .kept .0)) ((c .before .before .before .before .before .before .before .before .before .clear .ensures)))) ((c .before .why .given .1))
 
 same-length-3 : tie.Need-same-length-3
 same-length-3 c = search needs
 
 returns-3 : tie.Need-returns-3
-returns-3 c = judged-whole ((c .before .before .before .before .before .before .before .before .before .before .before .before .before .before .before .before .before .before .before .args .at) / 4) (cells (drop (c .before .before .before .before .before .before .before .before .before .before .before .before .before .before .before .before .before .before .before .args .at) (c .before .before .before .before .before .before .before .before .before .before .before .before .before .before .before .before .before .before .before .args .b .now))) (halves (c .before .before .before .before .before .before .before .before .before .before .before .before .before .before .before .before .before .before .before .args .rows .now)) (c .before .before .before .before .before .before .before .before .before .before .before .before .before .before .before .before .before .before .before .args .n) (c .before .before .before .before .before .before .before .before .before .before .before .before .before .before .before .before .before .before .before .args .room) (cells (c .before .before .before .before .before .before .before .before .before .before .before .read-rows .last .0)) ((c .before .before .before .before .before .before .before .before .before .before .before .read-rows .ensures) ∙ ap (λ (z : List ℕ). readAll (composedAt (halves (c .before .before .before .before .before .before .before .before .before .before .before .before .before .before .before .before .before .before .before .args .rows .now)) (c .before .before .before .before .before .before .before .before .before .before .before .before .before .before .before .before .before .before .before .args .n)) (c .before .before .before .before .before .before .before .before .before .before .before .before .before .before .before .before .before .before .before .args .n) (c .before .before .before .before .before .before .before .before .before .before .before .before .before .before .before .before .before .before .before .args .room) z) (front-zero (c .before .before .before .before .before .before .before .before .before .before .before .before .before .before .before .before .before .before .before .args .b .now) (c .before .before .before .before .before .before .before .before .before .before .before .before .before .before .before .before .before .before .before .args .at) (c .before .before .before .before .before .before .before .before .before .before .before .before .before .before .before .before .before .before .before .pre) (c .before .before .before .before .before .before .before .before .before .before .before .before .before .before .before .clear .last .0) (c .before .before .before .before .before .before .before .before .before .before .before .before .before .before .before .clear .kept .0) (c .before .before .before .before .before .before .before .before .before .before .before .before .before .before .before .clear .ensures))) (c .before .before .before .before .before .before .before .k .given .1) (c .before .before .before .before .before .if1 .left) (rw (front-take ((c .before .before .before .before .before .before .before .before .before .before .before .before .before .before .before .clear .last .0) ++ drop (c .before .before .before .before .before .before .before .before .before .before .before .before .before .before .before .before .before .before .before .args .at) (c .before .before .before .before .before .before .before .before .before .before .before .before .before .before .before .before .before .before .before .args .b .now)) (c .before .before .before .before .before .before .before .before .before .before .before .before .before .before .before .before .before .before .before .args .at) (front-more (c .before .before .before .before .before .before .before .before .before .before .before .before .before .before .before .before .before .before .before .args .b .now) (c .before .before .before .before .before .before .before .before .before .before .before .before .before .before .before .before .before .before .before .args .at) (c .before .before .before .before .before .before .before .before .before .before .before .before .before .before .before .before .before .before .before .pre) (c .before .before .before .before .before .before .before .before .before .before .before .before .before .before .before .clear .last .0) (c .before .before .before .before .before .before .before .before .before .before .before .before .before .before .before .clear .kept .0)) (c .before .before .before .before .before .before .before .before .before .before .before .read-rows .last .0) (c .before .before .before .before .before .before .before .before .before .before .before .read-rows .kept .0), front-drop ((c .before .before .before .before .before .before .before .before .before .before .before .before .before .before .before .clear .last .0) ++ drop (c .before .before .before .before .before .before .before .before .before .before .before .before .before .before .before .before .before .before .before .args .at) (c .before .before .before .before .before .before .before .before .before .before .before .before .before .before .before .before .before .before .before .args .b .now)) (c .before .before .before .before .before .before .before .before .before .before .before .before .before .before .before .before .before .before .before .args .at) (front-more (c .before .before .before .before .before .before .before .before .before .before .before .before .before .before .before .before .before .before .before .args .b .now) (c .before .before .before .before .before .before .before .before .before .before .before .before .before .before .before .before .before .before .before .args .at) (c .before .before .before .before .before .before .before .before .before .before .before .before .before .before .before .before .before .before .before .pre) (c .before .before .before .before .before .before .before .before .before .before .before .before .before .before .before .clear .last .0) (c .before .before .before .before .before .before .before .before .before .before .before .before .before .before .before .clear .kept .0)) (c .before .before .before .before .before .before .before .before .before .before .before .read-rows .last .0) (c .before .before .before .before .before .before .before .before .before .before .before .read-rows .kept .0), front-drop (c .before .before .before .before .before .before .before .before .before .before .before .before .before .before .before .before .before .before .before .args .b .now) (c .before .before .before .before .before .before .before .before .before .before .before .before .before .before .before .before .before .before .before .args .at) (c .before .before .before .before .before .before .before .before .before .before .before .before .before .before .before .before .before .before .before .pre) (c .before .before .before .before .before .before .before .before .before .before .before .before .before .before .before .clear .last .0) (c .before .before .before .before .before .before .before .before .before .before .before .before .before .before .before .clear .kept .0)) at (c .before .before .before .check-all .ensures)) (c .number .ensures)
+returns-3 c = judged-whole (((c .before .before .before .before .before .before .before .before .before .before .before .before .before .before .before .before .before .before .args .at)) / 4) (cells (drop ((c .before .before .before .before .before .before .before .before .before .before .before .before .before .before .before .before .before .before .args .at)) ((c .before .before .before .before .before .before .before .before .before .before .before .before .before .before .before .before .before .before .args .b .now)))) (halves ((c .before .before .before .before .before .before .before .before .before .before .before .before .before .before .before .before .before .before .args .rows .now))) ((c .before .before .before .before .before .before .before .before .before .before .before .before .before .before .before .before .before .before .args .n)) ((c .before .before .before .before .before .before .before .before .before .before .before .before .before .before .before .before .before .before .args .room)) (cells ((c .before .before .before .before .before .before .before .before .before .before .read-rows .last .0))) (((c .before .before .before .before .before .before .before .before .before .before .read-rows .ensures)) ∙ ap (λ (z : List ℕ). readAll (composedAt (halves ((c .before .before .before .before .before .before .before .before .before .before .before .before .before .before .before .before .before .before .args .rows .now))) ((c .before .before .before .before .before .before .before .before .before .before .before .before .before .before .before .before .before .before .args .n))) ((c .before .before .before .before .before .before .before .before .before .before .before .before .before .before .before .before .before .before .args .n)) ((c .before .before .before .before .before .before .before .before .before .before .before .before .before .before .before .before .before .before .args .room)) z) (front-zero ((c .before .before .before .before .before .before .before .before .before .before .before .before .before .before .before .before .before .before .args .b .now)) ((c .before .before .before .before .before .before .before .before .before .before .before .before .before .before .before .before .before .before .args .at)) ((c .before .before .before .before .before .before .before .before .before .before .before .before .before .before .before .before .before .before .pre)) ((c .before .before .before .before .before .before .before .before .before .before .before .before .before .before .clear .last .0)) ((c .before .before .before .before .before .before .before .before .before .before .before .before .before .before .clear .kept .0)) ((c .before .before .before .before .before .before .before .before .before .before .before .before .before .before .clear .ensures)))) ((c .before .before .before .before .before .before .k .given .1)) ((c .before .before .before .before .if1 .left)) (rw (front-take (((c .before .before .before .before .before .before .before .before .before .before .before .before .before .before .clear .last .0)) ++ drop ((c .before .before .before .before .before .before .before .before .before .before .before .before .before .before .before .before .before .before .args .at)) ((c .before .before .before .before .before .before .before .before .before .before .before .before .before .before .before .before .before .before .args .b .now))) ((c .before .before .before .before .before .before .before .before .before .before .before .before .before .before .before .before .before .before .args .at)) (front-more ((c .before .before .before .before .before .before .before .before .before .before .before .before .before .before .before .before .before .before .args .b .now)) ((c .before .before .before .before .before .before .before .before .before .before .before .before .before .before .before .before .before .before .args .at)) ((c .before .before .before .before .before .before .before .before .before .before .before .before .before .before .before .before .before .before .pre)) ((c .before .before .before .before .before .before .before .before .before .before .before .before .before .before .clear .last .0)) ((c .before .before .before .before .before .before .before .before .before .before .before .before .before .before .clear .kept .0))) ((c .before .before .before .before .before .before .before .before .before .before .read-rows .last .0)) ((c .before .before .before .before .before .before .before .before .before .before .read-rows .kept .0)), front-drop (((c .before .before .before .before .before .before .before .before .before .before .before .before .before .before .clear .last .0)) ++ drop ((c .before .before .before .before .before .before .before .before .before .before .before .before .before .before .before .before .before .before .args .at)) ((c .before .before .before .before .before .before .before .before .before .before .before .before .before .before .before .before .before .before .args .b .now))) ((c .before .before .before .before .before .before .before .before .before .before .before .before .before .before .before .before .before .before .args .at)) (front-more ((c .before .before .before .before .before .before .before .before .before .before .before .before .before .before .before .before .before .before .args .b .now)) ((c .before .before .before .before .before .before .before .before .before .before .before .before .before .before .before .before .before .before .args .at)) ((c .before .before .before .before .before .before .before .before .before .before .before .before .before .before .before .before .before .before .pre)) ((c .before .before .before .before .before .before .before .before .before .before .before .before .before .before .clear .last .0)) ((c .before .before .before .before .before .before .before .before .before .before .before .before .before .before .clear .kept .0))) ((c .before .before .before .before .before .before .before .before .before .before .read-rows .last .0)) ((c .before .before .before .before .before .before .before .before .before .before .read-rows .kept .0)), front-drop ((c .before .before .before .before .before .before .before .before .before .before .before .before .before .before .before .before .before .before .args .b .now)) ((c .before .before .before .before .before .before .before .before .before .before .before .before .before .before .before .before .before .before .args .at)) ((c .before .before .before .before .before .before .before .before .before .before .before .before .before .before .before .before .before .before .pre)) ((c .before .before .before .before .before .before .before .before .before .before .before .before .before .before .clear .last .0)) ((c .before .before .before .before .before .before .before .before .before .before .before .before .before .before .clear .kept .0))) at ((c .before .before .check-all .ensures)))
 
 pub judge-spec : {M : Type 1} → statement M
 judge-spec =
@@ -79,10 +79,10 @@ judge-spec =
     read-rows-requires
     enum-known-why
     enum-known-k
+    refused-requires
     same-length
     returns
     check-all-requires
-    number-requires
     same-length-2
     returns-2
     same-length-3
