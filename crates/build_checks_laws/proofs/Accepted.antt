@@ -228,9 +228,6 @@ module _ {t : List ℕ} {n N : ℕ} (S : Sound t n N) where
     steps = sound-right-steps;
   }
 
-  pub sound-empty : lengthOf t n 0 ≡ 0
-  sound-empty = S .stored .lengths (S .table .origin) ∙ ap length (S .recorded .start)
-
   -- A step that is read is the table's own.
   pub read-step : {e g : ℕ} → e < N → g < n → readStep t n N e g ≡ Element (record { 0 = stepOf t n e g })
   read-step {e} {g} he hg =

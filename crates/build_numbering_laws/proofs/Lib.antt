@@ -7,8 +7,5 @@ pub mod Builds
 pub mod Refusals
 pub mod SubgroupBuilds
 pub mod Partial
-pub mod Whole
-pub mod Already
 pub mod Chosen
-pub mod Sample
 pub mod RoomierMaps

@@ -1,23 +1,21 @@
 -- What a numbering comes to: it is the reading of the numbered step, and leaves the two maps.
-use Prim.Native.Nat.{ℕ, _+_, _*_, _<_, _≤_}
+use Prim.Native.Nat.{ℕ, _<_, _≤_}
 use mathlib.Core.Path.{_≡_, refl, sym, _∙_, ap, subst}
-use mathlib.Core.Logic.{_↔_, _⊎_, inl, inr}
+use mathlib.Core.Logic.{_⊎_, inl, inr}
 use mathlib.Core.List.{List}
 use native.Mathlib.Decide.{decLt}
 use native.Mathlib.Omega.{arith}
-use lib.ListN.{length, getD, replicate}
+use lib.ListN.{getD}
 use Rattle.egg.specs.declared.Refusal.{Refusal}
 use Rattle.egg.specs.declared.Reached.{Reached}
 use Rattle.egg.specs.declared.Counted.the-variants.{Count, Refused}
-use Rattle.egg.specs.Table.{stepOf}
 use Rattle.egg.specs.Answers.{numbered}
 use Rattle.build_reading.specs.Reading.{Placed, placed, readAll}
-use Rattle.theory.specs.Appearance.{row, recorded}
+use Rattle.theory.specs.Appearance.{row}
 use Rattle.theory.proofs.Places.{ahead-row}
 use Rattle.theory.proofs.Counting.{row-known, numbered-table}
 use Rattle.theory.proofs.RuleLaws.{numbered-agree, no-skip, count-within}
-use Rattle.build_reading_laws.specs.Read.{Read, ReadSoFar, Stops, skips-ahead, no-room, long-word, ReadingRefused}
-use Rattle.build_reading_laws.proofs.Readings.{accepted-read, refused-read, readable-accepted, read-steps, read-readable}
+use Rattle.build_reading_laws.specs.Read.{ReadSoFar, Stops, skips-ahead, no-room, long-word, ReadingRefused}
 use Rattle.theory.specs.Orbit.{Orbit, Inside, numberOf, numberedStep, Appearing, Renumbered}
 use Rattle.build_numbering.specs.Renumber.{noNumber, Mapped, mapped, mapAll}
 use Rattle.build_numbering_laws.specs.Source.{Answering}
@@ -105,42 +103,6 @@ module _ {n M : ℕ} {out : ℕ → ℕ → ℕ} {x₀ N : ℕ} {elt : ℕ → �
   numbering-filled t₀ q =
       subst (Agree (λ c inn outw. (c ≡ N) × MapsFilled M room K elt c inn outw) (readAll (numberedStep N elt out) n room t₀)) q
       (all-follows A small room K hi lent I source answering lo t₀) .1
-
-  module _ (size : ℕ) (few : n ≤ 8) (fits : room * (2 * n + 4) ≤ size) where
-    pub numbering-read : {c : ℕ} {t inn outw : List ℕ} → mapAll source n room M K x₀ (replicate size 0) ≡ mapped (placed (Count c) t) inn outw
-        → Read (numberedStep N elt out) n room size c t
-    numbering-read q =
-        accepted-read (numberedStep N elt out) n room size few lo hi fits (sym (numbering-placed (replicate size 0)) ∙ ap placedOf q)
-
-    -- What an accepted numbering leaves.
-    pub numbering-held : {c : ℕ} {t inn outw : List ℕ} → mapAll source n room M K x₀ (replicate size 0) ≡ mapped (placed (Count c) t) inn outw
-        → maps.RenumberedLists n M room K out x₀ c (stepOf t n) inn outw
-    numbering-held {c} {t} {inn} {outw} q =
-        let R = numbering-read q in
-        let W = numbering-filled (replicate size 0) q in
-        subst (λ k. maps.RenumberedLists n M room K out x₀ k (stepOf t n) inn outw) (sym (W .0))
-        (filled-held A (rw (W .0) at (W .1)) hi (λ e g h hg. read-steps R e g (rw (W .0) h) hg))
-
-    -- What is accepted: elements within the room, and words within 4,096.
-    pub numbering-accepts : ((t : List ℕ) × (inn : List ℕ) × (outw : List ℕ)
-        × (mapAll source n room M K x₀ (replicate size 0) ≡ mapped (placed (Count N) t) inn outw))
-        ↔ ((N ≤ room) × ((e : ℕ) → e < N → length (recorded n (numberedStep N elt out) e) ≤ 4096))
-    numbering-accepts = (
-      λ a. let R = read-readable (numbering-read (a .3)) in (R .within, λ e h. R .short h),
-      λ b.
-          let a = readable-accepted (numberedStep N elt out) n room size few lo hi fits
-          (record { by-rule = A .by-rule; within = b .0; short = λ {e} h. b .1 e h }) in
-          go (mapAll source n room M K x₀ (replicate size 0)) refl (numbering-placed (replicate size 0) ∙ a .1),
-    ) where
-      go : {t : List ℕ} (m : Mapped) → mapAll source n room M K x₀ (replicate size 0) ≡ m → placedOf (mapAll source n room M K x₀ (replicate size 0)) ≡ placed (Count N) t
-          → (t : List ℕ) × (inn : List ℕ) × (outw : List ℕ) × (mapAll source n room M K x₀ (replicate size 0) ≡ mapped (placed (Count N) t) inn outw)
-      go {t} (mapped p inn outw) q z = (t, inn, outw, q ∙ ap (λ p. mapped p inn outw) (sym (ap placedOf q) ∙ z))
-
-    -- What is refused, and how.
-    pub numbering-refused : {r : Refusal} {t inn outw : List ℕ} → mapAll source n room M K x₀ (replicate size 0) ≡ mapped (placed (Refused r) t) inn outw
-        → ReadingRefused (numberedStep N elt out) n room r
-    numbering-refused q =
-        refused-read (numberedStep N elt out) n room size few lo hi fits (sym (numbering-placed (replicate size 0)) ∙ ap placedOf q)
 
   -- 7 is never given: only 5 and 6 are, at an element and a generator.
   pub refused-5-or-6 : {r : Refusal} → ReadingRefused (numberedStep N elt out) n room r

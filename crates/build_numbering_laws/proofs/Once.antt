@@ -10,7 +10,6 @@ use Rattle.theory.proofs.BoundedTests.{below-suc}
 use Rattle.theory.proofs.Places.{ahead-row}
 use Rattle.theory.proofs.Counting.{row-known}
 use Rattle.theory.proofs.RuleLaws.{no-skip, count-within}
-use Rattle.theory.proofs.Reading.{numbered-once}
 use Rattle.theory.specs.Orbit.{numberedStep, Appearing}
 use Rattle.build_numbering_laws.proofs.Order.{number-is, step-outside}
 
@@ -73,11 +72,6 @@ module _ {n M M′ : ℕ} {out : ℕ → ℕ → ℕ} {x₀ N N′ : ℕ} {elt e
       let S = alike K in
       record { known = new (S .known) hg (alike-new K hg S is); same = λ h. alike-more K hg S is h }
   alike (next-row K h) = let S = alike K in record { known = next-row (S .known) h; same = S .same }
-
-  pub appearing-count : N ≡ N′
-  appearing-count =
-      let S = alike (A .by-rule .known) in
-      numbered-once (record { end = A .by-rule .end; last-row = A .by-rule .last-row; known = S .known }) (A′ .by-rule)
 
   pub appearing-once : {e : ℕ} → e < N → elt e ≡ elt′ e
   appearing-once h = alike (A .by-rule .known) .same h

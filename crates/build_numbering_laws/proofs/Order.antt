@@ -9,24 +9,18 @@ use lib.Dec.{eqb, eqb→eq}
 use Rattle.egg.specs.Table.{pick}
 use Rattle.theory.specs.Numbering.{Known, start, old, new, next-row}
 use Rattle.theory.specs.Appearance.{Ahead}
-use Rattle.theory.proofs.BoundedTests.{below-suc, eq→eqb, least-holds, least-none, least-at-most}
+use Rattle.theory.proofs.BoundedTests.{below-suc, eq→eqb, least-holds, least-at-most}
 use Rattle.theory.proofs.RuleLaws.{ahead-above}
 use Rattle.theory.proofs.Counting.{row-known, read-known, known-same, numbered-table}
 use Rattle.theory.proofs.Pigeonhole.{pigeonhole}
 use Rattle.theory.specs.Orbit.{Orbit, origin, onward, Inside, numberOf, numberedStep, Appearing}
 
--- A number that is found, and one that is not.
+-- A number that is found.
 pub number-found : (c : ℕ) (elt : ℕ → ℕ) (x : ℕ) → numberOf c elt x < c → elt (numberOf c elt x) ≡ x
 number-found c elt x h = eqb→eq (elt (numberOf c elt x)) x (least-holds c (λ i. eqb (elt i) x) h)
 
-pub number-none : (c : ℕ) (elt : ℕ → ℕ) (x : ℕ) → ((i : ℕ) → i < c → elt i ≡ x → ⊥) → numberOf c elt x ≡ c
-number-none c elt x f = least-none c (λ i. eqb (elt i) x) (λ j l t. f j l (eqb→eq (elt j) x t))
-
 pub number-at-most : (c : ℕ) (elt : ℕ → ℕ) (x i : ℕ) → elt i ≡ x → numberOf c elt x ≤ i
 number-at-most c elt x i q = least-at-most c (λ i. eqb (elt i) x) i (eq→eqb q)
-
-pub number-missing : (c : ℕ) (elt : ℕ → ℕ) (x : ℕ) → ¬ (numberOf c elt x < c) → numberOf c elt x ≡ c
-number-missing c elt x f = number-none c elt x (λ i l q. f (omega (arith, number-at-most c elt x i q)))
 
 pub number-is : (c : ℕ) (elt : ℕ → ℕ) (x i : ℕ) → ((d e : ℕ) → d < c → e < c → elt d ≡ elt e → d ≡ e) → i < c → elt i ≡ x → numberOf c elt x ≡ i
 number-is c elt x i once h q =
@@ -219,7 +213,3 @@ module _ {n M : ℕ} {out : ℕ → ℕ → ℕ} {x₀ N : ℕ} {elt : ℕ → �
 
   pub number-below : {x : ℕ} → Orbit n out x₀ x → numberOf N elt x < N
   number-below {x} o = let (e, he, q) = orbit-numbered o in omega (arith, number-at-most N elt x e q)
-
-  -- What has a number is reached, and what has none is not.
-  pub unreached : {x : ℕ} → (Orbit n out x₀ x → ⊥) → numberOf N elt x ≡ N
-  unreached {x} f = number-none N elt x (λ i l q. f (rw q at (A .reached l)))

@@ -9,16 +9,15 @@ use lib.ListN.{length, replicate}
 use Rattle.egg.specs.Table.{parentOf, lastOf, lengthOf, stepOf}
 use Rattle.egg.specs.declared.Refusal.{Refusal}
 use Rattle.egg.specs.declared.Counted.the-variants.{Count, Refused}
-use Rattle.egg.specs.Answers.{numbered}
 use Rattle.build_reading.specs.Reading.{Placed, placed, readAll}
 use Rattle.theory.specs.Words.{word-of}
-use Rattle.theory.specs.Numbering.{Numbered, Skips}
-use Rattle.theory.specs.Appearance.{column, FirstAppearance, recorded}
+use Rattle.theory.specs.Numbering.{Numbered}
+use Rattle.theory.specs.Appearance.{FirstAppearance, recorded}
 use Rattle.theory.proofs.Induction.{induction}
 use Rattle.theory.proofs.Recording.{word-of-recorded, length-grow}
 use Rattle.theory.proofs.FirstPlaces.{first-parents, first-recorded}
 use Rattle.theory.proofs.Reading.{numbered-once}
-use Rattle.build_reading_laws.specs.Read.{Read, Readable, ReadSoFar, Stops, skips-ahead, no-room, long-word, ReadingRefused}
+use Rattle.build_reading_laws.specs.Read.{Read, Readable, Stops, skips-ahead, no-room, long-word, ReadingRefused}
 use Rattle.theory.proofs.RuleLaws.{numbered-agree, appearance-agree}
 use Rattle.build_reading_laws.proofs.ReadingState.{On}
 use Rattle.build_reading_laws.proofs.Runs.{read-all}
@@ -98,23 +97,3 @@ module _ {src : ℕ → ℕ → ℕ} {n room : ℕ} where
     go (skips-ahead l) = inl refl
     go (no-room p q) = inr (inl refl)
     go (long-word p q w) = inr (inr refl)
-
-  -- And 7 is given where the numbering rule first fails.
-  pub refused-skips : {r : Refusal} → ReadingRefused src n room r → r .number ≡ 7 → Skips n src (r .a) (r .b) (r .c)
-  refused-skips F seven = go (F .before) (F .place) (F .stops) seven where
-    go : {x g c : ℕ} {r : Refusal} → ReadSoFar src n room x g c → g < n → Stops src n room x g c r → r .number ≡ 7 → Skips n src (r .a) (r .b) (r .c)
-    go {x} {g} {c} H hg (skips-ahead l) q = record { count = c; known = H .known; column = hg; number = refl; ahead = l }
-    go H hg (no-room p p′) q = absurd (omega arith)
-    go H hg (long-word p p′ w) q = absurd (omega arith)
-
-  -- The converse, with room and words allowing.
-  pub skips-refused : {x g v : ℕ} (S : Skips n src x g v) → S .count ≤ room → ((e : ℕ) → e < S .count → length (recorded n src e) ≤ 4096)
-      → ReadingRefused src n room (numbered 7 x g v)
-  skips-refused {x} {g} {v} S h short = record {
-    row = x;
-    column = g;
-    count = S .count;
-    before = record { known = S .known; within = h; short = λ {e} l. short e l };
-    place = S .column;
-    stops = subst (λ v. Stops src n room x g (S .count) (numbered 7 x g v)) (S .number) (skips-ahead (rw (S .number) (S .ahead)));
-  }

@@ -26,7 +26,6 @@ use Rattle.factor_relations.specs.Relations.{turned, doubledRow, pairsRow}
 use Rattle.enumeration_run.specs.declared.inner.Ran.the-variants as ran
 use Rattle.enumeration_run.specs.Run.{enumerated, runs, visits, discovered, advanced}
 use Rattle.enumeration_run.specs.Limits.{Limits}
-use Rattle.enumeration_run_laws.proofs.Sample.{limits}
 use Rattle.enumeration_quick_loops.specs.Loops.{orderFor, loopBy, loopFrom}
 use Rattle.enumeration_quick_run.specs.Sweeps.{settles, sweeps, sweepFrom, swiftly}
 use Rattle.enumeration_quick_laws.specs.Sample.{checked, Case, five, triangle, prism}
@@ -49,10 +48,24 @@ triangle-case = record {
   short-too = refl;
 }
 
+triangle-limits : Limits 2 (3 ∷ []) 6 48 192
+triangle-limits = record {
+  few = omega arith;
+  full = refl;
+  orders = λ k h. first k h;
+  some = omega arith;
+  limit = omega arith;
+  table-room = omega arith;
+  work-room = omega arith;
+} where
+  first : (k : ℕ) → k < 1 → (1 ≤ getD (3 ∷ []) k 0) × (getD (3 ∷ []) k 0 < 32768)
+  first zero h = omega arith
+  first (suc k) h = absurd (omega arith)
+
 pub triangle-swift : (enumerated 2 (3 ∷ []) 6 48 192 .answer ≡ ran.Done 6)
     × (finished (Count 6) 2 (enumerated 2 (3 ∷ []) 6 48 192 .table) (enumerated 2 (3 ∷ []) 6 48 192 .work)
     ≡ built (Count 6) (checked 2 6 192 triangle) (replicate 192 0))
-triangle-swift = accepted limits triangle-case
+triangle-swift = accepted triangle-limits triangle-case
 
 pub prism-case : Case 3 (2 ∷ 2 ∷ 3 ∷ []) 12 120 792 prism (five 8 1)
 unfolding swiftly sweepFrom sweeps settles loopFrom loopBy orderFor walkFrom enumerated runs visits discovered advanced putAt startOf scan pairCode pairCount readStep setStep setWord adds rows.workWidth rows.placeAt rows.rowsAt rows.storedRow rows.writeRow legs.backFrom legs.forwardFrom legs.filled rows.appended rows.waits rows.addedRow rows.addRowsFrom carrying.learns carrying.woken carrying.wakes carrying.wakesAll facts.emptied facts.updated facts.settleFrom checks.missingRow checks.missing checks.check8 checks.rangeRow checks.linksOf checks.ranges checks.wrongRow checks.wrong checks.check-table checks.wiped checks.arriveRow checks.arrivals checks.countsRight inverses.invertFrom inverses.fillInverses inverses.inversesRight lefts.identityRow lefts.columnsRow lefts.spelledRow lefts.spelled lefts.check-steps lefts.fillLeft lefts.goesRow lefts.allGo lefts.lefts checks.check-rest checks.check-group hopFrom withHops finished turned doubledRow pairsRow

@@ -67,8 +67,3 @@ pub sound-derived : {n : ℕ} {o : List ℕ} {room lt N : ℕ} {t : List ℕ} �
 sound-derived {n} {t = t} R known = record {
   derived = λ {e} {g} he hg. let z = known e g he hg in R .succ e g (stepOf t n e g) hg (omega arith) .leads;
 }
-
--- Demand 3's second premise for an enumeration that is done.
-pub enumerated-derived : {n : ℕ} {o : List ℕ} {room lt lw : ℕ} → Limits n o room lt lw → {N : ℕ} → enumerated n o room lt lw .answer ≡ ran.Done N
-    → AllKnown n N (enumerated n o room lt lw .table) → Derived n N (order-of o) (stepOf (enumerated n o room lt lw .table) n) (words n (enumerated n o room lt lw .table))
-enumerated-derived L q known = sound-derived (done-sound L q) known

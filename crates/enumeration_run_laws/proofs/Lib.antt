@@ -18,7 +18,6 @@ pub mod Keeping
 pub mod Since
 pub mod Going
 pub mod Moving
-pub mod Sample
 pub mod LongerStores
 pub mod LongerRows
 pub mod LongerAdding

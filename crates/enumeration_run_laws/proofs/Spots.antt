@@ -57,9 +57,6 @@ module _ {n len p : ℕ} (c : Copy n len p) where
   pub row-spot : (k d : ℕ) → d < 6 → k + d ≡ 12 → CellOfKind n (p + d) k
   row-spot k d hd s = in-copy (c .element) (c .number) d (c .number-below) hd (rw (c .stands) (omega arith)) s
 
-  pub cell-within : {d : ℕ} → d < 6 → p + d < len
-  cell-within h = omega (arith, c .within)
-
 -- Two copies that share a cell are one.
 pub copy-once : {n len p p′ d d′ : ℕ} → Copy n len p → Copy n len p′ → d < 6 → d′ < 6 → p + d ≡ p′ + d′ → p ≡ p′
 copy-once {n} {p = p} {p′} {d} {d′} c c′ hd hd′ q =

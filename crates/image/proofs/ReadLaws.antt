@@ -20,9 +20,6 @@ use Rattle.image.proofs.Heads.{right-head}
 
 -- The place of a bad head.
 module _ (l : List ℕ) {h : ℕ} (qh : h ≡ headNumber l) where
-  pub place-one : h ≡ 1 → {k : ℕ} → k ≡ headGenerators l → k ≡ headPlace l
-  place-one z e = let y : headNumber l ≡ 1 = sym qh ∙ z in simp (eq-eqb _ _ y) e
-
   pub place-none : (h ≡ 1 → ⊥) → 0 ≡ headPlace l
   place-none d = let e : headNumber l ≡ 1 → ⊥ = λ z. d (qh ∙ z) in simp (ne-eqb _ _ e)
 

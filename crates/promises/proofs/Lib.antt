@@ -12,6 +12,5 @@ pub mod Stops
 pub mod Unaltered
 pub mod NoneTwice
 pub mod Roomier
-pub mod Invented
 pub mod Papers
 pub mod Unique

@@ -14,7 +14,7 @@ use Rattle.factor_laws.proofs.Steps.{compose-in, inverse-in, conjugate-in}
 use Rattle.build_checks_laws.proofs.Accepted.{read-step}
 use Rattle.factor_laws.proofs.Handles.{few-elements}
 use Rattle.theory_products.specs.Product as theory
-use Rattle.theory_products.specs.Product.{Part, product, digit-ranges, Each, IsGroup, Worded, Parted}
+use Rattle.theory_products.specs.Product.{Part, product, Each, IsGroup, Worded, Parted}
 use Rattle.theory_radix.proofs.RadixLaws.{low-small, high-small}
 use Rattle.theory_products.proofs.ProductLaws.{trivial-group, product-group, each-weaken}
 use Rattle.theory_products.proofs.StepLaws.{side, WhichFactor, left, right, step-left, step-right}
@@ -22,7 +22,7 @@ use Rattle.theory_products.proofs.Componentwise.{op-parted, inv-parted, conjuga
 use Rattle.theory_products.proofs.TableParts.{table-worded}
 use Rattle.group_digits.specs.declared.inner.Asked.{Asked}
 use Rattle.group_digits.specs.declared.inner.Asked.the-variants.{Compose, Inverse, Conjugate}
-use Rattle.group_handles.specs.Handles.{sizes, elementsOf, generatorsOf, allFit}
+use Rattle.group_handles.specs.Handles.{elementsOf, generatorsOf, allFit}
 use Rattle.group_digits.specs.Digits.{digitOf, digitwise, stepIn}
 use Rattle.promises_group.specs.Products.{part, parts, AllAccepted, none, more}
 
@@ -40,10 +40,6 @@ module _ (t : List ℕ) where
   pub all-fit : {hs : List Factor} → AllAccepted t hs → allFit (length t) hs ≡ true
   all-fit none = refl
   all-fit (more {h} {hs} A As) = rw (A .fits, all-fit As)
-
-  pub parts-sizes : (hs : List Factor) → digit-ranges (parts t hs) ≡ sizes hs
-  parts-sizes [] = refl
-  parts-sizes (h ∷ hs) = ap (λ (l : List ℕ). h .elements ∷ l) (parts-sizes hs)
 
   pub parts-elements : (hs : List Factor) → product (parts t hs) .elements ≡ elementsOf hs
   parts-elements [] = refl

@@ -39,9 +39,6 @@ use Rattle.promises_group.specs.Refuses.{ProductRefuses}
 abbrev asked : List ℕ
 asked = 14 ∷ 15 ∷ 17 ∷ []
 
-abbrev lent : List ℕ
-lent = 4 ∷ 14 ∷ 15 ∷ 17 ∷ []
-
 admits-in : (len : ℕ) (g : Group) (a la b lb : ℕ) → VerdictIn (14 ∷ 15 ∷ 17 ∷ []) (admits len g a la b lb)
 unfolding admits
 admits-in len g a la b lb =

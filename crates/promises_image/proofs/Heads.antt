@@ -1,7 +1,6 @@
 -- The head of a written image, and what a right head says.
 use Prim.Native.Nat.{ℕ, zero, suc, _+_, _*_, _/_, _%_, _≤_, _<_}
 use mathlib.Core.Path.{_≡_, refl, sym, _∙_}
-use mathlib.Core.Logic.{_↔_}
 use mathlib.Core.List.{List, [], _∷_}
 use native.Mathlib.Nat.{mul-le-mul}
 use native.Mathlib.Omega.{arith}
@@ -42,9 +41,6 @@ formed l h =
 pub formed-head : (l : List ℕ) → WellFormed l → headNumber l ≡ 0
 formed-head l F =
     sym (head-right l (omega (arith, F .size)) (omega (arith, F .size, F .said)) (F .version) (F .few) (omega (arith, F .some)) (F .said))
-
-pub head-exactly : (l : List ℕ) → headNumber l ≡ 0 ↔ WellFormed l
-head-exactly l = (formed l, formed-head l)
 
 -- "version byte 1": any other is 16, where the size and the length are right; and so is any head before it.
 pub other-version : (l : List ℕ) → 8 ≤ length l → headLength l + 4 ≡ length l → (getD l 4 0 ≡ 1 → ⊥) → headNumber l ≡ 16

@@ -6,8 +6,7 @@ use mathlib.Core.List.{List, _++_}
 use native.Mathlib.Nat.{le-refl}
 use native.Mathlib.Omega.{arith}
 use borrow.Author.Tests.{le-ltb}
-use lib.ListN.{length, drop, take}
-use lib.Seq.{take-at}
+use lib.ListN.{length, drop}
 use Rattle.egg.specs.declared.Factor.{Factor}
 use Rattle.egg.specs.declared.Verdict.the-variants as verdict
 use Rattle.egg.specs.declared.Counted.the-variants.{Count}
@@ -33,7 +32,6 @@ use Rattle.image.specs.Image.{headGenerators, headElements}
 use Rattle.image_writing.specs.Written.{rowsOf, imageSize, imageOf, stepRead, knownRow, allKnown}
 use Rattle.image.specs.Written.{writeCount, writtenImage}
 use Rattle.image.specs.Read.{readImage}
-use Rattle.image_writing.proofs.Bytes.{image-length}
 use Rattle.promises_image.specs.Images.{Bytes, imageStep, GroupImage, MadeWith, SameBytes}
 use Rattle.promises_image.proofs.Spelling.{rows-entry, rows-same}
 use Rattle.promises_image.proofs.Heads.{written-generators, written-elements, written-formed, written-rows, image-again, image-bytes}
@@ -59,12 +57,6 @@ module _ {t : List ℕ} {f : Factor} (A : Accepted t f) where
         ≡ imageOf (factorStep t f) (f .generators) (f .elements) ++ drop (imageSize (f .generators) (f .elements)) out
     unfolding writtenImage
     written-is = rw written-count
-
-    pub written-part : take (imageSize (f .generators) (f .elements)) (writtenImage t f out) ≡ imageOf (factorStep t f) (f .generators) (f .elements)
-    written-part =
-        ap (λ (l : List ℕ). take (imageSize (f .generators) (f .elements)) l) written-is
-        ∙ take-at (imageOf (factorStep t f) (f .generators) (f .elements)) _ (imageSize (f .generators) (f .elements))
-        (image-length (factorStep t f) (f .generators) (f .elements))
 
   small-steps : (e g : ℕ) → e < f .elements → g < f .generators → factorStep t f e g < 65536
   small-steps e g he hg = omega (arith, A .sound .table .closed he hg, few-elements A)

@@ -2,9 +2,8 @@
 -- element that the word reaches from the identity: live turns and the catch-up product land on one state.
 use Prim.Native.Nat.{ℕ, _+_, _≤_, _<_}
 use mathlib.Core.Path.{_≡_, refl, sym, ap, _∙_}
-use mathlib.Core.Logic.{_↔_}
 use mathlib.Core.Bool.{Bool, true, false}
-use mathlib.Core.List.{List, [], _∷_, _++_}
+use mathlib.Core.List.{List, [], _∷_}
 use borrow.Author.Tests.{eq-eqb, ne-eqb, le-leb, lt-leb, lt-ltb, ltb-true}
 use lib.Dec.{ltb}
 use lib.ListN.{drop}
@@ -20,17 +19,17 @@ use Rattle.theory.specs.Table.{Table}
 use Rattle.theory.specs.Words.{Word, empty, letter, walk}
 use Rattle.theory.proofs.Counting.{numbered-table}
 use Rattle.theory.proofs.Complete.{walk-is-op}
-use Rattle.theory.proofs.Walking.{walk-closed, walk-append, walk-agree, word-append}
+use Rattle.theory.proofs.Walking.{walk-closed, walk-agree}
 use Rattle.build_checks_laws.proofs.Accepted.{sound-group, sound-right-steps}
 use Rattle.factor_laws.specs.Accepted.{factorStep, reach}
 use Rattle.factor_laws.proofs.Handles.{compose-answer}
-use Rattle.image.specs.Image.{headGenerators, headElements, headNumber, bytesNeed, imageNumber}
+use Rattle.image.specs.Image.{headGenerators, headElements, headNumber}
 use Rattle.image.specs.Read.{readImage}
 use Rattle.image_walk.specs.Walked.{lettersBelow, follow}
 use Rattle.image.specs.Walked.{walkNumber}
 use Rattle.promises_image.specs.Images.{Bytes, imageStep, WellFormed, GroupImage}
 use Rattle.promises_image.proofs.Heads.{formed-head}
-use Rattle.promises_image.proofs.Back.{number-exactly, read-given}
+use Rattle.promises_image.proofs.Back.{read-given}
 
 -- The letters' test is the word's.
 letters-to : (n : ℕ) (w : List ℕ) → lettersBelow n w ≡ true → Word n w
@@ -42,9 +41,6 @@ letters-from : {n : ℕ} {w : List ℕ} → Word n w → lettersBelow n w ≡ tr
 unfolding lettersBelow
 letters-from empty = refl
 letters-from (letter h w) = simp (lt-ltb _ _ h) (letters-from w)
-
-pub letters-word : (n : ℕ) (w : List ℕ) → lettersBelow n w ≡ true ↔ Word n w
-letters-word n w = (letters-to n w, letters-from)
 
 follow-walk : (rows : List ℕ) (n N : ℕ) → Table n N (composedAt rows n) → {e : ℕ} {w : List ℕ} → e < N → Word n w
     → follow rows n N e w ≡ walk (composedAt rows n) e w
@@ -80,21 +76,6 @@ module _ (l : List ℕ) where
   walk-group-image start word S h w =
       let z = formed-head l (S .formed) in
       simp (eq-eqb _ _ z, lt-leb _ _ h, letters-from w) (follow-walk (halves (drop 8 l)) (headGenerators l) (headElements l) (image-table S) h w)
-
-  -- A walk that goes on: turns that arrive in two parts land where one word lands.
-  pub walk-on : (start : ℕ) (u v : List ℕ) → GroupImage l → start < headElements l → Word (headGenerators l) u → Word (headGenerators l) v
-      → walkNumber l (walkNumber l start u) v ≡ walkNumber l start (u ++ v)
-  walk-on start u v S h hu hv =
-      let T = image-table S in
-      let a = walk-group-image start u S h hu in
-      let b : walk (imageStep l) start u < headElements l = walk-closed T h hu in
-      ap (λ (x : ℕ). walkNumber l x v) a ∙ walk-group-image (walk (imageStep l) start u) v S b hv ∙ sym (walk-append (imageStep l) start u v)
-      ∙ sym (walk-group-image start (u ++ v) S h (word-append hu hv))
-
-  -- The same from the check's 0.
-  pub walk-checked : Bytes l → (size : ℕ) → bytesNeed (headGenerators l) (headElements l) ≤ size → imageNumber l size ≡ 0
-      → (start : ℕ) (word : List ℕ) → start < headElements l → Word (headGenerators l) word → walkNumber l start word ≡ walk (imageStep l) start word
-  walk-checked B size long z start word h w = walk-group-image start word (number-exactly l B size long .0 z) h w
 
 -- In the factor that was read, the walk from an element is the product of the element with what the word reaches from the identity.
 module _ (l : List ℕ) (B : Bytes l) (table : List ℕ) (start : ℕ) (work : List ℕ) {f : Factor} {t w : List ℕ}

@@ -33,7 +33,7 @@ rows = 2 ∷ 2 ∷ 0 ∷ 0 ∷ 0 ∷ 0 ∷ 1 ∷ 1 ∷ 0 ∷ 0 ∷ 1 ∷ 1 ∷ [
 abbrev two : Group
 two = groupOf (record { start = 0; room = 2; generators = 1; elements = 2 } ∷ [])
 
-by-itself : fromGenerators rows two (1 ∷ []) (replicate 14 7) 1 (replicate 21 7) (replicate 3 7) (replicate 3 7) 2
+pub by-itself : fromGenerators rows two (1 ∷ []) (replicate 14 7) 1 (replicate 21 7) (replicate 3 7) (replicate 3 7) 2
     ≡ subgrouping
     (record {
       answer = Fine;
@@ -43,7 +43,7 @@ unfolding putAt startOf scan readStep checks.missingRow checks.missing checks.ch
 by-itself = refl
 
 -- The identity for a generator: 9 at (0, 0), and everything that was lent for it is zero.
-by-the-identity : fromGenerators rows two (0 ∷ []) (replicate 14 7) 1 (replicate 21 7) (replicate 3 7) (replicate 3 7) 2
+pub by-the-identity : fromGenerators rows two (0 ∷ []) (replicate 14 7) 1 (replicate 21 7) (replicate 3 7) (replicate 3 7) 2
     ≡ subgrouping
     (record {
       answer = refusedOf 9 0 0 0;
@@ -53,7 +53,7 @@ unfolding putAt startOf scan readStep checks.missingRow checks.missing checks.ch
 by-the-identity = refl
 
 -- A map that is too short: 4, and nothing is touched.
-with-a-short-map : fromGenerators rows two (1 ∷ []) (replicate 14 7) 1 (replicate 21 7) (7 ∷ []) (replicate 3 7) 2
+pub with-a-short-map : fromGenerators rows two (1 ∷ []) (replicate 14 7) 1 (replicate 21 7) (7 ∷ []) (replicate 3 7) 2
     ≡ subgrouping
     (record {
       answer = refusedOf 4 0 0 0;

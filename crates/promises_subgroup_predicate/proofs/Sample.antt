@@ -39,28 +39,28 @@ abbrev told : List ℕ → ℕ → Shown
 told bytes room = shown (predicateIn 120 (replicate 200 0) plus room 6 room (λ y. getD bytes y 0))
 
 -- The even ones.
-even : told (1 ∷ 0 ∷ 1 ∷ 0 ∷ 7 ∷ 0 ∷ []) 3 ≡ record { gens = 2 ∷ []; answer = Count 3; inn = 0 ∷ noNumber ∷ 1 ∷ noNumber ∷ 2 ∷ noNumber ∷ []; outw = 0 ∷ 2 ∷ 4 ∷ [] }
+pub even-members : told (1 ∷ 0 ∷ 1 ∷ 0 ∷ 7 ∷ 0 ∷ []) 3 ≡ record { gens = 2 ∷ []; answer = Count 3; inn = 0 ∷ noNumber ∷ 1 ∷ noNumber ∷ 2 ∷ noNumber ∷ []; outw = 0 ∷ 2 ∷ 4 ∷ [] }
 unfolding putAt startOf scan readStep checks.missingRow checks.missing checks.check8 checks.rangeRow checks.linksOf checks.ranges checks.wrongRow checks.wrong checks.check-table checks.wiped checks.arriveRow checks.arrivals checks.countsRight inverses.invertFrom inverses.fillInverses inverses.inversesRight lefts.identityRow lefts.columnsRow lefts.spelledRow lefts.spelled lefts.check-steps lefts.fillLeft lefts.goesRow lefts.allGo lefts.lefts checks.check-rest checks.check-group setStep setWord adds hopFrom withHops finished mapPlace mapRow mapRows renumberIn chooses
-even = refl
+even-members = refl
 
 -- 2 and 3 are no subgroup: what they generate.
-all-six : told (0 ∷ 0 ∷ 1 ∷ 1 ∷ 0 ∷ 0 ∷ []) 6
+pub members-generate : told (0 ∷ 0 ∷ 1 ∷ 1 ∷ 0 ∷ 0 ∷ []) 6
     ≡ record { gens = 2 ∷ 3 ∷ []; answer = Count 6; inn = 0 ∷ 5 ∷ 1 ∷ 2 ∷ 3 ∷ 4 ∷ []; outw = 0 ∷ 2 ∷ 3 ∷ 4 ∷ 5 ∷ 1 ∷ [] }
 unfolding putAt startOf scan readStep checks.missingRow checks.missing checks.check8 checks.rangeRow checks.linksOf checks.ranges checks.wrongRow checks.wrong checks.check-table checks.wiped checks.arriveRow checks.arrivals checks.countsRight inverses.invertFrom inverses.fillInverses inverses.inversesRight lefts.identityRow lefts.columnsRow lefts.spelledRow lefts.spelled lefts.check-steps lefts.fillLeft lefts.goesRow lefts.allGo lefts.lefts checks.check-rest checks.check-group setStep setWord adds hopFrom withHops finished mapPlace mapRow mapRows renumberIn chooses
-all-six = refl
+members-generate = refl
 
 -- No room for the third: 5, and the maps are zero.
-short : told (1 ∷ 0 ∷ 1 ∷ 0 ∷ 1 ∷ 0 ∷ []) 2
+pub members-short : told (1 ∷ 0 ∷ 1 ∷ 0 ∷ 1 ∷ 0 ∷ []) 2
     ≡ record { gens = 2 ∷ []; answer = Refused (numbered 5 1 0 0); inn = 0 ∷ 0 ∷ 0 ∷ 0 ∷ 0 ∷ 0 ∷ []; outw = 0 ∷ 0 ∷ [] }
 unfolding putAt startOf scan readStep checks.missingRow checks.missing checks.check8 checks.rangeRow checks.linksOf checks.ranges checks.wrongRow checks.wrong checks.check-table checks.wiped checks.arriveRow checks.arrivals checks.countsRight inverses.invertFrom inverses.fillInverses inverses.inversesRight lefts.identityRow lefts.columnsRow lefts.spelledRow lefts.spelled lefts.check-steps lefts.fillLeft lefts.goesRow lefts.allGo lefts.lefts checks.check-rest checks.check-group setStep setWord adds hopFrom withHops finished mapPlace mapRow mapRows renumberIn chooses
-short = refl
+members-short = refl
 
 -- The even ones of the middle factor in 2 by 6 by 2: the subgroup's element (1, 2, 1) is 2 + .. in the overgroup, and back; (1, 3, 1) is in no subgroup.
-there : overOf 2 6 3 (λ e. getD (0 ∷ 2 ∷ 4 ∷ []) e 0) (1 + 2 + 2 + 6) ≡ 1 + 8 + 12
-there = refl
+pub over-computed : overOf 2 6 3 (λ e. getD (0 ∷ 2 ∷ 4 ∷ []) e 0) (1 + 2 + 2 + 6) ≡ 1 + 8 + 12
+over-computed = refl
 
-back : subOf 2 6 3 (λ x. getD (0 ∷ noNumber ∷ 1 ∷ noNumber ∷ 2 ∷ noNumber ∷ []) x 0) (1 + 8 + 12) ≡ 1 + 2 + 2 + 6
-back = refl
+pub sub-computed : subOf 2 6 3 (λ x. getD (0 ∷ noNumber ∷ 1 ∷ noNumber ∷ 2 ∷ noNumber ∷ []) x 0) (1 + 8 + 12) ≡ 1 + 2 + 2 + 6
+sub-computed = refl
 
-outside : subOf 2 6 3 (λ x. getD (0 ∷ noNumber ∷ 1 ∷ noNumber ∷ 2 ∷ noNumber ∷ []) x 0) (1 + 6 + 12) ≡ noNumber
-outside = refl
+pub outside-computed : subOf 2 6 3 (λ x. getD (0 ∷ noNumber ∷ 1 ∷ noNumber ∷ 2 ∷ noNumber ∷ []) x 0) (1 + 6 + 12) ≡ noNumber
+outside-computed = refl

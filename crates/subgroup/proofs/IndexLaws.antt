@@ -28,10 +28,6 @@ module _ (B M : ℕ) (i : Indices) (b : i .below < B) (m : i .within < M) where
   pub above-is : unfactorIndices i B M / B / M ≡ i .above
   above-is = rw (unfactor-is i B M, high b rest) (high m (i .above))
 
-  -- Joined and split again.
-  pub factor-unfactor : factorIndices (unfactorIndices i B M) B M ≡ i
-  factor-unfactor = rw (below-is, within-is, above-is)
-
 module _ (B M A e : ℕ) (h : e < B * (M * A)) where
   pub below-small : e % B < B
   below-small = low-small B (M * A) e h

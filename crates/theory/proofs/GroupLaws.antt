@@ -51,19 +51,3 @@ module _ {N : ℕ} {op : ℕ → ℕ → ℕ} {inv : ℕ → ℕ} (G : GroupOn N
   integer-power-suc a (pos k) = refl
   integer-power-suc a (negsuc zero) = sym (power-back a (G .identity))
   integer-power-suc a (negsuc (suc k)) = sym (power-back a (power-closed (G .inv-closed a) (suc k)))
-
-  power-left : {a : ℕ} → a < N → (k : ℕ) → power op a (suc k) ≡ op a (power op a k)
-  power-left a zero = cc (G .left-identity a, G .right-identity a)
-  power-left a (suc k) = cc (power-left a k, G .assoc a (power-closed a k) a)
-
-  power-cancel : {a : ℕ} → a < N → (k : ℕ) → op (power op (inv a) k) (power op a k) ≡ 0
-  power-cancel a zero = G .left-identity (G .identity)
-  power-cancel a (suc k) =
-      let i = G .inv-closed a in
-      let p = power-closed i k in
-      let q = power-closed a k in
-      cc (power-left a k, power-cancel a k, G .assoc p i (G .op-closed a q), G .assoc i a q, G .left-inverse a, G .left-identity q)
-
-  -- A power of the inverse is the inverse of the power.
-  pub power-inv : {a : ℕ} → a < N → (k : ℕ) → power op (inv a) k ≡ inv (power op a k)
-  power-inv a k = inverse-unique (power-closed a k) (power-closed (G .inv-closed a) k) (power-cancel a k)

@@ -25,7 +25,6 @@ pub mod Relations
 pub mod Presented
 pub mod Universal
 pub mod Deduction
-pub mod Written
 pub mod Parting
 pub mod Examples
 pub mod Parity

@@ -1,11 +1,10 @@
 -- The list of pair orders: each pair has its own place in it, and it is n(n-1)/2 long.
-use mathlib.Core.Path.{_≡_, refl, ap}
+use mathlib.Core.Path.{_≡_, refl}
 use Prim.Native.Nat.{ℕ, zero, suc, _+_, _*_, _-_, _/_, _<_, _≤_}
 use native.Mathlib.Nat.{le-refl, mul-sub, div-eq-of-eq-mul-left}
 use native.Mathlib.Decide.{le-ind, decLt}
 use native.Mathlib.Omega.{arith}
 use Rattle.theory.specs.Presentation.{pairs-below, pair-place}
-use Rattle.theory.proofs.Induction.{Order, less, equal, more, order}
 
 pairs-square : (n : ℕ) → pairs-below n * 2 + n ≡ n * n
 pairs-square zero = refl
@@ -20,13 +19,6 @@ pairs-grow {j} {n} = le-ind (λ k. pairs-below j ≤ pairs-below k) (le-refl _) 
 
 pub pair-inside : {i j n : ℕ} → i < j → j < n → pair-place i j < pairs-below n
 pair-inside {j = j} {n} hi hj = omega (arith, pairs-grow {j = suc j} {n = n} hj)
-
-pub pair-once : {i j k l : ℕ} → i < j → k < l → pair-place i j ≡ pair-place k l → (i ≡ k) × (j ≡ l)
-pair-once {i} {j} {k} {l} hi hk e = go (order j l) where
-  go : Order j l → (i ≡ k) × (j ≡ l)
-  go (less h) = absurd (omega (arith, pair-inside hi h))
-  go (equal h) = (omega (arith, ap pairs-below h), h)
-  go (more h) = absurd (omega (arith, pair-inside hk h))
 
 -- Every place of the list is a pair's.
 pub pair-at : (n p : ℕ) → p < pairs-below n → (i : ℕ) × (j : ℕ) × (i < j) × (j < n) × (pair-place i j ≡ p)

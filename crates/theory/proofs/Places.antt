@@ -1,9 +1,7 @@
 -- The places of a table in the order in which they are read.
 use mathlib.Core.Path.{_≡_, sym}
-use mathlib.Core.Logic.{_↔_, _⊎_, inl, inr}
-use Prim.Native.Nat.{ℕ, zero, suc, _+_, _*_, _-_, _<_}
-use native.Mathlib.Nat.{zero-mul, mul-le-mul-right, lt-irrefl}
-use native.Mathlib.Decide.{decLt}
+use mathlib.Core.Logic.{_⊎_, inl, inr}
+use Prim.Native.Nat.{ℕ, suc, _<_}
 use native.Mathlib.Omega.{arith}
 use Rattle.theory.specs.Appearance.{Ahead, row, column}
 use Rattle.theory.proofs.BoundedTests.{below-suc}
@@ -50,35 +48,3 @@ ahead-next (column p q) = row (omega arith)
 pub nothing-ahead : {y h : ℕ} → ¬ (Ahead y h 0 0)
 nothing-ahead (row p) = omega arith
 nothing-ahead (column p q) = omega arith
-
--- In a table that is written out row by row, the entry at row e and column g has the number e·n + g.
-pub inside : {n N e g : ℕ} → e < N → g < n → e * n + g < N * n
-inside {n} he hg = omega (arith, mul-le-mul-right n he)
-
--- Places are read in the order of their numbers.
-ahead-number : {n x g y h : ℕ} → g < n → Ahead x g y h → x * n + g < y * n + h
-ahead-number {n} hg (row p) = omega (arith, mul-le-mul-right n p)
-ahead-number {n} hg (column p q) = rw p (omega arith)
-
-pub ahead-by-number : {n x g y h : ℕ} → g < n → h < n → Ahead x g y h ↔ (x * n + g < y * n + h)
-ahead-by-number {n} {x} {g} {y} {h} hg hh = (ahead-number hg, λ l. go (places x g y h) l) where
-  go : Places x g y h → x * n + g < y * n + h → Ahead x g y h
-  go (sooner p) l = p
-  go (same p q) l = absurd (lt-irrefl (y * n + h) (rw (p, q) at l))
-  go (later p) l = absurd (omega (arith, ahead-number {n = n} hh p))
-
--- Each number is that of one place.
-pub place-once : {n x g y h : ℕ} → g < n → h < n → x * n + g ≡ y * n + h → (x ≡ y) × (g ≡ h)
-place-once {n} {x} {g} {y} {h} hg hh e = go (places x g y h) where
-  go : Places x g y h → (x ≡ y) × (g ≡ h)
-  go (sooner p) = absurd (omega (arith, ahead-number {n = n} hg p))
-  go (same p q) = (p, q)
-  go (later p) = absurd (omega (arith, ahead-number {n = n} hh p))
-
-pub place-at : (n N p : ℕ) → p < N * n → (e : ℕ) × (g : ℕ) × (e < N) × (g < n) × (e * n + g ≡ p)
-place-at n zero p h = absurd (omega (arith, zero-mul n))
-place-at n (suc N) p h = go (decLt p (N * n)) (place-at n N p) where
-  go : Dec (p < N * n) → (p < N * n → (e : ℕ) × (g : ℕ) × (e < N) × (g < n) × (e * n + g ≡ p))
-      → (e : ℕ) × (g : ℕ) × (e < suc N) × (g < n) × (e * n + g ≡ p)
-  go (yes l) ih = let (e, g, a, b, c) = ih l in (e, g, omega arith, b, c)
-  go (no l) ih = (N, p - N * n, omega arith, omega arith, omega arith)

@@ -5,11 +5,9 @@ use mathlib.Core.List.{List, _++_, append-nil, append-assoc}
 use Prim.Native.Nat.{ℕ, _<_}
 use Rattle.theory.specs.Table.{Table, Columns}
 use Rattle.theory.specs.Words.{Word, empty, letter, walk, Spelled}
-use Rattle.theory.specs.Group.{GroupOn}
 use Rattle.theory.specs.AnyGroup.{SomeGroup}
-use Rattle.theory.specs.Regular.{compose, inverse, Check}
+use Rattle.theory.specs.Regular.{Check}
 use Rattle.theory.specs.Presentation.{double, Equiv, insert, same, turn, join, Holds, Derived}
-use Rattle.theory.proofs.Sound.{sound}
 use Rattle.theory.proofs.Exact.{exact-any}
 use Rattle.theory.proofs.Walking.{word-append, word-left, walk-append, walk-closed}
 use Rattle.theory.proofs.Relations.{equiv-word, append-right}
@@ -47,10 +45,6 @@ module _ {n N : ℕ} {m step : ℕ → ℕ → ℕ} (T : Table n N step) (H : Ho
       commutes = λ s g x.
           sym (rw walk-append at (equiv-walk (D .derived x g) (word-append (S .over x) (letter g empty)) (T .closed (T .origin) s)));
     }
-
-    -- So the words up to the relations are the group, with the joining of words for its operation.
-    pub presented-group : GroupOn N (compose step word) (inverse step word)
-    presented-group = sound T S presented-check involutions
 
     -- Such a table is never refused by 12: it is a group's.
     pub presented-some-group : SomeGroup n N step

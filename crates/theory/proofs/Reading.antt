@@ -1,6 +1,5 @@
--- The reading that computes follows the numbering rule: it counts N elements just if the table has N rows by the rule, and refuses by 7 just where
--- the rule first fails.
-use mathlib.Core.Path.{_≡_, refl, _∙_, ap, subst}
+-- The reading that computes follows the numbering rule: it counts N elements just if the table has N rows by the rule.
+use mathlib.Core.Path.{_≡_, refl, _∙_, subst}
 use mathlib.Core.Logic.{_↔_}
 use Prim.Native.Nat.{ℕ, zero, suc, _+_, _*_, _-_, _<_, _≤_}
 use native.Mathlib.Nat.{le-refl}
@@ -77,13 +76,6 @@ module _ {n : ℕ} {step : ℕ → ℕ → ℕ} where
       let j = k - suc x * suc n in
       let q : k ≡ x * suc n + n + suc j = omega arith in
       rw q (read-reaches (R .known) (suc j) ∙ read-end n step j x n N (le-refl n) (omega (arith, R .last-row)))
-
-  pub read-refuses : {x g t : ℕ} → Skips n step x g t → (k : ℕ) → x * suc n + g < k → read n step k 0 0 1 ≡ skips x g t
-  read-refuses {x} {g} S k h =
-      let j = k - suc (x * suc n + g) in
-      let q : k ≡ x * suc n + g + suc j = omega arith in
-      let skip = read-skip n step j x g (S .count) (S .column) (omega (arith, S .number, S .ahead)) in
-      rw q (read-reaches (S .known) (suc j) ∙ skip ∙ ap (skips x g) (S .number))
 
 -- So the reading decides the numbering rule: a table has N rows by it just if N elements are counted.
 pub read-exact : (n N : ℕ) (step : ℕ → ℕ → ℕ) → (read n step (N * suc n) 0 0 1 ≡ numbers N) ↔ Numbered n N step

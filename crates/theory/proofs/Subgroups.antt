@@ -118,13 +118,6 @@ module _ {M : ℕ} {op : ℕ → ℕ → ℕ} {inv : ℕ → ℕ} (G : GroupOn M
       outward-inverts B ha =
           ap elt (inverse-is-inv numbers-group numbers-steps S B ha) ∙ R .back-and-there (orbit-inverses (R .outward ha))
 
-      pub inward-composes : {x y : ℕ} → H x → H y → num (op x y) ≡ compose step word (num x) (num y)
-      inward-composes {x} {y} p q =
-          sym (compose-is-op numbers-group numbers-steps S (R .inward p) (R .inward q) ∙ cc (R .back-and-there p, R .back-and-there q))
-
-      pub inward-inverts : {back : ℕ → ℕ → ℕ} → Columns n N step back → {x : ℕ} → H x → num (inv x) ≡ inverse back word (num x)
-      inward-inverts B {x} p = sym (inverse-is-inv numbers-group numbers-steps S B (R .inward p) ∙ cc (R .back-and-there p))
-
     -- The identity row is 1..n just if the generators are different and none is the identity.
     pub identity-row-proper : IdentityRow n step ↔ Proper n gen
     identity-row-proper = (

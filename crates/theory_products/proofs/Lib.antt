@@ -5,6 +5,4 @@ pub mod WordLaws
 pub mod TableParts
 pub mod PowerLaws
 pub mod PeriodLaws
-pub mod Examples
-pub mod Loops
 pub mod Generating

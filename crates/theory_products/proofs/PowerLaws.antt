@@ -11,24 +11,6 @@ use Rattle.theory.specs.Group.{GroupOn, power, integer-power}
 use Rattle.theory.proofs.GroupLaws.{power-add, power-even, power-odd}
 use Rattle.theory_products.specs.Power.{square, odd-too, halving, negative, powi}
 
--- Any number of calls that is enough gives the same; so each power is one turn from the power by the half.
-pub halving-enough : (op : ℕ → ℕ → ℕ) (a fuel fuel′ k : ℕ) → k ≤ fuel → k ≤ fuel′ → halving fuel op a k ≡ halving fuel′ op a k
-unfolding halving
-halving-enough op a zero zero k h h′ = refl
-halving-enough op a zero (suc fuel′) zero h h′ = refl
-halving-enough op a zero (suc fuel′) (suc k) h h′ = absurd (omega arith)
-halving-enough op a (suc fuel) zero zero h h′ = refl
-halving-enough op a (suc fuel) zero (suc k) h h′ = absurd (omega arith)
-halving-enough op a (suc fuel) (suc fuel′) zero h h′ = refl
-halving-enough op a (suc fuel) (suc fuel′) (suc k) h h′ =
-    ap (λ x. odd-too op a (square op x) (suc k % 2)) (halving-enough op a fuel fuel′ (suc k / 2) (omega arith) (omega arith))
-
-pub halving-next : (op : ℕ → ℕ → ℕ) (a k : ℕ)
-    → halving (suc k) op a (suc k) ≡ odd-too op a (square op (halving (suc k / 2) op a (suc k / 2))) (suc k % 2)
-unfolding halving
-halving-next op a k =
-    ap (λ x. odd-too op a (square op x) (suc k % 2)) (halving-enough op a k (suc k / 2) (suc k / 2) (omega arith) (le-refl (suc k / 2)))
-
 module _ {N : ℕ} {op : ℕ → ℕ → ℕ} {inv : ℕ → ℕ} (G : GroupOn N op inv) where
   pub power-identity : (k : ℕ) → power op 0 k ≡ 0
   power-identity zero = refl

@@ -1,13 +1,13 @@
 -- The direct product of groups is a group, with identity 0.
 use mathlib.Core.Path.{_≡_, refl, ap, subst₃, fun-ext}
-use mathlib.Core.List.{List, [], _∷_, map}
-use Prim.Native.Nat.{ℕ, zero, suc, _+_, _*_, _/_, _%_, _<_}
+use mathlib.Core.List.{List, [], _∷_}
+use Prim.Native.Nat.{ℕ, suc, _+_, _*_, _/_, _%_, _<_}
 use native.Mathlib.Nat.{mod-add-div, zero-mod, zero-div, mul-zero, mul-pos}
 use native.Mathlib.Omega.{arith}
-use lib.ListN.{length, getD}
+use lib.ListN.{length}
 use Rattle.theory.specs.Group.{GroupOn}
 use Rattle.theory_radix.specs.Radix.{count}
-use Rattle.theory_products.specs.Product.{Part, trivial, pair, product, digit-ranges, factor, componentwise, Each, none, more, IsGroup}
+use Rattle.theory_products.specs.Product.{Part, trivial, pair, product, digit-ranges, componentwise, Each, none, more, IsGroup}
 use Rattle.theory_radix.proofs.RadixLaws.{low, high, joined-small, low-small, high-small}
 
 -- What holds of the one-element group, and of a pair if of both, holds of every product.
@@ -85,22 +85,6 @@ pub direct-product : {ps : List Part} → Each IsGroup ps
 direct-product {ps} gs =
     subst₃ (λ N op inv. GroupOn N op inv) (product-count ps) (fun-ext λ a. fun-ext λ b. op-is ps a b) (fun-ext λ a. inv-is ps a) (product-group gs .laws)
 
--- A property of each factor, by its number; and the factors of a list of handles.
-pub each-at : {P : Part → Type 0} {ps : List Part} → Each P ps → (f : ℕ) → f < length ps → P (factor ps f)
-each-at none f k = absurd (omega arith)
-each-at (more h hs) zero k = h
-each-at (more h hs) (suc f) k = each-at hs f (omega arith)
-
 pub each-weaken : {P Q : Part → Type 0} {ps : List Part} → ((p : Part) → P p → Q p) → Each P ps → Each Q ps
 each-weaken w none = none
 each-weaken w (more {p} h hs) = more (w p h) (each-weaken w hs)
-
-module _ {A : Type 0} (part : A → Part) (d : A) where
-  pub each-map : {P : Part → Type 0} (l : List A) → ((f : ℕ) → f < length l → P (part (getD l f d))) → Each P (map part l)
-  each-map [] h = none
-  each-map (x ∷ l) h = more (h zero (omega arith)) (each-map l (λ f k. h (suc f) (omega arith)))
-
-  pub factor-map : (l : List A) (f : ℕ) → f < length l → factor (map part l) f ≡ part (getD l f d)
-  factor-map [] f k = absurd (omega arith)
-  factor-map (x ∷ l) zero k = refl
-  factor-map (x ∷ l) (suc f) k = factor-map l f (omega arith)

@@ -1,5 +1,5 @@
 -- The generators of a product: those of its factors, one after the other.
-use mathlib.Core.Path.{_≡_, sym, _∙_, ap}
+use mathlib.Core.Path.{_≡_, sym, _∙_}
 use mathlib.Core.List.{List, [], _∷_}
 use Prim.Native.Nat.{ℕ, zero, suc, _+_, _*_, _-_, _/_, _%_, _<_}
 use native.Mathlib.Nat.{zero-mod, zero-div, zero-add, add-assoc, add-sub-cancel-left, le-add-right}
@@ -7,10 +7,9 @@ use native.Mathlib.Omega.{arith}
 use native.Mathlib.Decide.{decLt}
 use lib.ListN.{length, getD, set}
 use borrow.Author.Tests.{lt-ltb, le-ltb}
-use Rattle.theory.specs.Table.{generator}
-use Rattle.theory_radix.specs.Radix.{count, split, join, project, inject, replace}
+use Rattle.theory_radix.specs.Radix.{count, split, join, project, replace}
 use Rattle.theory_products.specs.Product.{Part, trivial, pair, product, digit-ranges, factor, offset, Each, Stepped}
-use Rattle.theory_radix.proofs.RadixLaws.{low, high, joined-small, low-small, high-small, join-split, replace-is, project-zero, project-is, inject-is}
+use Rattle.theory_radix.proofs.RadixLaws.{low, high, joined-small, low-small, high-small, join-split, replace-is, project-is}
 use Rattle.theory_products.proofs.ProductLaws.{product-has, trivial-group, pair-group, product-count, ranges-length}
 
 -- A generator of a pair is one of the first, or the g-th of the second.
@@ -87,21 +86,3 @@ step-replaces ps f g e h hg he =
     let k : e < count (digit-ranges ps) = rw (← product-count ps) he in
     let l : f < length (digit-ranges ps) = rw (ranges-length ps) h in
     step-joins ps f g e h hg k ∙ rw (← project-is (digit-ranges ps) f e) (sym (replace-is (digit-ranges ps) f e (factor ps f .step (project (digit-ranges ps) f e) g) l k))
-
--- The element of that generator is the factor's, times the stride.
-pub generator-is : (ps : List Part) (f g : ℕ) → f < length ps → g < factor ps f .generators → 0 < product ps .elements
-    → generator (product ps .step) (offset ps f + g) ≡ inject (digit-ranges ps) f (generator (factor ps f .step) g)
-generator-is ps f g h hg h₀ =
-    step-replaces ps f g 0 h hg h₀
-    ∙ ap (λ x. replace (digit-ranges ps) f 0 (factor ps f .step x g)) (project-zero (digit-ranges ps) f) ∙ sym (inject-is (digit-ranges ps) f (generator (factor ps f .step) g))
-
--- Every generator of the product is one of these.
-pub generators-are : (ps : List Part) (G : ℕ) → G < product ps .generators
-    → (f : ℕ) × (g : ℕ) × (f < length ps) × (g < factor ps f .generators) × (G ≡ offset ps f + g)
-generators-are [] G h = absurd (omega arith)
-generators-are (p ∷ ps) G h = go (side (p .generators) (product ps .generators) G h) (generators-are ps) where
-  go : WhichFactor (p .generators) (product ps .generators) G
-      → ((g : ℕ) → g < product ps .generators → (f : ℕ) × (h : ℕ) × (f < length ps) × (h < factor ps f .generators) × (g ≡ offset ps f + h))
-      → (f : ℕ) × (g : ℕ) × (f < suc (length ps)) × (g < factor (p ∷ ps) f .generators) × (G ≡ offset (p ∷ ps) f + g)
-  go (left k) ih = (0, G, omega arith, k, sym (zero-add G))
-  go (right g k z) ih = let (f, h, a, b, c) = ih g k in (suc f, h, omega arith, b, omega arith)

@@ -4,12 +4,8 @@ use mathlib.Core.List.{List}
 use Rattle.theory.specs.Table.{Table, Columns}
 use Rattle.theory.specs.Words.{Spelled, Recorded}
 use Rattle.theory.specs.Regular.{Check}
-use Rattle.theory.specs.Numbering.{Numbered}
-use Rattle.theory.specs.Appearance.{FirstAppearance, recorded}
+use Rattle.theory.specs.Appearance.{FirstAppearance}
 use Rattle.theory.proofs.Sound.{sound, sound-steps}
-use Rattle.theory.proofs.Recording.{word-of-recorded}
-use Rattle.theory.proofs.Counting.{numbered-table}
-use Rattle.theory.proofs.FirstPlaces.{numbered-first, first-parents, numbered-spelled}
 use Rattle.theory.proofs.Shortest.{shortest}
 use Rattle.theory_products.specs.Product.{table-part, Worded, Shortest}
 
@@ -20,8 +16,3 @@ module _ {n N : ℕ} {step back : ℕ → ℕ → ℕ} {word : ℕ → List ℕ}
   pub table-shortest : {parent last : ℕ → ℕ} → Table n N step → Spelled n N step word → Columns n N step back → Check n N step word
       → FirstAppearance n N step parent last → Recorded N parent last word → Shortest (table-part n N step back word)
   table-shortest T S B C F R = record { worded = table-worded T S B C; shortest = λ w z. shortest T F R w z }
-
-pub numbered-shortest : {n N : ℕ} {step back : ℕ → ℕ → ℕ} → Numbered n N step → Columns n N step back → Check n N step (recorded n step)
-    → Shortest (table-part n N step back (recorded n step))
-numbered-shortest R B C =
-    table-shortest (numbered-table R) (numbered-spelled R) B C (numbered-first R) (word-of-recorded (first-parents (numbered-first R)))

@@ -9,8 +9,8 @@ use Rattle.theory.specs.Words.{Word, empty, letter, walk}
 use Rattle.theory.specs.Group.{GroupOn, RightSteps}
 use Rattle.theory.proofs.Exact.{unique}
 use Rattle.theory.proofs.Walking.{walk-closed}
-use Rattle.theory.proofs.Complete.{right-table, compose-is-op}
-use Rattle.theory_products.specs.Product.{Part, trivial, shift, pair, product, words-from, Each, Stepped, Worded, Shortest}
+use Rattle.theory.proofs.Complete.{right-table}
+use Rattle.theory_products.specs.Product.{Part, trivial, shift, pair, product, Each, Stepped, Worded, Shortest}
 use Rattle.theory_radix.proofs.RadixLaws.{low, high, joined-small, low-small, high-small}
 use Rattle.theory_products.proofs.ProductLaws.{product-has}
 use Rattle.theory_products.proofs.StepLaws.{WhichFactor, left, right, side, step-left, step-right, pair-stepped, trivial-stepped}
@@ -108,10 +108,6 @@ trivial-worded = record { stepped = trivial-stepped; spelled = record { start = 
 pub product-worded : {ps : List Part} → Each Worded ps → Worded (product ps)
 product-worded ws = product-has trivial-worded pair-worded ws
 
--- "`compose` walks the word of the second from the first": so it is in a product.
-pub word-walks : {p : Part} → Worded p → {a e : ℕ} → a < p .elements → e < p .elements → walk (p .step) a (p .word e) ≡ p .op a e
-word-walks P ha he = compose-is-op (P .stepped .group .laws) (P .stepped .steps) (P .spelled) ha he
-
 -- No other group has the product's right steps.
 pub product-only : {ps : List Part} {op′ : ℕ → ℕ → ℕ} {inv′ : ℕ → ℕ} → Each Worded ps → GroupOn (product ps .elements) op′ inv′
     → RightSteps (product ps .generators) (product ps .elements) (product ps .step) op′
@@ -166,11 +162,3 @@ shift-append o (g ∷ u) v = ap (λ r. (o + g) ∷ r) (shift-append o u v)
 pub shift-zero : (w : List ℕ) → shift 0 w ≡ w
 shift-zero [] = refl
 shift-zero (g ∷ w) = ap₂ {C = List ℕ} (λ h r. h ∷ r) (zero-add g) (shift-zero w)
-
-words-from-is : (o : ℕ) (ps : List Part) (e : ℕ) → words-from o ps e ≡ shift o (product ps .word e)
-words-from-is o [] e = refl
-words-from-is o (p ∷ ps) e =
-    rw (shift-append, shift-shift) (ap (λ r. shift o (p .word (e % p .elements)) ++ r) (words-from-is (o + p .generators) ps (e / p .elements)))
-
-pub word-is : (ps : List Part) (e : ℕ) → product ps .word e ≡ words-from 0 ps e
-word-is ps e = sym (words-from-is 0 ps e ∙ shift-zero (product ps .word e))

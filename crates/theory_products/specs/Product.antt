@@ -70,11 +70,6 @@ offset ps zero = 0
 offset [] (suc f) = 0
 offset (p ∷ ps) (suc f) = p .generators + offset ps f
 
--- The words of the factors one after the other, each generator moved up by those of the factors before it; they are counted from o on.
-abbrev pub words-from : ℕ → List Part → ℕ → List ℕ
-words-from o [] e = []
-words-from o (p ∷ ps) e = shift o (p .word (e % p .elements)) ++ words-from (o + p .generators) ps (e / p .elements)
-
 -- The factor f; beyond the last it is the group of one element.
 abbrev pub factor : List Part → ℕ → Part
 factor ps f = getD ps f trivial
@@ -89,11 +84,6 @@ each F (p ∷ ps) (a ∷ xs) (b ∷ ys) = F p a b ∷ each F ps xs ys
 -- F taken factor by factor: split both elements into digits, take F of the digits, and join the results.
 abbrev pub componentwise : (Part → ℕ → ℕ → ℕ) → List Part → ℕ → ℕ → ℕ
 componentwise F ps a b = join (digit-ranges ps) (each F ps (split (digit-ranges ps) a) (split (digit-ranges ps) b))
-
--- The same as a loop does it: s is the stride, a and b are what is left to split, and what has been joined so far is in `sum`.
-abbrev pub gather : (Part → ℕ → ℕ → ℕ) → ℕ → List Part → ℕ → ℕ → ℕ → ℕ
-gather F s [] a b sum = sum
-gather F s (p ∷ ps) a b sum = gather F (s * p .elements) ps (a / p .elements) (b / p .elements) (sum + F p (a % p .elements) (b % p .elements) * s)
 
 -- P holds of each factor.
 pub data Each (P : Part → Type 0) : List Part → Type 0 where

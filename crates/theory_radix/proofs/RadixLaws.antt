@@ -3,13 +3,12 @@ use mathlib.Core.Path.{_≡_, refl, sym, _∙_, ap}
 use mathlib.Core.List.{List, [], _∷_}
 use Prim.Native.Nat.{ℕ, zero, suc, _+_, _*_, _-_, _/_, _%_, _<_, _≤_}
 use native.Mathlib.Nat.{mod-lt, mod-eq-of-lt, mod-add-div, mod-one, mod-le, div-eq-of-lt, div-one, div-lt-iff-lt-mul, div-div-eq-div-mul, div-mul-le-self}
-use native.Mathlib.Nat.{add-mul-div-left, add-mul-mod-self-left, mul-zero, mul-one, one-mul, mul-comm, mul-assoc, mul-left-comm, mul-add, mul-sub, zero-add}
-use native.Mathlib.Nat.{mul-le-mul-left, mul-le-mul-right, zero-mod, zero-div, eq-zero-or-pos, zero-mul, le-trans}
+use native.Mathlib.Nat.{add-mul-div-left, add-mul-mod-self-left, mul-one, mul-comm, mul-assoc, mul-left-comm, mul-add, mul-sub, zero-add}
+use native.Mathlib.Nat.{mul-le-mul-left, mul-le-mul-right, zero-div, eq-zero-or-pos, zero-mul, le-trans}
 use native.Mathlib.Omega.{arith}
 use mathlib.Core.Logic.{⊎-elim}
 use lib.ListN.{length, getD, set}
-use lib.Seq.{getD-set-same, getD-set-other}
-use Rattle.theory_radix.specs.Radix.{count, stride, strides, split, join, weigh, Digits, none, more, project, inject, replace}
+use Rattle.theory_radix.specs.Radix.{count, stride, split, join, Digits, none, more, project, replace}
 
 -- One digit d, and the number x of the others.
 module _ {N d : ℕ} (h : d < N) (x : ℕ) where
@@ -31,10 +30,6 @@ module _ (N M e : ℕ) (h : e < N * M) where
 
   pub high-small : e / N < M
   high-small = (div-lt-iff-lt-mul range-pos) .1 (rw (mul-comm M N) h)
-
--- A number is known by its two parts.
-pub same-parts : (N a b : ℕ) → a % N ≡ b % N → a / N ≡ b / N → a ≡ b
-same-parts N a b p q = cc (mod-add-div a N, mod-add-div b N)
 
 -- Splitting and joining undo each other, and stay in range.
 pub join-split : (Ns : List ℕ) (e : ℕ) → e < count Ns → join Ns (split Ns e) ≡ e
@@ -73,53 +68,18 @@ project-is [] f e = mod-one (e / stride [] f)
 project-is (N ∷ Ns) zero e = rw div-one
 project-is (N ∷ Ns) (suc f) e = rw (← div-div-eq-div-mul) (project-is Ns f (e / N))
 
-pub project-small : (Ns : List ℕ) (f e : ℕ) → e < count Ns → project Ns f e < getD Ns f 1
-project-small Ns f e h = rw (project-is Ns f e) (digits-below (split-digits Ns e h) f)
-
-pub project-join : {Ns ds : List ℕ} → Digits Ns ds → (f : ℕ) → project Ns f (join Ns ds) ≡ getD ds f 0
-project-join {Ns} {ds} t f = project-is Ns f (join Ns ds) ∙ ap (λ l. getD l f 0) (split-join t)
-
--- Two numbers with the same digits are the same.
-pub same-digits : (Ns : List ℕ) (a b : ℕ) → a < count Ns → b < count Ns → ((f : ℕ) → project Ns f a ≡ project Ns f b) → a ≡ b
-same-digits [] a b ha hb q = omega arith
-same-digits (N ∷ Ns) a b ha hb q =
-    same-parts N a b (simp div-one at (q zero))
-    (same-digits Ns (a / N) (b / N) (high-small N (count Ns) a ha) (high-small N (count Ns) b hb) (λ f. simp (← div-div-eq-div-mul) at (q (suc f))))
-
--- The strides, each from the one before; with one more than the last the count is reached.
+-- The strides, each from the one before.
 pub stride-next : (Ns : List ℕ) (f : ℕ) → stride Ns (suc f) ≡ stride Ns f * getD Ns f 1
 stride-next [] zero = refl
 stride-next [] (suc f) = refl
 stride-next (N ∷ Ns) zero = mul-comm N 1
 stride-next (N ∷ Ns) (suc f) = ap (λ x. N * x) (stride-next Ns f) ∙ sym (mul-assoc N (stride Ns f) (getD Ns f 1))
 
-pub stride-end : (Ns : List ℕ) → stride Ns (length Ns) ≡ count Ns
-stride-end [] = refl
-stride-end (N ∷ Ns) = ap (λ x. N * x) (stride-end Ns)
-
 pub stride-small : (Ns : List ℕ) (f : ℕ) → 0 < count Ns → stride Ns f ≤ count Ns
 stride-small [] zero h = h
 stride-small [] (suc f) h = h
 stride-small (N ∷ Ns) zero h = h
 stride-small (N ∷ Ns) (suc f) h = mul-le-mul-left N (stride-small Ns f (rw zero-div at (high-small N (count Ns) 0 h)))
-
--- What is left to split after the digit f.
-pub quotient-next : (Ns : List ℕ) (f e : ℕ) → e / stride Ns (suc f) ≡ e / stride Ns f / getD Ns f 1
-quotient-next Ns f e = rw (stride-next, div-div-eq-div-mul)
-
--- The list of the strides has each at its place.
-pub strides-is : (s : ℕ) (Ns : List ℕ) (f : ℕ) → f < length Ns → getD (strides s Ns) f 0 ≡ s * stride Ns f
-strides-is s [] f h = absurd (omega arith)
-strides-is s (N ∷ Ns) zero h = sym (mul-one s)
-strides-is s (N ∷ Ns) (suc f) h = strides-is (s * N) Ns f (omega arith) ∙ mul-assoc s N (stride Ns f)
-
--- The sum of the digits times their strides.
-pub weigh-is : {Ns ds : List ℕ} → Digits Ns ds → (s : ℕ) → weigh ds (strides s Ns) ≡ s * join Ns ds
-weigh-is none s = sym (mul-zero s)
-weigh-is (more {N} {d} {Ns} {ds} h t) s = rw (weigh-is t (s * N), mul-add, mul-comm d s, mul-assoc)
-
-pub join-is : {Ns ds : List ℕ} → Digits Ns ds → weigh ds (strides 1 Ns) ≡ join Ns ds
-join-is t = weigh-is t 1 ∙ one-mul _
 
 -- What is taken away is there.
 pub projected-fits : (Ns : List ℕ) (f e : ℕ) → project Ns f e * stride Ns f ≤ e
@@ -146,28 +106,3 @@ replace-is (N ∷ Ns) (suc f) e x h k =
 
 pub replace-small : (Ns : List ℕ) (f e x : ℕ) → f < length Ns → e < count Ns → x < getD Ns f 1 → replace Ns f e x < count Ns
 replace-small Ns f e x h k l = rw (replace-is Ns f e x h k) (join-small (digits-set (split-digits Ns e k) f x l))
-
--- To inject is to replace a digit of 0, all of whose digits are 0.
-pub project-zero : (Ns : List ℕ) (f : ℕ) → project Ns f 0 ≡ 0
-project-zero Ns f = simp (zero-div, zero-mod)
-
-pub inject-is : (Ns : List ℕ) (f x : ℕ) → inject Ns f x ≡ replace Ns f 0 x
-inject-is Ns f x = rw (project-zero, mul-comm (stride Ns f) x) (omega (arith, zero-mul (stride Ns f)))
-
--- The digits after a replacement.
-pub project-same : (Ns : List ℕ) (f e x : ℕ) → f < length Ns → e < count Ns → x < getD Ns f 1 → project Ns f (replace Ns f e x) ≡ x
-project-same Ns f e x h k l =
-    ap (project Ns f) (replace-is Ns f e x h k) ∙ project-join (digits-set (split-digits Ns e k) f x l) f
-    ∙ getD-set-same (split Ns e) f x 0 (rw (split-length Ns e) h)
-
-pub project-other : (Ns : List ℕ) (f g e x : ℕ) → f < length Ns → e < count Ns → x < getD Ns f 1 → ¬ (g ≡ f)
-    → project Ns g (replace Ns f e x) ≡ project Ns g e
-project-other Ns f g e x h k l n =
-    ap (project Ns g) (replace-is Ns f e x h k) ∙ project-join (digits-set (split-digits Ns e k) f x l) g
-    ∙ getD-set-other (split Ns e) f g x 0 n ∙ sym (project-is Ns g e)
-
-pub inject-same : (Ns : List ℕ) (f x : ℕ) → f < length Ns → 0 < count Ns → x < getD Ns f 1 → project Ns f (inject Ns f x) ≡ x
-inject-same Ns f x h k l = ap (project Ns f) (inject-is Ns f x) ∙ project-same Ns f 0 x h k l
-
-pub inject-other : (Ns : List ℕ) (f g x : ℕ) → f < length Ns → 0 < count Ns → x < getD Ns f 1 → ¬ (g ≡ f) → project Ns g (inject Ns f x) ≡ 0
-inject-other Ns f g x h k l n = ap (project Ns g) (inject-is Ns f x) ∙ project-other Ns f g 0 x h k l n ∙ project-zero Ns g

@@ -1,5 +1,5 @@
 -- The number found decides the place.
-use Rattle.image.proofs.ReadLaws.{place-one, place-none}
+use Rattle.image.proofs.ReadLaws.{place-none}
 use borrow.Author.Needs.{needs}
 use Rattle.image.proofs.head_place.Statement.{statement}
 use Rattle.image.proofs.head_place.Tie as tie
