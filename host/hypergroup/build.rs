@@ -46,8 +46,11 @@ fn made(root: &Path) -> (Option<PathBuf>, String) {
             );
             root.join("target/here/staticlib")
         }
-        [arch, os, _] => {
-            return (None, format!("The proved library is compiled for x86-64 Linux and 64-bit Arm Linux, not for {arch} {os}"));
+        [arch, os, width] => {
+            return (
+                None,
+                format!("The proved library is compiled for x86-64 Linux and 64-bit Arm Linux, not for {arch} {os} ({width}-bit)"),
+            );
         }
     };
     old(root);
