@@ -13,6 +13,7 @@
 //!   products where the product has one factor too, and without the word the calls on that factor are asked.
 //! - `builder n` begins a build with the current room, `add e g` prints the new element, `set e g r` prints `new` or `known`, `build`
 //!   prints as `table` does and makes the factor the current product.
+//! - `walk e g..` walks the turns one after another, in one call.
 //! - `count`, `length e`; `shortword e` writes a word into one byte less than it has, `shortsplit e` the digits into one place less;
 //!   `part e` is the word by the call that hands back the filled part of its buffer, nothing where it is refused.
 //! - `image enum ..`, `image table ..` or `image` alone, for the one factor of the current product, print `ok` and the bytes in hex;

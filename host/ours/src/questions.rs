@@ -68,6 +68,11 @@ impl Ours {
                 let (e, g) = (number(w, 1)?, number(w, 2)?);
                 both(raw::product_step(t, hs, e, g), single.map(|h| raw::step(t, h, e, g)))?.to_string()
             }
+            "walk" => {
+                let from = number(w, 1)?;
+                let turns: Vec<u8> = (2..w.len()).map(|i| number(w, i)).collect::<Result<_, No>>()?;
+                both(raw::product_walk(t, hs, from, &turns), single.map(|h| raw::walk(t, h, from, &turns)))?.to_string()
+            }
             "compose" => {
                 let (a, b) = (number(w, 1)?, number(w, 2)?);
                 both(raw::product_compose(t, hs, a, b), single.map(|h| raw::compose(t, h, a, b)))?.to_string()
