@@ -417,6 +417,21 @@ void hg_subgroup_right(const uint32_t *from, size_t from_len, const uint32_t *ta
     size_t table_len, const uint32_t *sub, size_t sub_len, const uint32_t *handles,
     size_t handles_len, uint8_t count, uint32_t *out, size_t out_len);
 
+/* libcapi_walks.a */
+
+/* Answers the element to which the generators of the word lead from the element `from`, one
+ * after another; an empty word leads to `from` itself. Refuses in this order: 17 for a handle
+ * that does not fit, 14 for `from` (place 0) or the first generator (the one at i has place i +
+ * 1) out of range, 17 for a number read that is out of range. */
+uint64_t hg_walk(const uint32_t *table, size_t table_len, size_t start, uint32_t room, uint8_t n,
+    uint32_t count, uint32_t from, const uint8_t *word, size_t word_len);
+
+/* The same in a product. Refuses in this order: 17 for a handle that does not fit, 14 for `from`
+ * (place 0) or the first generator (the one at i has place i + 1) out of range, 15 for a product
+ * too large, 17 for a number read that is out of range. */
+uint64_t hg_product_walk(const uint32_t *table, size_t table_len, const uint32_t *handles,
+    size_t handles_len, uint8_t count, uint32_t from, const uint8_t *word, size_t word_len);
+
 /* End of the functions. */
 
 #ifdef __cplusplus

@@ -16,7 +16,7 @@ import sys
 
 HERE = pathlib.Path(__file__).resolve().parent
 sys.path.insert(0, str(HERE / "recorded"))
-from make import FACTORS, abelian, built, cycle, damaged, one_product, one_subgroup, random_columns, random_group, rows_command
+from make import FACTORS, abelian, built, cycle, damaged, make_product, one_product, one_subgroup, random_columns, random_group, rows_command
 from model import Model, Refused
 from replay import ORACLE, cases, run
 
@@ -236,6 +236,37 @@ def other_calls():
     print("other calls: %d factors" % len(factors))
 
 
+def walks(seed):
+    """Turns walked in one call: by the model, and where nothing is out of range turn by turn by the Rust."""
+    rng, model, asked, steps = random.Random(seed), Model(), [], []
+    for _ in range(100):
+        lines, _, total = make_product(rng, FACTORS, 4, 10**7)
+        n = sum(int(line.split()[2]) for line in lines if line.startswith("factor"))
+        for line in lines:
+            model.answer(line)
+        asked += [(line, None) for line in lines]
+        steps += [(line, None) for line in lines]
+        for _ in range(6):
+            e = rng.randrange(total) if rng.random() < 0.9 else total + rng.randrange(3)
+            turns = [rng.randrange(n) if n and rng.random() < 0.99 else n + rng.randrange(3) for _ in range(rng.choice((0, 1, 3, 40)))]
+            command = " ".join(map(str, ["walk", e, *turns]))
+            try:
+                asked.append((command, model.answer(command)))
+            except Refused as refused:
+                asked.append((command, [str(refused)]))
+                continue
+            for g in turns:
+                there = model.product.step(e, g)
+                steps.append(("step %d %d" % (e, g), [str(there)]))
+                e = there
+    for name, list_, program in (("ours", asked, OURS), ("the Rust, turn by turn", steps, None))[: 1 + ORACLE.exists()]:
+        commands = [command for command, _ in list_]
+        for (command, got), (_, want) in zip(cases(run(commands, program) if program else run(commands)), list_, strict=True):
+            if want is not None and got != want:
+                differs("walks by %s, seed %s" % (name, seed), command, want, got)
+    print("walks: %d compared, %d turns, seed %s" % (sum(want is not None for _, want in asked), sum(want is not None for _, want in steps), seed))
+
+
 # The refusals that are due of each question, whatever stands in the buffers and the handles.
 DUE = {
     "checked": (2, 3, 13, 17),
@@ -262,6 +293,8 @@ def garbage_commands(rng):
             yield "%s %d %d" % (question, rng.choice((0, 1, 5, number())), rng.choice((0, 1, 2, 255)))
         for e in (2, rng.randrange(24), number()):
             yield from ("word %d" % e, "part %d" % e)
+        for length in (0, 1, 4, 30):
+            yield " ".join(map(str, ["walk", rng.choice((0, 1, 5, number())), *(rng.choice((0, 0, 1, 1, 2, rng.randrange(9))) for _ in range(length))]))
         yield from ("inverse %d" % number(), "inverse 3", "gens", "count", "length %d" % number(), "split %d" % number())
         yield from ("powi %d %d" % (rng.choice((1, 3, number())), rng.randint(-(2**31), 2**31 - 1)), "period %d" % rng.choice((1, 3, number())))
         yield from ("project %d %d" % (rng.randrange(3), number()), "inject %d %d" % (rng.randrange(3), number()), "join %d %d %d" % (number(), number(), number()))
@@ -353,6 +386,7 @@ if __name__ == "__main__":
     short_buffers()
     other_calls()
     images(seed)
+    walks(seed)
     garbage(seed)
     if ORACLE.exists():
         largest()

@@ -154,6 +154,17 @@ def ones():
             print("| %s, %s | %.0f | %.0f | %.0f | %.2f | %.2f |" % (name, question, product, alone, rust, rust / product, alone / product), flush=True)
 
 
+def walks():
+    """A word of many turns, each of which waits for the one before: a turn of one walk, of a call a turn, and of the Rust's steps."""
+    table("walk", "one call, ns a turn", "a call a turn, ns", "Rust, ns", "times as fast as the Rust", "as a call a turn")
+    for name, factors in (("S3", [S3]), ("H3", [H3]), ("H4", [H4]), ("E6", [E6]), ("H3 by H3", [H3] * 2), ("H4 by E6", [H4, E6]), ("eight S3", [S3] * 8)):
+        for turns in (10, 100000):
+            setup = ["clear", *("factor enum " + orders for orders in factors), "prod"]
+            walk, each = ([*setup, "bench %s %d" % (kind, turns)] for kind in ("walk", "turns"))
+            whole, calls, rust = (s * 1e9 / turns for s in least((walk, (OURS,)), (each, (OURS,)), (walk, ())))
+            print("| %s, %d turns | %.1f | %.1f | %.1f | %.2f | %.2f |" % (name, turns, whole, calls, rust, rust / whole, calls / whole), flush=True)
+
+
 def maps():
     """One place of a subgroup's maps, and one digit of a product."""
     table("question", "ours, ns", "Rust, ns", "times as fast")
@@ -199,7 +210,7 @@ if __name__ == "__main__":
         OURS = (HERE.parent / "target" / "here" / "ours", "--echo")
         if not OURS[0].exists():
             sys.exit("%s is not there: host/build.sh makes it" % OURS[0].relative_to(HERE.parent))
-    tables = {f.__name__: f for f in (enumerations, questions, products, ones, subgroups, maps, images)}
+    tables = {f.__name__: f for f in (enumerations, questions, products, walks, ones, subgroups, maps, images)}
     for name in sys.argv[1:] or tables:
         print("\n%s\n" % name.capitalize())
         tables[name]()

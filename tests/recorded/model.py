@@ -658,6 +658,12 @@ class Model:
         p = self.product
         if name == "gens":
             return [spaced("ok", *(p.step(0, g) for g in range(p.n)))]
+        if name == "walk":
+            e, *turns = numbers
+            check_arguments([(e, p.count), *((g, p.n) for g in turns)])
+            for g in turns:
+                e = p.step(e, g)
+            return [str(e)]
         if name == "join":
             check_arguments(zip(numbers, [f.count for f in p.factors]))
             if len(numbers) < len(p.factors):

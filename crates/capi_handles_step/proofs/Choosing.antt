@@ -14,15 +14,11 @@ use Rattle.egg.proofs.Rooms.{false-true}
 use Rattle.build_lending.specs.Lending.{noFactor}
 use Rattle.group_handles.specs.Handles.{handles, generatorsOf}
 use Rattle.group_handles.proofs.Caps.{cap-small}
+use Rattle.group_walk.proofs.Steps.{taken-next}
 use Rattle.capi_handles.specs.Product.{productOf}
 use Rattle.capi_handles.proofs.Looks.{placed}
 use Rattle.capi_handles_step.specs.Spots.{Located, Spotted}
 use Rattle.capi_handles.proofs.Passing.{Passing, passed-all, passed-generators, passes-stop}
-
-taken-next : (hs : List Factor) (f : ℕ) → f < length hs → generatorsOf (take (suc f) hs) ≡ generatorsOf (take f hs) + getD hs f noFactor .generators
-taken-next [] f l = absurd (omega arith)
-taken-next (x ∷ hs) zero l = omega arith
-taken-next (x ∷ hs) (suc f) l = omega (arith, taken-next hs f (omega arith))
 
 pub record Choosing (hs : List Factor) (x f generators at s before : ℕ) : Type 0 where
   pub letters : generators ≡ generatorsOf (take f hs)

@@ -20,6 +20,7 @@ use Rattle.egg.specs.Answers.{ifReach, ifCount}
 use Rattle.egg.specs.Factor.{fitsIn, stretch}
 use Rattle.factor_questions.specs.Walks.{inverseIn, composeIn, conjugateIn, generatorIn}
 use Rattle.factor_words.specs.Words.{lengthIn, writeIn, writtenBy}
+use Rattle.factor_walk.specs.Walked.{walkIn}
 
 -- Refusal 17 in the handle, then 14 for two element arguments, with the position 0 or 1 for its place. A call with fewer elements takes the identity
 -- for the others, which is always there.
@@ -50,6 +51,10 @@ countAnswer t f = ifCount (admits (length t) f 0 0) (counted.Count (f .elements)
 -- What `generator` answers: the generator's element, read from the identity row.
 unfoldable pub generatorAnswer : List ℕ → Factor → GeneratorId → Reached
 generatorAnswer t f g = ifReach (admits (length t) f 0 0) (generatorIn (stretch t f) (f .generators) (f .elements) (g .0))
+
+-- What `walk` answers: where the steps of the word lead one after another. The start is the argument at position 0, and the letters come after it.
+unfoldable pub walkAnswer : List ℕ → Factor → GroupElementId → List ℕ → Reached
+walkAnswer t f e w = ifReach (admits (length t) f (e .0) 0) (walkIn (stretch t f) (f .generators) (f .elements) (e .0) w)
 
 -- What `word_length` answers.
 unfoldable pub lengthAnswer : List ℕ → Factor → GroupElementId → Counted

@@ -4,7 +4,7 @@ ghost use Prim.Native.Nat.{_+_, _*_, _<_, _≤_};
 ghost use lib.ListN.{length};
 ghost use Rattle.build_lending.specs.Lending.{Making};
 ghost use Rattle.factor.specs.Composed.{composed};
-ghost use Rattle.factor.specs.Questions.{composeAnswer, inverseAnswer, conjugateAnswer, countAnswer, generatorAnswer, lengthAnswer, writeAnswer, written, wordPart};
+ghost use Rattle.factor.specs.Questions.{composeAnswer, inverseAnswer, conjugateAnswer, countAnswer, generatorAnswer, walkAnswer, lengthAnswer, writeAnswer, written, wordPart};
 ghost use Rattle.factor.specs.Relations.{checkAnswer};
 use egg::Counted;
 use egg::Factor;
@@ -73,6 +73,24 @@ pub fn generator(table: &[u32], f: Factor, g: GeneratorId) -> Reached
             f.generators,
             f.elements,
             g,
+        ),
+    }
+}
+
+// Answers the element to which the generators of a word lead from an element, one after another; an empty word leads to
+// the element itself. Refuses in this order: 17 for a handle that does not fit, 14 for an element (place 0) or the first
+// letter (the one at i has place i + 1) that the factor does not have, 17 for a number read that is out of range.
+pub fn walk(table: &[u32], f: Factor, from: GroupElementId, word: &[u8]) -> Reached
+    ensures { λ r. ⌜ r ≡ walkAnswer (now (table .entry)) f from (now (word .entry)) ⌝ }
+{
+    match inner::admit(table, f, from, GroupElementId(0)) {
+        Verdict::Refused(why) => Reached::Refused(why),
+        Verdict::Fine => factor_walk::inner::walk_in(
+            egg::inner::part(table, f),
+            f.generators,
+            f.elements,
+            from,
+            word,
         ),
     }
 }

@@ -1,11 +1,12 @@
 -- The answers through the handle: where it fits and the arguments are in range, they are those of its stretch.
-use Prim.Native.Nat.{ℕ, suc, _≤_, _<_}
+use Prim.Native.Nat.{ℕ, zero, suc, _≤_, _<_}
 use mathlib.Core.Path.{_≡_, refl, sym, _∙_}
 use mathlib.Core.Logic.{_↔_}
 use mathlib.Core.Bool.{true}
 use mathlib.Core.List.{List, _++_}
+use native.Mathlib.Omega.{arith}
 use borrow.Author.Tests.{lt-leb}
-use lib.ListN.{length, drop}
+use lib.ListN.{length, getD, drop}
 use lib.Seq.{take-append-seam}
 use Rattle.egg.specs.declared.Refusal.{Refusal}
 use Rattle.egg.specs.declared.Factor.{Factor}
@@ -14,16 +15,20 @@ use Rattle.egg.specs.declared.Counted.the-variants.{Count}
 use Rattle.egg.specs.Pairs.{ordersRight}
 use Rattle.egg.specs.Factor.{fitsIn, stretch, stepAnswer}
 use Rattle.egg.proofs.Answers.{step-read}
+use Rattle.egg.proofs.Scans.{scan-fine}
+use Rattle.factor_walk.specs.Walked.{letterRight, lettersRight, walkIn}
+use Rattle.factor_walk.proofs.Letters.{letter-right}
 use Rattle.build_lending.proofs.Fits.{fits-small}
-use Rattle.factor.specs.Questions.{admits, composeAnswer, inverseAnswer, conjugateAnswer, countAnswer, generatorAnswer, lengthAnswer, writeAnswer, written, wordPart}
+use Rattle.factor.specs.Questions.{admits, composeAnswer, inverseAnswer, conjugateAnswer, countAnswer, generatorAnswer, walkAnswer, lengthAnswer, writeAnswer, written, wordPart}
 use Rattle.factor_relations.specs.Relations.{relations}
 use Rattle.factor.specs.Relations.{checkAnswer}
 use Rattle.theory.specs.Group.{conjugate}
+use Rattle.theory.specs.Words.{Word, empty, letter, walk}
 use Rattle.theory.specs.Regular.{compose, inverse}
 use Rattle.theory.specs.Presentation.{order-of, Holds}
 use Rattle.factor_laws.specs.Accepted.{Accepted, factorStep, factorBack, factorWord, reach}
 use Rattle.factor_relations_laws.specs.Fails.{Fails}
-use Rattle.factor_laws.proofs.Steps.{inverse-in, generator-in, compose-in, conjugate-in}
+use Rattle.factor_laws.proofs.Steps.{follow-word, inverse-in, generator-in, compose-in, conjugate-in}
 use Rattle.build_checks_laws.proofs.Accepted.{read-step}
 use Rattle.factor_laws.proofs.Letters.{length-in, write-in, spell-word}
 use Rattle.factor_relations_laws.proofs.Relators.{orders-long, relations-exact, relations-fail}
@@ -31,6 +36,16 @@ use Rattle.factor_relations_laws.proofs.Relators.{orders-long, relations-exact,
 pub admits-fine : (len : ℕ) (f : Factor) {a b : ℕ} → fitsIn len f ≡ true → a < f .elements → b < f .elements → admits len f a b ≡ Fine
 unfolding admits
 admits-fine len f fits ha hb = rw fits (simp (lt-leb _ _ ha, lt-leb _ _ hb))
+
+-- Each letter of a word over n generators is right.
+word-letter : {n : ℕ} {u : List ℕ} → Word n u → (i : ℕ) → i < length u → getD u i 0 < n
+word-letter empty i l = absurd (omega arith)
+word-letter (letter hg hu) zero l = hg
+word-letter (letter hg hu) (suc i) l = word-letter hu i (omega arith)
+
+pub letters-fine : {n : ℕ} {u : List ℕ} → Word n u → lettersRight n u ≡ Fine
+unfolding lettersRight
+letters-fine {n} {u} hu = scan-fine (length u) (letterRight n u) .1 (λ i l. letter-right n u i refl (word-letter hu i l))
 
 module _ {t : List ℕ} {f : Factor} (A : Accepted t f) where
   origin : 0 < f .elements
@@ -46,6 +61,10 @@ module _ {t : List ℕ} {f : Factor} (A : Accepted t f) where
     pub step-answer : {g : ℕ} → g < f .generators
         → stepAnswer t f (record { 0 = e }) (record { 0 = g }) ≡ reach (factorStep t f e g)
     step-answer {g} hg = sym (step-read t f (record { 0 = e }) (record { 0 = g }) (A .fits) he hg) ∙ read-step (A .sound) he hg
+
+    pub walk-answer : {u : List ℕ} → Word (f .generators) u → walkAnswer t f (record { 0 = e }) u ≡ reach (walk (factorStep t f) e u)
+    unfolding walkAnswer walkIn
+    walk-answer hu = rw (admits-fine (length t) f (A .fits) he origin, letters-fine hu) (follow-word (A .sound) he hu)
 
     pub inverse-answer : inverseAnswer t f (record { 0 = e }) ≡ reach (inverse (factorBack t f) (factorWord t f) e)
     unfolding inverseAnswer

@@ -7,7 +7,7 @@ use mathlib.Core.List.{List, [], _∷_}
 use native.Mathlib.Omega.{arith}
 use borrow.Author.Tests.{lt-leb}
 use lib.Dec.{eqb, ltb, leb}
-use lib.ListN.{length}
+use lib.ListN.{length, getD}
 use Rattle.egg.specs.declared.Refusal.{Refusal}
 use Rattle.egg.specs.declared.Factor.{Factor}
 use Rattle.egg.specs.declared.GroupElementId.{GroupElementId}
@@ -25,7 +25,8 @@ use Rattle.egg.specs.Pairs.{ordersRight}
 use Rattle.egg.specs.Factor.{fitsIn, stretch, refusedReach, readStep, stepAnswer}
 use Rattle.egg.proofs.Rooms.{some}
 use Rattle.egg.proofs.Scans.{refused-fine, says-scan}
-use Rattle.factor.specs.Questions.{admits, composeAnswer, inverseAnswer, conjugateAnswer, countAnswer, generatorAnswer, lengthAnswer, writeAnswer, written, wordPart}
+use Rattle.factor.specs.Questions.{admits, composeAnswer, inverseAnswer, conjugateAnswer, countAnswer, generatorAnswer, walkAnswer, lengthAnswer, writeAnswer, written, wordPart}
+use Rattle.factor_walk.specs.Walked.{letterRight, lettersRight, walkIn}
 use Rattle.egg.specs.Answers.{ifReach, ifCount, onReached}
 use Rattle.factor_questions.specs.Walks.{follow, along, readBack, backBy, composeIn, inverseIn, conjugateIn, generatorIn}
 use Rattle.factor_word_letters.specs.Spell.{letters}
@@ -84,7 +85,7 @@ module _ {l : List ℕ} where
   verdict-pick true u v p q = p
   verdict-pick false u v p q = q
 
-  verdict-then : (u v : Verdict) → VerdictIn l u → VerdictIn l v → VerdictIn l (andThen u v)
+  pub verdict-then : (u v : Verdict) → VerdictIn l u → VerdictIn l v → VerdictIn l (andThen u v)
   verdict-then verdict.Fine v p q = q
   verdict-then (verdict.Refused s) v p q = p
 
@@ -112,7 +113,7 @@ module _ (s : List ℕ) (n count : ℕ) where
   unfolding readBack
   back-in e g = search reads
 
-  follow-in : (from : ℕ) (w : List ℕ) → ReachedIn (17 ∷ []) (follow s n count from w)
+  pub follow-in : (from : ℕ) (w : List ℕ) → ReachedIn (17 ∷ []) (follow s n count from w)
   unfolding follow
   follow-in from [] = reached-element _
   follow-in from (g ∷ w) = reached-on (readStep s n count from g) (λ x. follow s n count x w) (step-in from g) (λ x. follow-in x w)
@@ -199,6 +200,14 @@ module _ (t : List ℕ) (f : Factor) where
   compose-numbers a b =
       reached-if (admits (length t) f (a .0) (b .0)) _ (admits-in (length t) f (a .0) (b .0)) (as-both (compose-in (stretch t f) (f .generators) (f .elements) (a .0) (b .0)))
 
+  walk-numbers : (e : GroupElementId) (w : List ℕ) → ReachedIn (14 ∷ 17 ∷ []) (walkAnswer t f e w)
+  unfolding walkAnswer walkIn lettersRight
+  walk-numbers e w =
+      reached-if (admits (length t) f (e .0) 0) _ (admits-in (length t) f (e .0) 0)
+      (reached-if _ _
+      (verdict-scan (length w) (letterRight (f .generators) w) 0 (λ i. verdict-pick (leb (f .generators) (getD w i 0)) _ _ (verdict-refused _ refl) verdict-fine))
+      (as-both (follow-in (stretch t f) (f .generators) (f .elements) (e .0) w)))
+
   inverse-numbers : (a : GroupElementId) → ReachedIn (14 ∷ 17 ∷ []) (inverseAnswer t f a)
   unfolding inverseAnswer
   inverse-numbers a =
@@ -244,6 +253,7 @@ module _ (t : List ℕ) (f : Factor) where
   pub questions-refuse : Refuses t f
   questions-refuse = record {
     steps = step-numbers;
+    walks = walk-numbers;
     generators = generator-numbers;
     counts = count-numbers;
     composes = compose-numbers;

@@ -57,7 +57,7 @@ module _ {s : List ℕ} {n N : ℕ} (S : Sound s n N) where
   parent-below pos he = let up = S .parents .earlier pos he in omega arith
 
   -- Along a list of generators.
-  follow-word : {a : ℕ} {w : List ℕ} → a < N → Word n w → follow s n N a w ≡ reach (walk (stepOf s n) a w)
+  pub follow-word : {a : ℕ} {w : List ℕ} → a < N → Word n w → follow s n N a w ≡ reach (walk (stepOf s n) a w)
   unfolding follow
   follow-word ha empty = refl
   follow-word ha (letter hg w) = rw (read-step S ha hg) (follow-word (S .table .closed ha hg) w)

@@ -16,7 +16,7 @@ use Rattle.egg.specs.declared.Counted.{Counted}
 use Rattle.egg.specs.declared.Counted.the-variants as counted
 use Rattle.egg.specs.Factor.{stepAnswer}
 use Rattle.factor.specs.Questions.{composeAnswer, inverseAnswer, conjugateAnswer, countAnswer, generatorAnswer, lengthAnswer}
-use Rattle.factor.specs.Questions.{writeAnswer, written, wordPart}
+use Rattle.factor.specs.Questions.{walkAnswer, writeAnswer, written, wordPart}
 use Rattle.factor.specs.Relations.{checkAnswer}
 use Rattle.build_checks_laws.specs.Numbers.{RefusalIn}
 
@@ -35,6 +35,7 @@ pub record CountedIn (l : List ℕ) (x : Counted) : Type 0 where
 -- Each question is answered, or refused by one of the numbers that stand here.
 pub record Refuses (t : List ℕ) (f : Factor) : Type 0 where
   pub steps : (e : GroupElementId) (g : GeneratorId) → ReachedIn (14 ∷ 17 ∷ []) (stepAnswer t f e g)
+  pub walks : (e : GroupElementId) (w : List ℕ) → ReachedIn (14 ∷ 17 ∷ []) (walkAnswer t f e w)
   pub generators : (g : GeneratorId) → ReachedIn (14 ∷ 17 ∷ []) (generatorAnswer t f g)
   pub counts : CountedIn (17 ∷ []) (countAnswer t f)
   pub composes : (a b : GroupElementId) → ReachedIn (14 ∷ 17 ∷ []) (composeAnswer t f a b)

@@ -7,7 +7,7 @@ use native.Mathlib.Nat.{mul-one, mul-zero, mod-eq-of-lt, div-eq-of-lt}
 use native.Mathlib.Omega.{arith}
 use borrow.Author.Tests.{le-leb, lt-leb, lt-ltb, leb-false}
 use lib.IntN.{ℤ, pos, negsuc}
-use lib.ListN.{length}
+use lib.ListN.{length, getD}
 use lib.Dec.{eqb, leb, ltb}
 use Rattle.egg.specs.declared.Factor.{Factor}
 use Rattle.egg.specs.declared.GroupElementId.{GroupElementId}
@@ -19,14 +19,16 @@ use Rattle.egg.specs.declared.Reached.the-variants.{Element, Refused}
 use Rattle.egg.specs.declared.Counted.{Counted}
 use Rattle.egg.specs.declared.Counted.the-variants as counted
 use Rattle.egg.specs.Table.{pick, lengthOf}
-use Rattle.egg.specs.Scan.{refusedOf}
+use Rattle.egg.specs.Scan.{refusedOf, andThen}
 use Rattle.egg.specs.Factor as egg
 use Rattle.egg.specs.Factor.{fitsIn, stretch, readStep}
 use Rattle.egg.proofs.Rooms.{some}
 use Rattle.build_lending.proofs.Fits.{fits-small}
 use Rattle.factor.specs.Questions as factor
 use Rattle.egg.specs.Answers.{ifReach, ifCount, onReached}
-use Rattle.factor_questions.specs.Walks.{composeIn, inverseIn, generatorIn}
+use Rattle.factor_questions.specs.Walks.{follow, composeIn, inverseIn, generatorIn}
+use Rattle.factor_walk.specs.Walked.{lettersRight, walkIn}
+use Rattle.factor_walk.proofs.Letters.{letter-below}
 use Rattle.factor_words.specs.Words.{readable, spell, lengthIn, writeIn, writtenBy}
 use Rattle.factor_words.proofs.Words.{never-both}
 use Rattle.group_handles.specs.declared.Group.{Group}
@@ -37,14 +39,19 @@ use Rattle.group_digits.specs.Digits.{above, digitOf, digitwise, stepIn, compos
 use Rattle.group_powers.specs.Powers.{oddToo, byHalving, negated, powers, powiAlone}
 use Rattle.group_handles.specs.Counts.{onCounted}
 use Rattle.group_words.specs.Words.{lengths, readables, spells, writesBy, writes, leaves}
-use Rattle.group.specs.Questions.{stepAnswer, generatorAnswer, composeAnswer, inverseAnswer, conjugateAnswer, powiAnswer, lengthAnswer, writeAnswer, written}
+use Rattle.group.specs.Questions.{stepAnswer, generatorAnswer, walkAnswer, composeAnswer, inverseAnswer, conjugateAnswer, powiAnswer, lengthAnswer, writeAnswer, written}
 use Rattle.group_handles.proofs.Admitted.{Goes, goes-on}
-use Rattle.group_digits.proofs.Walks.{Below, element, below-on, digit-below}
+use Rattle.group_digits.proofs.Walks.{Below, element, below-on, step-below, digit-below}
+use Rattle.group_walk.specs.Walked.{follows, admitsWalk}
 
 -- A verdict decides the same of two answers that are equal where it is fine.
 reach-alike : (v : Verdict) {x y : Reached} → (v ≡ verdict.Fine → x ≡ y) → ifReach v x ≡ ifReach v y
 reach-alike verdict.Fine k = k refl
 reach-alike (verdict.Refused r) k = refl
+
+then-fine : (v : Verdict) → andThen v verdict.Fine ≡ v
+then-fine verdict.Fine = refl
+then-fine (verdict.Refused r) = refl
 
 count-alike : (v : Verdict) {x y : Counted} → (v ≡ verdict.Fine → x ≡ y) → ifCount v x ≡ ifCount v y
 count-alike verdict.Fine k = k refl
@@ -212,6 +219,39 @@ module _ (t : List ℕ) (g : Group) (h : Factor) (c : g .count ≡ 1) (q : handl
       by true true k z u v = refl
       by true false true z u v = refl
       by true false false z u v = stepped (e .0) (x .0) (leb-false _ _ u) (leb-false _ _ v)
+
+  -- A word: each step is the factor's, and what it reaches is an element.
+  followed : (e : ℕ) (w : List ℕ) → e < h .elements → ((i : ℕ) → i < length w → getD w i 0 < h .generators)
+      → follow (stretch t h) (h .generators) (h .elements) e w ≡ follows t (handles g) e w
+  unfolding follow follows
+  followed e [] p k = refl
+  followed e (x ∷ w) p k =
+      on-alike (readStep (stretch t h) (h .generators) (h .elements) e x) (step-below (stretch t h) (h .generators) (h .elements) e x)
+      (λ y b. followed y w b (λ i l. k (suc i) (omega arith)))
+      ∙ ap (λ (r : Reached). onReached r (λ y. follows t (handles g) y w)) (stepped e x p (k zero (omega arith)))
+
+  walk-verdict : (e : ℕ) (w : List ℕ) → admitsWalk (length t) g e w
+      ≡ pick (fitsIn (length t) h) (pick (leb (h .elements) e) (refusedOf 14 0 0 0) (lettersRight (h .generators) w)) (refusedOf 17 0 0 0)
+  unfolding admitsWalk
+  walk-verdict e w = rw (whole (length t) g h c q, letters (length t) g h c q, q) (by (fitsIn (length t) h) refl) where
+    by : (f : Bool) → fitsIn (length t) h ≡ f
+        → pick (f && true) (pick (leb (h .elements) e) (refusedOf 14 0 0 0) (andThen (lettersRight (h .generators) w) (pick (limited g) verdict.Fine (refusedOf 15 0 0 0)))) (refusedOf 17 0 0 0)
+        ≡ pick f (pick (leb (h .elements) e) (refusedOf 14 0 0 0) (lettersRight (h .generators) w)) (refusedOf 17 0 0 0)
+    by true p = rw (within (length t) g h c q p, then-fine (lettersRight (h .generators) w))
+    by false p = refl
+
+  pub one-walk : (e : GroupElementId) (w : List ℕ) → factor.walkAnswer t h e w ≡ walkAnswer t g e w
+  unfolding factor.walkAnswer factor.admits walkIn walkAnswer
+  one-walk e w = rw (walk-verdict (e .0) w) (by (fitsIn (length t) h) (leb (h .elements) (e .0)) refl refl) where
+    by : (f d : Bool) → fitsIn (length t) h ≡ f → leb (h .elements) (e .0) ≡ d
+        → ifReach (pick f (pick d (refusedOf 14 0 0 0) (pick (leb (h .elements) 0) (refusedOf 14 1 0 0) verdict.Fine)) (refusedOf 17 0 0 0))
+        (ifReach (lettersRight (h .generators) w) (follow (stretch t h) (h .generators) (h .elements) (e .0) w))
+        ≡ ifReach (pick f (pick d (refusedOf 14 0 0 0) (lettersRight (h .generators) w)) (refusedOf 17 0 0 0)) (follows t (handles g) (e .0) w)
+    by false d z u = refl
+    by true true z u = refl
+    by true false z u =
+        rw (lt-leb (h .elements) 0 (some (length t) h z))
+        (reach-alike (lettersRight (h .generators) w) (λ r. followed (e .0) w (leb-false _ _ u) (letter-below (h .generators) w r)))
 
   pub one-generator : (x : GeneratorId) → factor.generatorAnswer t h x ≡ generatorAnswer t g x
   unfolding factor.generatorAnswer factor.admits generatorIn generatorAnswer

@@ -25,6 +25,8 @@ use Rattle.group_digits.specs.Splits.{splitTail, digitsLeft, digitsRight, joinT
 use Rattle.group_powers.specs.Powers.{powers}
 use Rattle.group_periods.specs.Periods.{periods}
 use Rattle.group_words.specs.Words.{lengths, writes, leaves}
+-- What `walk` answers, which has a crate of its own.
+unfoldable pub use Rattle.group_walk.specs.Walked.{walkAnswer}
 
 -- The refusals of a call whose two arguments are elements.
 abbrev pub twoElements : ℕ → Group → ℕ → ℕ → Verdict

@@ -6,7 +6,7 @@
 ghost use mathlib.Core.Path.{_≡_};
 ghost use lib.ListN.{length};
 ghost use Rattle.build_lending.specs.Lending.{Making};
-ghost use Rattle.group.specs.Questions.{countAnswer, generatorsAnswer, generatorAnswer, stepAnswer, projectAnswer, injectAnswer, splitAnswer, splitLeaves, joinAnswer, composeAnswer, inverseAnswer, conjugateAnswer, powiAnswer, periodAnswer, lengthAnswer, writeAnswer, written, wordPart};
+ghost use Rattle.group.specs.Questions.{countAnswer, generatorsAnswer, generatorAnswer, stepAnswer, walkAnswer, projectAnswer, injectAnswer, splitAnswer, splitLeaves, joinAnswer, composeAnswer, inverseAnswer, conjugateAnswer, powiAnswer, periodAnswer, lengthAnswer, writeAnswer, written, wordPart};
 ghost use Rattle.group_flatten.specs.Flat.{flat};
 use egg::Counted;
 use egg::GeneratorId;
@@ -89,6 +89,19 @@ pub fn step(table: &[u32], g: Group, e: GroupElementId, x: GeneratorId) -> Reach
         Verdict::Refused(why) => Reached::Refused(why),
         Verdict::Fine => group_digits::inner::step_in(table, g, e, x),
     }
+}
+
+// Answers the element to which the generators of a word lead from an element, one after another; an empty word leads to the element itself. Refuses in
+// this order: 17 for a handle that does not fit, 14 for an element (place 0) or the first letter (the one at i has place i + 1) out of range, 15 for a
+// product too large, 17 for a number read that is out of range.
+pub fn walk(table: &[u32], g: Group, from: GroupElementId, word: &[u8]) -> Reached
+    ensures { λ r. ⌜ r ≡ walkAnswer (now (table .entry)) g from (now (word .entry)) ⌝ }
+{
+    if group_handles::inner::alone(g) {
+        let h = g.factors[0];
+        return factor::walk(table, h, from, word);
+    }
+    group_walk::inner::walk(table, g, from, word)
 }
 
 // Answers the element that e has in the factor f. Refuses in this order: 17 for a handle that does not fit, 14 for a factor or an element out of

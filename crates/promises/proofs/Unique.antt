@@ -17,6 +17,8 @@ use Rattle.factor.proofs.element_count.Kinds as element-count-kinds
 use Rattle.factor.proofs.element_count.Reads as element-count-reads
 use Rattle.factor.proofs.generator.Kinds as generator-kinds
 use Rattle.factor.proofs.generator.Reads as generator-reads
+use Rattle.factor.proofs.walk.Kinds as walk-kinds
+use Rattle.factor.proofs.walk.Reads as walk-reads
 use Rattle.factor.proofs.word_length.Kinds as word-length-kinds
 use Rattle.factor.proofs.word_length.Reads as word-length-reads
 use Rattle.factor.proofs.inverse.Kinds as inverse-kinds
@@ -51,6 +53,9 @@ element-count-unique = λ κs args a b x y p q. p ∙ sym q
 
 pub generator-unique : Unique 1 generator-kinds.ps generator-kinds.r generator-reads.Post (λ κs a x. a)
 generator-unique = λ κs args a b x y p q. p ∙ sym q
+
+pub walk-unique : Unique 2 walk-kinds.ps walk-kinds.r walk-reads.Post (λ κs a x. a)
+walk-unique = λ κs args a b x y p q. p ∙ sym q
 
 pub word-length-unique : Unique 1 word-length-kinds.ps word-length-kinds.r word-length-reads.Post (λ κs a x. a)
 word-length-unique = λ κs args a b x y p q. p ∙ sym q

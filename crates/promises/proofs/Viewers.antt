@@ -6,13 +6,13 @@ use mathlib.Core.List.{List, [], _∷_}
 use Rattle.egg.specs.declared.Factor.{Factor}
 use Rattle.egg.specs.declared.GroupElementId.{GroupElementId}
 use Rattle.egg.specs.Factor.{reachedPaper}
-use Rattle.factor.specs.Questions.{composeAnswer}
+use Rattle.factor.specs.Questions.{composeAnswer, walkAnswer}
 use Rattle.theory.specs.Words.{Word, empty, letter, walk}
 use Rattle.theory.proofs.Walking.{word-left, word-right, walk-append, walk-closed}
 use Rattle.theory.proofs.Sound.{compose-walk}
 use Rattle.factor_laws.specs.Accepted.{Accepted, factorStep, reach}
 use Rattle.factor_laws.specs.Papers.{valuePaper}
-use Rattle.factor_laws.proofs.Handles.{step-answer, compose-answer, generator-answer}
+use Rattle.factor_laws.proofs.Handles.{step-answer, walk-answer, compose-answer, generator-answer}
 use Rattle.promises.specs.Viewers.{live, gathered, identity, OneState, Batch, one-by-one, at-once, turnsOf, watched}
 
 module _ {t : List ℕ} {f : Factor} (A : Accepted t f) where
@@ -40,7 +40,13 @@ module _ {t : List ℕ} {f : Factor} (A : Accepted t f) where
     state = record { 0 = walk (factorStep t f) e u };
     live-lands = live-walk he hu;
     delayed-lands = compose-turns he hu;
+    walk-turned = walk-answer A (A .sound .table .origin) hu;
+    walk-lands = walk-answer A he hu;
   }
+
+  -- One walk along the turns is the steps one after another.
+  pub walk-is-steps : {e : ℕ} {u : List ℕ} → e < f .elements → Word (f .generators) u → walkAnswer t f (record { 0 = e }) u ≡ live t f (record { 0 = e }) u
+  walk-is-steps he hu = walk-answer A he hu ∙ sym (live-walk he hu)
 
   -- On paper: no refusal, and this element, for both.
   pub viewers-on-paper : {e : ℕ} {u : List ℕ} → e < f .elements → Word (f .generators) u → (product : GroupElementId) × (state : ℕ)

@@ -8,7 +8,7 @@ use Rattle.egg.specs.declared.GroupElementId.{GroupElementId}
 use Rattle.egg.specs.declared.Reached.{Reached}
 use Rattle.egg.specs.declared.Reached.the-variants.{Element, Refused}
 use Rattle.egg.specs.Factor.{stepAnswer}
-use Rattle.factor.specs.Questions.{composeAnswer, generatorAnswer}
+use Rattle.factor.specs.Questions.{composeAnswer, generatorAnswer, walkAnswer}
 
 -- What is asked next of the element that was answered; a refusal ends it.
 abbrev pub onElement : Reached → (GroupElementId → Reached) → Reached
@@ -30,7 +30,8 @@ abbrev pub identity : GroupElementId
 identity = record { 0 = 0 }
 
 -- After the turns u, from the element e on, both viewers land on one state. The product of the turns is where they lead from the identity, and what
--- they gather to; to the state the turns lead the live viewer one by one, and one `compose` with the product leads the delayed viewer.
+-- they gather to; to the state the turns lead the live viewer one by one, and one `compose` with the product leads the delayed viewer. One `walk` along
+-- all the turns lands there too, and from the identity on the product.
 pub record OneState (t : List ℕ) (f : Factor) (e : GroupElementId) (u : List ℕ) : Type 0 where
   pub product : GroupElementId
   pub turned : live t f identity u ≡ Element product
@@ -38,6 +39,8 @@ pub record OneState (t : List ℕ) (f : Factor) (e : GroupElementId) (u : List �
   pub state : GroupElementId
   pub live-lands : live t f e u ≡ Element state
   pub delayed-lands : composeAnswer t f e product ≡ Element state
+  pub walk-turned : walkAnswer t f identity u ≡ Element product
+  pub walk-lands : walkAnswer t f e u ≡ Element state
 
 -- How a viewer gets some of the turns: one by one, or at once.
 pub data Batch : Type 0 where

@@ -14,6 +14,8 @@ use Rattle.capi_factor.proofs.hg_count.Kinds as hg-count-kinds
 use Rattle.capi_factor.proofs.hg_count.Reads as hg-count-reads
 use Rattle.capi_factor.proofs.hg_step.Kinds as hg-step-kinds
 use Rattle.capi_factor.proofs.hg_step.Reads as hg-step-reads
+use Rattle.capi_walks.proofs.hg_walk.Kinds as hg-walk-kinds
+use Rattle.capi_walks.proofs.hg_walk.Reads as hg-walk-reads
 use Rattle.capi_factor.proofs.hg_generator.Kinds as hg-generator-kinds
 use Rattle.capi_factor.proofs.hg_generator.Reads as hg-generator-reads
 use Rattle.capi_factor_compose.proofs.hg_compose.Kinds as hg-compose-kinds
@@ -53,6 +55,9 @@ hg-count-unique = λ κs args a b x y p q. p ∙ sym q
 
 pub hg-step-unique : Unique 1 hg-step-kinds.ps hg-step-kinds.r hg-step-reads.Post (λ κs a x. a)
 hg-step-unique = λ κs args a b x y p q. p ∙ sym q
+
+pub hg-walk-unique : Unique 2 hg-walk-kinds.ps hg-walk-kinds.r hg-walk-reads.Post (λ κs a x. a)
+hg-walk-unique = λ κs args a b x y p q. p ∙ sym q
 
 pub hg-generator-unique : Unique 1 hg-generator-kinds.ps hg-generator-kinds.r hg-generator-reads.Post (λ κs a x. a)
 hg-generator-unique = λ κs args a b x y p q. p ∙ sym q

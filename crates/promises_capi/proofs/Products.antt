@@ -14,6 +14,8 @@ use Rattle.capi_group.proofs.hg_product_generator.Kinds as hg-product-generator
 use Rattle.capi_group.proofs.hg_product_generator.Reads as hg-product-generator-reads
 use Rattle.capi_group.proofs.hg_product_step.Kinds as hg-product-step-kinds
 use Rattle.capi_group.proofs.hg_product_step.Reads as hg-product-step-reads
+use Rattle.capi_walks.proofs.hg_product_walk.Kinds as hg-product-walk-kinds
+use Rattle.capi_walks.proofs.hg_product_walk.Reads as hg-product-walk-reads
 use Rattle.capi_group.proofs.hg_product_project.Kinds as hg-product-project-kinds
 use Rattle.capi_group.proofs.hg_product_project.Reads as hg-product-project-reads
 use Rattle.capi_group.proofs.hg_product_inject.Kinds as hg-product-inject-kinds
@@ -56,6 +58,9 @@ hg-product-generator-unique = λ κs args a b x y p q. p ∙ sym q
 
 pub hg-product-step-unique : Unique 2 hg-product-step-kinds.ps hg-product-step-kinds.r hg-product-step-reads.Post (λ κs a x. a)
 hg-product-step-unique = λ κs args a b x y p q. p ∙ sym q
+
+pub hg-product-walk-unique : Unique 3 hg-product-walk-kinds.ps hg-product-walk-kinds.r hg-product-walk-reads.Post (λ κs a x. a)
+hg-product-walk-unique = λ κs args a b x y p q. p ∙ sym q
 
 pub hg-product-project-unique : Unique 2 hg-product-project-kinds.ps hg-product-project-kinds.r hg-product-project-reads.Post (λ κs a x. a)
 hg-product-project-unique = λ κs args a b x y p q. p ∙ sym q

@@ -18,3 +18,4 @@ pub mod FlatMore
 pub mod FlatRegardless
 pub mod Refuses
 pub mod Unique
+pub mod Walked

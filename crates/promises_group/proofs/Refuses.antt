@@ -21,17 +21,19 @@ use Rattle.factor_questions.specs.Walks.{composeIn}
 use Rattle.factor_words.specs.Words.{lengthIn}
 use Rattle.factor_laws.specs.Refuses.{VerdictIn, ReachedIn, CountedIn}
 use Rattle.factor_laws.proofs.Refuses.{reached-element, reached-refused, reached-pick, reached-on, reached-if, counted-count, counted-refused, counted-pick, counted-if}
-use Rattle.factor_laws.proofs.Refuses.{verdict-fine, verdict-refused, verdict-pick, verdict-scan, reached-widen, step-in, compose-in, inverse-in, conjugate-in}
+use Rattle.factor_laws.proofs.Refuses.{verdict-fine, verdict-refused, verdict-pick, verdict-then, verdict-scan, reached-widen, step-in, compose-in, inverse-in, conjugate-in}
 use Rattle.group_handles.specs.declared.Group.{Group}
 use Rattle.group_digits.specs.declared.inner.Asked.{Asked}
 use Rattle.group_digits.specs.declared.inner.Asked.the-variants.{Compose, Inverse, Conjugate}
-use Rattle.group_handles.specs.Handles.{handles, sizes, elementsOf, allFit, limited, admits, joins}
+use Rattle.group_handles.specs.Handles.{handles, sizes, elementsOf, generatorsOf, allFit, limited, admits, joins}
 use Rattle.group_digits.specs.Digits.{digitOf, digitwise, stepIn, composes, inverts}
 use Rattle.group_powers.specs.Powers.{oddToo, byHalving, negated, powers}
 use Rattle.group_periods.specs.Periods.{periodFrom, periods}
 use Rattle.group_handles.specs.Counts.{onCounted, onElement}
 use Rattle.group_words.specs.Words.{lengths, readables, writesBy, writes, leaves}
-use Rattle.group.specs.Questions.{countAnswer, generatorsAnswer, generatorAnswer, stepAnswer, projectAnswer, injectAnswer, splitAnswer, splitLeaves, joinAnswer}
+use Rattle.group.specs.Questions.{countAnswer, generatorsAnswer, generatorAnswer, stepAnswer, walkAnswer, projectAnswer, injectAnswer, splitAnswer, splitLeaves, joinAnswer}
+use Rattle.factor_walk.specs.Walked.{letterRight, lettersRight}
+use Rattle.group_walk.specs.Walked.{follows, admitsWalk}
 use Rattle.group_digits.specs.Splits.{splitTail, digitsLeft, digitRight, digitsRight, fewer, joinTail}
 use Rattle.group.specs.Questions.{composeAnswer, inverseAnswer, conjugateAnswer, powiAnswer, periodAnswer, lengthAnswer, writeAnswer, written, wordPart}
 use Rattle.promises_group.specs.Refuses.{ProductRefuses}
@@ -81,6 +83,23 @@ stepped-in t (h ∷ hs) e x =
     reached-pick (ltb x (h .generators)) _ _
     (reached-on _ _ (reached-widen asked refl (step-in (stretch t h) (h .generators) (h .elements) (e % h .elements) x)) (λ y. reached-element _))
     (reached-on (stepIn t hs (e / h .elements) (x - h .generators)) _ (stepped-in t hs _ _) (λ y. reached-element _))
+
+-- A word, step by step, after the tests of its letters.
+follows-in : (t : List ℕ) (hs : List Factor) (e : ℕ) (w : List ℕ) → ReachedIn (14 ∷ 15 ∷ 17 ∷ []) (follows t hs e w)
+unfolding follows
+follows-in t hs e [] = reached-element _
+follows-in t hs e (x ∷ w) = reached-on (stepIn t hs e x) (λ y. follows t hs y w) (stepped-in t hs e x) (λ y. follows-in t hs y w)
+
+walk-admits-in : (len : ℕ) (g : Group) (e : ℕ) (w : List ℕ) → VerdictIn (14 ∷ 15 ∷ 17 ∷ []) (admitsWalk len g e w)
+unfolding admitsWalk lettersRight
+walk-admits-in len g e w =
+    verdict-pick (allFit len (handles g)) _ _
+    (verdict-pick (leb (elementsOf (handles g)) e) _ _ (verdict-refused _ refl)
+    (verdict-then _ _
+    (verdict-scan (length w) (letterRight (generatorsOf (handles g)) w) 0
+    (λ i. verdict-pick (leb (generatorsOf (handles g)) (getD w i 0)) _ _ (verdict-refused _ refl) verdict-fine))
+    (verdict-pick (limited g) _ _ verdict-fine (verdict-refused _ refl))))
+    (verdict-refused _ refl)
 
 -- Powers.
 module _ (op : ℕ → ℕ → Reached) (is : (x y : ℕ) → ReachedIn (14 ∷ 15 ∷ 17 ∷ []) (op x y)) where
@@ -180,6 +199,10 @@ module _ (t : List ℕ) (g : Group) where
   unfolding stepAnswer
   steps-in e x = reached-if _ _ (admits-in (length t) g _ _ _ _) (stepped-in t (handles g) (e .0) (x .0))
 
+  walks-in : (e : GroupElementId) (w : List ℕ) → ReachedIn (14 ∷ 15 ∷ 17 ∷ []) (walkAnswer t g e w)
+  unfolding walkAnswer
+  walks-in e w = reached-if _ _ (walk-admits-in (length t) g (e .0) w) (follows-in t (handles g) (e .0) w)
+
   projects-in : (f : ℕ) (e : GroupElementId) → ReachedIn (14 ∷ 15 ∷ 17 ∷ []) (projectAnswer t g f e)
   unfolding projectAnswer
   projects-in f e = reached-if _ _ (admits-in (length t) g _ _ _ _) (reached-element _)
@@ -255,6 +278,7 @@ module _ (t : List ℕ) (g : Group) where
     generator-counts = generator-counts-in;
     generators = generators-in;
     steps = steps-in;
+    walks = walks-in;
     projects = projects-in;
     injects = injects-in;
     splits = splits-in;

@@ -19,6 +19,8 @@ use Rattle.group.proofs.generator.Kinds as generator-kinds
 use Rattle.group.proofs.generator.Reads as generator-reads
 use Rattle.group.proofs.step.Kinds as step-kinds
 use Rattle.group.proofs.step.Reads as step-reads
+use Rattle.group.proofs.walk.Kinds as walk-kinds
+use Rattle.group.proofs.walk.Reads as walk-reads
 use Rattle.group.proofs.project.Kinds as project-kinds
 use Rattle.group.proofs.project.Reads as project-reads
 use Rattle.group.proofs.inject.Kinds as inject-kinds
@@ -69,6 +71,9 @@ generator-unique = λ κs args a b x y p q. p ∙ sym q
 
 pub step-unique : Unique 1 step-kinds.ps step-kinds.r step-reads.Post (λ κs a x. a)
 step-unique = λ κs args a b x y p q. p ∙ sym q
+
+pub walk-unique : Unique 2 walk-kinds.ps walk-kinds.r walk-reads.Post (λ κs a x. a)
+walk-unique = λ κs args a b x y p q. p ∙ sym q
 
 pub project-unique : Unique 1 project-kinds.ps project-kinds.r project-reads.Post (λ κs a x. a)
 project-unique = λ κs args a b x y p q. p ∙ sym q

@@ -13,7 +13,7 @@ use Rattle.egg.specs.declared.Counted.the-variants as counted
 use Rattle.factor_laws.specs.Refuses.{ReachedIn, CountedIn, VerdictIn}
 use Rattle.group_handles.specs.declared.Group.{Group}
 use Rattle.group_handles.specs.Handles.{joins}
-use Rattle.group.specs.Questions.{countAnswer, generatorsAnswer, generatorAnswer, stepAnswer, projectAnswer, injectAnswer, splitAnswer, splitLeaves, joinAnswer}
+use Rattle.group.specs.Questions.{countAnswer, generatorsAnswer, generatorAnswer, stepAnswer, walkAnswer, projectAnswer, injectAnswer, splitAnswer, splitLeaves, joinAnswer}
 use Rattle.group.specs.Questions.{composeAnswer, inverseAnswer, conjugateAnswer, powiAnswer, periodAnswer, lengthAnswer, writeAnswer, written, wordPart}
 
 -- Each call of the product g, with the only numbers by which it is ever refused.
@@ -24,6 +24,7 @@ pub record ProductRefuses (t : List ℕ) (g : Group) : Type 0 where
   pub generator-counts : CountedIn (15 ∷ 17 ∷ []) (generatorsAnswer t g)
   pub generators : (x : GeneratorId) → ReachedIn (14 ∷ 15 ∷ 17 ∷ []) (generatorAnswer t g x)
   pub steps : (e : GroupElementId) (x : GeneratorId) → ReachedIn (14 ∷ 15 ∷ 17 ∷ []) (stepAnswer t g e x)
+  pub walks : (e : GroupElementId) (w : List ℕ) → ReachedIn (14 ∷ 15 ∷ 17 ∷ []) (walkAnswer t g e w)
   pub projects : (f : ℕ) (e : GroupElementId) → ReachedIn (14 ∷ 15 ∷ 17 ∷ []) (projectAnswer t g f e)
   pub injects : (f : ℕ) (x : GroupElementId) → ReachedIn (14 ∷ 15 ∷ 17 ∷ []) (injectAnswer t g f x)
   pub splits : (e : GroupElementId) (size : ℕ) → CountedIn (4 ∷ 14 ∷ 15 ∷ 17 ∷ []) (splitAnswer t g e size)

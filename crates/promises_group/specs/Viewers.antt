@@ -8,7 +8,7 @@ use Rattle.egg.specs.declared.Reached.{Reached}
 use Rattle.egg.specs.declared.Reached.the-variants.{Element}
 use Rattle.promises.specs.Viewers.{onElement, identity, Batch, one-by-one, at-once}
 use Rattle.group_handles.specs.declared.Group.{Group}
-use Rattle.group.specs.Questions.{stepAnswer, composeAnswer, generatorAnswer}
+use Rattle.group.specs.Questions.{stepAnswer, walkAnswer, composeAnswer, generatorAnswer}
 
 -- The live viewer at the element e: the answers of `step` for the turns, one after another; a refusal ends it.
 abbrev pub live : List ℕ → Group → GroupElementId → List ℕ → Reached
@@ -21,7 +21,8 @@ gathered t g e [] = Element e
 gathered t g e (x ∷ u) = onElement (generatorAnswer t g (record { 0 = x })) (λ s. onElement (composeAnswer t g e s) (λ y. gathered t g y u))
 
 -- After the turns u, from the element e on, both viewers land on one state. The product of the turns is where they lead from the identity, and what
--- they gather to; to the state the turns lead the live viewer one by one, and one `compose` with the product leads the delayed viewer.
+-- they gather to; to the state the turns lead the live viewer one by one, and one `compose` with the product leads the delayed viewer. One `walk` along
+-- all the turns lands there too, and from the identity on the product.
 pub record OneState (t : List ℕ) (g : Group) (e : GroupElementId) (u : List ℕ) : Type 0 where
   pub product : GroupElementId
   pub turned : live t g identity u ≡ Element product
@@ -29,6 +30,8 @@ pub record OneState (t : List ℕ) (g : Group) (e : GroupElementId) (u : List �
   pub state : GroupElementId
   pub live-lands : live t g e u ≡ Element state
   pub delayed-lands : composeAnswer t g e product ≡ Element state
+  pub walk-turned : walkAnswer t g identity u ≡ Element product
+  pub walk-lands : walkAnswer t g e u ≡ Element state
 
 -- A viewer who is live at times and behind at times: `step` for the turns that come one by one, and one `compose` with the product of those that come at once.
 abbrev pub watched : List ℕ → Group → GroupElementId → List Batch → Reached

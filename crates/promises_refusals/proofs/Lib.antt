@@ -12,3 +12,4 @@ pub mod Orders
 pub mod Enumerates
 pub mod AsMet
 pub mod Asked
+pub mod Walked

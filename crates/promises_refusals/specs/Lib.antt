@@ -4,3 +4,4 @@ pub mod Papers
 pub mod Orders
 pub mod AsMet
 pub mod Asked
+pub mod Walked

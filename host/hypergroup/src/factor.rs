@@ -1,3 +1,4 @@
+use crate::ffi::letters;
 use crate::raw::{self, Handle};
 use crate::refusal::Said;
 use crate::{Element, Generator, Image, Refusal};
@@ -195,9 +196,21 @@ impl Factor {
         raw::step(&self.table, self.handle, e.0, g.0).map(Element)
     }
 
-    /// Where turns lead, one after the other, from an element.
-    pub fn walk(&self, from: Element, turns: impl IntoIterator<Item = Generator>) -> Result<Element, Refusal> {
-        turns.into_iter().try_fold(from, |e, g| self.step(e, g))
+    /// Where turns lead, one after the other, from an element; with no turns, the element itself.
+    ///
+    /// Refused with 14 if the element or a turn is none of this puzzle's: its position, from 0, the element's first.
+    ///
+    /// ```
+    /// use hypergroup::{Element, Factor, Generator};
+    /// let s3 = Factor::from_orders(2, &[3], 6)?;
+    /// assert_eq!(s3.walk(Element::IDENTITY, &[Generator(0), Generator(1), Generator(0)])?, Element(5));
+    /// let refusal = s3.walk(Element::IDENTITY, &[Generator(0), Generator(1), Generator(2)]).unwrap_err();
+    /// assert_eq!((refusal.number, refusal.places), (14, [3, 0, 0])); // the third turn, behind the element
+    /// # Ok::<(), hypergroup::Refusal>(())
+    /// ```
+    #[inline]
+    pub fn walk(&self, from: Element, turns: &[Generator]) -> Result<Element, Refusal> {
+        raw::walk(&self.table, self.handle, from.0, letters(turns)).map(Element)
     }
 
     /// a·b: first the turns of `a`, then those of `b`.

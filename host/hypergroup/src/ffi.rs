@@ -121,6 +121,8 @@ unsafe extern "C" {
 
     fn hg_count(t: In, tn: usize, start: usize, room: u32, n: u8, count: u32) -> u64;
     fn hg_step(t: In, tn: usize, start: usize, room: u32, n: u8, count: u32, e: u32, g: u8) -> u64;
+    #[rustfmt::skip]
+    fn hg_walk(t: In, tn: usize, start: usize, room: u32, n: u8, count: u32, e: u32, w: *const u8, wn: usize) -> u64;
     fn hg_compose(t: In, tn: usize, start: usize, room: u32, n: u8, count: u32, a: u32, b: u32) -> u64;
     fn hg_conjugate(t: In, tn: usize, start: usize, room: u32, n: u8, count: u32, a: u32, b: u32) -> u64;
     fn hg_inverse(t: In, tn: usize, start: usize, room: u32, n: u8, count: u32, a: u32) -> u64;
@@ -135,6 +137,7 @@ unsafe extern "C" {
     fn hg_product_generators(t: In, tn: usize, h: In, hn: usize, count: u8) -> u64;
     fn hg_product_generator(t: In, tn: usize, h: In, hn: usize, count: u8, g: u8) -> u64;
     fn hg_product_step(t: In, tn: usize, h: In, hn: usize, count: u8, e: u32, g: u8) -> u64;
+    fn hg_product_walk(t: In, tn: usize, h: In, hn: usize, count: u8, e: u32, w: *const u8, wn: usize) -> u64;
     fn hg_product_project(t: In, tn: usize, h: In, hn: usize, count: u8, f: u8, e: u32) -> u64;
     fn hg_product_inject(t: In, tn: usize, h: In, hn: usize, count: u8, f: u8, e: u32) -> u64;
     fn hg_product_compose(t: In, tn: usize, h: In, hn: usize, count: u8, a: u32, b: u32) -> u64;
@@ -307,6 +310,12 @@ pub fn step(t: &[u32], h: Handle, e: u32, g: u8) -> Answer<u32> {
     coded(ask!(hg_step, t, h, e, g))
 }
 
+/// Where the generators of `word` lead from `from`, one after another. The start has position 0 in a refusal 14, the generator at i has i + 1.
+#[inline]
+pub fn walk(t: &[u32], h: Handle, from: u32, word: &[u8]) -> Answer<u32> {
+    coded(ask!(hg_walk, t, h, from, word.as_ptr(), word.len()))
+}
+
 /// The product of two elements.
 #[inline]
 pub fn compose(t: &[u32], h: Handle, a: u32, b: u32) -> Answer<u32> {
@@ -413,6 +422,12 @@ pub fn product_generator(t: &[u32], p: &Handles, g: u8) -> Answer<u32> {
 #[inline]
 pub fn product_step(t: &[u32], p: &Handles, e: u32, g: u8) -> Answer<u32> {
     coded(ask_product!(hg_product_step, t, p, e, g))
+}
+
+/// Where the generators of `word` lead from `from` in a product, one after another. Positions are as for [`walk`].
+#[inline]
+pub fn product_walk(t: &[u32], p: &Handles, from: u32, word: &[u8]) -> Answer<u32> {
+    coded(ask_product!(hg_product_walk, t, p, from, word.as_ptr(), word.len()))
 }
 
 /// The digit of `e` for the factor `f`.
@@ -572,7 +587,7 @@ pub fn subgroup_right(from: &[u32], table: &[u32], s: &Sides, g: &Handles) -> An
     verdict(&out).map(drop)
 }
 
-/// Generators as the bytes that an image's walk takes.
+/// Generators as the bytes that a walk takes.
 pub(crate) fn letters(word: &[Generator]) -> &[u8] {
     // SAFETY: `Generator` is `repr(transparent)` over `u8`, so the same bytes are as many letters.
     unsafe { core::slice::from_raw_parts(word.as_ptr().cast(), word.len()) }

@@ -1,3 +1,4 @@
+use crate::ffi::letters;
 use crate::raw::{self, Handle, Handles};
 use crate::refusal::Said;
 use crate::{Element, Factor, Generator, Refusal};
@@ -156,9 +157,22 @@ impl Product {
         raw::product_step(&self.table, &self.handles, e.0, g.0).map(Element)
     }
 
-    /// Where turns lead, one after the other, from an element.
-    pub fn walk(&self, from: Element, turns: impl IntoIterator<Item = Generator>) -> Result<Element, Refusal> {
-        turns.into_iter().try_fold(from, |e, g| self.step(e, g))
+    /// Where turns lead, one after the other, from an element; with no turns, the element itself.
+    ///
+    /// Refused with 14 if the element or a turn is none of this puzzle's: its position, from 0, the element's first.
+    ///
+    /// ```
+    /// use hypergroup::{Element, Factor, Generator, Product};
+    /// let s3 = Factor::from_orders(2, &[3], 6)?;
+    /// let pair = Product::new([&s3, &Factor::from_orders(1, &[], 2)?])?;
+    /// assert_eq!(pair.walk(Element::IDENTITY, &[Generator(0), Generator(2), Generator(1)])?, Element(9));
+    /// let refusal = pair.walk(Element(12), &[]).unwrap_err();
+    /// assert_eq!((refusal.number, refusal.places), (14, [0, 0, 0])); // there are 12 elements, 0 to 11
+    /// # Ok::<(), hypergroup::Refusal>(())
+    /// ```
+    #[inline]
+    pub fn walk(&self, from: Element, turns: &[Generator]) -> Result<Element, Refusal> {
+        raw::product_walk(&self.table, &self.handles, from.0, letters(turns)).map(Element)
     }
 
     /// a·b: first the turns of `a`, then those of `b`.

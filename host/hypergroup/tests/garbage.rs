@@ -82,6 +82,7 @@ fn questions() {
         let (a, b, g) = (r.number(), r.number(), r.byte());
         asked(raw::count(&table, h));
         asked(raw::step(&table, h, a, g));
+        asked(raw::walk(&table, h, a, &[g, g, b as u8]));
         asked(raw::generator(&table, h, g));
         asked(raw::compose(&table, h, a, b));
         asked(raw::conjugate(&table, h, a, b));
@@ -213,6 +214,38 @@ fn letters_of_eight() {
     assert_eq!(altered(&eight, at + 1, 4097, 255, 1, 255), [Err(17), Err(17), Err(17)]);
 }
 
+/// A step that is missing, or leads beyond the elements, is 17 for a walk that comes to it, and nothing to one that does not; a wrong letter is 14 before it.
+#[test]
+fn walks() {
+    let (s3, z2) = (s3(), enumerated(1, &[], 2));
+    let row = 2 * 2 + 4;
+    for number in [0, 7, 8, 65_536, u32::MAX] {
+        let mut table = s3.0.clone();
+        table[s3.1.start + 3 * row] = number; // from 3 by turn 0
+        table.extend(&z2.0);
+        let second = Handle { start: table.len() - z2.0.len(), ..z2.1 };
+        let pair: Handles = [s3.1, second].into_iter().collect();
+        let refusal = |answer: Answer<u32>| answer.map_err(|x| (x.number, x.places));
+        // 1 by turn 1 is 3; turn 2 is the second factor's.
+        assert_eq!(refusal(raw::walk(&table, s3.1, 1, &[1, 0])), Err((17, [0; 3])));
+        assert_eq!(refusal(raw::walk(&table, s3.1, 1, &[1, 1])), Ok(1));
+        assert_eq!(refusal(raw::walk(&table, s3.1, 1, &[1, 0, 2])), Err((14, [3, 0, 0])));
+        assert_eq!(refusal(raw::product_walk(&table, &pair, 1, &[2, 1, 2, 0])), Err((17, [0; 3])));
+        assert_eq!(refusal(raw::product_walk(&table, &pair, 7, &[2, 1, 2, 1])), Ok(7));
+        assert_eq!(refusal(raw::product_walk(&table, &pair, 1, &[1, 0, 3])), Err((14, [3, 0, 0])));
+    }
+    // Nine factors, of which eight are looked at: 14 for the start and for each letter comes before 15.
+    let nine: Handles = [s3.1; 9].into_iter().collect();
+    let refusal = |e, word: &[u8]| raw::product_walk(&s3.0, &nine, e, word).map_err(|x| (x.number, x.places));
+    assert_eq!(refusal(1_679_615, &[15]), Err((15, [0; 3])));
+    assert_eq!(refusal(1_679_615, &[15, 16]), Err((14, [2, 0, 0])));
+    assert_eq!(refusal(1_679_616, &[]), Err((14, [0; 3])));
+    // The last element is reached, and one more is not.
+    let mut table = s3.0.clone();
+    table[s3.1.start] = 6;
+    assert_eq!(raw::walk(&table, s3.1, 0, &[0]), Ok(5));
+}
+
 /// A recorded length is tested wherever it is read: at 4,096 a product goes another way and is the same, at 4,097 and above it is 17, as the length itself is.
 #[test]
 fn lengths() {
@@ -257,6 +290,7 @@ fn questions_of_products() {
         asked(raw::product_generators(&table, &p));
         asked(raw::product_generator(&table, &p, g));
         asked(raw::product_step(&table, &p, a, g));
+        asked(raw::product_walk(&table, &p, a, &[g, g, b as u8]));
         asked(raw::product_project(&table, &p, g, a));
         asked(raw::product_inject(&table, &p, g, a));
         asked(raw::product_compose(&table, &p, a, b));

@@ -74,14 +74,77 @@ fn arguments_out_of_range() {
     assert_eq!(refused(s3.check(&[2])).0, 13);
 }
 
+/// The start has position 0 and the turn at i has i + 1, whatever comes behind; an empty word leads to its start, and looks at it.
+#[test]
+fn walks_refuse_by_position() {
+    let s3 = Factor::from_rows(2, &S3).unwrap();
+    let pair = Product::new([&s3, &Factor::from_rows(1, &[1, 0]).unwrap()]).unwrap();
+    let one = Product::new([&s3]).unwrap();
+    let none = Product::new([]).unwrap();
+    let walks: [(&dyn Fn(Element, &[Generator]) -> Result<Element, Refusal>, u32, u8); 4] = [
+        (&|e, w| s3.walk(e, w), 6, 2),
+        (&|e, w| one.walk(e, w), 6, 2),
+        (&|e, w| pair.walk(e, w), 12, 3),
+        (&|e, w| none.walk(e, w), 1, 0),
+    ];
+    for (walk, count, n) in walks {
+        for e in (0..count).map(Element) {
+            assert_eq!(walk(e, &[]), Ok(e));
+        }
+        for beyond in [count, 1000, u32::MAX] {
+            assert_eq!(refused(walk(Element(beyond), &[])), (14, [0; 3]));
+            assert_eq!(refused(walk(Element(beyond), &[Generator(n)])), (14, [0; 3]));
+        }
+        // A right turn where there is one, and then the wrong one at each place, alone or with another behind it.
+        let right = if n == 0 { vec![] } else { vec![Generator(0), Generator(n - 1), Generator(0), Generator(0)] };
+        for at in 0..=right.len() {
+            for wrong in [n, n.max(9), 255] {
+                let mut word = right[..at].to_vec();
+                word.push(Generator(wrong));
+                assert_eq!(refused(walk(Element(0), &word)), (14, [at as u32 + 1, 0, 0]));
+                word.extend([Generator(0), Generator(255)]);
+                assert_eq!(refused(walk(Element(0), &word)), (14, [at as u32 + 1, 0, 0]));
+            }
+        }
+    }
+    // A long word, wrong at its very end.
+    let mut long = vec![Generator(1); 100_000];
+    assert_eq!((s3.walk(Element(3), &long), pair.walk(Element(9), &long)), (Ok(Element(3)), Ok(Element(9))));
+    *long.last_mut().unwrap() = Generator(3);
+    assert_eq!(refused(pair.walk(Element(9), &long)), (14, [100_000, 0, 0]));
+}
+
+/// One walk is the steps one after another, from every element, in products of 0 to 8 factors, some with no turn of their own.
+#[test]
+fn a_walk_is_its_steps() {
+    let parts = [
+        Factor::from_rows(2, &S3).unwrap(),
+        Factor::from_orders(0, &[], 1).unwrap(),
+        Factor::from_rows(1, &[1, 2, 0]).unwrap(),
+        Factor::from_orders(2, &[2], 4).unwrap(),
+    ];
+    let turns = |n: u32, len: u32| (0..len).map(|i| Generator((i * i * 7 % 31 % n) as u8)).collect::<Vec<_>>();
+    for chosen in [&[0][..], &[0, 2], &[1, 0], &[0, 1, 2], &[1, 3, 1, 0, 1], &[2, 1, 2, 0, 3, 1, 1, 2]] {
+        let p = Product::new(chosen.iter().map(|&i| &parts[i])).unwrap();
+        let word = turns(p.generator_count().into(), 60);
+        for e in p.elements().step_by(1 + p.element_count() as usize / 100) {
+            let mut there = e;
+            for (i, &g) in word.iter().enumerate() {
+                assert_eq!(p.walk(e, &word[..i]), Ok(there));
+                there = p.step(there, g).unwrap();
+            }
+        }
+    }
+}
+
 #[test]
 fn live_and_delayed_viewers() {
     let puzzle = Factor::from_orders(3, &[4, 2, 3], 48).unwrap();
     let product = Product::new([&puzzle, &Factor::from_rows(1, &[1, 2, 0]).unwrap()]).unwrap();
     let turns: Vec<Generator> = (0..100).map(|i| Generator((i * i % 7 % 4) as u8)).collect();
     for from in product.elements() {
-        let missed = product.walk(Element::IDENTITY, turns.iter().copied()).unwrap();
-        assert_eq!(product.walk(from, turns.iter().copied()), product.compose(from, missed));
+        let missed = product.walk(Element::IDENTITY, &turns).unwrap();
+        assert_eq!(product.walk(from, &turns), product.compose(from, missed));
     }
 }
 
@@ -114,7 +177,7 @@ fn products() {
         assert_eq!(p.join(&digits), Ok(e));
         assert_eq!(p.compose(p.inject(0, digits[0]).unwrap(), p.inject(1, digits[1]).unwrap()), Ok(e));
         assert_eq!(p.project(1, e), Ok(digits[1]));
-        assert_eq!(p.walk(Element::IDENTITY, p.word(e).unwrap()), Ok(e));
+        assert_eq!(p.walk(Element::IDENTITY, &p.word(e).unwrap()), Ok(e));
         assert_eq!(p.powi(e, p.period(e).unwrap() as i32), Ok(Element::IDENTITY));
         assert_eq!(p.conjugate(e, e), Ok(e));
     }

@@ -85,7 +85,7 @@ fn questions() {
         }
         let word = in_thread(|| f.word(a)).unwrap();
         assert_eq!(in_thread(|| f.word_length(a)), Ok(word.len() as u32));
-        assert_eq!(in_thread(|| f.walk(Element(0), word.iter().copied())), Ok(a));
+        assert_eq!(in_thread(|| f.walk(Element(0), &word)), Ok(a));
     }
     for g in f.generators() {
         assert_eq!(in_thread(|| f.generator(g)), in_thread(|| f.step(Element(0), g)));

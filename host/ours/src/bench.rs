@@ -186,6 +186,21 @@ impl Ours {
                 let sub = self.sub.clone().ok_or_else(|| "no subgroup".to_string())?;
                 self.least(|_| sub.ask_often(w[0], &asked))
             }
+            "walk" | "turns" => {
+                let (asked, p) = (pairs(number(w, 1)?), &self.product);
+                let (n, count) = (raw::product_generators(&p.table, &p.handles)?, raw::product_count(&p.table, &p.handles)?);
+                let turns: Vec<u8> = asked.iter().map(|&(_, b)| (b % n) as u8).collect();
+                let from = asked.first().map_or(0, |&(a, _)| a % count);
+                let one_by_one = w[0] == "turns";
+                self.least(|p| {
+                    Ok(match p.single() {
+                        Some(h) if one_by_one => turns.iter().try_fold(from, |e, &g| raw::step(&p.table, h, e, g))?,
+                        None if one_by_one => turns.iter().try_fold(from, |e, &g| raw::product_step(&p.table, &p.handles, e, g))?,
+                        Some(h) => raw::walk(&p.table, h, from, &turns)?,
+                        None => raw::product_walk(&p.table, &p.handles, from, &turns)?,
+                    })
+                })
+            }
             "alone" => {
                 let parts = self.product.parts(w[1], &pairs(number(w, 2)?))?;
                 self.least(|p| p.ask_alone(w[1], &parts))

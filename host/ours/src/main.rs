@@ -9,10 +9,12 @@
 //!   says which factor. `forgecount K` says how many factors the product has.
 //! - `altermap I V` and `altersub I V` do as `alter` does, in both maps and in the table of the current subgroup.
 //! - `checked ORDERS..` checks the one factor of the current product, as it stands, against pair orders.
+//! - `bench turns K` does what `bench walk K` does by a call for each turn.
 //! - `bench unimage HEX` and `bench imgcheck HEX`, beyond what the oracle measures; `bench product compose K` and so on ask the calls on
 //!   products where the product has one factor too, and without the word the calls on that factor are asked.
 //! - `builder n` begins a build with the current room, `add e g` prints the new element, `set e g r` prints `new` or `known`, `build`
 //!   prints as `table` does and makes the factor the current product.
+//! - `walk e g..` walks the turns one after another, in one call.
 //! - `count`, `length e`; `shortword e` writes a word into one byte less than it has, `shortsplit e` the digits into one place less;
 //!   `part e` is the word by the call that hands back the filled part of its buffer, nothing where it is refused.
 //! - `image enum ..`, `image table ..` or `image` alone, for the one factor of the current product, print `ok` and the bytes in hex;

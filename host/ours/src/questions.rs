@@ -140,6 +140,12 @@ impl Product {
                 let (e, g) = (number(w, 1)?, number(w, 2)?);
                 every_way!(self, product_step, step, (e, g), x => reached(x.step(Element(e), Generator(g))))
             }
+            "walk" => {
+                let from = number(w, 1)?;
+                let turns: Vec<u8> = (2..w.len()).map(|i| number(w, i)).collect::<Result<_, No>>()?;
+                let told: Vec<Generator> = turns.iter().copied().map(Generator).collect();
+                every_way!(self, product_walk, walk, (from, &turns), x => reached(x.walk(Element(from), &told)))
+            }
             "compose" => {
                 let (a, b) = (number(w, 1)?, number(w, 2)?);
                 every_way!(self, product_compose, compose, (a, b), x => reached(x.compose(Element(a), Element(b))))

@@ -354,6 +354,11 @@ impl Oracle {
             "sub" | "subpred" => Some((told(w)?, guard(|| action_of(&self.group))?)),
             _ => None,
         };
+        let (n, count) = (self.group.generators().len() as u32, self.group.element_count() as u32);
+        let turns: Vec<GeneratorId> = match w[0] {
+            "walk" => asked.iter().map(|&(_, b)| GeneratorId((b % n) as u8)).collect(),
+            _ => vec![],
+        };
         for _ in 0..3 {
             let start = std::time::Instant::now();
             given = match w[0] {
@@ -363,6 +368,10 @@ impl Oracle {
                     told.subgroup(act)?.subgroup_action.group().element_count() as u32
                 }
                 "flatten" => guard(|| self.group.flatten())?.element_count() as u32,
+                "walk" => {
+                    let from = GroupElementId(asked.first().map_or(0, |&(a, _)| a % count));
+                    turns.iter().fold(from, |e, &g| self.group.compose_elem_generator(e, g)).0
+                }
                 _ => self.ask_often(w[0], &asked)?,
             };
             least = least.min(start.elapsed().as_secs_f64());

@@ -1,0 +1,4 @@
+pub mod Steps
+pub mod Admits
+pub mod Owners
+pub mod Follows
