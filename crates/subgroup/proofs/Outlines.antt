@@ -23,31 +23,17 @@ use Rattle.subgroup_build.specs.declared.Subgroup.{Subgroup}
 use Rattle.subgroup.specs.declared.Within.{Within}
 use Rattle.subgroup.specs.declared.Within.the-variants as within
 use Rattle.subgroup.specs.declared.inner.Outline.{Outline}
-use Rattle.subgroup_sides.specs.Sides.{overSide, subSide, fewFactors, sidesLimited, admitsSides, overCount}
+use Rattle.subgroup_sides.specs.Sides.{overSide, subSide, fewFactors, limitedBy, sidesLimited, admitsSides, overCount}
 use Rattle.subgroup.specs.Questions.{ifWithin, carriedBy, carriedOver, toOverAnswer, toSubAnswer}
 use Rattle.subgroup.specs.Outline.{outlineOf, outlineBy, Measured, overMeasure, subMeasure, outlineLimited, admitsOutline, overByOutline, backByOutline}
 use Rattle.subgroup_sides.proofs.Counts.{cap-right, around-is, over-elements-is, sub-elements-is}
 use Rattle.subgroup.proofs.Carries.{carried-is, carried-back-is}
-use Rattle.subgroup_sides.proofs.SideLaws.{fit-law, over-within, sub-within, asks, sides-capped}
+use Rattle.subgroup_sides.proofs.SideLaws.{fit-law, limited-sides, over-within, sub-within, asks, sides-capped}
 
 -- 15.
-module _ (o : Outline) where
-  pub outline-few : o .few ≡ false → false ≡ outlineLimited o
-  unfolding outlineLimited
-  outline-few e = rw e
-
-  module _ (e : o .few ≡ true) {r : ℕ} (p : r ≡ overMeasure o) where
-    pub outline-over : 4294967295 < r → false ≡ outlineLimited o
-    unfolding outlineLimited
-    outline-over h =
-        let z : leb (overMeasure o) 4294967295 ≡ false = ap (λ (k : ℕ). leb k 4294967295) (sym p) ∙ lt-leb _ _ h in
-        rw (e, z)
-
-    pub outline-sub : r ≤ 4294967295 → {t : ℕ} → t ≡ subMeasure o → leb t 4294967295 ≡ outlineLimited o
-    unfolding outlineLimited
-    outline-sub h {t} u =
-        let z : leb (overMeasure o) 4294967295 ≡ true = ap (λ (k : ℕ). leb k 4294967295) (sym p) ∙ le-leb _ _ h in
-        rw (e, z, u)
+pub outline-limited : (o : Outline) {r : Bool} → r ≡ limitedBy (o .few) (o .below) (o .within) (o .over) (o .above) → r ≡ outlineLimited o
+unfolding outlineLimited
+outline-limited o q = q
 
 -- 17, 14, 15 in this order.
 module _ (o : Outline) (map need a la : ℕ) where
@@ -93,11 +79,11 @@ uncapped x y h = leb-true _ _ (sym (cap-within (x * y) (cap-right x y)) ∙ le-l
 
 module _ (o : Outline) (h : outlineLimited o ≡ true) where
   over-limit : o .below * (o .over * o .above) ≤ 4294967295
-  unfolding outlineLimited
+  unfolding outlineLimited limitedBy
   over-limit = uncapped (o .below) (o .over * o .above) (leb-true _ _ (and-first _ _ (and-second (o .few) _ h)))
 
   sub-limit : o .below * (o .within * o .above) ≤ 4294967295
-  unfolding outlineLimited
+  unfolding outlineLimited limitedBy
   sub-limit =
       uncapped (o .below) (o .within * o .above) (leb-true _ _ (and-second (leb (overMeasure o) 4294967295) _ (and-second (o .few) _ h)))
 
@@ -152,8 +138,8 @@ module _ (from table : ℕ) (s : Subgroup) where
       sub-elements-is s (around-is (elementsOf (handles (s .below))) (s .factor .elements) (elementsOf (handles (s .above))) refl refl refl refl)
 
   limited-is : outlineLimited (outlineOf from table s) ≡ sidesLimited s
-  unfolding outlineLimited sidesLimited
-  limited-is = rw (cap-within (elementsOf (overSide s)) over-measure-is, cap-within (elementsOf (subSide s)) sub-measure-is)
+  unfolding outlineLimited
+  limited-is = limited-sides s refl refl refl refl
 
   admits-is : (map need a la : ℕ) → admitsOutline (outlineOf from table s) map need a la ≡ admitsSides from table s map need a la
   unfolding admitsOutline admitsSides

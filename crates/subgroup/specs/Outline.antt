@@ -16,7 +16,7 @@ use Rattle.group_handles.specs.Handles.{handles, elementsOf, capped}
 use Rattle.subgroup_build.specs.declared.Subgroup.{Subgroup}
 use Rattle.subgroup.specs.declared.Within.{Within}
 use Rattle.subgroup.specs.declared.inner.Outline.{Outline}
-use Rattle.subgroup_sides.specs.Sides.{sidesFit, fewFactors, strideOf, overCount}
+use Rattle.subgroup_sides.specs.Sides.{sidesFit, fewFactors, limitedBy, strideOf, overCount}
 use Rattle.subgroup.specs.Questions.{carriedBy, carriedBackBy, ifWithin}
 
 -- The outline of a subgroup, with buffers of `from` and `table` numbers.
@@ -58,7 +58,7 @@ subMeasure o = capped (o .below * capped (o .within * o .above))
 
 -- `sidesLimited` by the outline: true where refusal 15 is not due.
 unfoldable pub outlineLimited : Outline → Bool
-outlineLimited o = o .few && (leb (overMeasure o) 4294967295 && leb (subMeasure o) 4294967295)
+outlineLimited o = limitedBy (o .few) (o .below) (o .within) (o .over) (o .above)
 
 -- `admitsSides` by the outline: 17 in the handles and for a map of fewer than `need` places, then 14 for an argument a that is not below la, then 15.
 unfoldable pub admitsOutline : (o : Outline) (map need a la : ℕ) → Verdict

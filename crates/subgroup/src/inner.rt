@@ -77,13 +77,7 @@ fn limited(o: Outline) -> bool
     requires { ⌜ Measured o ⌝ }
     ensures { λ r. ⌜ r ≡ outlineLimited o ⌝ }
 {
-    if !o.few {
-        return false;
-    }
-    if 4294967295 < subgroup_sides::inner::measure(o.below, o.over, o.above) {
-        return false;
-    }
-    subgroup_sides::inner::measure(o.below, o.within, o.above) <= 4294967295
+    subgroup_sides::inner::limited_by(o.few, o.below, o.within, o.over, o.above)
 }
 
 // Refuses in this order: 17 for a handle that does not fit or a map of fewer than `need` places, 14 for an argument a that is not below la, 15 for a

@@ -20,7 +20,7 @@ use Rattle.build_lending.specs.Finish.{built, zeroed}
 use Rattle.build_numbering.specs.Renumber as appear
 use Rattle.build_numbering.specs.Build.{Renumbering, renumbering, renumberIn}
 use Rattle.subgroup_predicate_choices.specs.declared.inner.Picks.{Picks}
-use Rattle.subgroup_predicate_choices.specs.Choices.{Picked, picked, ninth, isNewMember, chooses, againIn, ChosenOfEight}
+use Rattle.subgroup_predicate_choices.specs.Choices.{Picked, picked, ninth, isNewMember, chooses, againIn, ChosenOfEight, LastBuilt}
 
 module _ (inn : List ℕ) (byte : ℕ → ℕ) (x : ℕ) {v : ℕ} (q : v ≡ getD inn x 0) where
   pub new-known : ¬ (v ≡ appear.noNumber) → false ≡ isNewMember inn byte x
@@ -35,6 +35,9 @@ set-long l i v q = simp length-set q
 pub eight-as : {p r : Picks} → r .generators ≡ p .generators → r .chosen ≡ p .chosen → ChosenOfEight p → ChosenOfEight r
 eight-as g l h = record { few = rw g (h .few); long = ap length l ∙ h .long }
 
+pub last-built : {p : Picks} {n : ℕ} → p .made ≡ Count n → LastBuilt p
+last-built {n = n} e = record { elements = n; is = e }
+
 -- All that was built is zero again.
 pub ninth-is : (gens : List ℕ) (t w inn outw : List ℕ) {t′ w′ inn′ outw′ : List ℕ} → t′ ≡ zeroed t → w′ ≡ zeroed w → inn′ ≡ zeroed inn → outw′ ≡ zeroed outw
     → picked gens (renumbering (built (Refused (numbered 15 0 0 0)) t′ w′) inn′ outw′) ≡ picked gens (ninth t w inn outw)
@@ -46,12 +49,6 @@ gens-length chosen k long few = length-take-le k chosen (rw long few)
 -- One turn, with the chosen in the first k places of eight.
 module _ (size room M K : ℕ) (source : ℕ → ℕ → Reached) (byte : ℕ → ℕ) (x : ℕ) (chosen : List ℕ) (k : ℕ) (long : length chosen ≡ 8) (few : k ≤ 8)
     (made : Counted) (t w inn outw : List ℕ) where
-  pub turn-refused : {f : Refusal} → made ≡ Refused f
-      → picked (take k chosen) (renumbering (built made t w) inn outw)
-      ≡ chooses 1 (againIn size source room M K) byte x (take k chosen) (renumbering (built made t w) inn outw)
-  unfolding chooses
-  turn-refused e = rw e
-
   module _ {c : ℕ} (e : made ≡ Count c) {b : Bool} (q : b ≡ isNewMember inn byte x) where
     pub turn-known : b ≡ false
         → picked (take k chosen) (renumbering (built made t w) inn outw)
@@ -125,6 +122,13 @@ module _ (again : List ℕ → List ℕ → Renumbering) (byte : ℕ → ℕ) wh
   pub turns-end : (m x : ℕ) {gens : List ℕ} {r : Renumbering} {whole : Picked} → m ≤ x → chooses (m - x) again byte x gens r ≡ whole → picked gens r ≡ whole
   unfolding chooses
   turns-end m x {gens} {r} h q = let d : m - x ≡ 0 = omega arith in sym (ap (λ (k : ℕ). chooses k again byte x gens r) d) ∙ q
+
+  -- After a refusal no turn changes anything.
+  pub turns-stop : (k x : ℕ) (gens : List ℕ) (made : Counted) (t w inn outw : List ℕ) {f : Refusal} {whole : Picked} → made ≡ Refused f
+      → chooses k again byte x gens (renumbering (built made t w) inn outw) ≡ whole → picked gens (renumbering (built made t w) inn outw) ≡ whole
+  turns-stop k x gens made t w inn outw {f} e q =
+      ap (λ (m : Counted). picked gens (renumbering (built m t w) inn outw)) e ∙ stopped k x gens f t w inn outw
+      ∙ ap (λ (m : Counted). chooses k again byte x gens (renumbering (built m t w) inn outw)) (sym e) ∙ q
 
 -- A turn in lists that are as long as the first ones.
 pub turn-lengths : {size size′ M M′ K K′ : ℕ} (source : ℕ → ℕ → Reached) (room : ℕ) (byte : ℕ → ℕ) (x : ℕ) (gens : List ℕ) (r : Renumbering) {y : Picked}

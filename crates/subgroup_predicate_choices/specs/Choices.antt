@@ -49,6 +49,11 @@ pub record ChosenOfEight (p : Picks) : Type 0 where
   pub few : p .generators ≤ 8
   pub long : length (p .chosen) ≡ 8
 
+-- The last build was not refused.
+pub record LastBuilt (p : Picks) : Type 0 where
+  pub elements : ℕ
+  pub is : p .made ≡ Count elements
+
 -- The code's picks and buffers as the definition's `Picked`.
 abbrev pub pickedOf : (p : Picks) (t w inn outw : List ℕ) → Picked
 pickedOf p t w inn outw = picked (take (p .generators) (p .chosen)) (renumbering (built (p .made) t w) inn outw)

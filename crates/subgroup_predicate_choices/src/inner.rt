@@ -8,7 +8,7 @@ ghost use Rattle.build_lending.specs.Finish.{Built};
 ghost use Rattle.group_handles.specs.Handles.{handles, elementsOf, allFit};
 ghost use Rattle.group_digits.specs.Digits.{composes};
 ghost use Rattle.build_numbering.specs.Build.{Renumbering};
-ghost use Rattle.subgroup_predicate_choices.specs.Choices.{isNewMember, ChosenOfEight, ninthOf, chooses, againIn, pickedOf};
+ghost use Rattle.subgroup_predicate_choices.specs.Choices.{isNewMember, ChosenOfEight, LastBuilt, ninthOf, chooses, againIn, pickedOf};
 use egg::Counted;
 use egg::GroupElementId;
 use egg::Refusal;
@@ -53,7 +53,8 @@ fn ninth(t: &mut [u32], w: &mut [u32], inn: &mut [u32], outw: &mut [u32], p: Pic
     }
 }
 
-// Looks at one element of the overgroup: where it is a new member, the subgroup is built again with one generator more.
+// Looks at one element of the overgroup, after a build that was not refused: where it is a new member, the subgroup is built again with one generator
+// more.
 fn choose(
     t: &mut [u32],
     w: &mut [u32],
@@ -66,13 +67,9 @@ fn choose(
     x: GroupElementId,
     p: Picks,
 ) -> Picks
-    requires { ⌜ ((allFit (length (now from)) (handles over) ≡ true) × (elementsOf (handles over) ≤ 4294967295)) × ChosenOfEight p ⌝ }
+    requires { ⌜ ((allFit (length (now from)) (handles over) ≡ true) × (elementsOf (handles over) ≤ 4294967295)) × (ChosenOfEight p × LastBuilt p) ⌝ }
     ensures { λ r. ⌜ (pickedOf r (now (t .exit)) (now (w .exit)) (now (inn .exit)) (now (outw .exit)) ≡ chooses 1 (againIn (length (now (t .entry))) (composes (now (from .entry)) (handles over)) room (length (now (inn .entry))) (length (now (outw .entry)))) (λ y. getD (now (members .entry)) y 0) (x .0) (take (p .generators) (p .chosen)) (Renumbering.renumbering (Built.built (p .made) (now (t .entry)) (now (w .entry))) (now (inn .entry)) (now (outw .entry)))) × ChosenOfEight r ⌝ }
 {
-    let built = p.made;
-    let Counted::Count(_) = built else {
-        return p;
-    };
     if !is_new(&inn[..], members, x) {
         return p;
     }
@@ -102,7 +99,7 @@ fn choose(
     }
 }
 
-// Looks at all elements of the overgroup in order.
+// Looks at the elements of the overgroup in order, to the last or to the first refusal.
 pub fn choose_all(
     t: &mut [u32],
     w: &mut [u32],
@@ -121,6 +118,10 @@ pub fn choose_all(
     let mut x: u32 = 0;
     let mut q = p;
     while x < m {
+        let built = q.made;
+        let Counted::Count(_) = built else {
+            return q;
+        };
         q = choose(
             t,
             w,

@@ -1,6 +1,6 @@
 -- Laws of the refusals before a map is read, one for each answer; what is known where a question goes on; and the products with further factors.
-use Prim.Native.Nat.{ℕ, suc, _+_, _≤_, _<_}
-use mathlib.Core.Path.{_≡_, refl, sym, _∙_}
+use Prim.Native.Nat.{ℕ, suc, _+_, _*_, _≤_, _<_}
+use mathlib.Core.Path.{_≡_, refl, sym, ap, _∙_}
 use mathlib.Core.Bool.{Bool, true, false, _&&_}
 use mathlib.Core.List.{_∷_, _++_}
 use native.Mathlib.Omega.{arith}
@@ -20,7 +20,8 @@ use Rattle.group_handles.proofs.Joins.{fit-both}
 use Rattle.group_handles.proofs.Sums.{both-length}
 use Rattle.subgroup_build.specs.declared.Subgroup.{Subgroup}
 use Rattle.subgroup_build.specs.declared.Subgrouped.{Subgrouped}
-use Rattle.subgroup_sides.specs.Sides.{overSide, subSide, sidesFit, fewFactors, sidesLimited, admitsSides, leftOf, rightOf, refusedSubgroup, ifLimited, joinable, multiplied, leftProduct, rightProduct}
+use Rattle.subgroup_sides.specs.Sides.{overSide, subSide, sidesFit, fewFactors, limitedBy, sidesLimited, admitsSides, leftOf, rightOf, refusedSubgroup, ifLimited, joinable, multiplied, leftProduct, rightProduct}
+use Rattle.subgroup_sides.proofs.Counts.{around-is, over-elements-is, sub-elements-is}
 
 -- 17 in the handles.
 module _ (from table : ℕ) (s : Subgroup) where
@@ -85,24 +86,15 @@ module _ (s : Subgroup) where
         few-last h =
             rw (le-leb (s .below .count) 8 b, le-leb (s .over .count) 8 o, le-leb (s .above .count) 8 a, over-length, le-leb (x + y + z) 8 h, sub-length)
 
-  module _ {b : Bool} (q : b ≡ fewFactors s) where
-    pub limited-few : b ≡ false → false ≡ sidesLimited s
-    unfolding sidesLimited
-    limited-few e = rw (← q, e)
-
-    module _ (e : b ≡ true) {r : ℕ} (p : r ≡ capped (elementsOf (overSide s))) where
-      pub limited-over : 4294967295 < r → false ≡ sidesLimited s
-      unfolding sidesLimited
-      limited-over h =
-          let z : leb (elementsOf (overSide s)) 4294967295 ≡ false = sym (cap-within (elementsOf (overSide s)) p) ∙ lt-leb _ _ h in
-          rw (← q, e, z)
-
-      pub limited-sub : r ≤ 4294967295 → {t : ℕ} → t ≡ capped (elementsOf (subSide s)) → leb t 4294967295 ≡ sidesLimited s
-      unfolding sidesLimited
-      limited-sub h {t} u =
-          let z : leb (elementsOf (overSide s)) 4294967295 ≡ true = sym (cap-within (elementsOf (overSide s)) p) ∙ le-leb _ _ h in
-          let y : leb t 4294967295 ≡ leb (elementsOf (subSide s)) 4294967295 = cap-within (elementsOf (subSide s)) u in
-          rw (← q, e, z, y)
+  pub limited-sides : {k : Bool} {x y z : ℕ} → k ≡ fewFactors s → x ≡ capped (elementsOf (handles (s .below))) → y ≡ capped (elementsOf (handles (s .over)))
+      → z ≡ capped (elementsOf (handles (s .above))) → limitedBy k x (s .factor .elements) y z ≡ sidesLimited s
+  unfolding limitedBy sidesLimited
+  limited-sides {k} {x} {y} {z} q low middle high =
+      let over : capped (x * capped (y * z)) ≡ capped (elementsOf (overSide s)) =
+      over-elements-is s {m = y} middle (around-is (elementsOf (handles (s .below))) y (elementsOf (handles (s .above))) high refl low refl) in
+      let sub : capped (x * capped (s .factor .elements * z)) ≡ capped (elementsOf (subSide s)) =
+      sub-elements-is s (around-is (elementsOf (handles (s .below))) (s .factor .elements) (elementsOf (handles (s .above))) high refl low refl) in
+      rw (q, cap-within (elementsOf (overSide s)) over, cap-within (elementsOf (subSide s)) sub)
 
   module _ (h : sidesLimited s ≡ true) where
     pub over-within : elementsOf (overSide s) ≤ 4294967295
@@ -112,6 +104,25 @@ module _ (s : Subgroup) where
     pub sub-within : elementsOf (subSide s) ≤ 4294967295
     unfolding sidesLimited
     sub-within = leb-true _ _ (and-second (leb (elementsOf (overSide s)) 4294967295) _ (and-second (fewFactors s) _ h))
+
+-- 15 by the numbers of elements.
+module _ (few : Bool) (below within over above : ℕ) where
+  pub limited-few : few ≡ false → false ≡ limitedBy few below within over above
+  unfolding limitedBy
+  limited-few e = rw e
+
+  module _ (e : few ≡ true) {r : ℕ} (p : r ≡ capped (below * capped (over * above))) where
+    pub limited-over : 4294967295 < r → false ≡ limitedBy few below within over above
+    unfolding limitedBy
+    limited-over h =
+        let z : leb (capped (below * capped (over * above))) 4294967295 ≡ false = ap (λ (k : ℕ). leb k 4294967295) (sym p) ∙ lt-leb _ _ h in
+        rw (e, z)
+
+    pub limited-sub : r ≤ 4294967295 → {t : ℕ} → t ≡ capped (below * capped (within * above)) → leb t 4294967295 ≡ limitedBy few below within over above
+    unfolding limitedBy
+    limited-sub h {t} u =
+        let z : leb (capped (below * capped (over * above))) 4294967295 ≡ true = ap (λ (k : ℕ). leb k 4294967295) (sym p) ∙ le-leb _ _ h in
+        rw (e, z, u)
 
 -- 17, 14, 15 in this order.
 module _ (from table : ℕ) (s : Subgroup) (map need a la : ℕ) where

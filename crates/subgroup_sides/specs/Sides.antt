@@ -1,6 +1,6 @@
 -- This file defines the two sides of a subgroup's value (the overgroup below · over · above, the subgroup below · factor · above), the refusals that
 -- come before a map is read, and the products with further factors.
-use Prim.Native.Nat.{ℕ, _+_}
+use Prim.Native.Nat.{ℕ, _+_, _*_}
 use mathlib.Core.List.{List, [], _∷_, _++_}
 use mathlib.Core.Bool.{Bool, _&&_}
 use lib.ListN.{length}
@@ -13,7 +13,7 @@ use Rattle.egg.specs.Scan.{refusedOf}
 use Rattle.egg.specs.Factor.{fitsIn}
 use Rattle.build_lending.specs.Lending.{noFactor}
 use Rattle.group_handles.specs.declared.Group.{Group}
-use Rattle.group_handles.specs.Handles.{handles, elementsOf, allFit, groupOf}
+use Rattle.group_handles.specs.Handles.{handles, elementsOf, capped, allFit, groupOf}
 use Rattle.subgroup_build.specs.declared.Subgroup.{Subgroup}
 use Rattle.subgroup_build.specs.declared.Subgrouped.{Subgrouped}
 
@@ -51,6 +51,12 @@ fewOf below over above =
 -- True where refusal 15, "more than 8 factors, product too large", is not due on either side.
 unfoldable pub sidesLimited : Subgroup → Bool
 sidesLimited s = fewFactors s && (leb (elementsOf (overSide s)) 4294967295 && leb (elementsOf (subSide s)) 4294967295)
+
+-- The same by whether there are few factors, and by how many elements there are below, in the subgroup's own factor, in those that it stands for and
+-- above: each number as far as 32 bits can tell.
+unfoldable pub limitedBy : (few : Bool) (below within over above : ℕ) → Bool
+limitedBy few below within over above =
+    few && (leb (capped (below * capped (over * above))) 4294967295 && leb (capped (below * capped (within * above))) 4294967295)
 
 -- Refuses in this order: 17 for a handle that does not fit or a map of fewer than `need` places, 14 for an argument a that is not below la, 15 for a
 -- side too large.

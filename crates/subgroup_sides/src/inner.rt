@@ -5,7 +5,7 @@ ghost use Prim.Native.Nat.{_*_, _<_, _≤_};
 ghost use lib.ListN.{length};
 ghost use Rattle.group_handles.specs.Handles.{handles, elementsOf, generatorsOf, capped};
 ghost use Rattle.egg.specs.declared.GroupElementId.{GroupElementId};
-ghost use Rattle.subgroup_sides.specs.Sides.{overSide, subSide, sidesFit, fewFactors, sidesLimited, leftOf, rightOf, joinable, ifLimited, multiplied, refusedSubgroup, fewOf};
+ghost use Rattle.subgroup_sides.specs.Sides.{subSide, sidesFit, fewFactors, limitedBy, sidesLimited, leftOf, rightOf, joinable, ifLimited, multiplied, refusedSubgroup, fewOf};
 ghost use Rattle.subgroup_sides.specs.Generators.{scaled, sideGenerator};
 use egg::GeneratorId;
 use egg::GroupElementId;
@@ -33,36 +33,6 @@ pub fn measure(below: u64, m: u64, above: u64) -> u64
     ensures { λ r. ⌜ r ≡ capped (below * capped (m * above)) ⌝ }
 {
     times(below, times(m, above))
-}
-
-// How many elements a side of s has, where m is the count of its middle part.
-fn around(s: Subgroup, m: u64) -> u64
-    requires { ⌜ m ≤ 4294967296 ⌝ }
-    ensures { λ r. ⌜ r ≡ capped (elementsOf (handles (s .below)) * (m * elementsOf (handles (s .above)))) ⌝ }
-{
-    let below = s.below;
-    let above = s.above;
-    measure(
-        group_handles::inner::elements_of(below),
-        m,
-        group_handles::inner::elements_of(above),
-    )
-}
-
-// How many elements the overgroup has, as far as 32 bits can tell.
-fn over_elements(s: Subgroup) -> u64
-    ensures { λ r. ⌜ r ≡ capped (elementsOf (overSide s)) ⌝ }
-{
-    let over = s.over;
-    around(s, group_handles::inner::elements_of(over))
-}
-
-// How many elements the subgroup has, as far as 32 bits can tell.
-fn sub_elements(s: Subgroup) -> u64
-    ensures { λ r. ⌜ r ≡ capped (elementsOf (subSide s)) ⌝ }
-{
-    let factor = s.factor;
-    around(s, factor.elements as u64)
 }
 
 // Whether every handle fits its buffer.
@@ -115,17 +85,34 @@ pub fn few_factors(s: Subgroup) -> bool
     few_of(below.count, over.count, above.count)
 }
 
-// Whether both sides have at most 8 factors and 4,294,967,295 elements.
+// Whether both sides have at most 8 factors, which is known, and 4,294,967,295 elements, by how many there are below, in the subgroup's own factor, in
+// those that it stands for and above.
+pub fn limited_by(few: bool, below: u64, within: u64, over: u64, above: u64) -> bool
+    requires { ⌜ (below ≤ 4294967296) × ((within ≤ 4294967296) × ((over ≤ 4294967296) × (above ≤ 4294967296))) ⌝ }
+    ensures { λ r. ⌜ r ≡ limitedBy few below within over above ⌝ }
+{
+    if !few {
+        return false;
+    }
+    if 4294967295 < measure(below, over, above) {
+        return false;
+    }
+    measure(below, within, above) <= 4294967295
+}
+
+// The same for a subgroup.
 pub fn sides_limited(s: Subgroup) -> bool
     ensures { λ r. ⌜ r ≡ sidesLimited s ⌝ }
 {
-    if !few_factors(s) {
-        return false;
-    }
-    if 4294967295 < over_elements(s) {
-        return false;
-    }
-    sub_elements(s) <= 4294967295
+    let few = few_factors(s);
+    let below = s.below;
+    let factor = s.factor;
+    let over = s.over;
+    let above = s.above;
+    let low = group_handles::inner::elements_of(below);
+    let middle = group_handles::inner::elements_of(over);
+    let high = group_handles::inner::elements_of(above);
+    limited_by(few, low, factor.elements as u64, middle, high)
 }
 
 // A refusal, with the value that is no subgroup beside it.
