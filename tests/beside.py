@@ -180,7 +180,7 @@ def image_commands(rng):
             continue
         for data in (image, *damaged_images(rng, image)):
             text = data.hex() or "-"
-            yield from ("imgcheck " + text, "unimage " + text)
+            yield from (ask + " " + text for ask in ("imgcheck", "imgverdict", "imgneed", "unimage"))
             word = [rng.choice((0, 0, 1, 1, 2, 3, 255)) for _ in range(rng.randrange(6))]
             yield " ".join(map(str, ["imgwalk", text, rng.choice((0, 1, 2, 5, 6, 65535, 2**32 - 1)), *word]))
 
@@ -201,7 +201,7 @@ def images(seed):
 def short_buffers():
     """One number, or byte, less than is needed: 4, and nothing is written (`ours` looks at its buffers)."""
     z2, s3 = "000000080101000200010000", "table 2 6 1 2 0 3 4 0 5 1 2 5 3 4"
-    short = [("table", s3), ("work", s3), ("rows", s3), ("table", "enum 2 3"), ("work", "enum 2 3"), ("work", "imgcheck " + z2)]
+    short = [("table", s3), ("work", s3), ("rows", s3), ("table", "enum 2 3"), ("work", "enum 2 3"), ("work", "imgcheck " + z2), ("work", "imgverdict " + z2)]
     short += [("table", "unimage " + z2), ("work", "unimage " + z2), ("image", "image enum 2 3"), ("work", "flatten"), ("table", "flatten")]
     short += [(what, line) for line in ("sub 1", "subpred 1 1 0 0 0 0") for what in ("table", "work", "inward", "outward")]
     short += [("table", "builder 2")]
@@ -370,7 +370,7 @@ def largest():
     product = ["clear", *map(cycle, orders), "prod", sub, "subgens", "s2o 65534", "o2s 65534"]
     rust = [lines for _, lines in cases(run([*factor, *product, made]))]
     asked = list(zip(factor, rust))
-    asked += [("image", ["ok " + image]), ("imgcheck " + image, ["0"]), ("imgwalk %s 65534 0 1 2 3" % image, [str(walked)])]
+    asked += [("image", ["ok " + image]), ("imgcheck " + image, ["0"]), ("imgverdict " + image, ["ok"]), ("imgwalk %s 65534 0 1 2 3" % image, [str(walked)])]
     asked += zip(product, rust[len(factor) :])
     asked += [("room 65534", []), (made, [beyond]), (sub, [beyond]), ("room 65535", [])]
     asked += [("unimage " + image, rust[-1])]  # all numbers of the Rust's factor, by their digest

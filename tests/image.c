@@ -10,12 +10,12 @@
 
 static unsigned passed, failed;
 
-static void expect(uint32_t got, uint32_t wanted, const char *what) {
+static void expect(uint64_t got, uint64_t wanted, const char *what) {
     if (got == wanted) {
         passed++;
     } else {
         failed++;
-        printf("%s: %u, not %u\n", what, (unsigned)got, (unsigned)wanted);
+        printf("%s: %lu, not %lu\n", what, (unsigned long)got, (unsigned long)wanted);
     }
 }
 
@@ -171,6 +171,41 @@ static void nothing_lent(void) {
     expect(hg_image_walk(lend(&s), s.length, 4, NULL, 0), 4, "no word");
 }
 
+/* The verdict is the check's number with its places, in work that is exactly as long, and what the head tells is what it needs. */
+static void verdict_is(const Image *image, uint32_t number, uint32_t a, uint32_t b, uint32_t c, const char *what) {
+    size_t size = need(image);
+    uint32_t out[5] = {7, 7, 7, 7, 7};
+    expect(hg_image_need(lend(image), image->length), size, what);
+    expect(hg_image_verdict(lend(image), image->length, work_end - size, size, out, 5), number, what);
+    expect(out[0] == number && out[1] == a && out[2] == b && out[3] == c && out[4] == 7, true, what);
+    expect(hg_image_verdict(lend(image), image->length, work_end - size + 1, size - 1, out, 4), 4, what);
+    expect(out[0] == 4 && out[1] == 0 && out[2] == 0 && out[3] == 0, true, what);
+}
+
+static void verdicts(void) {
+    Image s = image_of(2, 6, s3), ten = image_of(2, 4, turned), alone = image_of(0, 1, NULL), many = image_of(0, 2, NULL);
+    uint32_t out[4] = {7, 7, 7, 7};
+    size_t length;
+    verdict_is(&s, 0, 0, 0, 0, "S3");
+    verdict_is(&ten, 10, 1, 2, 2, "the inverse of an inverse");
+    verdict_is(&alone, 0, 0, 0, 0, "one element");
+    expect(hg_image_need(lend(&many), many.length), (uint64_t)16 << 32, "two elements and no generator");
+    many.bytes[5] = 9;
+    expect(hg_image_need(lend(&many), many.length), ((uint64_t)1 << 32) + 9, "nine generators");
+    expect(hg_image_verdict(lend(&many), many.length, NULL, 0, out, 4), 1, "nine generators");
+    expect(out[0] == 1 && out[1] == 9 && out[2] == 0 && out[3] == 0, true, "how many");
+    /* A list that is short for the answer: 4, whatever the image is, and nothing is touched. */
+    out[0] = out[1] = out[2] = out[3] = 7;
+    memset(work_end - AREA, 0xA5, AREA);
+    for (length = 0; length < 4; length++) {
+        expect(hg_image_verdict(lend(&s), s.length, work_end - need(&s), need(&s), length ? out : NULL, length), 4, "a short list");
+        expect(hg_image_verdict(NULL, 0, NULL, 0, out, length), 4, "a short list and no image");
+    }
+    expect(out[0] == 7 && out[1] == 7 && out[2] == 7 && out[3] == 7 && all(work_end - AREA, AREA, 0xA5), true, "a short list");
+    expect(hg_image_verdict(NULL, 0, NULL, 0, out, 4), 16, "no image");
+    expect(hg_image_need(NULL, 0), (uint64_t)16 << 32, "no image");
+}
+
 /* An accepted image and the factor of the same rows: the turns one by one, and their product composed at once. Both archives in one program. */
 static void beside_a_factor(void) {
     uint32_t rows[12], table[6 * 8], work[6 * 32], out[5], from, x, y;
@@ -194,6 +229,7 @@ int main(void) {
     refusals();
     heads();
     nothing_lent();
+    verdicts();
     beside_a_factor();
     printf("%u passed, %u failed\n", passed, failed);
     return failed != 0;

@@ -1,5 +1,5 @@
 #!/usr/bin/env python3
-"""many_images.py [COUNT [SEED]]: random damaged images, a million if no count is given, checked and walked by the library
+"""many_images.py [COUNT [SEED]]: random damaged images, a million if no count is given, checked, with the places, and walked by the library
 and by the reading of document 01 in tests/recorded/model.py, which shares no code with it. Not a part of the gate."""
 
 import random
@@ -8,7 +8,7 @@ from collections import Counter
 
 from beside import OURS, differs
 from make import random_group, rows_command
-from model import Model, Refused, check_image, walk_image
+from model import Model, Refused, read_image, walk_image
 from replay import cases, run
 
 
@@ -42,6 +42,15 @@ def damage(rng, image):
     return bytes(data)
 
 
+def verdict_of(data):
+    """The number of a check, 0 where it takes the image, and its verdict with the places."""
+    try:
+        read_image(data)
+    except Refused as refused:
+        return refused.number, str(refused)
+    return 0, "ok"
+
+
 def main(count, seed):
     rng = random.Random(seed)
     images, numbers, done = list(bases(rng)), Counter(), 0
@@ -50,14 +59,15 @@ def main(count, seed):
         for _ in range(min(20000, count - done)):
             data = damage(rng, rng.choice(images))
             start, word = rng.randrange(7), [rng.randrange(4) for _ in range(rng.randrange(5))]
-            asked += ["imgcheck " + (data.hex() or "-"), " ".join(map(str, ["imgwalk", data.hex() or "-", start, *word]))]
-            number = check_image(data)
+            text = data.hex() or "-"
+            asked += ["imgcheck " + text, "imgverdict " + text, " ".join(map(str, ["imgwalk", text, start, *word]))]
+            number, verdict = verdict_of(data)
             numbers[number] += 1
-            wanted += [[str(number)], [str(walk_image(data, start, word))]]
+            wanted += [[str(number)], [verdict], [str(walk_image(data, start, word))]]
         for (command, got), want in zip(cases(run(asked, OURS)), wanted, strict=True):
             if got != want:
                 differs("many images, seed %s" % seed, command, want, got)
-        done += len(asked) // 2
+        done += len(asked) // 3
     print("%d images, seed %s, no difference; numbers met: %s" % (done, seed, " ".join("%d:%d" % n for n in sorted(numbers.items()))))
 
 

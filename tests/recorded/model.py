@@ -244,6 +244,14 @@ def check_image(data):
     return 0
 
 
+def image_need(data):
+    """The bytes of work that a check needs; without a generator there is one element."""
+    n, count, _ = image_head(data)
+    if n == 0 and count != 1:
+        raise Refused(16)
+    return count * (32 * n * n + 100)
+
+
 def walk_image(data, start, word):
     """The element reached, or 65,536 and the refusal's number."""
     try:
@@ -553,12 +561,17 @@ class Model:
             return self.show(self.make([name] + rest))
         if name == "image":
             return [spaced("ok", image_of(self.make(rest)).hex())]
-        if name in ("unimage", "imgcheck", "imgwalk"):
+        if name in ("unimage", "imgcheck", "imgverdict", "imgneed", "imgwalk"):
             data = bytes.fromhex(rest[0].replace("-", ""))
             if name == "unimage":
                 return self.show(read_image(data))
             if name == "imgcheck":
                 return [str(check_image(data))]
+            if name == "imgverdict":
+                read_image(data)
+                return ["ok"]
+            if name == "imgneed":
+                return [str(image_need(data))]
             return [str(walk_image(data, int(rest[1]), [int(g) for g in rest[2:]]))]
         if name == "builder":
             self.builder = None

@@ -335,12 +335,10 @@ impl Factor {
     /// # Ok::<(), hypergroup::Refusal>(())
     /// ```
     pub fn from_image(bytes: &[u8]) -> Result<Self, Refusal> {
+        // What the head alone excludes is refused before any buffer is made.
+        raw::image_need(bytes)?;
         let (n, count) = Image::head(bytes);
-        // A bad head is refused before the buffers are looked at, so that no bad image has them made.
-        let (mut table, mut work) = match raw::image_read(bytes, &mut [], 0, &mut []) {
-            Err(Refusal { number: 4, .. }) => raw::lent(n, count),
-            _ => (vec![], vec![]),
-        };
+        let (mut table, mut work) = raw::lent(n, count);
         let handle = raw::image_read(bytes, &mut table, 0, &mut work)?;
         Ok(Factor::new(&table, handle))
     }

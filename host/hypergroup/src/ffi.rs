@@ -117,6 +117,8 @@ unsafe extern "C" {
     fn hg_image_write(t: In, tn: usize, start: usize, room: u32, n: u8, count: u32, o: *mut u8, on: usize) -> u64;
     fn hg_image_read(i: *const u8, len: usize, t: Out, tn: usize, start: usize, w: Out, wn: usize, o: Out, on: usize);
     fn hg_image_check(i: *const u8, len: usize, w: *mut u8, wn: usize) -> u32;
+    fn hg_image_need(i: *const u8, len: usize) -> u64;
+    fn hg_image_verdict(i: *const u8, len: usize, w: *mut u8, wn: usize, o: Out, on: usize) -> u32;
     fn hg_image_walk(i: *const u8, len: usize, start: u32, w: *const u8, wn: usize) -> u32;
 
     fn hg_count(t: In, tn: usize, start: usize, room: u32, n: u8, count: u32) -> u64;
@@ -288,6 +290,21 @@ pub fn image_read(image: &[u8], t: &mut [u32], start: usize, w: &mut [u32]) -> A
 pub fn image_check(image: &[u8], work: &mut [u8]) -> u32 {
     // SAFETY: pointers and lengths of slices, as said at the head of this file.
     unsafe { hg_image_check(image.as_ptr(), image.len(), work.as_mut_ptr(), work.len()) }
+}
+
+/// How many bytes of work a check of the image needs. Refused with 16 or 1 where the head is wrong, and with 16 where it says no generator and more than one
+/// element: such an image is refused whatever work is lent.
+pub fn image_need(image: &[u8]) -> Answer<u32> {
+    // SAFETY: the pointer and the length of a slice, as said at the head of this file.
+    coded(unsafe { hg_image_need(image.as_ptr(), image.len()) })
+}
+
+/// Checks an image in lent bytes, as [`image_check`] does, and tells the places too.
+pub fn image_verdict(image: &[u8], work: &mut [u8]) -> Answer<()> {
+    let mut out = [0; 4];
+    // SAFETY: pointers and lengths of slices, as said at the head of this file.
+    unsafe { hg_image_verdict(image.as_ptr(), image.len(), work.as_mut_ptr(), work.len(), out.as_mut_ptr(), 4) };
+    verdict(&out).map(drop)
 }
 
 /// Walks a word of generators from an element: the element reached, or 65,536 + the refusal's number.

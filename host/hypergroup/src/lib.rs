@@ -12,6 +12,7 @@
 //! | [`Product`] | the direct product of up to eight factors, also of products |
 //! | [`Subgroup`] | a subgroup of a product, with its maps |
 //! | [`Image`], [`OwnedImage`] | a stored table: checked, walked, read back; over lent bytes, or its own |
+//! | [`Checker`] | checks images from anyone, for a server: with a limit, in one buffer |
 //! | [`raw`] | the library's calls on lent buffers and plain numbers |
 //!
 //! ```
@@ -39,6 +40,7 @@
 extern crate alloc;
 
 mod builder;
+mod checker;
 mod factor;
 #[allow(clippy::missing_errors_doc)]
 mod ffi;
@@ -51,6 +53,7 @@ mod short_debug;
 mod subgroup;
 
 pub use builder::{Builder, Stored};
+pub use checker::{Checker, Unchecked};
 pub use factor::Factor;
 pub use image::Image;
 pub use number::{Element, Generator};

@@ -49,27 +49,53 @@ impl Ours {
         self.say_factor(&b)
     }
 
-    /// The check's number. The work is as long as document 01 says, with a margin that must stay, or a byte shorter.
-    pub(crate) fn check_image(&mut self, image: &[u8]) {
+    /// A check in work that is as long as document 01 says, with a margin that must stay, or a byte shorter: its number, by `number_of`, says what the work holds
+    /// then. Whether the work was long enough, too.
+    fn checked<T>(&mut self, image: &[u8], call: impl FnOnce(&mut [u8]) -> T, number_of: impl FnOnce(&T) -> u32) -> (T, bool) {
         let (n, count) = head(image);
         let m = usize::from(n);
         let right = n <= 8 && image.len() == 8 + 2 * m * count as usize;
         let need = if right { count as usize * (32 * m * m + 100) } else { 0 };
         let short = std::mem::take(&mut self.short.work);
         let mut work = vec![BYTE; if short == 0 { need + MARGIN } else { need.saturating_sub(1) }];
-        let number = raw::image_check(image, &mut work);
+        let answer = call(&mut work);
         let (used, beyond) = work.split_at(need.min(work.len()));
         assert!(beyond.iter().all(|&x| x == BYTE), "an excess was touched");
         let (zero, untouched) = (used.iter().all(|&x| x == 0), used.iter().all(|&x| x == BYTE));
-        match number {
+        match number_of(&answer) {
             1 | 4 => assert!(untouched, "refused arguments changed the work"),
             16 => assert!(zero || untouched, "a refusal left something"),
             _ => assert!(zero, "a check left something"),
         }
-        if short == 0 {
+        (answer, short == 0)
+    }
+
+    /// The check's number.
+    pub(crate) fn check_image(&mut self, image: &[u8]) {
+        let (number, whole) = self.checked(image, |work| raw::image_check(image, work), |&number| number);
+        if whole {
             safe::held_check(image, number);
         }
         self.say(number);
+    }
+
+    /// `imgverdict HEX`: the check's verdict, with its places.
+    pub(crate) fn image_verdict(&mut self, image: &[u8]) -> Result<(), No> {
+        let call = |work: &mut [u8]| raw::image_verdict(image, work);
+        let (answer, whole) = self.checked(image, call, |answer| answer.err().map_or(0, |no| no.number));
+        if whole {
+            safe::held_verdict(image, answer);
+        }
+        answer?;
+        self.say("ok");
+        Ok(())
+    }
+
+    /// `imgneed HEX`: the bytes of work that a check needs, as the head tells them.
+    pub(crate) fn image_need(&mut self, image: &[u8]) -> Result<(), No> {
+        let need = raw::image_need(image)?;
+        self.say(need);
+        Ok(())
     }
 
     /// `imgwalk HEX START G..`: the walk's number.

@@ -18,7 +18,8 @@
 //! - `count`, `length e`; `shortword e` writes a word into one byte less than it has, `shortsplit e` the digits into one place less;
 //!   `part e` is the word by the call that hands back the filled part of its buffer, nothing where it is refused.
 //! - `image enum ..`, `image table ..` or `image` alone, for the one factor of the current product, print `ok` and the bytes in hex;
-//!   `unimage HEX` prints as `table` does; `imgcheck HEX` and `imgwalk HEX START G..` print the number that comes back. `-` is no byte.
+//!   `unimage HEX` prints as `table` does; `imgcheck HEX` and `imgwalk HEX START G..` print the number that comes back, `imgverdict HEX`
+//!   prints `ok` or the refusal with its places, and `imgneed HEX` the bytes of work that a check needs. `-` is no byte.
 //!
 //! What this program cannot answer yet it says with `unsupported`. Whatever a call leaves in the buffers is held to document 01 after
 //! every build, a product of one factor to the factor itself, both ways to make a product to each other, and the calls on buffers to the
@@ -228,6 +229,8 @@ impl Ours {
             "image" => self.image(&w[1..])?,
             "unimage" => self.unimage(&image::bytes(w, 1)?)?,
             "imgcheck" => self.check_image(&image::bytes(w, 1)?),
+            "imgverdict" => self.image_verdict(&image::bytes(w, 1)?)?,
+            "imgneed" => self.image_need(&image::bytes(w, 1)?)?,
             "imgwalk" => self.walk_image(w)?,
             _ => self.question(w)?,
         }

@@ -1,7 +1,7 @@
 //! The crate's safe types beside its calls on lent buffers: what was made of right arguments is made both ways, and both must answer the
 //! same, refusals included. Where a buffer was altered or lent short, or a handle forged, the calls alone can answer.
 use super::*;
-pub(crate) use hypergroup::{Builder, Element, Factor, Generator, Image, OwnedImage, Product, Stored, Subgroup};
+pub(crate) use hypergroup::{Builder, Checker, Element, Factor, Generator, Image, OwnedImage, Product, Stored, Subgroup, Unchecked};
 
 const DIFFER: &str = "a safe type answers otherwise than the calls on buffers";
 
@@ -109,6 +109,14 @@ pub(crate) use both_safe;
 pub(crate) fn held_check(image: &[u8], number: u32) {
     for checked in [Image::check(image).map(drop), OwnedImage::try_from(image).map(drop), OwnedImage::check(image).map(drop)] {
         assert_eq!(checked.err().map_or(0, |no| no.number), number, "{DIFFER}");
+    }
+}
+
+/// The verdict of an image's check, and of a checker without a limit and of one with the limit that just takes it.
+pub(crate) fn held_verdict(image: &[u8], verdict: Result<(), Refusal>) {
+    assert_eq!(Image::check(image).map(drop), verdict, "{DIFFER}");
+    for most in [super::image::head(image).1, u32::MAX] {
+        assert_eq!(Checker::new(most).check(image).map(drop), verdict.map_err(Unchecked::Refused), "{DIFFER}");
     }
 }
 
