@@ -223,7 +223,7 @@ fn walks() {
         let mut table = s3.0.clone();
         table[s3.1.start + 3 * row] = number; // from 3 by turn 0
         table.extend(&z2.0);
-        let second = Handle { start: table.len() - z2.0.len(), ..z2.1 };
+        let second = z2.1.at(table.len() - z2.0.len());
         let pair: Handles = [s3.1, second].into_iter().collect();
         let refusal = |answer: Answer<u32>| answer.map_err(|x| (x.number, x.places));
         // 1 by turn 1 is 3; turn 2 is the second factor's.
