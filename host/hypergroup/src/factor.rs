@@ -198,8 +198,6 @@ impl Factor {
 
     /// Where turns lead, one after the other, from an element; with no turns, the element itself.
     ///
-    /// Refused with 14 if the element or a turn is none of this puzzle's: its position, from 0, the element's first.
-    ///
     /// ```
     /// use hypergroup::{Element, Factor, Generator};
     /// let s3 = Factor::from_orders(2, &[3], 6)?;
@@ -208,6 +206,10 @@ impl Factor {
     /// assert_eq!((refusal.number, refusal.places), (14, [3, 0, 0])); // the third turn, behind the element
     /// # Ok::<(), hypergroup::Refusal>(())
     /// ```
+    ///
+    /// # Errors
+    ///
+    /// 14 if the element or a turn is none of this puzzle's: its position, from 0, the element's first.
     #[inline]
     pub fn walk(&self, from: Element, turns: &[Generator]) -> Result<Element, Refusal> {
         raw::walk(&self.table, self.handle, from.0, letters(turns)).map(Element)

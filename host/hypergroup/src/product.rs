@@ -159,8 +159,6 @@ impl Product {
 
     /// Where turns lead, one after the other, from an element; with no turns, the element itself.
     ///
-    /// Refused with 14 if the element or a turn is none of this puzzle's: its position, from 0, the element's first.
-    ///
     /// ```
     /// use hypergroup::{Element, Factor, Generator, Product};
     /// let s3 = Factor::from_orders(2, &[3], 6)?;
@@ -170,6 +168,10 @@ impl Product {
     /// assert_eq!((refusal.number, refusal.places), (14, [0, 0, 0])); // there are 12 elements, 0 to 11
     /// # Ok::<(), hypergroup::Refusal>(())
     /// ```
+    ///
+    /// # Errors
+    ///
+    /// 14 if the element or a turn is none of this puzzle's: its position, from 0, the element's first.
     #[inline]
     pub fn walk(&self, from: Element, turns: &[Generator]) -> Result<Element, Refusal> {
         raw::product_walk(&self.table, &self.handles, from.0, letters(turns)).map(Element)

@@ -141,7 +141,11 @@ fn builds() {
     let built = in_thread(|| {
         for (at, &to) in long.rows.iter().enumerate() {
             let (e, g) = (Element((at / 3) as u32), Generator((at % 3) as u8));
-            if to == b.element_count() { assert_eq!(b.add(e, g), Ok(Element(to))) } else { b.set(e, g, Element(to)).unwrap(); }
+            if to == b.element_count() {
+                assert_eq!(b.add(e, g), Ok(Element(to)))
+            } else {
+                b.set(e, g, Element(to)).unwrap();
+            }
         }
         b.build()
     });
