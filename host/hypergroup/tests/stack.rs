@@ -6,6 +6,12 @@ use std::collections::HashMap;
 /// What host/hypergroup.h asks for.
 const STACK: usize = 64 * 1024;
 
+#[test]
+fn header() {
+    let header = include_str!("../../hypergroup.h");
+    assert!(header.contains(&format!("{} KB of stack", STACK / 1024)), "host/hypergroup.h asks for another stack than is tested");
+}
+
 /// The order of the turn in the dihedral group: its longest word has as many letters, and one of this order with a Z3 two more, 4,096.
 const ORDER: u32 = 4094;
 
@@ -113,10 +119,16 @@ fn products() {
     let p = in_thread(|| Product::new([f, f])).unwrap();
     let both = in_thread(|| p.join(&[last, last])).unwrap();
     assert_eq!(in_thread(|| p.split(both)).unwrap(), [last, last]);
-    let square = long.times(last, last);
-    assert_eq!(in_thread(|| p.compose(both, both)), p.join(&[square, square]));
+    let square = |e| p.join(&[long.times(e, e), long.times(e, e)]);
+    assert_eq!(in_thread(|| p.compose(both, both)), square(last));
     let back = f.inverse(last).unwrap();
-    assert_eq!(in_thread(|| p.inverse(both)), p.join(&[back, back]));
+    let backs = p.join(&[back, back]).unwrap();
+    assert_eq!(in_thread(|| p.inverse(both)), Ok(backs));
+    // Its inverse's word is the longer one, so that its own is walked, from its first letter on.
+    assert_eq!((f.word_length(back), f.word_length(last)), (Ok(4095), Ok(4096)));
+    assert_eq!(in_thread(|| p.compose(backs, backs)), square(back));
+    assert_eq!(in_thread(|| p.compose(both, backs)), Ok(Element(0)));
+    assert_eq!(in_thread(|| p.conjugate(backs, backs)), Ok(backs));
     assert_eq!(in_thread(|| p.conjugate(both, both)), Ok(both));
     assert_eq!(in_thread(|| p.word_length(both)), Ok(8192));
     assert_eq!(in_thread(|| p.word(both)).unwrap().len(), 8192);
@@ -152,6 +164,9 @@ fn builds() {
     assert_eq!(built.as_ref(), Ok(&long.factor));
     let dihedral = in_thread(|| Factor::from_orders(2, &[4096], 8192)).unwrap();
     assert_eq!(in_thread(|| dihedral.compose(Element(8191), Element(8191))), Ok(Element(0)));
+    assert_eq!(in_thread(|| dihedral.check(&[4096])), Ok(()));
+    // The run of 000 follows the quick one where the enumeration is refused.
+    assert_eq!(in_thread(|| Factor::from_orders(2, &[4097], 8194)).unwrap_err().number, 6);
     let image = in_thread(|| long.factor.to_image()).unwrap();
     assert_eq!(in_thread(|| Factor::from_image(&image)).as_ref(), Ok(&long.factor));
     let checked = in_thread(|| Image::check(&image)).unwrap();
@@ -165,7 +180,10 @@ fn subgroups() {
     let over = in_thread(|| Product::new([f])).unwrap();
     // All of the group by three elements, of which the first has the longest word: each product is one along it.
     let all = in_thread(|| Subgroup::new(&over, &[last, Element(1), Element(2)])).unwrap();
-    assert_eq!(all.element_count(), 24_564);
+    let back = f.inverse(last).unwrap();
+    for made in [&all, &in_thread(|| Subgroup::new(&over, &[back, Element(1), Element(2)])).unwrap()] {
+        assert_eq!(made.element_count(), 24_564);
+    }
     assert_eq!(in_thread(|| all.generator(Generator(0))), Ok(last));
     let mine = in_thread(|| all.to_subgroup(last)).unwrap().unwrap();
     assert_eq!(in_thread(|| all.to_overgroup(mine)), Ok(last));
