@@ -30,7 +30,7 @@ if [ $# -eq 2 ]; then
     exit
 fi
 mkdir -p "$folder/lanes"
-xargs -P "$(nproc)" -n 1 "$0" "$folder" <host/hypergroup/archives.txt
+xargs -P "$(nproc)" -n 1 tools/compile.sh "$folder" <host/hypergroup/archives.txt
 # Each archive is one object, named as the crate, in which all but the exported functions has local names.
 set --
 while read -r name; do set -- "$@" "$folder/lib$name.a"; done <host/hypergroup/archives.txt
