@@ -24,20 +24,13 @@ use Rattle.builder_arguments.proofs.Places.{place-fits, store-fits}
 use Rattle.enumeration_run_laws.proofs.Marking.{set-length}
 use Rattle.factor_laws.specs.Accepted.{Accepted}
 use Rattle.factor_laws.specs.Unaltered.{Unaltered}
-use Rattle.promises.specs.Leaves.{Lent, tableFor}
+use Rattle.promises.specs.Leaves.{tableFor}
 use Rattle.promises.specs.Unaltered.{Wrote, nothing, part, Apart}
 use Rattle.promises.proofs.ReadLengths.{adds-length}
 use Rattle.promises.proofs.Unaltered.{kept, leaves-wrote, stretch-long}
+use Rattle.promises_builder.specs.Calls.{left-in, ownLent}
 use Rattle.promises_builder.proofs.Builds.{begun, build-given, build-same}
 use Rattle.promises_builder.proofs.Leaves.{builds-leaves}
-
--- What a call leaves in the table.
-abbrev pub left-in : {A : Type 0} → Leaving A → List ℕ
-left-in (leaving x t) = t
-
--- The buffer of a builder, with t′ at exit.
-abbrev pub ownLent : List ℕ → Builder → List ℕ → Lent
-ownLent t b t′ = tableFor t (b .0 .start) (b .0 .generators) (b .0 .room) t′
 
 wrote-stretch : (t : List ℕ) (b : Builder) → fitsIn (length t) (b .0) ≡ true → (s : List ℕ) → length s ≡ length (stretch t (b .0)) → Wrote (ownLent t b (withStretch t (b .0) s))
 wrote-stretch t b fits s size =

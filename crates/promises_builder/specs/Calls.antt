@@ -20,6 +20,7 @@ use Rattle.builder.specs.declared.Stored.{Stored}
 use Rattle.build_lending.specs.Lending.{tableNeed, within}
 use Rattle.builder.specs.Calls.{storedPaper, Leaving, leaving, withStretch, builderOf, noBuilder}
 use Rattle.factor_laws.specs.Papers.{valuePaper}
+use Rattle.promises.specs.Leaves.{Lent, tableFor}
 use Rattle.promises_builder.specs.Own.{ownAt}
 
 -- What a call comes to that hands a builder back: its answer on paper, the builder, and the table.
@@ -37,6 +38,14 @@ grownPaper (leaving x t) = handed (reachedPaper (x .answer)) (x .builder) t
 -- What `set_successor` comes to, which hands no builder back.
 abbrev pub notedPaper : Leaving Stored → Leaving Paper
 notedPaper (leaving x t) = leaving (storedPaper x) t
+
+-- What a call leaves in the table.
+abbrev pub left-in : {A : Type 0} → Leaving A → List ℕ
+left-in (leaving x t) = t
+
+-- The table's buffer of a call on a builder: t at entry and t′ at exit, with the stretch of the builder.
+abbrev pub ownLent : List ℕ → Builder → List ℕ → Lent
+ownLent t b t′ = tableFor t (b .0 .start) (b .0 .generators) (b .0 .room) t′
 
 -- `begin` gives 1, "more than 8 generators", with the count; then 4, "room 0 or above 65,535, or a lent buffer short"; else the identity alone, in a
 -- stretch of zeros.

@@ -17,7 +17,7 @@ use Rattle.egg.proofs.Rooms.{positive, limited}
 use Rattle.build_checks.specs.Checks.{Checked, checked, verdictOf, check-group}
 use Rattle.build_lending.specs.Finish as finish
 use Rattle.build_lending.specs.Finish.{Built, settledBy, finished, finishedPlaced}
-use Rattle.build_lending.specs.Lending.{tableNeed, workNeed, lentRight, Making, making, lentBack}
+use Rattle.build_lending.specs.Lending.{tableNeed, workNeed, lentRight, lentBack}
 use Rattle.build_lending.proofs.Lending.{lent-table, lent-enough}
 use Rattle.build_reading.specs.Reading.{Placed, placed, readAll, composedAt}
 use Rattle.factor.specs.Composed.{composedIn, composed}
@@ -25,15 +25,7 @@ use Rattle.build_reading_laws.specs.Read.{Read}
 use Rattle.build_reading_laws.proofs.Readings.{accepted-read}
 use Rattle.image_check.specs.Short.{verdictNumber, numberBy, built}
 use Rattle.image_check_laws.proofs.Short.{whole-same}
-
--- A reading that ended with fewer than N elements.
-abbrev pub endsFewer : Placed → ℕ → Bool
-endsFewer (placed (Count c) t) room = ltb c room
-endsFewer (placed (Refused r) t) room = false
-
--- The number that a call which makes a factor answers.
-abbrev pub madeNumber : Making → ℕ
-madeNumber (making m t w) = verdictNumber (m .answer)
+use Rattle.promises_image.specs.Images.{endsFewer, madeNumber}
 
 abbrev builtNumber : Built → ℕ
 builtNumber (finish.built c t w) = countedPaper c .number
