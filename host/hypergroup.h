@@ -148,7 +148,8 @@ void hg_add(uint32_t *table, size_t table_len, size_t start, uint32_t room, uint
     uint32_t count, uint32_t e, uint8_t g, uint32_t *out, size_t out_len);
 
 /* Sets the step from e by g to x, both ways, and says whether the place was new. Refuses in this
- * order: 17 for a handle that does not fit, 14 for an element or a generator out of range. */
+ * order: 17 for a handle that does not fit, 14 for an element or a generator out of range, 17
+ * for a stored step that is. */
 uint64_t hg_set(uint32_t *table, size_t table_len, size_t start, uint32_t room, uint8_t n,
     uint32_t count, uint32_t e, uint8_t g, uint32_t x);
 

@@ -12,6 +12,7 @@ use Rattle.build_word_cells.specs.Hops.{withHops}
 use Rattle.build_checks.specs.Checks.{checked, check-group}
 use Rattle.build_lending.specs.Finish.{built, zeroed, finished, finishedPlaced}
 use Rattle.build_lending.proofs.Finishing.{refused-counted}
+use Rattle.build_lending.specs.Lending.{workNeed}
 use Rattle.build_reading.specs.Reading.{Placed, placed, readAll}
 use Rattle.theory.proofs.AnyCarrier.{any-carrier}
 use Rattle.theory.proofs.Counting.{numbered-table}
@@ -58,7 +59,7 @@ below-cells n N e he i h =
     (λ q. omega (arith, inside), λ q. omega (arith, inside))
 
 module _ (src : ℕ → ℕ → ℕ) (n room size : ℕ) (w : List ℕ) (few : n ≤ 8) (lo : 1 ≤ room) (hi : room ≤ 65535) (fits : room * (2 * n + 4) ≤ size)
-    (work : room * (6 * n * n + 4 * n) ≤ length w) where
+    (work : workNeed n room ≤ length w) where
   -- The work has a number for each element.
   pub work-enough : {N : ℕ} → N ≤ room → 0 < n → N ≤ length w
   work-enough h pos =

@@ -88,7 +88,7 @@ module _ (table : List ℕ) (start : ℕ) (work : List ℕ) (n room : ℕ) (lent
   pub work-taken : length (take (workNeed n room) work) ≡ workNeed n room
   work-taken = length-take-le (workNeed n room) work (leb-true _ _ (lent-enough (length table) start (length work) room n lent))
 
-  pub taken-enough : room * (6 * n * n + 4 * n) ≤ length (take (workNeed n room) work)
+  pub taken-enough : workNeed n room ≤ length (take (workNeed n room) work)
   taken-enough = rw work-taken (le-refl (workNeed n room))
 
 module _ (table : List ℕ) (start n room : ℕ) (has : hasRoom (length table) start room n ≡ true) (s : List ℕ) (size : length s ≡ tableNeed n room) (N : ℕ) where

@@ -12,6 +12,7 @@ use Rattle.egg.specs.Table.{backOf}
 use Rattle.build_checks.specs.Checks.{Checked, checked, check-group}
 use Rattle.build_lending.specs.Finish.{built, zeroed, settledBy, finished, finishedPlaced}
 use Rattle.build_lending.proofs.Finishing.{refused-counted}
+use Rattle.build_lending.specs.Lending.{workNeed}
 use Rattle.build_reading.specs.Reading.{Placed, placed, readAll}
 use Rattle.theory.specs.Table.{Columns}
 use Rattle.theory.specs.Appearance.{recorded}
@@ -61,7 +62,7 @@ reading-earlier (inr (inl a)) q = omega arith
 reading-earlier (inr (inr a)) q = omega arith
 
 module _ (src : ℕ → ℕ → ℕ) (n room size : ℕ) (w : List ℕ) (few : n ≤ 8) (least : 1 ≤ room) (most : room ≤ 65535) (fits : room * (2 * n + 4) ≤ size)
-    (work : room * (6 * n * n + 4 * n) ≤ length w) where
+    (work : workNeed n room ≤ length w) where
   -- The checks' 12 after this reading.
   read-12 : {N : ℕ} {t₀ : List ℕ} {back : ℕ → ℕ → ℕ} → Read src n room size N t₀ → Columns n N src back
       → ((r : Refusal) × (t₁ : List ℕ) × (w₁ : List ℕ) × (check-group t₀ w n N ≡ checked (verdict.Refused r) t₁ w₁) × (r .number ≡ 12))

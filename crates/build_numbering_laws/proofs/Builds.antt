@@ -10,15 +10,16 @@ use Rattle.egg.specs.declared.Counted.the-variants.{Count, Refused}
 use Rattle.egg.specs.Table.{stepOf}
 use Rattle.build_lending.specs.Finish.{Built, built, zeroed, finishedPlaced}
 use Rattle.build_lending.proofs.Finishing.{refused-counted}
+use Rattle.build_lending.specs.Lending.{workNeed}
 use Rattle.build_reading.specs.Reading.{readAll}
 use Rattle.build_laws.specs.Taken.{Taken, Holding}
 use Rattle.build_laws.proofs.Built.{passed, built-holds, built-work, taken-built}
 use Rattle.theory.specs.Orbit.{Inside, numberedStep, Appearing}
 use Rattle.build_numbering.specs.Renumber.{Mapped, mapped, mapAll}
 use Rattle.build_numbering_laws.specs.Source.{Answering}
-use Rattle.build_numbering_laws.specs.Maps.{MapsFilled, RenumberedLists}
+use Rattle.build_numbering_laws.specs.Maps.{placedOf, MapsFilled, RenumberedLists}
 use Rattle.build_numbering.specs.Build.{Renumbering, renumbering, settledMaps, finishedMapped, renumberIn}
-use Rattle.build_numbering_laws.proofs.Numberings.{placedOf, numbering-placed, numbering-filled, filled-held}
+use Rattle.build_numbering_laws.proofs.Numberings.{numbering-placed, numbering-filled, filled-held}
 use Rattle.build_numbering_laws.proofs.Sizes.{Long, all-long}
 
 abbrev pub builtOf : Renumbering → Built
@@ -61,7 +62,7 @@ refused-maps size w source n room M K x₀ {r} {t} {w₁} {inn} {outw} q = go (m
 
 module _ {n M : ℕ} {out : ℕ → ℕ → ℕ} {x₀ N : ℕ} {elt : ℕ → ℕ} (A : Appearing n M out x₀ N elt) (I : Inside n M out x₀) (small : M ≤ 4294967295)
     (source : ℕ → ℕ → Reached) (answering : Answering n M out source) (room K : ℕ) (lo : 1 ≤ room) (hi : room ≤ 65535) (lent : room ≤ K)
-    (size : ℕ) (w : List ℕ) (few : n ≤ 8) (fits : room * (2 * n + 4) ≤ size) (work : room * (6 * n * n + 4 * n) ≤ length w) where
+    (size : ℕ) (w : List ℕ) (few : n ≤ 8) (fits : room * (2 * n + 4) ≤ size) (work : workNeed n room ≤ length w) where
   -- Answer, table and work are those of a build from the numbers of the numbered step.
   pub renumber-built : builtOf (renumberIn size w source n room M K x₀) ≡ finishedPlaced (readAll (numberedStep N elt out) n room (replicate size 0)) n w
   unfolding renumberIn

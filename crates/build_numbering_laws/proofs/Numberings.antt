@@ -19,14 +19,10 @@ use Rattle.build_reading_laws.specs.Read.{ReadSoFar, Stops, skips-ahead, no-roo
 use Rattle.theory.specs.Orbit.{Orbit, Inside, numberOf, numberedStep, Appearing, Renumbered}
 use Rattle.build_numbering.specs.Renumber.{noNumber, Mapped, mapped, mapAll}
 use Rattle.build_numbering_laws.specs.Source.{Answering}
-use Rattle.build_numbering_laws.specs.Maps.{MapsFilled}
+use Rattle.build_numbering_laws.specs.Maps.{placedOf, MapsFilled}
 use Rattle.build_numbering_laws.specs.Maps as maps
 use Rattle.build_numbering_laws.proofs.Order.{number-found, number-at-most, step-outside, step-below, orbit-numbered, number-below, number-elt, elt-number}
 use Rattle.build_numbering_laws.proofs.Following.{Agree, all-follows}
-
--- What was placed, and nothing of the maps.
-abbrev pub placedOf : Mapped → Placed
-placedOf (mapped p inn outw) = p
 
 agree-placed : (B : ℕ → List ℕ → List ℕ → Type 0) (p : Placed) (m : Mapped) → Agree B p m → placedOf m ≡ p
 agree-placed B p (mapped (placed (Count c) t) inn outw) a = sym (a .0)

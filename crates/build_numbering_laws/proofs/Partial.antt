@@ -31,7 +31,7 @@ use Rattle.theory.proofs.Reading.{numbered-once}
 use Rattle.build_numbering.specs.Build.{renumbering, finishedMapped, renumberIn}
 use Rattle.theory.specs.Orbit.{Inside, numberedStep, Appearing}
 use Rattle.build_numbering.specs.Renumber.{Mapped, mapped, thenMapped, mapPlace, mapFrom, mapRow, mapRows, mapAll}
-use Rattle.build_numbering_laws.specs.Source.{Answering, Ranged, answered, outOf, AnsweredTo, AllAnswered, whole, until, RefusedAt}
+use Rattle.build_numbering_laws.specs.Source.{Answering, Ranged, answered, outOf, total, AnsweredTo, AllAnswered, whole, until, RefusedAt}
 use Rattle.build_numbering_laws.specs.Maps.{MapsFilled}
 use Rattle.build_numbering_laws.proofs.Following.{Agree, Before, inside, place-follows, at-start}
 
@@ -41,10 +41,6 @@ module _ {n M : ℕ} {source : ℕ → ℕ → Reached} (R : Ranged n M source) 
     go : (r : Reached) → ((y : GroupElementId) → r ≡ reached.Element y → y .0 < M) → answered x₀ r < M
     go (reached.Element y) f = f y refl
     go (reached.Refused r) f = here
-
--- The same steps from a source that refuses none.
-abbrev pub total : (source : ℕ → ℕ → Reached) (x₀ : ℕ) → ℕ → ℕ → Reached
-total source x₀ x g = reached.Element (record { 0 = answered x₀ (source x g) })
 
 pub total-answering : (n M : ℕ) (source : ℕ → ℕ → Reached) (x₀ : ℕ) → Answering n M (outOf x₀ source) (total source x₀)
 total-answering n M source x₀ = record { answers = λ hx hg. refl }

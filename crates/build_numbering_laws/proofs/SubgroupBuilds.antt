@@ -13,6 +13,7 @@ use Rattle.egg.specs.declared.Counted.the-variants.{Count, Refused}
 use Rattle.build_checks.specs.Checks.{checked, check-group}
 use Rattle.egg.specs.Answers.{numbered}
 use Rattle.build_lending.specs.Finish.{Built, built, zeroed}
+use Rattle.build_lending.specs.Lending.{workNeed}
 use Rattle.build_reading.specs.Reading.{Placed, placed, readAll}
 use Rattle.theory.specs.Group.{GroupOn, RightRegular}
 use Rattle.theory.specs.Appearance.{recorded}
@@ -67,7 +68,7 @@ module _ {M : ℕ} {op : ℕ → ℕ → ℕ} {inv : ℕ → ℕ} (G : GroupOn M
 
   module _ (small : M ≤ 4294967295) (source : ℕ → ℕ → Reached) (answering : Answering n M (rightBy op gen) source)
       (room K : ℕ) (lo : 1 ≤ room) (hi : room ≤ 65535) (lent : room ≤ K) (size : ℕ) (w : List ℕ) (few : n ≤ 8) (fits : room * (2 * n + 4) ≤ size)
-      (work : room * (6 * n * n + 4 * n) ≤ length w) where
+      (work : workNeed n room ≤ length w) where
     abbrev build : Renumbering
     build = renumberIn size w source n room M K 0
 

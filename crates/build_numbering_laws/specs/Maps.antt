@@ -5,7 +5,12 @@ use mathlib.Core.Path.{_≡_}
 use mathlib.Core.List.{List}
 use lib.ListN.{length, getD}
 use Rattle.theory.specs.Orbit.{Orbit, Renumbered}
-use Rattle.build_numbering.specs.Renumber.{noNumber}
+use Rattle.build_reading.specs.Reading.{Placed}
+use Rattle.build_numbering.specs.Renumber.{noNumber, Mapped, mapped}
+
+-- What a numbering has placed in the table, and nothing of the maps.
+abbrev pub placedOf : Mapped → Placed
+placedOf (mapped p inn outw) = p
 
 -- When c elements are known, of which e is `elt e` outside: `inn` has the number of each of these and `noNumber` for the others; `outw` has the outside
 -- element of each number, and zero beyond the last.

@@ -26,7 +26,7 @@ use Rattle.builder.specs.declared.Begun.{Begun}
 use Rattle.builder.specs.declared.Grown.{Grown}
 use Rattle.builder.specs.declared.Stored.{Stored}
 use Rattle.builder.specs.declared.Stored.the-variants as stored
-use Rattle.builder_arguments.specs.Places.{placed, placedStep, overLong}
+use Rattle.builder_arguments.specs.Places.{placed, storable, overLong}
 use Rattle.build_reading.specs.Build.{isNew, setStep, adds}
 use Rattle.build_lending.specs.Finish.{built}
 use Rattle.builder_rereading.specs.Own.{ownIn}
@@ -86,7 +86,7 @@ module _ (t : List ℕ) (b : Builder) (e : GroupElementId) (g : GeneratorId) {v 
         ∙ rw (← q, h)
         (ap (λ (l : Leaving Grown). growsBy t (b .0) verdict.Fine l) (k ∙ ap (λ (l : List ℕ). grown l (b .0) e g) (stretch-lent t (b .0) p)))
 
-  module _ (r : GroupElementId) (q : v ≡ placedStep (length t) (b .0) e g r) where
+  module _ (r : GroupElementId) (q : v ≡ storable t (b .0) e g r) where
     pub stores-refused : {why : Refusal} → v ≡ verdict.Refused why → leaving (stored.Refused why) t ≡ stores t b e g r
     unfolding stores
     stores-refused h = rw (← q, h)

@@ -20,7 +20,7 @@ use Rattle.builder.specs.declared.Begun.{Begun}
 use Rattle.builder.specs.declared.Grown.{Grown}
 use Rattle.builder.specs.declared.Stored.{Stored}
 use Rattle.builder.specs.declared.Stored.the-variants as stored
-unfoldable pub use Rattle.builder_arguments.specs.Places.{placed, placedStep, overLong}
+unfoldable pub use Rattle.builder_arguments.specs.Places.{placed, placedStep, storable, overLong}
 use Rattle.build_reading.specs.Build.{isNew, setStep, adds}
 use Rattle.build_lending.specs.Finish.{zeroed}
 use Rattle.builder_rereading.specs.Own.{ownIn}
@@ -88,15 +88,16 @@ abbrev pub newOr : Bool → Stored
 newOr true = stored.New
 newOr false = stored.Known
 
--- What storing a step comes to by the test of its arguments: a refusal changes nothing.
+-- What storing a step comes to by the tests before it: a refusal changes nothing, since the call hands no builder back that could say that the build
+-- has ended.
 abbrev pub storesBy : List ℕ → Verdict → Bool → List ℕ → Leaving Stored
 storesBy t verdict.Fine new t₁ = leaving (newOr new) t₁
 storesBy t (verdict.Refused r) new t₁ = leaving (stored.Refused r) t
 
--- What `set_successor` does: it sets the step e·g = r and the step back.
+-- What `set_successor` does: 17 in the handle, 14, and 17 for the step that it reads; else it sets the step e·g = r and the step back.
 unfoldable pub stores : (t : List ℕ) (b : Builder) (e : GroupElementId) (g : GeneratorId) (r : GroupElementId) → Leaving Stored
 stores t b e g r =
-    storesBy t (placedStep (length t) (b .0) e g r) (isNew (stretch t (b .0)) (b .0 .generators) e g)
+    storesBy t (storable t (b .0) e g r) (isNew (stretch t (b .0)) (b .0 .generators) e g)
     (withStretch t (b .0) (setStep (stretch t (b .0)) (b .0 .generators) e g r))
 
 -- What `build` does: 17 in the handle, then 4 for the work, then the reading of the builder's own successors, and 8 to 12.

@@ -82,7 +82,7 @@ pub fn add_successor(table: &mut [u32], b: Builder, e: GroupElementId, g: Genera
 
 // Sets the step e·g = r and the step back; it overwrites, and answers whether the place was new. Refuses 17 for a
 // handle that does not fit, then 14 for an element (place 0), a generator (1) or a second element (2) that the build
-// does not have.
+// does not have, then 17 for a stored step that leads beyond its elements. A refusal changes nothing.
 pub fn set_successor(
     table: &mut [u32],
     b: Builder,
@@ -93,7 +93,7 @@ pub fn set_successor(
     ensures { λ x. ⌜ Leaving.leaving x (now (table .exit)) ≡ stores (now (table .entry)) b e g r ⌝ }
 {
     let f = b.0;
-    match builder_arguments::inner::place_step(&table[..], f, e, g, r) {
+    match builder_arguments::inner::storable(&table[..], f, e, g, r) {
         Verdict::Refused(why) => Stored::Refused(why),
         Verdict::Fine => {
             let a = f.start;

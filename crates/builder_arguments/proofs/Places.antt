@@ -6,6 +6,7 @@ use mathlib.Core.List.{List}
 use native.Mathlib.Omega.{arith}
 use borrow.Author.Tests.{lt-ltb, le-ltb, le-leb, lt-leb}
 use lib.Dec.{ltb}
+use lib.ListN.{length, getD}
 use Rattle.egg.specs.declared.GroupElementId.{GroupElementId}
 use Rattle.egg.specs.declared.GeneratorId.{GeneratorId}
 use Rattle.egg.specs.declared.Refusal.{Refusal}
@@ -14,9 +15,9 @@ use Rattle.egg.specs.declared.Verdict.{Verdict}
 use Rattle.egg.specs.declared.Verdict.the-variants as verdict
 use Rattle.egg.specs.Scan.{refusedOf}
 use Rattle.egg.proofs.Scans.{andThen-fine}
-use Rattle.egg.specs.Table.{lengthOf}
-use Rattle.egg.specs.Factor.{fitsIn}
-use Rattle.builder_arguments.specs.Places.{placed, placedStep, overLong}
+use Rattle.egg.specs.Table.{succAt, lengthOf, Place}
+use Rattle.egg.specs.Factor.{fitsIn, stretch}
+use Rattle.builder_arguments.specs.Places.{placed, placedStep, storedStep, storable, overLong}
 
 module _ (len : ℕ) (f : Factor) (e : GroupElementId) (g : GeneratorId) where
   pub place-handle : fitsIn len f ≡ false → refusedOf 17 0 0 0 ≡ placed len f e g
@@ -60,6 +61,32 @@ pub end-fits : (len : ℕ) (f : Factor) (e : GroupElementId) (g : GeneratorId) (
     → v ≡ placedStep len f e g r → v ≡ verdict.Fine → fitsIn len f ≡ true
 unfolding placedStep
 end-fits len f e g r q h = place-fits len f e g refl (andThen-fine (placed len f e g) _ .0 (sym q ∙ h) .0)
+
+module _ (t : List ℕ) (f : Factor) (e : GroupElementId) (g : GeneratorId) (r : GroupElementId) where
+  module _ {v : Verdict} (q : v ≡ placedStep (length t) f e g r) where
+    pub store-refused : {why : Refusal} → v ≡ verdict.Refused why → v ≡ storable t f e g r
+    unfolding storable
+    store-refused h = rw (← q, h)
+
+    pub store-altered : v ≡ verdict.Fine → f .elements < storedStep t f e g → refusedOf 17 0 0 0 ≡ storable t f e g r
+    unfolding storable
+    store-altered h k = rw (← q, h) (simp (lt-ltb _ _ k))
+
+    pub store-fine : v ≡ verdict.Fine → storedStep t f e g ≤ f .elements → verdict.Fine ≡ storable t f e g r
+    unfolding storable
+    store-fine h k = rw (← q, h) (simp (le-ltb _ _ k))
+
+  -- The number that was read is the stored step.
+  pub step-read : {s : List ℕ} {at limit x : ℕ} → s ≡ stretch t f → Place at (succAt (f .generators) e g) limit → x ≡ getD s at 0 → x ≡ storedStep t f e g
+  step-read p a z = rw (z, p, a .at)
+
+  -- What is storable has passed 17 in the handle and 14.
+  pub store-placed : storable t f e g r ≡ verdict.Fine → placedStep (length t) f e g r ≡ verdict.Fine
+  unfolding storable
+  store-placed h = andThen-fine (placedStep (length t) f e g r) _ .0 h .0
+
+  pub store-fits : {v : Verdict} → v ≡ storable t f e g r → v ≡ verdict.Fine → fitsIn (length t) f ≡ true
+  store-fits q h = end-fits (length t) f e g r refl (store-placed (sym q ∙ h))
 
 module _ (s : List ℕ) (f : Factor) (e : GroupElementId) where
   pub long-full : f .room ≤ f .elements → false ≡ overLong s f e

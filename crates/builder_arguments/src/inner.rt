@@ -1,8 +1,8 @@
-// What is tested before a step of a build is stored: the handle, the arguments, and the length of the word that a new
-// element's word would extend.
+// What is tested before a step of a build is stored: the handle, the arguments, the step that would be overwritten, and
+// the length of the word that a new element's word would extend.
 ghost use mathlib.Core.Path.{_≡_};
 ghost use lib.ListN.{length};
-ghost use Rattle.builder_arguments.specs.Places.{placed, placedStep, overLong};
+ghost use Rattle.builder_arguments.specs.Places.{placed, placedStep, storable, overLong};
 use egg::Factor;
 use egg::GeneratorId;
 use egg::GroupElementId;
@@ -41,6 +41,28 @@ pub fn place_step(
     };
     if f.elements <= r.0 {
         return egg::inner::refused(14, 2, 0, 0);
+    }
+    Verdict::Fine
+}
+
+// The same, then refuses 17 for a stored step that leads beyond the elements of the build.
+pub fn storable(
+    table: &[u32],
+    f: Factor,
+    e: GroupElementId,
+    g: GeneratorId,
+    r: GroupElementId,
+) -> Verdict
+    ensures { λ x. ⌜ x ≡ storable (now (table .entry)) f e g r ⌝ }
+{
+    let v = place_step(table, f, e, g, r);
+    let Verdict::Fine = v else {
+        return v;
+    };
+    let s = egg::inner::part(table, f);
+    let old = egg::inner::get(s, egg::inner::successor_at(f.generators, e, g));
+    if f.elements < old {
+        return egg::inner::refused(17, 0, 0, 0);
     }
     Verdict::Fine
 }

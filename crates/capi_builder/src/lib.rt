@@ -99,7 +99,7 @@ pub extern "C" fn hg_add(
 }
 
 // Sets the step from e by g to x, both ways, and says whether the place was new. Refuses in this order: 17 for a handle that does not fit, 14 for an
-// element or a generator out of range.
+// element or a generator out of range, 17 for a stored step that is.
 #[no_mangle]
 pub extern "C" fn hg_set(
     table: &mut [u32],

@@ -69,7 +69,7 @@ module _ (table : List ℕ) (start : ℕ) (work rows : List ℕ) (n room : ℕ) 
   pub hi : room ≤ 65535
   hi = limited (length table) start room n has-room
 
-  pub work-lent : room * (6 * n * n + 4 * n) ≤ length (take (workNeed n room) work)
+  pub work-lent : workNeed n room ≤ length (take (workNeed n room) work)
   work-lent = taken-enough table start work n room lent
 
   module _ {N : ℕ} {s : List ℕ} (H : Holding (composedAt rows n) n room (tableNeed n room) N s) where

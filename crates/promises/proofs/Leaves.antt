@@ -192,9 +192,9 @@ module _ (table : List ℕ) (start : ℕ) (work orders : List ℕ) (n room : ℕ
   orders-zeros R B =
       enumerated-zeros orders n room (tableNeed n room) (workNeed n room) (limits table start work orders n room (R .generators) (R .right) (R .lent)) (R .right) (B .is)
 
-  pub enumeration-leaves : enumerates table start work orders n room ≡ making (record { answer = verdict.Refused r; factor = f }) t w
+  pub tested-leaves : enumerates table start work orders n room ≡ making (record { answer = verdict.Refused r; factor = f }) t w
       → Leaves (EnumerationRight table start work orders n room) (1 ∷ 2 ∷ 3 ∷ 4 ∷ []) enumerationNumbers (lentFor table start work n room t w) r
-  enumeration-leaves h = ⊎-elim (λ E. leaves-early table start work n room enumerationNumbers E)
+  tested-leaves h = ⊎-elim (λ E. leaves-early table start work n room enumerationNumbers E)
       (λ B. leaves-late table start work n room (1 ∷ 2 ∷ 3 ∷ 4 ∷ []) (B .0) (B .0 .lent) (B .1) (orders-zeros (B .0) (B .1))) (enumeration-refused h)
 
   pub enumeration-no-factor : enumerates table start work orders n room ≡ making (record { answer = verdict.Refused r; factor = f }) t w → f ≡ noFactor

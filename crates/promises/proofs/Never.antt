@@ -15,7 +15,7 @@ use Rattle.build_checks_laws.specs.Numbers.{member, every, RefusalIn}
 use Rattle.build_checks_laws.proofs.Numbers.{each-in, none-of}
 use Rattle.promises.specs.Leaves.{Lent, Cleared, Cells, Leaves, untouched, zeros, composedNumbers, enumerationNumbers}
 use Rattle.build_laws.proofs.Lent.{within-long, within-cell, within-before, within-after}
-use Rattle.promises.proofs.Leaves.{composed-leaves, enumeration-leaves}
+use Rattle.promises.proofs.Leaves.{composed-leaves, tested-leaves}
 
 -- A refusal has a number of those that its call may give.
 pub leaves-number : {right : Type 0} {before after : List ℕ} {buffers : List Lent} {r : Refusal} (l : List ℕ) → every (λ x. member x l) before ≡ true
@@ -32,14 +32,11 @@ module _ (table : List ℕ) (start : ℕ) (work rows : List ℕ) (n room : ℕ) 
   pub composed-never : ¬ (RefusalIn (2 ∷ 3 ∷ 13 ∷ 14 ∷ 15 ∷ 16 ∷ 17 ∷ []) r)
   composed-never m = none-of (r .number) (2 ∷ 3 ∷ 13 ∷ 14 ∷ 15 ∷ 16 ∷ 17 ∷ []) (1 ∷ 4 ∷ composedNumbers) refl m composed-number
 
--- Pair orders are refused by 1 to 6, or 9 to 13, so never by 7, 8, or 14 to 17.
+-- What the definition for pair orders has a place for: 1 to 6, and 9 to 13, which never come (`enumeration-refuses` of `promises_enumeration`).
 module _ (table : List ℕ) (start : ℕ) (work orders : List ℕ) (n room : ℕ) (r : Refusal) (f : Factor) (t w : List ℕ)
     (h : enumerates table start work orders n room ≡ making (record { answer = verdict.Refused r; factor = f }) t w) where
   pub enumeration-number : RefusalIn (1 ∷ 2 ∷ 3 ∷ 4 ∷ enumerationNumbers) r
-  enumeration-number = leaves-number (1 ∷ 2 ∷ 3 ∷ 4 ∷ enumerationNumbers) refl refl (enumeration-leaves table start work orders n room r f t w h)
-
-  pub enumeration-never : ¬ (RefusalIn (7 ∷ 8 ∷ 14 ∷ 15 ∷ 16 ∷ 17 ∷ []) r)
-  enumeration-never m = none-of (r .number) (7 ∷ 8 ∷ 14 ∷ 15 ∷ 16 ∷ 17 ∷ []) (1 ∷ 2 ∷ 3 ∷ 4 ∷ enumerationNumbers) refl m enumeration-number
+  enumeration-number = leaves-number (1 ∷ 2 ∷ 3 ∷ 4 ∷ enumerationNumbers) refl refl (tested-leaves table start work orders n room r f t w h)
 
 -- A cleared buffer, number by number.
 pub cleared-cells : {b : Lent} → Cleared b → Cells b

@@ -222,8 +222,8 @@ module _ {src back : ℕ → ℕ → ℕ} {n room size room′ size′ N : ℕ} 
       ext-getD 0 t′ (longer k t) (R′ .whole ∙ sym long) (λ i h. cells-same i ∙ sym (longer-get k t i))
 
 module _ (src : ℕ → ℕ → ℕ) (n room size : ℕ) (w : List ℕ) (few : n ≤ 8) (lo : 1 ≤ room) (hi : room ≤ 65535) (fits : room * (2 * n + 4) ≤ size)
-    (work : room * (6 * n * n + 4 * n) ≤ length w) (room′ size′ : ℕ) (w′ : List ℕ) (hi′ : room′ ≤ 65535) (fits′ : room′ * (2 * n + 4) ≤ size′)
-    (work′ : room′ * (6 * n * n + 4 * n) ≤ length w′) (more : room ≤ room′) (wider : size ≤ size′) where
+    (work : workNeed n room ≤ length w) (room′ size′ : ℕ) (w′ : List ℕ) (hi′ : room′ ≤ 65535) (fits′ : room′ * (2 * n + 4) ≤ size′)
+    (work′ : workNeed n room′ ≤ length w′) (more : room ≤ room′) (wider : size ≤ size′) where
   -- The build in its stretches: what was read is the same, then the checks.
   pub built-roomier : {N : ℕ} {t w₁ : List ℕ} → finishedPlaced (readAll src n room (replicate size 0)) n w ≡ built (Count N) t w₁
       → (w₂ : List ℕ) × (finishedPlaced (readAll src n room′ (replicate size′ 0)) n w′ ≡ built (Count N) (longer (size′ - size) t) w₂)

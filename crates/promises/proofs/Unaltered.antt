@@ -25,7 +25,7 @@ use Rattle.promises.specs.Unaltered.{Wrote, nothing, part, Apart}
 use Rattle.build_laws.proofs.Lent.{within-long, within-apart, handle}
 use Rattle.promises.proofs.Composed as rows-call
 use Rattle.promises.proofs.Enumerated as orders-call
-use Rattle.promises.proofs.Leaves.{composed-leaves, enumeration-leaves}
+use Rattle.promises.proofs.Leaves.{composed-leaves, tested-leaves}
 
 -- A factor whose stretch does not overlap what a call was lent.
 pub kept : (b : Lent) {f : Factor} → Accepted (b .entry) f → Apart f b → Wrote b → Unaltered (b .entry) (b .exit) f
@@ -81,7 +81,7 @@ module _ (table : List ℕ) (start : ℕ) (work orders : List ℕ) (n room : ℕ
       let G = orders-call.enumeration-accepted table start work orders n room f t w h in
       let B = orders-call.begun table start work orders n room f t w h in
       given-wrote table start n room (G .handle) (G .accepted) (within-length (length table) start room n (lent-table (length table) start (length work) room n (B .lent))) (G .table-kept)
-  enumeration-wrote (verdict.Refused r) h = leaves-wrote (enumeration-leaves table start work orders n room r f t w h)
+  enumeration-wrote (verdict.Refused r) h = leaves-wrote (tested-leaves table start work orders n room r f t w h)
 
   pub enumeration-unaltered : (v : Verdict) → enumerates table start work orders n room ≡ making (record { answer = v; factor = f }) t w
       → {f′ : Factor} → Accepted table f′ → Apart f′ (tableFor table start n room t) → Unaltered table t f′

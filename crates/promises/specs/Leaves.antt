@@ -56,6 +56,7 @@ lentFor table start work n room t w = tableFor table start n room t ∷ record {
 abbrev pub composedNumbers : List ℕ
 composedNumbers = 5 ∷ 6 ∷ 7 ∷ 8 ∷ lateNumbers
 
--- The numbers by which a build from pair orders may be refused, once it has started.
+-- The numbers that the definition of a build from pair orders has once it has started: 5 and 6 of the run, and those of the tests after it. Of these only 5
+-- and 6 come (`enumeration-leaves` of `promises_enumeration`), since a finished run passes every test; what is proved before that is known uses this list.
 abbrev pub enumerationNumbers : List ℕ
 enumerationNumbers = 5 ∷ 6 ∷ 13 ∷ lateNumbers

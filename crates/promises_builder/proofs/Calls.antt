@@ -13,18 +13,18 @@ use Rattle.egg.specs.declared.Refusal.{Refusal}
 use Rattle.egg.specs.declared.GroupElementId.{GroupElementId}
 use Rattle.egg.specs.declared.GeneratorId.{GeneratorId}
 use Rattle.egg.specs.declared.Verdict.the-variants as verdict
-use Rattle.egg.specs.Factor.{Paper, hasRoom, fitsIn, stretch}
+use Rattle.egg.specs.Factor.{Paper, refusalPaper, hasRoom, fitsIn, stretch}
 use Rattle.build_reading.specs.Build.{isNew, adds}
 use Rattle.builder.specs.declared.Builder.{Builder}
 use Rattle.build_lending.specs.Lending.{tableNeed, within}
-use Rattle.builder.specs.Calls.{Leaving, leaving, withStretch, builderOf, begins, placed, overLong, grown, growsBy, grows, newOr, stores}
-use Rattle.builder_arguments.proofs.Places.{place-handle, place-element, place-generator, place-fine, end-refused, end-out, end-fine}
+use Rattle.builder.specs.Calls.{Leaving, leaving, withStretch, builderOf, begins, placed, placedStep, overLong, grown, growsBy, grows, newOr, stores}
+use Rattle.builder_arguments.proofs.Places.{place-handle, place-element, place-generator, place-fine, end-refused, end-out, end-fine, store-refused, store-altered, store-fine}
 use Rattle.builder.proofs.Calls.{begin-many, begin-short, grows-refused, stores-refused}
 use Rattle.promises.proofs.Unaltered.{stretch-long}
 use Rattle.promises_builder.specs.Own.{ownAt}
 use Rattle.promises_builder.specs.Calls.{Handed, begunPaper, grownPaper, notedPaper, withStep, ownLength, zeroStretch, RightPlace}
 use Rattle.promises_builder.specs.Calls.{BeginAnswer, many, short, begun, Misplaced, no-handle, no-element, no-generator}
-use Rattle.promises_builder.specs.Calls.{SetAnswer, wrong-place, no-end, new, known, AddAnswer, misplaced, no-room, altered, long-word, added}
+use Rattle.promises_builder.specs.Calls.{SetAnswer, wrong-place, no-end, beyond, new, known, AddAnswer, misplaced, no-room, altered, long-word, added}
 
 module _ (table : List ℕ) (start room n : ℕ) where
   begin-fine : n ≤ 8 → hasRoom (length table) start room n ≡ true
@@ -71,27 +71,36 @@ module _ (t : List ℕ) (b : Builder) (e : GroupElementId) (g : GeneratorId) whe
 
   -- `set_successor`.
   module _ (r : GroupElementId) where
-    stored : RightPlace t b e g → r .0 < b .0 .elements → {c : Bool} → isNew (stretch t (b .0)) (b .0 .generators) e g ≡ c
-        → stores t b e g r ≡ leaving (newOr c) (withStep t b e g r)
+    ends : RightPlace t b e g → r .0 < b .0 .elements → verdict.Fine ≡ placedStep (length t) (b .0) e g r
+    ends R l = end-fine (length t) (b .0) e g r (right R) refl l
+
+    stored : RightPlace t b e g → r .0 < b .0 .elements → ownAt t (b .0) (e .0) (g .0) ≤ b .0 .elements → {c : Bool}
+        → isNew (stretch t (b .0)) (b .0 .generators) e g ≡ c → stores t b e g r ≡ leaving (newOr c) (withStep t b e g r)
     unfolding stores
-    stored R l z = rw (← end-fine (length t) (b .0) e g r (right R) refl l, z)
+    stored R l k z = rw (← store-fine t (b .0) e g r (ends R l) refl k, z)
+
+    -- 17 in the handle or 14.
+    set-early : {x : Refusal} → verdict.Refused x ≡ placedStep (length t) (b .0) e g r → notedPaper (stores t b e g r) ≡ leaving (refusalPaper x) t
+    set-early q = ap notedPaper (sym (stores-refused t b e g r (store-refused t (b .0) e g r q refl) refl))
 
     set-given : {l : Leaving Paper} → SetAnswer t b e g r l → notedPaper (stores t b e g r) ≡ l
-    set-given (wrong-place M) = ap notedPaper (sym (stores-refused t b e g r (end-refused (length t) (b .0) e g r (out M) refl) refl))
-    set-given (no-end R l) = ap notedPaper (sym (stores-refused t b e g r (end-out (length t) (b .0) e g r (right R) refl l) refl))
-    set-given (new R l z) = ap notedPaper (stored R l (eq-eqb (ownAt t (b .0) (e .0) (g .0)) 0 z))
-    set-given (known R l z) = ap notedPaper (stored R l (ne-eqb (ownAt t (b .0) (e .0) (g .0)) 0 (λ (q : ownAt t (b .0) (e .0) (g .0) ≡ 0). omega arith)))
+    set-given (wrong-place M) = set-early (end-refused (length t) (b .0) e g r (out M) refl)
+    set-given (no-end R l) = set-early (end-out (length t) (b .0) e g r (right R) refl l)
+    set-given (beyond R l k) = ap notedPaper (sym (stores-refused t b e g r (store-altered t (b .0) e g r (ends R l) refl k) refl))
+    set-given (new R l z) = ap notedPaper (stored R l (omega (arith, z)) (eq-eqb (ownAt t (b .0) (e .0) (g .0)) 0 z))
+    set-given (known R l z k) = ap notedPaper (stored R l k (ne-eqb (ownAt t (b .0) (e .0) (g .0)) 0 (λ (q : ownAt t (b .0) (e .0) (g .0) ≡ 0). omega arith)))
 
     set-some : (l : Leaving Paper) × SetAnswer t b e g r l
     set-some = ⊎-elim
-        (λ R. by R (decLt (r .0) (b .0 .elements)) (eq-zero-or-pos (ownAt t (b .0) (e .0) (g .0))))
+        (λ R. by R (decLt (r .0) (b .0 .elements)) (decLt (b .0 .elements) (ownAt t (b .0) (e .0) (g .0))) (eq-zero-or-pos (ownAt t (b .0) (e .0) (g .0))))
         (λ M. (_, wrong-place (M .1)))
         place-or-not where
-          by : RightPlace t b e g → Dec (r .0 < b .0 .elements) → (ownAt t (b .0) (e .0) (g .0) ≡ 0) ⊎ (0 < ownAt t (b .0) (e .0) (g .0))
-              → (l : Leaving Paper) × SetAnswer t b e g r l
-          by R (no l) d = (_, no-end R (omega arith))
-          by R (yes l) (inl z) = (_, new R l z)
-          by R (yes l) (inr z) = (_, known R l z)
+          by : RightPlace t b e g → Dec (r .0 < b .0 .elements) → Dec (b .0 .elements < ownAt t (b .0) (e .0) (g .0))
+              → (ownAt t (b .0) (e .0) (g .0) ≡ 0) ⊎ (0 < ownAt t (b .0) (e .0) (g .0)) → (l : Leaving Paper) × SetAnswer t b e g r l
+          by R (no l) k d = (_, no-end R (omega arith))
+          by R (yes l) (yes k) d = (_, beyond R l k)
+          by R (yes l) (no k) (inl z) = (_, new R l z)
+          by R (yes l) (no k) (inr z) = (_, known R l z (omega arith))
 
     pub set-successor-answers : (l : Leaving Paper) → notedPaper (stores t b e g r) ≡ l ↔ SetAnswer t b e g r l
     set-successor-answers l = (

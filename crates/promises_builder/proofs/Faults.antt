@@ -47,7 +47,7 @@ module _ (t : List ℕ) (b : Builder) (w : List ℕ) (fits : fitsIn (length t) (
   is-build : composed t (f .start) w rows n room ≡ lentBack t (f .start) w n room (composedIn (tableNeed n room) (take (workNeed n room) w) rows n room)
   is-build = composed-is-build t (f .start) w rows n room (least t b w fits enough) (lent t b w fits enough) (listed-long t b w fits enough)
 
-  long : room * (6 * n * n + 4 * n) ≤ length (take (workNeed n room) w)
+  long : workNeed n room ≤ length (take (workNeed n room) w)
   long = work-lent t (f .start) w rows n room (least t b w fits enough) (lent t b w fits enough) (listed-long t b w fits enough)
 
   pub build-faults : Filled t (b .0) → Numbered (b .0 .generators) (b .0 .elements) (composedAt (ownRows t (b .0)) (b .0 .generators)) → (r : Refusal)

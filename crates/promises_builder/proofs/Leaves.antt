@@ -28,7 +28,7 @@ use Rattle.builder.specs.declared.Begun.{Begun}
 use Rattle.builder.specs.declared.Grown.{Grown}
 use Rattle.builder.specs.declared.Stored.the-variants as stored
 use Rattle.build_lending.specs.Lending.{tableNeed, workNeed, refusedMade, Making, making}
-use Rattle.builder.specs.Calls.{leaving, builderOf, refusedBegun, begins, placed, placedStep, overLong, grownBy, grown, growsBy, grows, storesBy, stores, builds}
+use Rattle.builder.specs.Calls.{leaving, builderOf, refusedBegun, begins, placed, placedStep, storable, overLong, grownBy, grown, growsBy, grows, storesBy, stores, builds}
 use Rattle.builder_arguments.proofs.Places.{place-fits}
 use Rattle.build_checks_laws.specs.Numbers.{RefusalIn, lateNumbers}
 use Rattle.promises.specs.Leaves.{Leaves, untouched, zeros, tableFor, lentFor}
@@ -194,20 +194,24 @@ module _ (t : List ℕ) (b : Builder) (e : GroupElementId) (g : GeneratorId) (r 
         let i : x ≡ r = reached-is (answer-is (u .0)) in
         untouched (λ z. refused-fine (sym p ∙ z)) (moved (14 ∷ 17 ∷ []) i (place-numbers (length t) f e g .of x p)) (sym (u .1), tt)
 
--- `set_successor` refuses its arguments only.
+-- `set_successor` refuses before it stores anything: 17 for the step that it reads too changes nothing.
 module _ (t : List ℕ) (b : Builder) (e : GroupElementId) (g : GeneratorId) (to : GroupElementId) (r : Refusal) (t′ : List ℕ) where
   step-numbers : Says (RefusalIn (14 ∷ 17 ∷ [])) (placedStep (length t) (b .0) e g to)
   unfolding placedStep
   step-numbers = says-then (placed (length t) (b .0) e g) _ (place-numbers (length t) (b .0) e g) (search early)
 
+  store-numbers : Says (RefusalIn (14 ∷ 17 ∷ [])) (storable t (b .0) e g to)
+  unfolding storable
+  store-numbers = says-then (placedStep (length t) (b .0) e g to) _ step-numbers (search early)
+
   pub stores-leaves : stores t b e g to ≡ leaving (stored.Refused r) t′
-      → Leaves (placedStep (length t) (b .0) e g to ≡ verdict.Fine) (14 ∷ 17 ∷ []) [] (tableFor t (b .0 .start) (b .0 .generators) (b .0 .room) t′ ∷ []) r
+      → Leaves (storable t (b .0) e g to ≡ verdict.Fine) (14 ∷ 17 ∷ []) [] (tableFor t (b .0 .start) (b .0 .generators) (b .0 .room) t′ ∷ []) r
   unfolding stores
-  stores-leaves h = by (placedStep (length t) (b .0) e g to) refl (isNew (stretch t (b .0)) (b .0 .generators) e g) _ h where
-    by : (v : Verdict) → placedStep (length t) (b .0) e g to ≡ v → (new : Bool) (l : List ℕ) → storesBy t v new l ≡ leaving (stored.Refused r) t′
-        → Leaves (placedStep (length t) (b .0) e g to ≡ verdict.Fine) (14 ∷ 17 ∷ []) [] (tableFor t (b .0 .start) (b .0 .generators) (b .0 .room) t′ ∷ []) r
+  stores-leaves h = by (storable t (b .0) e g to) refl (isNew (stretch t (b .0)) (b .0 .generators) e g) _ h where
+    by : (v : Verdict) → storable t (b .0) e g to ≡ v → (new : Bool) (l : List ℕ) → storesBy t v new l ≡ leaving (stored.Refused r) t′
+        → Leaves (storable t (b .0) e g to ≡ verdict.Fine) (14 ∷ 17 ∷ []) [] (tableFor t (b .0 .start) (b .0 .generators) (b .0 .room) t′ ∷ []) r
     by verdict.Fine p true l q = let v : stored.New ≡ stored.Refused r = left q .0 in let z : _≡_ {A = ℕ} 0 1 = cc in absurd (omega arith)
     by verdict.Fine p false l q = let v : stored.Known ≡ stored.Refused r = left q .0 in let z : _≡_ {A = ℕ} 0 1 = cc in absurd (omega arith)
     by (verdict.Refused x) p new l q =
         let u = left q in
-        untouched (λ z. refused-fine (sym p ∙ z)) (moved (14 ∷ 17 ∷ []) (stored-is (u .0)) (step-numbers .of x p)) (sym (u .1), tt)
+        untouched (λ z. refused-fine (sym p ∙ z)) (moved (14 ∷ 17 ∷ []) (stored-is (u .0)) (store-numbers .of x p)) (sym (u .1), tt)

@@ -19,25 +19,18 @@ use Rattle.build_reading.specs.Build.{isNew, setStep, Adds, adds}
 use Rattle.builder.specs.declared.Builder.{Builder}
 use Rattle.builder.specs.declared.Grown.{Grown}
 use Rattle.build_lending.specs.Lending.{tableNeed, within, making}
-use Rattle.builder.specs.Calls.{Leaving, leaving, withStretch, builderOf, refusedBegun, begins, placed, placedStep, overLong, grownBy, grown, growsBy, grows, storesBy, stores, builds}
-use Rattle.builder_arguments.proofs.Places.{place-fits, end-fits}
+use Rattle.builder.specs.Calls.{Leaving, leaving, withStretch, builderOf, refusedBegun, begins, placed, storable, overLong, grownBy, grown, growsBy, grows, storesBy, stores, builds}
+use Rattle.builder_arguments.proofs.Places.{place-fits, store-fits}
 use Rattle.enumeration_run_laws.proofs.Marking.{set-length}
 use Rattle.factor_laws.specs.Accepted.{Accepted}
 use Rattle.factor_laws.specs.Unaltered.{Unaltered}
-use Rattle.promises.specs.Leaves.{Lent, tableFor}
+use Rattle.promises.specs.Leaves.{tableFor}
 use Rattle.promises.specs.Unaltered.{Wrote, nothing, part, Apart}
 use Rattle.promises.proofs.ReadLengths.{adds-length}
 use Rattle.promises.proofs.Unaltered.{kept, leaves-wrote, stretch-long}
+use Rattle.promises_builder.specs.Calls.{left-in, ownLent}
 use Rattle.promises_builder.proofs.Builds.{begun, build-given, build-same}
 use Rattle.promises_builder.proofs.Leaves.{builds-leaves}
-
--- What a call leaves in the table.
-abbrev pub left-in : {A : Type 0} → Leaving A → List ℕ
-left-in (leaving x t) = t
-
--- The buffer of a builder, with t′ at exit.
-abbrev pub ownLent : List ℕ → Builder → List ℕ → Lent
-ownLent t b t′ = tableFor t (b .0 .start) (b .0 .generators) (b .0 .room) t′
 
 wrote-stretch : (t : List ℕ) (b : Builder) → fitsIn (length t) (b .0) ≡ true → (s : List ℕ) → length s ≡ length (stretch t (b .0)) → Wrote (ownLent t b (withStretch t (b .0) s))
 wrote-stretch t b fits s size =
@@ -82,11 +75,11 @@ module _ (t : List ℕ) (b : Builder) (e : GroupElementId) (g : GeneratorId) whe
 
   pub stores-wrote : (r : GroupElementId) → Wrote (ownLent t b (left-in (stores t b e g r)))
   unfolding stores
-  stores-wrote r = by (placedStep (length t) (b .0) e g r) refl where
-    by : (v : Verdict) → placedStep (length t) (b .0) e g r ≡ v
+  stores-wrote r = by (storable t (b .0) e g r) refl where
+    by : (v : Verdict) → storable t (b .0) e g r ≡ v
         → Wrote (ownLent t b (left-in (storesBy t v (isNew (stretch t (b .0)) (b .0 .generators) e g) (withStretch t (b .0) (setStep (stretch t (b .0)) (b .0 .generators) e g r)))))
     by verdict.Fine q =
-        wrote-stretch t b (end-fits (length t) (b .0) e g r refl q) (setStep (stretch t (b .0)) (b .0 .generators) e g r)
+        wrote-stretch t b (store-fits t (b .0) e g r refl q) (setStep (stretch t (b .0)) (b .0 .generators) e g r)
         (set-length (stretch t (b .0)) (b .0 .generators) e g r)
     by (verdict.Refused x) q = nothing refl
 

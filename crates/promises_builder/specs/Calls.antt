@@ -20,6 +20,7 @@ use Rattle.builder.specs.declared.Stored.{Stored}
 use Rattle.build_lending.specs.Lending.{tableNeed, within}
 use Rattle.builder.specs.Calls.{storedPaper, Leaving, leaving, withStretch, builderOf, noBuilder}
 use Rattle.factor_laws.specs.Papers.{valuePaper}
+use Rattle.promises.specs.Leaves.{Lent, tableFor}
 use Rattle.promises_builder.specs.Own.{ownAt}
 
 -- What a call comes to that hands a builder back: its answer on paper, the builder, and the table.
@@ -37,6 +38,14 @@ grownPaper (leaving x t) = handed (reachedPaper (x .answer)) (x .builder) t
 -- What `set_successor` comes to, which hands no builder back.
 abbrev pub notedPaper : Leaving Stored → Leaving Paper
 notedPaper (leaving x t) = leaving (storedPaper x) t
+
+-- What a call leaves in the table.
+abbrev pub left-in : {A : Type 0} → Leaving A → List ℕ
+left-in (leaving x t) = t
+
+-- The table's buffer of a call on a builder: t at entry and t′ at exit, with the stretch of the builder.
+abbrev pub ownLent : List ℕ → Builder → List ℕ → Lent
+ownLent t b t′ = tableFor t (b .0 .start) (b .0 .generators) (b .0 .room) t′
 
 -- `begin` gives 1, "more than 8 generators", with the count; then 4, "room 0 or above 65,535, or a lent buffer short"; else the identity alone, in a
 -- stretch of zeros.
@@ -64,13 +73,16 @@ pub record RightPlace (t : List ℕ) (b : Builder) (e : GroupElementId) (g : Gen
 abbrev pub withStep : (t : List ℕ) (b : Builder) (e : GroupElementId) (g : GeneratorId) (r : GroupElementId) → List ℕ
 withStep t b e g r = withStretch t (b .0) (setStep (stretch t (b .0)) (b .0 .generators) e g r)
 
--- `set_successor` leaves the table as it was after 17 and 14; else it stores the step and answers 1 where nothing stood at the place, 0 where the
--- step was known.
+-- `set_successor` leaves the table as it was after 17 in the handle, 14, and 17 where the step that it reads, "a number read from it", leads beyond
+-- the elements; else it stores the step and answers 1 where nothing stood at the place, 0 where the step was known.
 pub data SetAnswer (t : List ℕ) (b : Builder) (e : GroupElementId) (g : GeneratorId) (r : GroupElementId) : Leaving Paper → Type 0 where
   wrong-place : {x : Refusal} → Misplaced t b e g x → SetAnswer t b e g r (leaving (refusalPaper x) t)
   no-end : RightPlace t b e g → b .0 .elements ≤ r .0 → SetAnswer t b e g r (leaving (refusalPaper (numbered 14 2 0 0)) t)
+  beyond : RightPlace t b e g → r .0 < b .0 .elements → b .0 .elements < ownAt t (b .0) (e .0) (g .0)
+      → SetAnswer t b e g r (leaving (refusalPaper (numbered 17 0 0 0)) t)
   new : RightPlace t b e g → r .0 < b .0 .elements → ownAt t (b .0) (e .0) (g .0) ≡ 0 → SetAnswer t b e g r (leaving (valuePaper 1) (withStep t b e g r))
-  known : RightPlace t b e g → r .0 < b .0 .elements → 0 < ownAt t (b .0) (e .0) (g .0) → SetAnswer t b e g r (leaving (valuePaper 0) (withStep t b e g r))
+  known : RightPlace t b e g → r .0 < b .0 .elements → 0 < ownAt t (b .0) (e .0) (g .0) → ownAt t (b .0) (e .0) (g .0) ≤ b .0 .elements
+      → SetAnswer t b e g r (leaving (valuePaper 0) (withStep t b e g r))
 
 -- The recorded length of the word of e.
 abbrev pub ownLength : List ℕ → Builder → GroupElementId → ℕ

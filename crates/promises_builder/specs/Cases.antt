@@ -7,7 +7,9 @@ use Rattle.egg.specs.declared.Verdict.{Verdict}
 use Rattle.egg.specs.declared.Verdict.the-variants.{Fine}
 use Rattle.egg.specs.Scan.{refusedOf}
 use Rattle.egg.specs.Factor.{refusedReach}
+use Rattle.egg.specs.Answers.{numbered}
 use Rattle.builder.specs.declared.Builder.{Builder}
+use Rattle.builder.specs.declared.Stored.the-variants as stored
 use Rattle.build_lending.specs.Lending.{tableNeed, workNeed, Making, making}
 use Rattle.builder.specs.Calls.{leaving, builderOf, begins, grows, stores, builds}
 
@@ -56,6 +58,9 @@ pub record Cases : Type 0 where
       (adding 4 0 (adding 1 1 (adding 2 0 (adding 0 1 (adding 0 0 (begunWith 2 6))))))) ≡ refusedOf 7 1 1 4
   -- Z2 with a successor altered to one that is no element's: 17.
   pub beyond : built (altering 0 4 (setting 1 0 0 (adding 0 0 (begunWith 1 2)))) ≡ refusedOf 17 0 0 0
+  -- The same, to a number that is one too high: the step is not set, by 17, and the table is as it was.
+  pub set-beyond : stores (altering 0 3 (adding 0 0 (begunWith 1 2)) .table) (builderOf 0 2 1 2) (record { 0 = 0 }) (record { 0 = 0 }) (record { 0 = 1 })
+      ≡ leaving (stored.Refused (numbered 17 0 0 0)) (altering 0 3 (adding 0 0 (begunWith 1 2)) .table)
   -- A step missing: 8 at its place.
   pub no-successor : built (adding 0 0 (begunWith 1 2)) ≡ refusedOf 8 1 0 0
   -- A chain of three whose last element was cut off: it is not reached, so its row is not read, and its successor is missing.

@@ -27,17 +27,19 @@ use Rattle.theory.proofs.Shortest.{recorded-best}
 use Rattle.theory.proofs.Relations.{alternate-word}
 use Rattle.theory.proofs.Presented.{presented}
 use Rattle.build_checks_laws.specs.Stored.{wordOf}
-use Rattle.build_checks_laws.specs.Numbers.{member}
-use Rattle.build_checks_laws.proofs.Numbers.{each-in}
+use Rattle.build_checks_laws.specs.Numbers.{member, RefusalIn}
+use Rattle.build_checks_laws.proofs.Numbers.{each-in, none-of}
 use Rattle.factor_laws.specs.Accepted.{factorStep}
 use Rattle.enumeration_run_laws.proofs.Ending.{never-paused}
 use Rattle.build_laws.proofs.Lent.{by-build, refused-making}
+use Rattle.promises.specs.Enumerated.{EnumerationRight}
+use Rattle.promises.specs.Leaves.{Leaves, untouched, zeros, lentFor, enumerationNumbers}
 use Rattle.promises.proofs.Derived.{Related, enumerated-related}
 use Rattle.promises.proofs.Enumerated.{begun, enumeration-accepted}
 use Rattle.enumeration.proofs.Handle.{enumerates-is-build}
 use Rattle.promises.proofs.NoneTwice.{enumeration-exactly}
 use Rattle.promises.proofs.Stops.{enumeration-stops}
-use Rattle.promises.proofs.Leaves.{enumeration-refused}
+use Rattle.promises.proofs.Leaves.{enumeration-refused, tested-leaves}
 use Rattle.promises_enumeration.specs.Presented.{FittingTable, FittingGroup}
 use Rattle.promises_enumeration.proofs.Orders.{right-exact}
 use Rattle.promises_enumeration.proofs.Accepting.{Takes, fitting-accepted}
@@ -110,6 +112,24 @@ enumeration-refuses table start work orders n room {r} {f} {t} {w} q = ⊎-elim
     (λ B. each-in (λ x. member x (1 ∷ 2 ∷ 3 ∷ 4 ∷ 5 ∷ 6 ∷ [])) (r .number) (5 ∷ 6 ∷ []) refl
     (enumeration-stopped table start work orders n room (B .0 .generators) (B .0 .right) (B .0 .lent) q))
     (enumeration-refused table start work orders n room r f t w q)
+
+-- So none of 7 to 17 comes.
+pub enumeration-never : (table : List ℕ) (start : ℕ) (work orders : List ℕ) (n room : ℕ) {r : Refusal} {f : Factor} {t w : List ℕ}
+    → enumerates table start work orders n room ≡ making (record { answer = verdict.Refused r; factor = f }) t w
+    → ¬ (RefusalIn (7 ∷ 8 ∷ 9 ∷ 10 ∷ 11 ∷ 12 ∷ 13 ∷ 14 ∷ 15 ∷ 16 ∷ 17 ∷ []) r)
+enumeration-never table start work orders n room {r} q m =
+    none-of (r .number) (7 ∷ 8 ∷ 9 ∷ 10 ∷ 11 ∷ 12 ∷ 13 ∷ 14 ∷ 15 ∷ 16 ∷ 17 ∷ []) (1 ∷ 2 ∷ 3 ∷ 4 ∷ 5 ∷ 6 ∷ []) refl m
+    (enumeration-refuses table start work orders n room q)
+
+-- What a refused call leaves: with wrong arguments, by 1 to 4, both buffers as they were; once it has started, by 5 or 6, zeros in exactly the needed stretches.
+pub enumeration-leaves : (table : List ℕ) (start : ℕ) (work orders : List ℕ) (n room : ℕ) {r : Refusal} {f : Factor} {t w : List ℕ}
+    → enumerates table start work orders n room ≡ making (record { answer = verdict.Refused r; factor = f }) t w
+    → Leaves (EnumerationRight table start work orders n room) (1 ∷ 2 ∷ 3 ∷ 4 ∷ []) (5 ∷ 6 ∷ []) (lentFor table start work n room t w) r
+enumeration-leaves table start work orders n room {r} {f} {t} {w} q = by (tested-leaves table start work orders n room r f t w q) where
+  by : Leaves (EnumerationRight table start work orders n room) (1 ∷ 2 ∷ 3 ∷ 4 ∷ []) enumerationNumbers (lentFor table start work n room t w) r
+      → Leaves (EnumerationRight table start work orders n room) (1 ∷ 2 ∷ 3 ∷ 4 ∷ []) (5 ∷ 6 ∷ []) (lentFor table start work n room t w) r
+  by (untouched wrong m s) = untouched wrong m s
+  by (zeros R m z) = zeros R (enumeration-stopped table start work orders n room (R .generators) (R .right) (R .lent) q) z
 
 -- In an accepted factor the product of two generators has exactly the order that was given: no smaller power leads back to the identity.
 pub enumeration-orders : (table : List ℕ) (start : ℕ) (work orders : List ℕ) (n room : ℕ) (f : Factor) (t w : List ℕ)

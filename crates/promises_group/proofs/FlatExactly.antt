@@ -115,7 +115,7 @@ module _ {from : List ℕ} {g : Group} (A : AcceptedProduct from g) (table : Lis
     pub hi : room ≤ 65535
     hi = limited (length table) start room n has
 
-    pub work-lent : room * (6 * n * n + 4 * n) ≤ length (take (workNeed n room) work)
+    pub work-lent : workNeed n room ≤ length (take (workNeed n room) work)
     work-lent = taken-enough table start work n room lent
 
     flattened : Flattens (direct from g) room

@@ -26,7 +26,7 @@ use Rattle.image_cells.specs.Cells.{halves}
 use Rattle.build_reading_laws.specs.Read.{Read, Readable}
 use Rattle.build_reading_laws.proofs.Readings.{accepted-read, readable-accepted, refused-read, refused-number}
 use Rattle.image_check.specs.Short.{verdictNumber, numberBy, ruled, built}
-use Rattle.promises_image.proofs.Composed.{endsFewer, madeAnswer, madeNumber, ruled-is-composed}
+use Rattle.promises_image.proofs.Composed.{ruled-is-composed}
 use Rattle.image.specs.Image.{headGenerators, headElements, headNumber, bytesNeed, imageNumber}
 use Rattle.image_reading.specs.Read.{allPlaced, imageIn}
 use Rattle.image.specs.Read.{headPlace, readImage}
@@ -39,7 +39,7 @@ use Rattle.build_laws.proofs.Settled.{settle}
 use Rattle.build_laws.proofs.Built.{settled-holds, taken-checked}
 use Rattle.build_laws.proofs.Lent.{refused-making}
 use Rattle.promises.proofs.Composed.{composed-exactly, composed-given}
-use Rattle.promises_image.specs.Images.{Bytes, imageStep, WellFormed, GroupImage}
+use Rattle.promises_image.specs.Images.{Bytes, imageStep, endsFewer, madeAnswer, madeNumber, WellFormed, GroupImage}
 use Rattle.promises_image.proofs.Heads.{formed, formed-head, listed}
 use Rattle.promises_image.proofs.Numbers.{fine-checks}
 

@@ -18,7 +18,7 @@ use Rattle.egg.proofs.Rooms.{positive, limited}
 use Rattle.build_checks.specs.Checks.{Checked, checked, verdictOf, check-group}
 use Rattle.build_lending.specs.Finish as finish
 use Rattle.build_lending.specs.Finish.{Built, settledBy, finished, finishedPlaced}
-use Rattle.build_lending.specs.Lending.{tableNeed, workNeed, lentRight, Making, making, lentBack}
+use Rattle.build_lending.specs.Lending.{tableNeed, workNeed, lentRight, lentBack}
 use Rattle.build_lending.proofs.Lending.{lent-table, lent-enough}
 use Rattle.build_reading.specs.Reading.{Placed, placed, readAll, composedAt}
 use Rattle.factor.specs.Composed.{composedIn, composed}
@@ -26,18 +26,7 @@ use Rattle.build_reading_laws.specs.Read.{Read}
 use Rattle.build_reading_laws.proofs.Readings.{accepted-read}
 use Rattle.image_check.specs.Short.{verdictNumber, verdictBy, ruled, built}
 use Rattle.image_check_laws.proofs.Short.{whole-same, pick-number, ruled-number}
-
--- A reading that ended with fewer than N elements.
-abbrev pub endsFewer : Placed → ℕ → Bool
-endsFewer (placed (Count c) t) room = ltb c room
-endsFewer (placed (Refused r) t) room = false
-
--- What a call which makes a factor answers, and the number of that.
-abbrev pub madeAnswer : Making → Verdict
-madeAnswer (making m t w) = m .answer
-
-abbrev pub madeNumber : Making → ℕ
-madeNumber m = verdictNumber (madeAnswer m)
+use Rattle.promises_image.specs.Images.{endsFewer, madeAnswer, madeNumber}
 
 abbrev pub builtAnswer : Built → Verdict
 builtAnswer (finish.built (Count c) t w) = verdict.Fine

@@ -23,10 +23,9 @@ use Rattle.promises.specs.Papers.{madePaper}
 use Rattle.promises.specs.Leaves.{Leaves, untouched, zeros, AllCleared, lentFor, composedNumbers}
 use Rattle.promises.proofs.Leaves.{composed-leaves}
 use Rattle.image_check.specs.Short.{verdictNumber}
-use Rattle.promises_image.proofs.Composed.{endsFewer, madeNumber}
 use Rattle.image.specs.Image.{headLength, headGenerators, headElements, headNumber}
 use Rattle.image.specs.Read.{headPlace, readImage}
-use Rattle.promises_image.specs.Images.{Bytes, WellFormed, ImageRight, imageNumbers}
+use Rattle.promises_image.specs.Images.{Bytes, endsFewer, madeNumber, WellFormed, ImageRight, imageNumbers}
 use Rattle.promises_image.proofs.Heads.{formed, formed-head}
 use Rattle.promises_image.proofs.Back.{bad-read, short-read, fewer-read, read-is-composed, all-listed}
 use Rattle.promises_image.proofs.Zeros.{read-zeros}

@@ -2,14 +2,18 @@
 use Prim.Native.Nat.{ℕ, _+_, _*_, _≤_, _<_}
 use mathlib.Core.Path.{_≡_}
 use mathlib.Core.List.{List, _∷_, _++_}
-use mathlib.Core.Bool.{true}
+use mathlib.Core.Bool.{Bool, true, false}
 use lib.ListN.{length, getD, drop}
+use lib.Dec.{ltb}
 use Rattle.egg.specs.declared.Factor.{Factor}
+use Rattle.egg.specs.declared.Verdict.{Verdict}
 use Rattle.egg.specs.declared.Verdict.the-variants as verdict
+use Rattle.egg.specs.declared.Counted.the-variants.{Count, Refused}
 use Rattle.egg.specs.Factor.{stretch, countedPaper}
 use Rattle.build_lending.specs.Lending.{lentRight, Making, making}
-use Rattle.build_reading.specs.Reading.{composedAt}
+use Rattle.build_reading.specs.Reading.{Placed, placed, composedAt}
 use Rattle.image_cells.specs.Cells.{halves}
+use Rattle.image_check.specs.Short.{verdictNumber}
 use Rattle.image.specs.Image.{headLength, headGenerators, headElements, bytesNeed, imageNumber}
 use Rattle.image.specs.Written.{writeCount, writtenImage}
 use Rattle.image.specs.Read.{readImage}
@@ -25,6 +29,19 @@ pub record Bytes (l : List ℕ) : Type 0 where
 -- The step that an image's successors give.
 abbrev pub imageStep : List ℕ → ℕ → ℕ → ℕ
 imageStep l = composedAt (halves (drop 8 l)) (headGenerators l)
+
+-- A reading with room N came to its end with fewer than N elements: "fewer than N reached is 16, before 8".
+abbrev pub endsFewer : Placed → ℕ → Bool
+endsFewer (placed (Count c) t) room = ltb c room
+endsFewer (placed (Refused r) t) room = false
+
+-- What a call which makes a factor answers.
+abbrev pub madeAnswer : Making → Verdict
+madeAnswer (making m t w) = m .answer
+
+-- The number of that: 0 where it is accepted, else the refusal's.
+abbrev pub madeNumber : Making → ℕ
+madeNumber m = verdictNumber (madeAnswer m)
 
 -- The head is right: "Four bytes, big-endian, the length of what follows; version byte 1; n in one byte; element count N in two; then the successors, two
 -- bytes each .. Length is 4 + 2nN."

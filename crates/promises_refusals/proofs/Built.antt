@@ -12,6 +12,7 @@ use Rattle.egg.specs.declared.Counted.the-variants.{Count, Refused}
 use Rattle.build_checks.specs.Checks.{checked, check-group}
 use Rattle.build_lending.specs.Finish.{Built, built, zeroed, finished, finishedPlaced}
 use Rattle.build_lending.proofs.Finishing.{refused-counted}
+use Rattle.build_lending.specs.Lending.{workNeed}
 use Rattle.egg.specs.Answers.{numbered}
 use Rattle.build_reading.specs.Reading.{placed, readAll}
 use Rattle.build_reading_laws.specs.Read.{Readable}
@@ -23,7 +24,7 @@ use Rattle.promises_refusals.specs.Faults.{Fault, unread, lacks, strays,
 use Rattle.promises_refusals.proofs.Checked.{lacks-refused, strays-refused, twists-refused, misnumbers-refused, checked-fault}
 
 module _ (src : ℕ → ℕ → ℕ) (n room size : ℕ) (w : List ℕ) (few : n ≤ 8) (lo : 1 ≤ room) (hi : room ≤ 65535) (fits : room * (2 * n + 4) ≤ size)
-    (work : room * (6 * n * n + 4 * n) ≤ length w) where
+    (work : workNeed n room ≤ length w) where
   abbrev build : Built
   build = finishedPlaced (readAll src n room (replicate size 0)) n w
 
@@ -89,10 +90,10 @@ module _ (src : ℕ → ℕ → ℕ) (n room : ℕ) (few : n ≤ 8) (lo : 1 ≤ 
   size = room * (2 * n + 4)
 
   abbrev w : List ℕ
-  w = replicate (room * (6 * n * n + 4 * n)) 0
+  w = replicate (workNeed n room) 0
 
-  work : room * (6 * n * n + 4 * n) ≤ length w
-  work = rw length-replicate (le-refl (room * (6 * n * n + 4 * n)))
+  work : workNeed n room ≤ length w
+  work = rw length-replicate (le-refl (workNeed n room))
 
   pub fault-once : {r s : Refusal} → Fault src n room r → Fault src n room s → r ≡ s
   fault-once F G =

@@ -15,6 +15,7 @@ use Rattle.egg.specs.Scan.{andThen}
 use Rattle.egg.proofs.Scans.{refused-fine}
 use Rattle.egg.specs.Answers.{numbered}
 use Rattle.build_checks.specs.Checks.{missing, missingRow, check8, ranges, wrong, wrongRow, check-table, counted, countsRight, Checked, checked, thenChecked, withTable, check-rest, check-group}
+use Rattle.build_lending.specs.Lending.{workNeed}
 use Rattle.build_checks_inverses.specs.Inverses.{fillInverses, inversesRight}
 use Rattle.build_checks_group.specs.Lefts.{identityRow, spelled, check-steps, lefts}
 use Rattle.theory.specs.Table.{Table, Columns, generator}
@@ -51,7 +52,7 @@ same-refusal : {r s : Refusal} {t t₁ w w₁ : List ℕ} → checked (Refused r
 same-refusal h = cc
 
 module _ (src : ℕ → ℕ → ℕ) (n room size : ℕ) (w : List ℕ) (few : n ≤ 8) (lo : 1 ≤ room) (hi : room ≤ 65535) (fits : room * (2 * n + 4) ≤ size)
-    (work : room * (6 * n * n + 4 * n) ≤ length w) {N : ℕ} {t : List ℕ} (R : Read src n room size N t) where
+    (work : workNeed n room ≤ length w) {N : ℕ} {t : List ℕ} (R : Read src n room size N t) where
   -- Every row that was reached is read, so that no successor is missing.
   pub none-missing : missing t n N 0 ≡ Fine
   none-missing = missing-fine t n N 0 .1 (λ e he g hg z. omega (arith, simp add-zero at z, R .successor he hg))

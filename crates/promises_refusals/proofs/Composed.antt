@@ -65,7 +65,7 @@ module _ (table : List ℕ) (start : ℕ) (work rows : List ℕ) (n room : ℕ) 
     unfolding composedIn
     is-build = composed-is-build table start work rows n room hn (lent-right hn E) (E .rows-long)
 
-    long : room * (6 * n * n + 4 * n) ≤ length w
+    long : workNeed n room ≤ length w
     long = work-lent table start work rows n room hn (lent-right hn E) (E .rows-long)
 
     accepts : answerOf outcome ≡ verdict.Fine ↔ ((N : ℕ) × Taken (composedAt rows n) n room N)

@@ -21,7 +21,7 @@ use Rattle.enumeration.specs.Calls.{enumerates}
 use Rattle.build_checks_laws.proofs.Numbers.{each-in}
 use Rattle.promises.specs.Enumerated as calls
 use Rattle.promises.specs.Leaves.{Lent, Leaves, untouched, zeros, enumerationNumbers}
-use Rattle.promises.proofs.Leaves.{enumeration-leaves}
+use Rattle.promises.proofs.Leaves.{tested-leaves}
 use Rattle.promises_refusals.specs.Firsts.{FirstOf}
 use Rattle.promises_refusals.specs.Papers.{paperOf, paper, EnoughLent}
 use Rattle.promises_refusals.specs.Orders.{OrderRight, OrdersRight, wrong-length, wrong-order, EnumeratePaper, many, unordered, short}
@@ -58,7 +58,7 @@ module _ (table : List ℕ) (start : ℕ) (work o : List ℕ) (n room : ℕ) whe
     by : (v : Verdict) → m .answer ≡ v → (verdictPaper v .number ≡ 0) ⊎ (5 ≤ verdictPaper v .number)
     by verdict.Fine e = inl refl
     by (verdict.Refused r) e =
-        inr (late-number R (enumeration-leaves table start work o n room r (m .factor) t w
+        inr (late-number R (tested-leaves table start work o n room r (m .factor) t w
         (q ∙ ap (λ (v : Verdict). making (record { answer = v; factor = m .factor }) t w) e)))
 
   -- The tests answer, or the run starts.

@@ -14,7 +14,7 @@ use Rattle.egg.specs.Factor.{hasRoom}
 use Rattle.egg.proofs.Rooms.{positive, limited, within-length}
 use Rattle.egg.proofs.Scans.{refused-fine}
 use Rattle.build_lending.specs.Finish.{Built, built, finishedPlaced}
-use Rattle.build_lending.specs.Lending.{lentRight, lentBack}
+use Rattle.build_lending.specs.Lending.{workNeed, lentRight, lentBack}
 use Rattle.build_lending.proofs.Lending.{lent-table, lent-enough}
 use Rattle.build_reading.specs.Reading.{readAll}
 use Rattle.build_laws.specs.Taken.{Taken}
@@ -55,7 +55,7 @@ module _ (table : List ℕ) (start : ℕ) (work : List ℕ) (n room : ℕ) where
   answer-fine (built (Refused s) t w) h = absurd (refused-fine h)
 
 module _ (table : List ℕ) (start : ℕ) (work : List ℕ) (src : ℕ → ℕ → ℕ) (n room size : ℕ) (w : List ℕ) (few : n ≤ 8) (lo : 1 ≤ room) (hi : room ≤ 65535)
-    (fits : room * (2 * n + 4) ≤ size) (enough : room * (6 * n * n + 4 * n) ≤ length w) where
+    (fits : room * (2 * n + 4) ≤ size) (enough : workNeed n room ≤ length w) where
   pub lent-refused : (r : Refusal)
       → answerOf (lentBack table start work n room (finishedPlaced (readAll src n room (replicate size 0)) n w)) ≡ verdict.Refused r ↔ Fault src n room r
   lent-refused r = (

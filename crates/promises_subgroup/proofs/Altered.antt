@@ -19,10 +19,10 @@ use Rattle.group_handles.specs.declared.Group.{Group}
 use Rattle.group_handles.specs.Handles.{handles, elementsOf}
 use Rattle.build_numbering.specs.Build.{Renumbering, renumbering, renumberIn}
 use Rattle.theory.specs.Orbit.{Inside, numberedStep, Appearing}
-use Rattle.build_numbering_laws.specs.Source.{AllAnswered, RefusedAt}
+use Rattle.build_numbering_laws.specs.Source.{total, AllAnswered, RefusedAt}
 use Rattle.build_numbering_laws.specs.Maps.{MapsFilled}
 use Rattle.build_numbering_laws.proofs.Order.{appearing}
-use Rattle.build_numbering_laws.proofs.Partial.{total, total-answering, partial-build}
+use Rattle.build_numbering_laws.proofs.Partial.{total-answering, partial-build}
 use Rattle.build_numbering_laws.proofs.Builds.{builtOf, renumber-built, renumber-filled, refused-maps}
 use Rattle.subgroup_build.specs.declared.Subgroup.{Subgroup}
 use Rattle.subgroup_build.specs.Lent.{subgrouping, mapsBack}
@@ -63,7 +63,7 @@ module _ (from : List ℕ) (over : Group) (gens table : List ℕ) (start : ℕ) 
   hi : room ≤ 65535
   hi = called.hi from over gens table start work inn outw room S
 
-  enough : room * (6 * n * n + 4 * n) ≤ length (take (workNeed n room) work)
+  enough : workNeed n room ≤ length (take (workNeed n room) work)
   enough = called.work-fits from over gens table start work inn outw room S
 
   small : M ≤ 4294967295

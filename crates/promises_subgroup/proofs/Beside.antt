@@ -106,6 +106,18 @@ module _ {from gens : List ℕ} {s : Subgroup} {t i o : List ℕ} (S : Beside fr
       maps .inward l
       ∙ ap paperOf (ap (inwardOf s i) (sym e) ∙ sub-composes C hom (λ a b ha hb. sub-op-closed ha hb) hx hy f k)
 
+  back-inverts : {x : ℕ} → x < M → ¬ (inwardOf s i x ≡ appear.noNumber)
+      → {z : ℕ} → group.inverseAnswer from (overGroup s) (record { 0 = x }) ≡ reach z
+      → withinPaper (toSubAnswer (length from) (length t) s i (record { 0 = z })) ≡ record { number = 0; a = subDirect from t s .inv (inwardOf s i x); b = 0; c = 0 }
+  back-inverts {x} hx f {z} q =
+      let C = maps .carried in
+      let e : product (parts from (overSide s)) .inv x ≡ z = reach-once (sym (over-inverts hx) ∙ q) in
+      let a = C .sub-below hx f in
+      let w : outwardOf s o (subDirect from t s .inv (inwardOf s i x)) ≡ z =
+      hom .inverts a ∙ ap (product (parts from (overSide s)) .inv) (C .back-and-there hx f) ∙ e in
+      let l : z < M = subst (λ (u : ℕ). u < M) w (C .over-below (sub-inv-closed a)) in
+      maps .inward l ∙ ap paperOf (ap (inwardOf s i) (sym w) ∙ C .there-and-back (sub-inv-closed a))
+
   outside-identity : outwardOf s o 0 ≡ 0
   outside-identity = hom .identity
 
@@ -124,6 +136,7 @@ module _ {from gens : List ℕ} {s : Subgroup} {t i o : List ℕ} (S : Beside fr
     composes = λ {a} {b} ha hb. (sub-op-closed ha hb, out-composes ha hb);
     inverts = λ {a} ha. (sub-inv-closed ha, out-inverts ha);
     back-composes = λ {x} {y} hx hy f k {z} q. back-composes hx hy f k q;
+    back-inverts = λ {x} hx f {z} q. back-inverts hx f q;
   }
 
 -- What an accepted `from_generators` gives has nothing beside it yet.

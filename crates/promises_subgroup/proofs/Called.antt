@@ -245,7 +245,7 @@ module _ (from : List ℕ) (over : Group) (gens table : List ℕ) (start : ℕ) 
     pub work-long : length (take (workNeed n room) work) ≡ workNeed n room
     work-long = work-taken table start work n room lent
 
-    pub work-fits : room * (6 * n * n + 4 * n) ≤ length (take (workNeed n room) work)
+    pub work-fits : workNeed n room ≤ length (take (workNeed n room) work)
     work-fits = taken-enough table start work n room lent
 
   -- What has started, over accepted factors.
@@ -341,11 +341,12 @@ module _ (from : List ℕ) (over : Group) (gens table : List ℕ) (start : ℕ) 
         let B = back-accepted build (sym (is-build S) ∙ q) in
         generates-at (B .value) (B .table-is) (B .work-is) (B .inn-is) (B .outw-is) (generates (B .is))
 
-    module _ {N : ℕ} {elt : ℕ → ℕ} (A : Appearing n M (rightBy op gen) 0 N elt) where
+    module _ {N : ℕ} {elt : ℕ → ℕ}
+        (A : Appearing (length gens) (elementsOf (handles over)) (rightBy (direct from over .op) (λ g. getD gens g 0)) 0 N elt) where
       -- Accepted exactly when.
       pub generators-exactly : ((s : Subgroup) × (t : List ℕ) × (w : List ℕ) × (i : List ℕ) × (o : List ℕ)
           × (fromGenerators from over gens table start work inn outw room ≡ subgrouping (record { answer = Fine; subgroup = s }) t w i o))
-          ↔ Acceptable op n room N gen elt
+          ↔ Acceptable (direct from over .op) (length gens) room N (λ g. getD gens g 0) elt
       generators-exactly =
           let E = subgroup-exactly G gens-below A (small S) source answering room room (lo S) (hi S) (le-refl room) (tableNeed n room) (take (workNeed n room) work)
           (S .few) (le-refl (tableNeed n room)) (work-fits S) in (

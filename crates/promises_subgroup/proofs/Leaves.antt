@@ -34,7 +34,8 @@ use Rattle.group_handles.specs.declared.Group.{Group}
 use Rattle.group_handles.specs.Handles.{handles, elementsOf, allFit}
 use Rattle.build_numbering.specs.Build.{renumbering}
 use Rattle.theory.specs.Orbit.{Inside, numberedStep, Appearing}
-use Rattle.build_numbering_laws.proofs.Partial.{total, total-answering}
+use Rattle.build_numbering_laws.specs.Source.{total}
+use Rattle.build_numbering_laws.proofs.Partial.{total-answering}
 use Rattle.build_numbering_laws.proofs.Numberings.{refused-5-or-6}
 use Rattle.build_numbering_laws.proofs.Builds.{builtOf}
 use Rattle.subgroup_build.specs.declared.Subgroup.{Subgroup}

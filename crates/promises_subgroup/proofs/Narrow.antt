@@ -22,12 +22,12 @@ same-table : {N : ℕ} {t t′ w w′ : List ℕ} → built (Count N) t w ≡ bu
 same-table h = cc
 
 module _ (src : ℕ → ℕ → ℕ) (n room size : ℕ) (w : List ℕ) (few : n ≤ 8) (lo : 1 ≤ room) (hi : room ≤ 65535) (fits : room * (2 * n + 4) ≤ size)
-    (work : room * (6 * n * n + 4 * n) ≤ length w) where
+    (work : workNeed n room ≤ length w) where
   pub narrow : {N : ℕ} {t w₁ : List ℕ} → finishedPlaced (readAll src n room (replicate size 0)) n w ≡ built (Count N) t w₁
       → Holding src n room (tableNeed n room) N (take (tableNeed n room) t)
   narrow {N} {t} q =
       let v : List ℕ = replicate (workNeed n room) 0 in
-      let enough : room * (6 * n * n + 4 * n) ≤ length v = rw (length-replicate {A = ℕ} (workNeed n room) 0) (le-refl (workNeed n room)) in
+      let enough : workNeed n room ≤ length v = rw (length-replicate {A = ℕ} (workNeed n room) 0) (le-refl (workNeed n room)) in
       let T = built-holds src n room size w few lo hi fits work q .taken in
       let b = taken-built src n room (tableNeed n room) v few lo hi (le-refl (tableNeed n room)) enough T in
       let H = built-holds src n room (tableNeed n room) v few lo hi (le-refl (tableNeed n room)) enough (b .2) in

@@ -10,6 +10,7 @@ use Rattle.egg.specs.declared.Reached.{Reached}
 use Rattle.egg.specs.declared.Reached.the-variants as reached
 use Rattle.egg.specs.declared.Counted.the-variants.{Count}
 use Rattle.build_lending.specs.Finish.{built}
+use Rattle.build_lending.specs.Lending.{workNeed}
 use Rattle.theory.specs.Group.{GroupOn}
 use Rattle.theory_products.specs.Product.{product}
 use Rattle.theory_products.proofs.ProductLaws.{product-group}
@@ -51,7 +52,7 @@ generated-as {H = H} {K} same S = record {
 module _ {M : ℕ} {op : ℕ → ℕ → ℕ} {inv : ℕ → ℕ} (G : GroupOn M op inv) (small : M ≤ 4294967295) {n : ℕ} {gen : ℕ → ℕ}
     (gens : (g : ℕ) → g < n → gen g < M) (source : ℕ → ℕ → Reached) (answering : Answering n M (rightBy op gen) source)
     (room K : ℕ) (lo : 1 ≤ room) (hi : room ≤ 65535) (lent : room ≤ K) (size : ℕ) (w : List ℕ) (few : n ≤ 8) (fits : room * (2 * n + 4) ≤ size)
-    (work : room * (6 * n * n + 4 * n) ≤ length w) {c : ℕ} {t w₁ inn outw : List ℕ}
+    (work : workNeed n room ≤ length w) {c : ℕ} {t w₁ inn outw : List ℕ}
     (q : renumberIn size w source n room M K 0 ≡ renumbering (built (Count c) t w₁) inn outw) where
   pub subgroup-made : SubgroupMade op inv n M room K size (length w) gen c t w₁ inn outw
   subgroup-made =

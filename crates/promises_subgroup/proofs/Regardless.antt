@@ -34,10 +34,10 @@ use Rattle.group_handles.proofs.Lists.{positive}
 use Rattle.group_digits.proofs.Walks.{Below, element, below-element, below-on, digit-below}
 use Rattle.build_numbering.specs.Build.{renumbering, renumberIn}
 use Rattle.theory.specs.Orbit.{Inside, numberedStep, Appearing}
-use Rattle.build_numbering_laws.specs.Source.{Answering, AnsweredTo, AllAnswered, whole, until, RefusedAt}
+use Rattle.build_numbering_laws.specs.Source.{total, Answering, AnsweredTo, AllAnswered, whole, until, RefusedAt}
 use Rattle.build_numbering_laws.specs.Maps.{MapsFilled}
 use Rattle.build_numbering_laws.proofs.Order.{appearing}
-use Rattle.build_numbering_laws.proofs.Partial.{ranged-inside, total, total-answering, partial-build}
+use Rattle.build_numbering_laws.proofs.Partial.{ranged-inside, total-answering, partial-build}
 use Rattle.build_numbering_laws.proofs.Builds.{builtOf, not-refused, renumber-built, renumber-holds, renumber-work, renumber-filled, renumber-maps}
 use Rattle.subgroup_build.specs.declared.Subgroup.{Subgroup}
 use Rattle.subgroup_build.specs.Lent.{mapsRight}

@@ -41,9 +41,9 @@ use Rattle.promises_subgroup.proofs.Leaving.{accepted-lengths}
 module _ {M : ℕ} {op : ℕ → ℕ → ℕ} {inv : ℕ → ℕ} (G : GroupOn M op inv) (small : M ≤ 4294967295) {n : ℕ} {gen : ℕ → ℕ} (gens : (g : ℕ) → g < n → gen g < M)
     (source : ℕ → ℕ → Reached) (answering : Answering n M (rightBy op gen) source) (few : n ≤ 8)
     (room K : ℕ) (lo : 1 ≤ room) (hi : room ≤ 65535) (lent : room ≤ K) (size : ℕ) (w : List ℕ) (fits : room * (2 * n + 4) ≤ size)
-    (work : room * (6 * n * n + 4 * n) ≤ length w)
+    (work : workNeed n room ≤ length w)
     (room′ K′ : ℕ) (lo′ : 1 ≤ room′) (hi′ : room′ ≤ 65535) (lent′ : room′ ≤ K′) (size′ : ℕ) (w′ : List ℕ) (fits′ : room′ * (2 * n + 4) ≤ size′)
-    (work′ : room′ * (6 * n * n + 4 * n) ≤ length w′) (more : room ≤ room′) (wider : size ≤ size′) where
+    (work′ : workNeed n room′ ≤ length w′) (more : room ≤ room′) (wider : size ≤ size′) where
   pub build-roomier : {c : ℕ} {t w₁ i o : List ℕ} → renumberIn size w source n room M K 0 ≡ renumbering (built (Count c) t w₁) i o
       → (w₂ : List ℕ) × (i′ : List ℕ) × (o′ : List ℕ) × ((renumberIn size′ w′ source n room′ M K′ 0 ≡ renumbering (built (Count c) (longer (size′ - size) t) w₂) i′ o′)
       × ((i ≡ i′) × ((e : ℕ) → getD o e 0 ≡ getD o′ e 0)))

@@ -87,6 +87,9 @@ pub record SideAnswers (from t : List ℕ) (s : Subgroup) (i o : List ℕ) : Typ
       → {z : ℕ} → group.composeAnswer from (overGroup s) (record { 0 = x }) (record { 0 = y }) ≡ reach z
       → withinPaper (toSubAnswer (length from) (length t) s i (record { 0 = z }))
       ≡ record { number = 0; a = subDirect from t s .op (inwardOf s i x) (inwardOf s i y); b = 0; c = 0 }
+  pub back-inverts : {x : ℕ} → x < elementsOf (overSide s) → ¬ (inwardOf s i x ≡ appear.noNumber)
+      → {z : ℕ} → group.inverseAnswer from (overGroup s) (record { 0 = x }) ≡ reach z
+      → withinPaper (toSubAnswer (length from) (length t) s i (record { 0 = z })) ≡ record { number = 0; a = subDirect from t s .inv (inwardOf s i x); b = 0; c = 0 }
 
 -- `generator` of such a subgroup: the generators of what is below, then those elements of its part of the overgroup by which it was made, then the generators of what
 -- is above, each as an element of the whole overgroup; it is what the subgroup's generator is carried to, as in 005; and 14 beyond.

@@ -23,9 +23,9 @@ use Rattle.group_handles.specs.Handles.{handles, elementsOf}
 use Rattle.group_digits.specs.Digits.{composes}
 use Rattle.build_numbering.specs.Build.{Renumbering, renumbering, renumberIn}
 use Rattle.theory.specs.Orbit.{Inside, Appearing}
-use Rattle.build_numbering_laws.specs.Source.{AllAnswered, RefusedAt}
+use Rattle.build_numbering_laws.specs.Source.{total, AllAnswered, RefusedAt}
 use Rattle.build_numbering_laws.proofs.Order.{appearing}
-use Rattle.build_numbering_laws.proofs.Partial.{total, total-answering, partial-build}
+use Rattle.build_numbering_laws.proofs.Partial.{total-answering, partial-build}
 use Rattle.build_numbering_laws.proofs.Builds.{builtOf, renumber-built, same-refusal, not-refused}
 use Rattle.subgroup_build.specs.declared.Subgroup.{Subgroup}
 use Rattle.subgroup_build.specs.Lent.{subgrouping}

@@ -12,6 +12,7 @@ use Rattle.egg.specs.declared.Reached.the-variants as reached
 use Rattle.egg.specs.declared.Counted.the-variants.{Count}
 use Rattle.egg.specs.Table.{stepOf}
 use Rattle.build_lending.specs.Finish.{built}
+use Rattle.build_lending.specs.Lending.{workNeed}
 use Rattle.theory.specs.Group.{GroupOn}
 use Rattle.build_numbering.specs.Renumber as appear
 use Rattle.build_numbering.specs.Build.{Renumbering, renumbering}
@@ -31,7 +32,7 @@ use Rattle.promises_subgroup_predicate.proofs.Choosing.{chooses-ends}
 pub eight-rows : (n room size : ℕ) → n ≤ 8 → room * (2 * 8 + 4) ≤ size → room * (2 * n + 4) ≤ size
 eight-rows n room size h k = let l : 2 * n + 4 ≤ 2 * 8 + 4 = omega arith in le-trans (mul-le-mul (le-refl room) l) k
 
-pub eight-work : (n room size : ℕ) → n ≤ 8 → room * (6 * 8 * 8 + 4 * 8) ≤ size → room * (6 * n * n + 4 * n) ≤ size
+pub eight-work : (n room size : ℕ) → n ≤ 8 → workNeed 8 room ≤ size → workNeed n room ≤ size
 eight-work n room size h k =
     let m : 6 * n ≤ 6 * 8 = omega arith in
     let i : 6 * n * n ≤ 6 * 8 * 8 = mul-le-mul m h in

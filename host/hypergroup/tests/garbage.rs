@@ -448,6 +448,36 @@ fn builders() {
     assert!([0, 5, 14, 17].iter().all(|&k| met[k] > 100), "{met:?}");
 }
 
+/// A step that is overwritten is read, to say whether the place was new: what is beyond the builder's elements is 17, in every cell of a successor, and nothing is
+/// written then. A step is stored as its number + 1, so that the count itself is the last element's.
+#[test]
+fn steps_overwritten() {
+    let mut t = vec![7; 5 + raw::table_need(2, 4) + 3];
+    let mut b = raw::begin(&mut t, 5, 4, 2).unwrap();
+    for g in 0..2 {
+        b = raw::add(&mut t, b, 0, g).builder;
+    }
+    assert_eq!(b.elements, 3);
+    for (e, g) in [(0, 0), (0, 1), (1, 0), (1, 1), (2, 0), (2, 1)] {
+        let at = 5 + e as usize * 8 + usize::from(g);
+        for number in [0, 1, 3, 4, 5, 65_536, 4_000_000_000, u32::MAX] {
+            let mut t = t.clone();
+            t[at] = number;
+            let before = t.clone();
+            let stored = raw::set(&mut t, b, e, g, 2).map_err(|x| (x.number, x.places[0]));
+            if number <= 3 {
+                assert_eq!(stored, Ok(number == 0), "{e} {g} {number}");
+                assert!(t[at] == 3 && around(&before, &t, stretch(b)));
+            } else {
+                assert_eq!(stored, Err((17, 0)), "{e} {g} {number}");
+                assert_eq!(t, before);
+                // 14 comes first.
+                assert_eq!(raw::set(&mut t, b, e, g, 3).map_err(|x| (x.number, x.places[0])), Err((14, 2)));
+            }
+        }
+    }
+}
+
 #[test]
 fn questions_of_subgroups() {
     let mut r = Random(5);

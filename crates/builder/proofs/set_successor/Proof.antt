@@ -1,14 +1,14 @@
--- One law for each verdict of `place_step`; what the step leaves in the stretch stands in the table.
+-- One law for each verdict of `storable`; what the step leaves in the stretch stands in the table.
 use lib.ListN.{length}
 use Rattle.egg.proofs.Rooms.{has}
-use Rattle.builder_arguments.proofs.Places.{end-fits}
+use Rattle.builder_arguments.proofs.Places.{store-fits}
 use Rattle.builder.proofs.Calls.{stores-refused, stores-done}
 use borrow.Author.Needs.{needs}
 use Rattle.builder.proofs.set_successor.Statement.{statement}
 use Rattle.builder.proofs.set_successor.Tie as tie
 
-place-step-requires : tie.Need-place-step-requires
-place-step-requires c κs = search needs
+storable-requires : tie.Need-storable-requires
+storable-requires c κs = search needs
 
 enum-known-why : tie.Need-enum-known-why
 enum-known-why c = search needs
@@ -19,7 +19,7 @@ enum-told c = search needs
 stretch-end-requires : tie.Need-stretch-end-requires
 stretch-end-requires c κs =
     let a = c .before .before .before .before .before .before .args in
-    has (length (a .table .now)) (a .b .0) (end-fits (length (a .table .now)) (a .b .0) (a .e) (a .g) (a .r) (c .before .before .place-step .ensures) (c .enum-told .given .1))
+    has (length (a .table .now)) (a .b .0) (store-fits (a .table .now) (a .b .0) (a .e) (a .g) (a .r) (c .before .before .storable .ensures) (c .enum-told .given .1))
 
 mul-set-successor : tie.Need-mul-set-successor
 mul-set-successor c = search needs
@@ -42,7 +42,7 @@ same-length c = search needs
 returns : tie.Need-returns
 returns c =
     let a = c .before .before .before .before .before .before .before .args in
-    stores-refused (a .table .now) (a .b) (a .e) (a .g) (a .r) (c .before .before .before .place-step .ensures) (c .before .why .given .1)
+    stores-refused (a .table .now) (a .b) (a .e) (a .g) (a .r) (c .before .before .before .storable .ensures) (c .before .why .given .1)
 
 same-length-2 : tie.Need-same-length-2
 same-length-2 c = search needs
@@ -50,7 +50,7 @@ same-length-2 c = search needs
 returns-2 : tie.Need-returns-2
 returns-2 c =
     let a = c .before .before .before .before .before .before .before .before .before .before .before .before .args in
-    stores-done (a .table .now) (a .b) (a .e) (a .g) (a .r) (c .before .before .before .before .before .before .before .before .place-step .ensures) (c .before .before .before .before .before .before .enum-told .given .1) (c .before .before .before .before .before .stretch-end .ensures) (c .before .before .before .set-successor .ensures) (rw (c .if1 .taken))
+    stores-done (a .table .now) (a .b) (a .e) (a .g) (a .r) (c .before .before .before .before .before .before .before .before .storable .ensures) (c .before .before .before .before .before .before .enum-told .given .1) (c .before .before .before .before .before .stretch-end .ensures) (c .before .before .before .set-successor .ensures) (rw (c .if1 .taken))
 
 same-length-3 : tie.Need-same-length-3
 same-length-3 c = search needs
@@ -58,13 +58,13 @@ same-length-3 c = search needs
 returns-3 : tie.Need-returns-3
 returns-3 c =
     let a = c .before .before .before .before .before .before .before .before .before .before .before .before .args in
-    stores-done (a .table .now) (a .b) (a .e) (a .g) (a .r) (c .before .before .before .before .before .before .before .before .place-step .ensures) (c .before .before .before .before .before .before .enum-told .given .1) (c .before .before .before .before .before .stretch-end .ensures) (c .before .before .before .set-successor .ensures) (rw (c .if1 .left))
+    stores-done (a .table .now) (a .b) (a .e) (a .g) (a .r) (c .before .before .before .before .before .before .before .before .storable .ensures) (c .before .before .before .before .before .before .enum-told .given .1) (c .before .before .before .before .before .stretch-end .ensures) (c .before .before .before .set-successor .ensures) (rw (c .if1 .left))
 
 pub set-successor-spec : {M : Type 1} → statement M
 set-successor-spec =
     tie.close
     (tie.spec
-    place-step-requires
+    storable-requires
     enum-known-why
     enum-told
     stretch-end-requires
