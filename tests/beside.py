@@ -29,10 +29,11 @@ def differs(where, command, want, got):
 
 
 def replay_recorded():
-    compared = skipped = 0
+    compared = skipped = safe = 0
     for path in sorted((HERE / "recorded").glob("*.txt")):
         recorded = cases(path.read_text().splitlines())
-        answers = cases(run([command for command, _ in recorded], OURS))
+        *answers, (_, told) = cases(run([*(command for command, _ in recorded), "safe"], OURS))
+        safe += int(told[0])
         for (command, lines), (_, got) in zip(recorded, answers, strict=True):
             expect = [line[2:] for line in lines if line.startswith("= ")]
             if not expect or expect == ["oracle"]:
@@ -45,7 +46,10 @@ def replay_recorded():
     # All but questions to the oracle alone are answered: fewer would mean that the list or the program lost something.
     if compared < 11500:
         sys.exit("only %d of the recorded cases were compared" % compared)
-    print("recorded: %d compared, %d for the oracle alone" % (compared, skipped))
+    # Beside its calls on buffers `ours` asks the safe types of the Rust crate, which give the same answers or it ends.
+    if safe < 800000:
+        sys.exit("only %d answers of the safe types were compared" % safe)
+    print("recorded: %d compared, %d for the oracle alone, %d answers of safe types" % (compared, skipped, safe))
 
 
 def random_orders(rng, n):

@@ -125,10 +125,10 @@ impl Factor {
 
     /// Keeps of a table that was just built the rows of its elements, with as much room.
     ///
-    /// It is the same factor. A row stands where its element's number says, whatever the room is (`stretch` and `startOf` in
-    /// crates/egg/specs); a handle fits with a room that is its count of elements (`fitsIn`); and what makes a factor accepted speaks
-    /// of the rows of its elements (`Accepted`, crates/factor_laws/specs). The same comes from the promises: an image of the factor is
-    /// read back with this room, and "more room never changes an accepted table" (docs/promises) has both start with the same numbers.
+    /// It is the same factor. A row stands where its element's number says, whatever the room is, and a handle fits with as much room
+    /// as it has elements (`fitsIn` and `stretch`, crates/egg/specs/Factor.antt); what an accepted factor is speaks of the rows of its
+    /// elements alone (`Accepted`, crates/factor_laws/specs/Accepted.antt). And it is what the same call gives with that room: "more
+    /// room never changes an accepted table" (`composed-roomier`, `enumeration-roomier` and so on, docs/promises).
     pub(crate) fn new(table: &[u32], handle: Handle) -> Self {
         let rows = raw::table_need(handle.generators, handle.elements);
         let table = table[handle.start..handle.start + rows].into();
@@ -196,10 +196,6 @@ impl Factor {
     }
 
     /// Where turns lead, one after the other, from an element.
-    ///
-    /// # Errors
-    ///
-    /// 14 where there is no such element or generator.
     pub fn walk(&self, from: Element, turns: impl IntoIterator<Item = Generator>) -> Result<Element, Refusal> {
         turns.into_iter().try_fold(from, |e, g| self.step(e, g))
     }

@@ -8,7 +8,7 @@
 //!
 //! | | |
 //! |---|---|
-//! | [`Factor`] | a group from pair orders, from composed rows, from an image, or step by step by a [`Builder`] |
+//! | [`Factor`] | a group from pair orders, from composed rows or a function that tells them, from an image, or step by step by a [`Builder`] |
 //! | [`Product`] | the direct product of up to eight factors, also of products |
 //! | [`Subgroup`] | a subgroup of a product, with its maps |
 //! | [`Image`], [`OwnedImage`] | a stored table: checked, walked, read back; over lent bytes, or its own |

@@ -157,10 +157,6 @@ impl Product {
     }
 
     /// Where turns lead, one after the other, from an element.
-    ///
-    /// # Errors
-    ///
-    /// 14 where there is no such element or generator.
     pub fn walk(&self, from: Element, turns: impl IntoIterator<Item = Generator>) -> Result<Element, Refusal> {
         turns.into_iter().try_fold(from, |e, g| self.step(e, g))
     }

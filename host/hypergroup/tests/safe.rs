@@ -116,6 +116,10 @@ fn a_function_is_asked_in_order_and_no_more_than_needed() {
     let (asked, made) = told(1, 9, &[2, 0]);
     assert_eq!((asked.len(), made.as_ref().unwrap_err().places), (1, [0, 0, 2]));
     assert_eq!(made, Factor::from_rows(1, &[2, 0]));
+    for skips in [2, 3] {
+        let (asked, made) = told(2, 9, &[skips, 1]);
+        assert_eq!((asked.len(), made.unwrap_err().places), (1, [0, 0, skips]));
+    }
     assert_eq!(told(1, 9, &[1, 1]), (places(2, 1), Factor::from_rows(1, &[1, 1])));
     assert_eq!(told(1, 9, &[u32::MAX]).1.unwrap_err().number, Refusal::SKIPS_AHEAD);
     // 7 is before 5: a number beyond a room that is full skips ahead.
@@ -186,6 +190,10 @@ fn products_of_products() {
         }
         assert!(p.generators().map(|g| p.generator(g)).eq(all.generators().map(|g| all.generator(g))));
     }
+    // Two factors with as many generators and elements are still two.
+    let z6 = Factor::from_rows(2, &[1, 2, 3, 0, 0, 4, 5, 1, 2, 5, 4, 3]).unwrap();
+    let two = Product::new([&s3, &z6, &s3, &z6]).unwrap();
+    assert!(two.factors().eq([s3.clone(), z6.clone(), s3.clone(), z6.clone()]) && s3 != z6);
     // A factor of a product answers as it did alone, and is a product of its own again.
     let third = all.factors().nth(2).unwrap();
     assert_eq!((third.to_image(), third.compose(Element(1), Element(1))), (z3.to_image(), Ok(Element(2))));
@@ -334,6 +342,7 @@ fn refusals_in_words() {
     assert_eq!(two[0], two[1]);
     assert_eq!(HashSet::from(two).len(), 1);
     assert_ne!(two[0], Factor::from_rows(1, &[1]).unwrap_err());
+    assert_ne!(over.step(Element(6), Generator(0)).unwrap_err(), over.step(Element(0), Generator(2)).unwrap_err());
     assert_eq!(format!("{:?}", two[0]), "Refusal { number: 4, places: [0, 0, 0] }");
 }
 

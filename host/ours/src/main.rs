@@ -15,6 +15,7 @@
 //!   prints as `table` does and makes the factor the current product.
 //! - `count`, `length e`; `shortword e` writes a word into one byte less than it has, `shortsplit e` the digits into one place less;
 //!   `part e` is the word by the call that hands back the filled part of its buffer, nothing where it is refused.
+//! - `safe` prints how many answers of the safe types were compared so far.
 //! - `image enum ..`, `image table ..` or `image` alone, for the one factor of the current product, print `ok` and the bytes in hex;
 //!   `unimage HEX` prints as `table` does; `imgcheck HEX` and `imgwalk HEX START G..` print the number that comes back, `imgverdict HEX`
 //!   prints `ok` or the refusal with its places, and `imgneed HEX` the bytes of work that a check needs. `-` is no byte.
@@ -199,6 +200,7 @@ impl Ours {
             "forge" => self.forge(&w[1..])?,
             "forgecount" => (self.product.handles.count, self.product.safe) = (number(w, 1)?, None),
             "bench" => self.bench(&w[1..])?,
+            "safe" => self.say(safe::compared()),
             "clear" => {
                 (self.factors, self.space, self.safe) = (vec![], vec![], vec![]);
                 (self.builder, self.product, self.sub) = (None, Product::default(), None);

@@ -59,6 +59,15 @@ impl Product {
     }
 }
 
+/// A question by the call on a product, by the call on a factor where there is one alone, and by the safe types.
+macro_rules! every_way {
+    ($p:expr, $product:ident, $factor:ident, ($($argument:expr),*), $x:ident => $asked:expr) => {{
+        let (t, hs) = (&$p.table, &$p.handles);
+        let answer = both(raw::$product(t, hs $(, $argument)*), $p.single().map(|h| raw::$factor(t, h $(, $argument)*)));
+        both_safe!($p, answer, $x => $asked)
+    }};
+}
+
 impl Ours {
     pub(crate) fn question(&mut self, w: &[&str]) -> Result<(), No> {
         let p = &self.product;
@@ -66,10 +75,6 @@ impl Ours {
             "gens" => {
                 let all = p.generators();
                 say::listed(&both_safe!(p, all, x => x.generators().map(|g| reached(x.generator(g))).collect())?)
-            }
-            "count" => {
-                let count = both(raw::product_count(&p.table, &p.handles), p.single().map(|h| raw::count(&p.table, h)));
-                both_safe!(p, count, x => Ok(x.element_count()))?.to_string()
             }
             "word" => say::listed(&p.word_of(number(w, 1)?)?),
             "part" => match p.single() {
@@ -80,21 +85,13 @@ impl Ours {
                 }
                 None => return unsupported(),
             },
-            "shortword" => p.short_word(number(w, 1)?)?.to_string(),
             "split" => {
                 // More places than any product's digits need.
-                let digits = p.split(number(w, 1)?, 12);
-                let e = Element(number(w, 1)?);
-                let other = p.safe.as_ref().map(|x| x.split(e).map(|digits| digits.iter().map(|d| d.0).collect()));
-                say::listed(&same(digits, other)?)
+                let e = number(w, 1)?;
+                let other = p.safe.as_ref().map(|x| x.split(Element(e)).map(|digits| digits.iter().map(|d| d.0).collect()));
+                say::listed(&same(p.split(e, 12), other)?)
             }
             "shortsplit" => say::listed(&p.split(number(w, 1)?, usize::from(p.handles.count).saturating_sub(1))?),
-            "join" => {
-                let digits = numbers(&w[1..])?;
-                let listed: Vec<Element> = digits.iter().copied().map(Element).collect();
-                let other = p.safe.as_ref().map(|x| reached(x.join(&listed)));
-                same(raw::product_join(&p.table, &p.handles, &digits), other)?.to_string()
-            }
             "checked" => match p.single() {
                 Some(h) => {
                     let orders = numbers(&w[1..])?;
@@ -103,6 +100,7 @@ impl Ours {
                 }
                 None => return unsupported(),
             },
+            "shortword" | "join" | "project" | "inject" => p.product_asked(w)?.to_string(),
             _ => p.number_asked(w)?.to_string(),
         };
         self.say(line);
@@ -134,54 +132,60 @@ impl Product {
         both_safe!(self, written, x => spelled(x.word(Element(e))))
     }
 
-    /// The questions whose answer is a number.
+    /// The questions to a product and to a factor whose answer is a number.
     fn number_asked(&self, w: &[&str]) -> Result<u32, No> {
-        let (t, hs, single) = (&self.table, &self.handles, self.single());
         Ok(match w[0] {
+            "count" => every_way!(self, product_count, count, (), x => Ok(x.element_count())),
             "step" => {
                 let (e, g) = (number(w, 1)?, number(w, 2)?);
-                let answer = both(raw::product_step(t, hs, e, g), single.map(|h| raw::step(t, h, e, g)));
-                both_safe!(self, answer, x => reached(x.step(Element(e), Generator(g))))
+                every_way!(self, product_step, step, (e, g), x => reached(x.step(Element(e), Generator(g))))
             }
             "compose" => {
                 let (a, b) = (number(w, 1)?, number(w, 2)?);
-                let answer = both(raw::product_compose(t, hs, a, b), single.map(|h| raw::compose(t, h, a, b)));
-                both_safe!(self, answer, x => reached(x.compose(Element(a), Element(b))))
+                every_way!(self, product_compose, compose, (a, b), x => reached(x.compose(Element(a), Element(b))))
             }
             "conjugate" => {
                 let (a, b) = (number(w, 1)?, number(w, 2)?);
-                let answer = both(raw::product_conjugate(t, hs, a, b), single.map(|h| raw::conjugate(t, h, a, b)));
-                both_safe!(self, answer, x => reached(x.conjugate(Element(a), Element(b))))
+                every_way!(self, product_conjugate, conjugate, (a, b), x => reached(x.conjugate(Element(a), Element(b))))
             }
             "inverse" => {
                 let a = number(w, 1)?;
-                let answer = both(raw::product_inverse(t, hs, a), single.map(|h| raw::inverse(t, h, a)));
-                both_safe!(self, answer, x => reached(x.inverse(Element(a))))
+                every_way!(self, product_inverse, inverse, (a), x => reached(x.inverse(Element(a))))
             }
             "length" => {
                 let e = number(w, 1)?;
-                let answer = both(raw::product_length(t, hs, e), single.map(|h| raw::length(t, h, e)));
-                both_safe!(self, answer, x => x.word_length(Element(e)))
+                every_way!(self, product_length, length, (e), x => x.word_length(Element(e)))
             }
             "powi" => {
                 let (a, i) = (number(w, 1)?, number(w, 2)?);
-                let answer = both(raw::product_powi(t, hs, a, i), single.map(|h| raw::powi(t, h, a, i)));
-                both_safe!(self, answer, x => reached(x.powi(Element(a), i)))
+                every_way!(self, product_powi, powi, (a, i), x => reached(x.powi(Element(a), i)))
             }
             "period" => {
                 let a = number(w, 1)?;
-                let answer = both(raw::product_period(t, hs, a), single.map(|h| raw::period(t, h, a)));
-                both_safe!(self, answer, x => x.period(Element(a)))
-            }
-            "project" | "inject" => {
-                let (f, e) = (number(w, 1)?, number(w, 2)?);
-                let (project, inject) = (safe::Product::project, safe::Product::inject);
-                match w[0] {
-                    "project" => same(raw::product_project(t, hs, f, e), self.safe.as_ref().map(|x| reached(project(x, f, Element(e))))),
-                    _ => same(raw::product_inject(t, hs, f, e), self.safe.as_ref().map(|x| reached(inject(x, f, Element(e))))),
-                }
+                every_way!(self, product_period, period, (a), x => x.period(Element(a)))
             }
             _ => return unsupported(),
+        }?)
+    }
+
+    /// Those to a product alone.
+    fn product_asked(&self, w: &[&str]) -> Result<u32, No> {
+        let (t, hs, safe) = (&self.table, &self.handles, self.safe.as_ref());
+        Ok(match w[0] {
+            "shortword" => self.short_word(number(w, 1)?),
+            "join" => {
+                let digits = numbers(&w[1..])?;
+                let listed: Vec<Element> = digits.iter().copied().map(Element).collect();
+                same(raw::product_join(t, hs, &digits), safe.map(|x| reached(x.join(&listed))))
+            }
+            "project" => {
+                let (f, e) = (number(w, 1)?, number(w, 2)?);
+                same(raw::product_project(t, hs, f, e), safe.map(|x| reached(x.project(f, Element(e)))))
+            }
+            _ => {
+                let (f, e) = (number(w, 1)?, number(w, 2)?);
+                same(raw::product_inject(t, hs, f, e), safe.map(|x| reached(x.inject(f, Element(e)))))
+            }
         }?)
     }
 }

@@ -2,13 +2,25 @@
 //! same, refusals included. Where a buffer was altered or lent short, or a handle forged, the calls alone can answer.
 use super::*;
 pub(crate) use hypergroup::{Builder, Checker, Element, Factor, Generator, Image, OwnedImage, Product, Stored, Subgroup, Unchecked};
+use std::sync::atomic::{AtomicUsize, Ordering::Relaxed};
 
-const DIFFER: &str = "a safe type answers otherwise than the calls on buffers";
+/// How many answers of safe types were compared.
+static COMPARED: AtomicUsize = AtomicUsize::new(0);
+
+pub(crate) fn compared() -> usize {
+    COMPARED.load(Relaxed)
+}
+
+/// An answer of the calls, and that of a safe type.
+fn hold<T: PartialEq + std::fmt::Debug>(answer: &T, other: &T) {
+    COMPARED.fetch_add(1, Relaxed);
+    assert_eq!(answer, other, "a safe type answers otherwise than the calls on buffers");
+}
 
 /// The answer of the calls, which a safe type must have given too where one was asked.
 pub(crate) fn same<T: PartialEq + std::fmt::Debug>(answer: Answer<T>, other: Option<Answer<T>>) -> Answer<T> {
     if let Some(other) = other {
-        assert_eq!(answer, other, "{DIFFER}");
+        hold(&answer, &other);
     }
     answer
 }
@@ -26,7 +38,7 @@ pub(crate) fn spelled(answer: Answer<Vec<Generator>>) -> Answer<Vec<u8>> {
 /// What was made both ways: it has as many generators and elements, or is refused the same.
 pub(crate) fn made(answer: &Answer<Handle>, other: Answer<Factor>) -> Option<Factor> {
     let counts = other.as_ref().map(|f| (f.generator_count(), f.element_count())).map_err(|no| *no);
-    assert_eq!(answer.map(|h| (h.generators, h.elements)), counts, "{DIFFER}");
+    hold(&answer.map(|h| (h.generators, h.elements)), &counts);
     other.ok()
 }
 
@@ -59,9 +71,9 @@ pub(crate) fn composed(answer: &Answer<Handle>, n: u8, rows: &[u32], room: u32) 
 /// All that is printed of an element: its inverse, its word and its steps.
 pub(crate) fn held_element(f: &Factor, e: u32, inverse: u32, word: &[u8], steps: &[u32]) {
     let told = f.generators().map(|g| reached(f.step(Element(e), g))).collect::<Answer<Vec<_>>>();
-    assert_eq!(reached(f.inverse(Element(e))), Ok(inverse), "{DIFFER}");
-    assert_eq!(spelled(f.word(Element(e))).as_deref(), Ok(word), "{DIFFER}");
-    assert_eq!(told.as_deref(), Ok(steps), "{DIFFER}");
+    hold(&Ok(inverse), &reached(f.inverse(Element(e))));
+    hold(&Ok(word), &spelled(f.word(Element(e))).as_deref());
+    hold(&Ok(steps), &told.as_deref());
 }
 
 /// The product of these factors: of all at once, and of two products of them.
@@ -73,7 +85,7 @@ pub(crate) fn product(counted: Answer<(u32, u32)>, factors: &[Option<Factor>]) -
     let whole = half(&factors);
     for made in [&whole, &joined] {
         let counts = made.as_ref().map(|p| (p.generator_count().into(), p.element_count())).map_err(|no| *no);
-        assert_eq!(counted, counts, "{DIFFER}");
+        hold(&counted, &counts);
     }
     assert!(whole.iter().all(|p| p.factors().eq(factors.iter().map(|&f| f.clone()))), "a product has other factors than it was made of");
     joined.ok()
@@ -108,15 +120,15 @@ pub(crate) use both_safe;
 /// The number of an image's check, and of the owned one's.
 pub(crate) fn held_check(image: &[u8], number: u32) {
     for checked in [Image::check(image).map(drop), OwnedImage::try_from(image).map(drop), OwnedImage::check(image).map(drop)] {
-        assert_eq!(checked.err().map_or(0, |no| no.number), number, "{DIFFER}");
+        hold(&number, &checked.err().map_or(0, |no| no.number));
     }
 }
 
 /// The verdict of an image's check, and of a checker without a limit and of one with the limit that just takes it.
 pub(crate) fn held_verdict(image: &[u8], verdict: Result<(), Refusal>) {
-    assert_eq!(Image::check(image).map(drop), verdict, "{DIFFER}");
+    hold(&Image::check(image).map(drop), &verdict);
     for most in [super::image::head(image).1, u32::MAX] {
-        assert_eq!(Checker::new(most).check(image).map(drop), verdict.map_err(Unchecked::Refused), "{DIFFER}");
+        hold(&Checker::new(most).check(image).map(drop), &verdict.map_err(Unchecked::Refused));
     }
 }
 
@@ -125,6 +137,6 @@ pub(crate) fn held_walk(image: &[u8], start: u32, word: &[u8], number: u32) {
     let turns: Vec<Generator> = word.iter().copied().map(Generator).collect();
     let Ok(image) = Image::check(image) else { return };
     for walked in [image.walk(Element(start), &turns), OwnedImage::from(image).walk(Element(start), &turns)] {
-        assert_eq!(walked.map_or_else(|no| 65_536 + no.number, |e| e.0), number, "{DIFFER}");
+        hold(&number, &walked.map_or_else(|no| 65_536 + no.number, |e| e.0));
     }
 }
