@@ -2,12 +2,14 @@
 -- Every contract is an equation with a definition over the values at entry, so two outcomes that meet it are both that.
 use Prim.Native.Nat.{ℕ}
 use mathlib.Core.Path.{sym, _∙_, ap}
-use mathlib.Core.List.{List}
-use Rattle.capi_values.specs.Bridge.{Bridged}
+use mathlib.Core.List.{List, [], _∷_}
+use Rattle.capi_values.specs.Bridge.{Bridged, telling}
 use Rattle.capi_factor_build.proofs.hg_composed.Kinds as hg-composed-kinds
 use Rattle.capi_factor_build.proofs.hg_composed.Reads as hg-composed-reads
 use Rattle.capi_factor_build.proofs.hg_enumerate.Kinds as hg-enumerate-kinds
 use Rattle.capi_factor_build.proofs.hg_enumerate.Reads as hg-enumerate-reads
+use Rattle.capi_image.proofs.hg_image_need.Kinds as hg-image-need-kinds
+use Rattle.capi_image.proofs.hg_image_need.Reads as hg-image-need-reads
 use Rattle.capi_image.proofs.hg_image_read.Kinds as hg-image-read-kinds
 use Rattle.capi_image.proofs.hg_image_read.Reads as hg-image-read-reads
 use Rattle.capi_factor.proofs.hg_count.Kinds as hg-count-kinds
@@ -30,6 +32,8 @@ use Rattle.capi_factor_words.proofs.hg_part.Kinds as hg-part-kinds
 use Rattle.capi_factor_words.proofs.hg_part.Reads as hg-part-reads
 use Rattle.capi_factor_words.proofs.hg_word.Kinds as hg-word-kinds
 use Rattle.capi_factor_words.proofs.hg_word.Reads as hg-word-reads
+use Rattle.capi_image.proofs.hg_image_verdict.Kinds as hg-image-verdict-kinds
+use Rattle.capi_image.proofs.hg_image_verdict.Reads as hg-image-verdict-reads
 use Rattle.capi_image.proofs.hg_image_write.Kinds as hg-image-write-kinds
 use Rattle.capi_image.proofs.hg_image_write.Reads as hg-image-write-reads
 use Rattle.capi_factor.proofs.hg_check.Kinds as hg-check-kinds
@@ -49,7 +53,14 @@ pub hg-image-read-unique : Unique 4 hg-image-read-kinds.ps hg-image-read-kinds.r
     (λ κs a x. Bridged.holds (x .1 .0 .now) (x .1 .1 .1 .0 .now) (x .1 .1 .1 .1 .0 .now))
 hg-image-read-unique = λ κs args a b x y p q. p ∙ sym q
 
+pub hg-image-verdict-unique : Unique 3 hg-image-verdict-kinds.ps hg-image-verdict-kinds.r hg-image-verdict-reads.Post
+    (λ κs a x. telling a (x .1 .1 .0 .now) (x .1 .0 .now ∷ []))
+hg-image-verdict-unique = λ κs args a b x y p q. p ∙ sym q
+
 -- The questions, which only read.
+pub hg-image-need-unique : Unique 1 hg-image-need-kinds.ps hg-image-need-kinds.r hg-image-need-reads.Post (λ κs a x. a)
+hg-image-need-unique = λ κs args a b x y p q. p ∙ sym q
+
 pub hg-count-unique : Unique 1 hg-count-kinds.ps hg-count-kinds.r hg-count-reads.Post (λ κs a x. a)
 hg-count-unique = λ κs args a b x y p q. p ∙ sym q
 

@@ -12,7 +12,7 @@ counted-code-requires : tie.Need-counted-code-requires
 counted-code-requires c κs = search needs
 
 returns : tie.Need-returns
-returns c = (c .counted-code .ensures) ∙ ap countedCode ((c .before .need .ensures))
+returns c = (c .counted-code .ensures) ∙ ap countedCode (c .before .need .ensures)
 
 pub hg-image-need-spec : {M : Type 1} → statement M
 hg-image-need-spec =

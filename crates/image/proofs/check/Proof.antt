@@ -17,7 +17,7 @@ same-length : tie.Need-same-length
 same-length c = search needs
 
 returns : tie.Need-returns
-returns c = ((c .number .ensures) ∙ ap verdictNumber ((c .before .before .before .verdict .ensures .0)) ∙ verdict-number ((c .before .before .before .before .before .before .before .args .image .now)) (length ((c .before .before .before .before .before .before .before .args .work .now))), (c .before .before .before .verdict .ensures .1))
+returns c = ((c .number .ensures) ∙ ap verdictNumber (c .before .before .before .verdict .ensures .0) ∙ verdict-number (c .before .before .before .before .before .before .before .args .image .now) (length (c .before .before .before .before .before .before .before .args .work .now)), (c .before .before .before .verdict .ensures .1))
 
 pub check-spec : {M : Type 1} → statement M
 check-spec =

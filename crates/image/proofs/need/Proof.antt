@@ -13,7 +13,7 @@ head-place-requires : tie.Need-head-place-requires
 head-place-requires c κs = search needs
 
 returns : tie.Need-returns
-returns c = need-bad ((c .before .before .before .before .args .image .now)) ((c .before .before .head .ensures)) ((c .before .if1 .taken)) ((c .head-place .ensures))
+returns c = need-bad (c .before .before .before .before .args .image .now) (c .before .before .head .ensures) (c .before .if1 .taken) (c .head-place .ensures)
 
 generators-requires : tie.Need-generators-requires
 generators-requires c κs = search needs
@@ -28,16 +28,16 @@ refused-count-requires : tie.Need-refused-count-requires
 refused-count-requires c κs = search needs
 
 returns-2 : tie.Need-returns-2
-returns-2 c = need-alone ((c .before .before .before .before .before .before .before .before .args .image .now)) ((c .before .before .before .before .before .before .head .ensures)) ((c .before .before .before .before .before .if1 .left)) ((c .before .before .before .before .generators .ensures)) ((c .before .before .before .elements .ensures .at)) (sym ((c .before .before .alone .ensures)) ∙ (c .before .if2 .taken)) ((c .refused-count .ensures))
+returns-2 c = need-alone (c .before .before .before .before .before .before .before .before .args .image .now) (c .before .before .before .before .before .before .head .ensures) (c .before .before .before .before .before .if1 .left) (c .before .before .before .before .generators .ensures) (c .before .before .before .elements .ensures .at) (sym (c .before .before .alone .ensures) ∙ (c .before .if2 .taken)) (c .refused-count .ensures)
 
 bytes-need-requires : tie.Need-bytes-need-requires
 bytes-need-requires c κs = search needs
 
 cast-t10 : tie.Need-cast-t10
-cast-t10 c = omega (arith, need-fits ((c .before .before .before .before .before .before .before .before .args .image .now)) ((c .before .before .before .before .before .before .head .ensures)) ((c .before .before .before .before .before .if1 .left)) ((c .before .before .before .before .generators .ensures)) ((c .before .before .before .elements .ensures .at)) (omega (arith, (c .before .before .before .elements .ensures .small))), (c .bytes-need .ensures))
+cast-t10 c = omega (arith, need-fits (c .before .before .before .before .before .before .before .before .args .image .now) (c .before .before .before .before .before .before .head .ensures) (c .before .before .before .before .before .if1 .left) (c .before .before .before .before .generators .ensures) (c .before .before .before .elements .ensures .at) (omega (arith, (c .before .before .before .elements .ensures .small))), (c .bytes-need .ensures))
 
 returns-3 : tie.Need-returns-3
-returns-3 c = need-count ((c .before .before .before .before .before .before .before .before .args .image .now)) ((c .before .before .before .before .before .before .head .ensures)) ((c .before .before .before .before .before .if1 .left)) ((c .before .before .before .before .generators .ensures)) ((c .before .before .before .elements .ensures .at)) (sym ((c .before .before .alone .ensures)) ∙ (c .before .if2 .left)) ((c .bytes-need .ensures))
+returns-3 c = need-count (c .before .before .before .before .before .before .before .before .args .image .now) (c .before .before .before .before .before .before .head .ensures) (c .before .before .before .before .before .if1 .left) (c .before .before .before .before .generators .ensures) (c .before .before .before .elements .ensures .at) (sym (c .before .before .alone .ensures) ∙ (c .before .if2 .left)) (c .bytes-need .ensures)
 
 pub need-spec : {M : Type 1} → statement M
 need-spec =
