@@ -1,11 +1,12 @@
 // The image's four calls as C functions on bytes and numbers, for a host: host/hypergroup.h has them for C. The check and the walk need no factor.
 ghost use mathlib.Core.Path.{_≡_};
+ghost use mathlib.Core.List.{[], _∷_};
 ghost use lib.ListN.{length};
 ghost use Rattle.image.specs.Image.{imageNumber, imageWork};
 ghost use Rattle.image.specs.Walked.{walkNumber};
 ghost use Rattle.image.specs.Written.{writeCount, writtenImage};
 ghost use Rattle.image.specs.Read.{readImage};
-ghost use Rattle.capi_values.specs.Bridge.{handle, countedCode, Bridged, bridged};
+ghost use Rattle.capi_values.specs.Bridge.{handle, countedCode, telling, inOut, bridged};
 use capi_values::inner;
 use egg::GroupElementId;
 
@@ -44,7 +45,8 @@ pub extern "C" fn hg_image_write(
     inner::counted_code(image::write(table, f, out))
 }
 
-// Builds the factor that an image stores. Refuses as hg_image_check does, with the places; 4 is for a short table or work.
+// Builds the factor that an image stores. Refuses with 4 an out shorter than 5; then as hg_image_check does, with the places, where 4 is for a short
+// table or work.
 #[no_mangle]
 pub extern "C" fn hg_image_read(
     bytes: &[u8],
@@ -52,9 +54,12 @@ pub extern "C" fn hg_image_read(
     start: usize,
     work: &mut [u32],
     out: &mut [u32],
-)
-    ensures { λ x. ⌜ Bridged.holds (now (table .exit)) (now (work .exit)) (now (out .exit)) ≡ bridged (readImage (now (bytes .entry)) (now (table .entry)) start (now (work .entry))) (now (out .entry)) ⌝ }
+) -> u32
+    ensures { λ r. ⌜ telling r (now (out .exit)) (now (table .exit) ∷ now (work .exit) ∷ []) ≡ inOut 5 (now (out .entry)) (now (table .entry) ∷ now (work .entry) ∷ []) (bridged (readImage (now (bytes .entry)) (now (table .entry)) start (now (work .entry))) (now (out .entry))) ⌝ }
 {
+    if out.len() < 5 {
+        return 4;
+    }
     let m = image::read(bytes, table, start, work);
-    inner::write_made(out, m);
+    inner::write_made(out, m)
 }

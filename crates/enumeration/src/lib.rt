@@ -14,7 +14,8 @@ pub mod inner;
 // starts at `start`, and answers its handle. The orders come in the order (0,1),(0,2),(1,2),(0,3).. . Refuses in this
 // order: 1 for more than 8 generators, 2 for a list of the wrong length, 3 for the first order outside 2..32,767, 4 for
 // a room that is 0 or above 65,535 or a table or work that is too short; then, leaving both stretches zero, 5 or 6 at
-// the first place where no element can be added, 8 to 12, and 13.
+// the first place where no element can be added. 8 to 13 are looked for after the run, and none of them ever comes
+// (`enumeration-refuses`).
 pub fn enumerate(
     table: &mut [u32],
     start: usize,
