@@ -65,9 +65,13 @@
  * - hg_image_walk: the element reached, below 65,536; or HG_WALK_REFUSED + the refusal's number.
  * - A question of a factor: the element or the count; or the refusal's number * 2^32 + its first place:
  *   HG_REFUSED and HG_VALUE. Refused, it writes nothing.
- * - A build, and a check against orders: each returns the refusal's number, 0 for accepted. out gets that
- *   number and its three places; after a build also the element count, as the fifth. An out too short for
- *   that is 4 before anything else, and nothing is written. A handle is `start`, `room`, `n`, `count`.
+ * - A build, a check against orders, hg_product, hg_subgroup_left and hg_subgroup_right: each returns the
+ *   refusal's number, 0 for accepted. out gets that number and its three places; after a build also the
+ *   element count, as the fifth. An out too short for that is 4 before anything else is looked at, and no
+ *   list is touched; in a longer one the rest is as it was. A handle is `start`, `room`, `n`, `count`.
+ * - hg_image_verdict: what hg_image_check returns, with the places in out in the same way. hg_image_need:
+ *   how many bytes of work both need, or a refusal as of a question.
+ * - hg_walk and hg_product_walk: as a question; the start is position 0 and the first turn position 1.
  * - What a build leaves: refused before it starts (1 to 4, 14, and 15 to 17 given then), every list but
  *   out as it was; refused later, 0 in all that it needs of table, work and maps; accepted, 0 in the
  *   work, and in table and maps beyond the last element.
@@ -135,16 +139,16 @@ enum {
 
 /* libcapi_builder.a */
 
-/* Begins a build in the stretch of table that starts at start. Refuses in this order: 1 for more
- * than 8 generators, 4 for a room out of range or a short table. */
-void hg_begin(uint32_t *table, size_t table_len, size_t start, uint32_t room, uint8_t n,
+/* Begins a build in the stretch of table that starts at start. Refuses in this order: 4 for an
+ * out shorter than 5, 1 for more than 8 generators, 4 for a room out of range or a short table. */
+uint32_t hg_begin(uint32_t *table, size_t table_len, size_t start, uint32_t room, uint8_t n,
     uint32_t *out, size_t out_len);
 
-/* Adds a new element, reached from e by g. Refuses in this order: 17 for a handle that does not
- * fit, 14 for an element or a generator out of range, which touch nothing; then 5 beyond the
- * room, 17 for a length read that is over 4,096, 6 for a word that would pass 4,096, which end
- * the build. */
-void hg_add(uint32_t *table, size_t table_len, size_t start, uint32_t room, uint8_t n,
+/* Adds a new element, reached from e by g. Refuses in this order: 4 for an out shorter than 5,
+ * 17 for a handle that does not fit, 14 for an element or a generator out of range, which touch
+ * nothing; then 5 beyond the room, 17 for a length read that is over 4,096, 6 for a word that
+ * would pass 4,096, which end the build. */
+uint32_t hg_add(uint32_t *table, size_t table_len, size_t start, uint32_t room, uint8_t n,
     uint32_t count, uint32_t e, uint8_t g, uint32_t *out, size_t out_len);
 
 /* Sets the step from e by g to x, both ways, and says whether the place was new. Refuses in this
@@ -153,9 +157,10 @@ void hg_add(uint32_t *table, size_t table_len, size_t start, uint32_t room, uint
 uint64_t hg_set(uint32_t *table, size_t table_len, size_t start, uint32_t room, uint8_t n,
     uint32_t count, uint32_t e, uint8_t g, uint32_t x);
 
-/* Reads the builder's steps, checks them and makes them a factor. Refuses in this order: 17 for
- * a handle that does not fit, 4 for short work, 17, 7 or 6 while it reads, then 8 to 12. */
-void hg_build(uint32_t *table, size_t table_len, size_t start, uint32_t room, uint8_t n,
+/* Reads the builder's steps, checks them and makes them a factor. Refuses in this order: 4 for
+ * an out shorter than 5, 17 for a handle that does not fit, 4 for short work, 17, 7 or 6 while
+ * it reads, then 8 to 12. */
+uint32_t hg_build(uint32_t *table, size_t table_len, size_t start, uint32_t room, uint8_t n,
     uint32_t count, uint32_t *work, size_t work_len, uint32_t *out, size_t out_len);
 
 /* libcapi_factor.a */
@@ -183,27 +188,28 @@ uint64_t hg_inverse(const uint32_t *table, size_t table_len, size_t start, uint3
     uint32_t count, uint32_t a);
 
 /* Checks the factor against pair orders and writes the verdict into out. Refuses in this order:
- * 17 for a handle that does not fit, 2 for a list of the wrong length, 3 for the first order out
- * of range, then 13 for a relation that fails or 17 for a number read that is out of range, as
- * met. */
-void hg_check(const uint32_t *table, size_t table_len, size_t start, uint32_t room, uint8_t n,
+ * 4 for an out shorter than 4, 17 for a handle that does not fit, 2 for a list of the wrong
+ * length, 3 for the first order out of range, then 13 for a relation that fails or 17 for a
+ * number read that is out of range, as met. */
+uint32_t hg_check(const uint32_t *table, size_t table_len, size_t start, uint32_t room, uint8_t n,
     uint32_t count, const uint32_t *orders, size_t orders_len, uint32_t *out, size_t out_len);
 
 /* libcapi_factor_build.a */
 
-/* Builds a factor from composed rows, n numbers for each element. Refuses in this order: 1 for
- * more than 8 generators, 4 for a room out of range or a short buffer, 7, 5 or 6 while it reads,
- * then 8 to 12. */
-void hg_composed(uint32_t *table, size_t table_len, size_t start, uint32_t *work, size_t work_len,
-    const uint32_t *rows, size_t rows_len, uint8_t n, uint32_t room, uint32_t *out, size_t out_len);
+/* Builds a factor from composed rows, n numbers for each element. Refuses in this order: 4 for
+ * an out shorter than 5, 1 for more than 8 generators, 4 for a room out of range or a short
+ * buffer, 7, 5 or 6 while it reads, then 8 to 12. */
+uint32_t hg_composed(uint32_t *table, size_t table_len, size_t start, uint32_t *work,
+    size_t work_len, const uint32_t *rows, size_t rows_len, uint8_t n, uint32_t room, uint32_t *out,
+    size_t out_len);
 
 /* Builds the group that the pair orders present; they come in the order
- * (0,1),(0,2),(1,2),(0,3).. Refuses in this order: 1 for more than 8 generators, 2 for a list of
- * the wrong length, 3 for the first order out of range, 4 for a room out of range or a short
- * buffer, 5 or 6 while it runs, then 9 to 13. */
-void hg_enumerate(uint32_t *table, size_t table_len, size_t start, uint32_t *work, size_t work_len,
-    const uint32_t *orders, size_t orders_len, uint8_t n, uint32_t room, uint32_t *out,
-    size_t out_len);
+ * (0,1),(0,2),(1,2),(0,3).. Refuses in this order: 4 for an out shorter than 5, 1 for more than
+ * 8 generators, 2 for a list of the wrong length, 3 for the first order out of range, 4 for a
+ * room out of range or a short buffer, 5 or 6 while it runs. No other refusal comes. */
+uint32_t hg_enumerate(uint32_t *table, size_t table_len, size_t start, uint32_t *work,
+    size_t work_len, const uint32_t *orders, size_t orders_len, uint8_t n, uint32_t room,
+    uint32_t *out, size_t out_len);
 
 /* libcapi_factor_compose.a */
 
@@ -288,10 +294,11 @@ uint64_t hg_product_period(const uint32_t *table, size_t table_len, const uint32
 /* libcapi_group_build.a */
 
 /* Writes the verdict on the product of two into out, and how many factors it has: those of the
- * first and then those of the second. Refuses in this order: 17 for a handle that does not fit,
- * 15 for more than 8 factors or more than 4,294,967,295 elements. */
-void hg_product(const uint32_t *table, size_t table_len, const uint32_t *first, size_t first_len,
-    uint8_t k, const uint32_t *second, size_t second_len, uint8_t m, uint32_t *out, size_t out_len);
+ * first and then those of the second. Refuses in this order: 4 for an out shorter than 5, 17 for
+ * a handle that does not fit, 15 for more than 8 factors or more than 4,294,967,295 elements. */
+uint32_t hg_product(const uint32_t *table, size_t table_len, const uint32_t *first,
+    size_t first_len, uint8_t k, const uint32_t *second, size_t second_len, uint8_t m,
+    uint32_t *out, size_t out_len);
 
 /* Answers how long the word of e is. Refuses in this order: 17 for a handle that does not fit,
  * 14 for an element out of range, 15 for a product too large, 17 for a recorded length over
@@ -316,11 +323,11 @@ uint64_t hg_product_join(const uint32_t *table, size_t table_len, const uint32_t
 uint64_t hg_product_word(const uint32_t *table, size_t table_len, const uint32_t *handles,
     size_t handles_len, uint8_t count, uint32_t e, uint8_t *out, size_t out_len);
 
-/* Builds one factor that is the product, with its numbers. Refuses in this order: 17 for a
- * handle that does not fit, 15 for a product too large, 1 for more than 8 generators, 4 for a
- * room out of range or a short buffer; then as hg_composed does, and with 17 a number read that
- * is out of range. */
-void hg_product_flatten(const uint32_t *from, size_t from_len, const uint32_t *handles,
+/* Builds one factor that is the product, with its numbers. Refuses in this order: 4 for an out
+ * shorter than 5, 17 for a handle that does not fit, 15 for a product too large, 1 for more than
+ * 8 generators, 4 for a room out of range or a short buffer; then as hg_composed does while it
+ * reads and after it, and with 17 a number read that is out of range. */
+uint32_t hg_product_flatten(const uint32_t *from, size_t from_len, const uint32_t *handles,
     size_t handles_len, uint8_t count, uint32_t *table, size_t table_len, size_t start,
     uint32_t *work, size_t work_len, uint32_t room, uint32_t *out, size_t out_len);
 
@@ -353,28 +360,29 @@ uint32_t hg_image_walk(const uint8_t *image, size_t image_len, uint32_t start, c
 uint64_t hg_image_write(const uint32_t *table, size_t table_len, size_t start, uint32_t room,
     uint8_t n, uint32_t count, uint8_t *out, size_t out_len);
 
-/* Builds the factor that an image stores. Refuses as hg_image_check does, with the places; 4 is
- * for a short table or work. */
-void hg_image_read(const uint8_t *bytes, size_t bytes_len, uint32_t *table, size_t table_len,
+/* Builds the factor that an image stores. Refuses with 4 an out shorter than 5; then as
+ * hg_image_check does, with the places, where 4 is for a short table or work. */
+uint32_t hg_image_read(const uint8_t *bytes, size_t bytes_len, uint32_t *table, size_t table_len,
     size_t start, uint32_t *work, size_t work_len, uint32_t *out, size_t out_len);
 
 /* libcapi_subgroup.a */
 
 /* Builds the subgroup that the elements gens of a product generate; inn maps the overgroup to
- * it, outw back. Refuses in this order: 17 for a handle that does not fit, 14 for the first
- * entry that is no element, 15 for an overgroup too large to number, 1 for more than 8
- * generators, 4 for a room out of range or a short buffer, 17, 5 or 6 while it numbers, then 8
- * to 12. */
-void hg_subgroup(const uint32_t *from, size_t from_len, const uint32_t *handles, size_t handles_len,
-    uint8_t count, const uint32_t *gens, size_t gens_len, uint32_t *table, size_t table_len,
-    size_t start, uint32_t *work, size_t work_len, uint32_t *inn, size_t inn_len, uint32_t *outw,
-    size_t outw_len, uint32_t room, uint32_t *out, size_t out_len);
+ * it, outw back. Refuses in this order: 4 for an out shorter than 6, 17 for a handle that does
+ * not fit, 14 for the first entry that is no element, 15 for an overgroup too large to number, 1
+ * for more than 8 generators, 4 for a room out of range or a short buffer, 17, 5 or 6 while it
+ * numbers, then 8 to 12. */
+uint32_t hg_subgroup(const uint32_t *from, size_t from_len, const uint32_t *handles,
+    size_t handles_len, uint8_t count, const uint32_t *gens, size_t gens_len, uint32_t *table,
+    size_t table_len, size_t start, uint32_t *work, size_t work_len, uint32_t *inn, size_t inn_len,
+    uint32_t *outw, size_t outw_len, uint32_t room, uint32_t *out, size_t out_len);
 
 /* Builds the subgroup of a byte for each element of the product, not 0 for a member; table and
- * work are lent as for eight generators. Refuses in this order: 17 for a handle that does not
- * fit, 15 for an overgroup too large to number, 4 for a room out of range, a short buffer or too
- * few bytes; then the first refusal of a build, or 15 for a ninth generator. */
-void hg_subgroup_predicate(const uint32_t *from, size_t from_len, const uint32_t *handles,
+ * work are lent as for eight generators. Refuses in this order: 4 for an out shorter than 6, 17
+ * for a handle that does not fit, 15 for an overgroup too large to number, 4 for a room out of
+ * range, a short buffer or too few bytes; then the first refusal of a build, or 15 for a ninth
+ * generator. */
+uint32_t hg_subgroup_predicate(const uint32_t *from, size_t from_len, const uint32_t *handles,
     size_t handles_len, uint8_t count, const uint8_t *members, size_t members_len, uint32_t *table,
     size_t table_len, size_t start, uint32_t *work, size_t work_len, uint32_t *inn, size_t inn_len,
     uint32_t *outw, size_t outw_len, uint32_t room, uint32_t *out, size_t out_len);
@@ -406,15 +414,15 @@ uint64_t hg_subgroup_generators(const uint32_t *from, size_t from_len, const uin
     size_t table_len, const uint32_t *sub, size_t sub_len);
 
 /* Writes into out whether a subgroup can have a product's factors below it: then these go in
- * front of those that it has below. Refuses in this order: 17 for a handle that does not fit, 15
- * for more than 8 factors or too many elements on a side. */
-void hg_subgroup_left(const uint32_t *from, size_t from_len, const uint32_t *table,
+ * front of those that it has below. Refuses in this order: 4 for an out shorter than 4, 17 for a
+ * handle that does not fit, 15 for more than 8 factors or too many elements on a side. */
+uint32_t hg_subgroup_left(const uint32_t *from, size_t from_len, const uint32_t *table,
     size_t table_len, const uint32_t *handles, size_t handles_len, uint8_t count,
     const uint32_t *sub, size_t sub_len, uint32_t *out, size_t out_len);
 
 /* Writes into out whether a subgroup can have a product's factors above it: then these go behind
  * those that it has above. Refuses as hg_subgroup_left does. */
-void hg_subgroup_right(const uint32_t *from, size_t from_len, const uint32_t *table,
+uint32_t hg_subgroup_right(const uint32_t *from, size_t from_len, const uint32_t *table,
     size_t table_len, const uint32_t *sub, size_t sub_len, const uint32_t *handles,
     size_t handles_len, uint8_t count, uint32_t *out, size_t out_len);
 

@@ -212,7 +212,8 @@ static void beside_a_factor(void) {
     size_t i;
     Image s = image_of(2, 6, s3);
     for (i = 0; i < 12; i++) rows[i] = s3[i];
-    hg_composed(table, 48, 0, work, 192, rows, 12, 2, 6, out, 5);
+    expect(hg_composed(table, 48, 0, work, 192, rows, 12, 2, 6, NULL, 0), 4, "no list for the answer");
+    expect(hg_composed(table, 48, 0, work, 192, rows, 12, 2, 6, out, 5), 0, "S3 composed");
     expect(out[0], 0, "S3 composed");
     expect(out[4], 6, "its elements");
     for (from = 0; from < 6; from++) {

@@ -1,10 +1,11 @@
--- What a list holds after the stores of a builder's answer.
+-- What a list holds after the stores of a builder's answer, and what a builder's call leaves.
 use Prim.Native.Nat.{ℕ}
 use mathlib.Core.Path.{_≡_, ap, _∙_}
-use mathlib.Core.List.{List}
+use mathlib.Core.List.{List, [], _∷_}
 use Rattle.egg.specs.declared.Refusal.{Refusal}
 use Rattle.egg.specs.declared.Verdict.the-variants.{Refused}
 use Rattle.egg.specs.Table.{putAt}
+use Rattle.egg.specs.Factor.{verdictPaper, reachedPaper}
 use Rattle.egg.specs.declared.Reached.{Reached}
 use Rattle.egg.specs.declared.Reached.the-variants.{Element}
 use Rattle.egg.specs.declared.Reached.the-variants as reached
@@ -13,9 +14,9 @@ use Rattle.builder.specs.declared.Begun.{Begun}
 use Rattle.builder.specs.declared.Grown.{Grown}
 use Rattle.builder.specs.declared.Stored.{Stored}
 use Rattle.builder.specs.Calls.{Leaving, leaving}
-use Rattle.capi_values.specs.Bridge.{paperInto}
-use Rattle.capi_builder.specs.Answers.{reachedInto, begunInto, grownInto, storedCode, Answered, begunWith, grownWith, storedWith}
-use Rattle.capi_values.proofs.Laws.{stored-four}
+use Rattle.capi_values.specs.Bridge.{paperInto, telling}
+use Rattle.capi_builder.specs.Answers.{reachedInto, begunInto, grownInto, storedCode, begunWith, grownWith, storedWith}
+use Rattle.capi_values.proofs.Laws.{stored-four, told}
 
 pub reached-refused : (r : Refusal) {x : Reached} (l : List ℕ) {m : List ℕ} → x ≡ reached.Refused r → m ≡ paperInto (Refused r) l → m ≡ reachedInto x l
 unfolding paperInto reachedInto
@@ -30,11 +31,13 @@ pub grown-written : (g : Grown) (l : List ℕ) {l₁ l₂ : List ℕ} → l₁ �
 unfolding grownInto
 grown-written g l p q = q ∙ rw p
 
-pub begun-holds : {b : Begun} {t : List ℕ} {x : Leaving Begun} (out : List ℕ) {l : List ℕ} → leaving b t ≡ x → l ≡ begunInto b out → Answered.holds t l ≡ begunWith x out
-begun-holds {b} {t} out p q = ap (Answered.holds t) q ∙ ap (λ (y : Leaving Begun). begunWith y out) p
+pub begun-told : {b : Begun} {t : List ℕ} {x : Leaving Begun} (out : List ℕ) {r : ℕ} {l : List ℕ} → leaving b t ≡ x
+    → (r ≡ verdictPaper (b .answer) .number) × (l ≡ begunInto b out) → telling r l (t ∷ []) ≡ begunWith x out
+begun-told out e p = told p ∙ ap (λ (y : Leaving Begun). begunWith y out) e
 
-pub grown-holds : {g : Grown} {t : List ℕ} {x : Leaving Grown} (out : List ℕ) {l : List ℕ} → leaving g t ≡ x → l ≡ grownInto g out → Answered.holds t l ≡ grownWith x out
-grown-holds {g} {t} out p q = ap (Answered.holds t) q ∙ ap (λ (y : Leaving Grown). grownWith y out) p
+pub grown-told : {g : Grown} {t : List ℕ} {x : Leaving Grown} (out : List ℕ) {r : ℕ} {l : List ℕ} → leaving g t ≡ x
+    → (r ≡ reachedPaper (g .answer) .number) × (l ≡ grownInto g out) → telling r l (t ∷ []) ≡ grownWith x out
+grown-told out e p = told p ∙ ap (λ (y : Leaving Grown). grownWith y out) e
 
 pub stored-leaves : {s : Stored} {t : List ℕ} {x : Leaving Stored} {r : ℕ} → leaving s t ≡ x → r ≡ storedCode s → leaving r t ≡ storedWith x
 stored-leaves {s} {t} p q = ap (λ (k : ℕ). leaving k t) q ∙ ap storedWith p

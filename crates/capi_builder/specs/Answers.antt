@@ -1,15 +1,15 @@
 -- How the builder's answers are passed: by numbers, as those of a factor are.
 use Prim.Native.Nat.{ℕ}
-use mathlib.Core.List.{List}
+use mathlib.Core.List.{List, [], _∷_}
 use Rattle.egg.specs.declared.Reached.{Reached}
 use Rattle.egg.specs.Table.{putAt}
-use Rattle.egg.specs.Factor.{reachedPaper}
+use Rattle.egg.specs.Factor.{verdictPaper, reachedPaper}
 use Rattle.builder.specs.declared.Begun.{Begun}
 use Rattle.builder.specs.declared.Grown.{Grown}
 use Rattle.builder.specs.declared.Stored.{Stored}
 use Rattle.builder.specs.declared.Stored.the-variants as stored
 use Rattle.builder.specs.Calls.{Leaving, leaving}
-use Rattle.capi_values.specs.Bridge.{refusalCode, papered, madeInto}
+use Rattle.capi_values.specs.Bridge.{refusalCode, papered, madeInto, Telling, telling}
 
 -- One number for a stored step, which "says whether the place was new": 1 or 0, or the refusal's.
 abbrev pub storedCode : Stored → ℕ
@@ -29,17 +29,13 @@ begunInto b out = madeInto (record { answer = b .answer; factor = b .builder .0 
 unfoldable pub grownInto : Grown → List ℕ → List ℕ
 grownInto g out = putAt (reachedInto (g .answer) out) 4 (g .builder .0 .elements)
 
--- What the two lent lists of a builder's call hold: the table, and the answer's.
-pub data Answered : Type 0 where
-  holds : List ℕ → List ℕ → Answered
+-- What `begin` leaves: its number, its answer in `out`, and the table.
+abbrev pub begunWith : Leaving Begun → List ℕ → Telling
+begunWith (leaving b t) out = telling (verdictPaper (b .answer) .number) (begunInto b out) (t ∷ [])
 
--- The same after `begin`.
-abbrev pub begunWith : Leaving Begun → List ℕ → Answered
-begunWith (leaving b t) out = Answered.holds t (begunInto b out)
-
--- The same after `add_successor`.
-abbrev pub grownWith : Leaving Grown → List ℕ → Answered
-grownWith (leaving g t) out = Answered.holds t (grownInto g out)
+-- The same of `add_successor`; its number is 0 where it has made an element.
+abbrev pub grownWith : Leaving Grown → List ℕ → Telling
+grownWith (leaving g t) out = telling (reachedPaper (g .answer) .number) (grownInto g out) (t ∷ [])
 
 -- The one number of a stored step, and what the table holds.
 abbrev pub storedWith : Leaving Stored → Leaving ℕ

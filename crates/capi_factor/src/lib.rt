@@ -1,11 +1,12 @@
 // The questions about a factor as C functions on slices and numbers; compose is in `capi_factor_compose`, words are in `capi_factor_words`. A handle
 // is its four numbers. A question's answer is one number: the element or the count, or a refusal's number times 2^32 and its first place. Where all
-// three places matter the answer is written into a lent list.
+// three places matter the answer is written into a lent list, and its number is handed back.
 ghost use mathlib.Core.Path.{_≡_};
+ghost use mathlib.Core.List.{[]};
 ghost use Rattle.egg.specs.Factor.{stepAnswer};
 ghost use Rattle.factor.specs.Questions.{inverseAnswer, conjugateAnswer, generatorAnswer, countAnswer};
 ghost use Rattle.factor.specs.Relations.{checkAnswer};
-ghost use Rattle.capi_values.specs.Bridge.{handle, reachedCode, countedCode, paperInto};
+ghost use Rattle.capi_values.specs.Bridge.{handle, reachedCode, countedCode, telling, inOut, judged};
 use capi_values::inner::counted_code;
 use capi_values::inner::factor_of;
 use capi_values::inner::reached_code;
@@ -87,8 +88,9 @@ pub extern "C" fn hg_inverse(
     reached_code(factor::inverse(table, factor_of(start, room, n, count), GroupElementId(a)))
 }
 
-// Checks the factor against pair orders and writes the verdict into out. Refuses in this order: 17 for a handle that does not fit, 2 for a list of
-// the wrong length, 3 for the first order out of range, then 13 for a relation that fails or 17 for a number read that is out of range, as met.
+// Checks the factor against pair orders and writes the verdict into out. Refuses in this order: 4 for an out shorter than 4, 17 for a handle that
+// does not fit, 2 for a list of the wrong length, 3 for the first order out of range, then 13 for a relation that fails or 17 for a number read that
+// is out of range, as met.
 #[no_mangle]
 pub extern "C" fn hg_check(
     table: &[u32],
@@ -98,9 +100,12 @@ pub extern "C" fn hg_check(
     count: u32,
     orders: &[u32],
     out: &mut [u32],
-)
-    ensures { λ r. ⌜ now (out .exit) ≡ paperInto (checkAnswer (now (table .entry)) (handle start room n count) (now (orders .entry))) (now (out .entry)) ⌝ }
+) -> u32
+    ensures { λ r. ⌜ telling r (now (out .exit)) [] ≡ inOut 4 (now (out .entry)) [] (judged (checkAnswer (now (table .entry)) (handle start room n count) (now (orders .entry))) (now (out .entry))) ⌝ }
 {
+    if out.len() < 4 {
+        return 4;
+    }
     let v = factor::check(table, factor_of(start, room, n, count), orders);
-    write_verdict(out, v);
+    write_verdict(out, v)
 }

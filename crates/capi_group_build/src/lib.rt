@@ -1,28 +1,31 @@
 // C functions that make a product, flatten it, and give its elements as digits and as words. A product is a list of handles and a count, and answers
 // are numbers, as in `capi_group`.
 ghost use mathlib.Core.Path.{_≡_};
+ghost use mathlib.Core.List.{[], _∷_};
 ghost use lib.ListN.{length};
-ghost use Rattle.capi_values.specs.Bridge.{reachedCode, countedCode, Bridged, bridged};
+ghost use Rattle.capi_values.specs.Bridge.{reachedCode, countedCode, telling, inOut, bridged};
+ghost use Rattle.egg.specs.Factor.{verdictPaper};
 ghost use Rattle.group_handles.specs.Handles.{joins};
 ghost use Rattle.group.specs.Questions.{splitAnswer, splitLeaves, joinAnswer, lengthAnswer, writeAnswer, written};
 ghost use Rattle.group_flatten.specs.Flat.{flat};
 ghost use Rattle.capi_handles.specs.Product.{productOf};
-ghost use Rattle.capi_group_build.specs.Product.{groupedInto};
+ghost use Rattle.capi_group_build.specs.Product.{groupedInto, grouped};
 use egg::GroupElementId;
 use group_handles::Grouped;
 
-// Writes the verdict, and after it how many factors the product has.
-fn write_grouped(out: &mut [u32], g: Grouped)
-    ensures { λ x. ⌜ now (out .exit) ≡ groupedInto g (now (out .entry)) ⌝ }
+// Writes the verdict, and after it how many factors the product has. Hands the verdict's number back.
+fn write_grouped(out: &mut [u32], g: Grouped) -> u32
+    ensures { λ x. ⌜ (x ≡ verdictPaper (g .answer) .number) × (now (out .exit) ≡ groupedInto g (now (out .entry))) ⌝ }
 {
     let v = g.answer;
     let p = g.group;
-    capi_values::inner::write_verdict(out, v);
+    let number = capi_values::inner::write_verdict(out, v);
     egg::inner::put(out, 4, p.count as usize);
+    number
 }
 
 // Writes the verdict on the product of two into out, and how many factors it has: those of the first and then those of the second. Refuses in this
-// order: 17 for a handle that does not fit, 15 for more than 8 factors or more than 4,294,967,295 elements.
+// order: 4 for an out shorter than 5, 17 for a handle that does not fit, 15 for more than 8 factors or more than 4,294,967,295 elements.
 #[no_mangle]
 pub extern "C" fn hg_product(
     table: &[u32],
@@ -31,13 +34,16 @@ pub extern "C" fn hg_product(
     second: &[u32],
     m: u8,
     out: &mut [u32],
-)
-    ensures { λ x. ⌜ now (out .exit) ≡ groupedInto (joins (length (now (table .entry))) (productOf (now (first .entry)) k) (productOf (now (second .entry)) m)) (now (out .entry)) ⌝ }
+) -> u32
+    ensures { λ r. ⌜ telling r (now (out .exit)) [] ≡ inOut 5 (now (out .entry)) [] (grouped (joins (length (now (table .entry))) (productOf (now (first .entry)) k) (productOf (now (second .entry)) m)) (now (out .entry))) ⌝ }
 {
+    if out.len() < 5 {
+        return 4;
+    }
     let a = capi_handles::inner::product_of(first, k);
     let b = capi_handles::inner::product_of(second, m);
     let p = group::product(table, a, b);
-    write_grouped(out, p);
+    write_grouped(out, p)
 }
 
 // Answers how long the word of e is. Refuses in this order: 17 for a handle that does not fit, 14 for an element out of range, 15 for a product too
@@ -92,8 +98,9 @@ pub extern "C" fn hg_product_word(
     capi_values::inner::counted_code(group::write_word(table, g, GroupElementId(e), out))
 }
 
-// Builds one factor that is the product, with its numbers. Refuses in this order: 17 for a handle that does not fit, 15 for a product too large, 1
-// for more than 8 generators, 4 for a room out of range or a short buffer; then as hg_composed does, and with 17 a number read that is out of range.
+// Builds one factor that is the product, with its numbers. Refuses in this order: 4 for an out shorter than 5, 17 for a handle that does not fit, 15
+// for a product too large, 1 for more than 8 generators, 4 for a room out of range or a short buffer; then as hg_composed does while it reads and
+// after it, and with 17 a number read that is out of range.
 #[no_mangle]
 pub extern "C" fn hg_product_flatten(
     from: &[u32],
@@ -104,10 +111,13 @@ pub extern "C" fn hg_product_flatten(
     work: &mut [u32],
     room: u32,
     out: &mut [u32],
-)
-    ensures { λ x. ⌜ Bridged.holds (now (table .exit)) (now (work .exit)) (now (out .exit)) ≡ bridged (flat (now (from .entry)) (productOf (now (handles .entry)) count) (now (table .entry)) start (now (work .entry)) room) (now (out .entry)) ⌝ }
+) -> u32
+    ensures { λ r. ⌜ telling r (now (out .exit)) (now (table .exit) ∷ now (work .exit) ∷ []) ≡ inOut 5 (now (out .entry)) (now (table .entry) ∷ now (work .entry) ∷ []) (bridged (flat (now (from .entry)) (productOf (now (handles .entry)) count) (now (table .entry)) start (now (work .entry)) room) (now (out .entry))) ⌝ }
 {
+    if out.len() < 5 {
+        return 4;
+    }
     let g = capi_handles::inner::product_of(handles, count);
     let m = group::flatten(from, g, table, start, work, room);
-    capi_values::inner::write_made(out, m);
+    capi_values::inner::write_made(out, m)
 }

@@ -7,22 +7,10 @@ ghost use Rattle.image.specs.Checked.{imageNeed};
 ghost use Rattle.image.specs.Walked.{walkNumber};
 ghost use Rattle.image.specs.Written.{writeCount, writtenImage};
 ghost use Rattle.image.specs.Read.{readImage};
-ghost use Rattle.capi_values.specs.Bridge.{handle, countedCode, Bridged, bridged, telling, inOut};
-ghost use Rattle.egg.specs.Factor.{verdictPaper};
+ghost use Rattle.capi_values.specs.Bridge.{handle, countedCode, telling, inOut, bridged};
 ghost use Rattle.capi_image.specs.Verdict.{checkedInto};
 use capi_values::inner;
 use egg::GroupElementId;
-use egg::Verdict;
-
-// The number of a verdict's refusal, or 0.
-fn number(v: Verdict) -> u32
-    ensures { λ r. ⌜ r ≡ verdictPaper v .number ⌝ }
-{
-    match v {
-        Verdict::Fine => 0,
-        Verdict::Refused(why) => why.number,
-    }
-}
 
 // Checks an image in lent bytes and answers the refusal's number, or 0. Refuses in this order: 16 or 1 for the head, 4 for short work, 7, 5 or 6
 // while it reads, 16 for fewer elements than the head says, then 8 to 12.
@@ -52,8 +40,7 @@ pub extern "C" fn hg_image_verdict(image: &[u8], work: &mut [u8], out: &mut [u32
         return 4;
     }
     let v = image::verdict(image, work);
-    inner::write_verdict(out, v);
-    number(v)
+    inner::write_verdict(out, v)
 }
 
 // Walks a word of generators from an element and answers the element reached, or 65,536 + the refusal's number. Refuses in this order: 16 or 1 for
@@ -82,7 +69,8 @@ pub extern "C" fn hg_image_write(
     inner::counted_code(image::write(table, f, out))
 }
 
-// Builds the factor that an image stores. Refuses as hg_image_check does, with the places; 4 is for a short table or work.
+// Builds the factor that an image stores. Refuses with 4 an out shorter than 5; then as hg_image_check does, with the places, where 4 is for a short
+// table or work.
 #[no_mangle]
 pub extern "C" fn hg_image_read(
     bytes: &[u8],
@@ -90,9 +78,12 @@ pub extern "C" fn hg_image_read(
     start: usize,
     work: &mut [u32],
     out: &mut [u32],
-)
-    ensures { λ x. ⌜ Bridged.holds (now (table .exit)) (now (work .exit)) (now (out .exit)) ≡ bridged (readImage (now (bytes .entry)) (now (table .entry)) start (now (work .entry))) (now (out .entry)) ⌝ }
+) -> u32
+    ensures { λ r. ⌜ telling r (now (out .exit)) (now (table .exit) ∷ now (work .exit) ∷ []) ≡ inOut 5 (now (out .entry)) (now (table .entry) ∷ now (work .entry) ∷ []) (bridged (readImage (now (bytes .entry)) (now (table .entry)) start (now (work .entry))) (now (out .entry))) ⌝ }
 {
+    if out.len() < 5 {
+        return 4;
+    }
     let m = image::read(bytes, table, start, work);
-    inner::write_made(out, m);
+    inner::write_made(out, m)
 }

@@ -2,13 +2,14 @@
 use Prim.Native.Nat.{ℕ, _≤_, _<_}
 use mathlib.Core.Path.{_≡_, refl, ap, _∙_, subst}
 use mathlib.Core.Bool.{Bool}
-use mathlib.Core.List.{List}
+use mathlib.Core.List.{List, [], _∷_}
 use native.Mathlib.Omega.{arith}
 use lib.ListN.{getD}
 use Rattle.egg.specs.declared.Factor.{Factor}
-use Rattle.egg.specs.Factor.{fitsIn}
+use Rattle.egg.specs.Factor.{fitsIn, verdictPaper}
 use Rattle.egg.specs.Table.{putAt}
-use Rattle.capi_values.specs.Bridge.{madeInto}
+use Rattle.capi_values.specs.Bridge.{madeInto, telling}
+use Rattle.capi_values.proofs.Laws.{told}
 use Rattle.subgroup_build.specs.declared.Subgrouped.{Subgrouped}
 use Rattle.subgroup_build.specs.Lent.{Subgrouping, subgrouping}
 use Rattle.subgroup.specs.declared.inner.Outline.{Outline}
@@ -19,11 +20,11 @@ use Rattle.subgroup.proofs.Outlines.{outline-is}
 use Rattle.group_handles.specs.declared.inner.Seen.{Seen}
 use Rattle.group_handles.specs.Handles.{handles, seen}
 use Rattle.capi_handles.specs.Product.{byteOf, handleAt, productAt}
-use Rattle.capi_subgroup.specs.Subgroup.{subgroupFrom, subgroupedInto, Bridged, holds, bridged}
+use Rattle.capi_subgroup.specs.Subgroup.{subgroupFrom, subgroupedInto, bridged}
 
-pub subgroup-holds : {m : Subgrouped} {t w i o : List ℕ} {x : Subgrouping} (out : List ℕ) {l : List ℕ} → subgrouping m t w i o ≡ x → l ≡ subgroupedInto m out
-    → holds t w i o l ≡ bridged x out
-subgroup-holds {m} {t} {w} {i} {o} out p q = ap (holds t w i o) q ∙ ap (λ (y : Subgrouping). bridged y out) p
+pub subgroup-told : {m : Subgrouped} {t w i o : List ℕ} {x : Subgrouping} (out : List ℕ) {r : ℕ} {l : List ℕ} → subgrouping m t w i o ≡ x
+    → (r ≡ verdictPaper (m .answer) .number) × (l ≡ subgroupedInto m out) → telling r l (t ∷ w ∷ i ∷ o ∷ []) ≡ bridged x out
+subgroup-told out e p = told p ∙ ap (λ (y : Subgrouping). bridged y out) e
 
 pub subgrouped-written : (m : Subgrouped) (l : List ℕ) {l₁ l₂ : List ℕ} → l₁ ≡ madeInto (record { answer = m .answer; factor = m .subgroup .factor }) l
     → l₂ ≡ putAt l₁ 5 (m .subgroup .factor .generators) → l₂ ≡ subgroupedInto m l

@@ -1,9 +1,10 @@
 -- This file defines how a C caller passes a subgroup, as 128 numbers in a lent list, and how it gets answers about one.
 use Prim.Native.Nat.{ℕ}
-use mathlib.Core.List.{List}
+use mathlib.Core.List.{List, [], _∷_}
 use lib.ListN.{getD}
 use Rattle.egg.specs.Table.{putAt}
-use Rattle.capi_values.specs.Bridge.{refusalCode, madeInto}
+use Rattle.egg.specs.Factor.{verdictPaper}
+use Rattle.capi_values.specs.Bridge.{refusalCode, madeInto, Telling, telling}
 use Rattle.capi_handles.specs.Product.{byteOf, handleAt, productAt}
 use Rattle.subgroup_build.specs.declared.Subgroup.{Subgroup}
 use Rattle.subgroup_build.specs.declared.Subgrouped.{Subgrouped}
@@ -31,10 +32,6 @@ withinCode (within.Refused r) = refusalCode r
 unfoldable pub subgroupedInto : Subgrouped → List ℕ → List ℕ
 subgroupedInto m out = putAt (madeInto (record { answer = m .answer; factor = m .subgroup .factor }) out) 5 (m .subgroup .factor .generators)
 
--- What the five lent lists hold after a call: table, work, both maps, and the answer's.
-pub data Bridged : Type 0 where
-  holds : List ℕ → List ℕ → List ℕ → List ℕ → List ℕ → Bridged
-
--- The same for what was made, with its answer written into the list `out`.
-abbrev pub bridged : Subgrouping → List ℕ → Bridged
-bridged (subgrouping m t w i o) out = holds t w i o (subgroupedInto m out)
+-- What was made: its number, its verdict and counts in `out`, and the table, the work and both maps.
+abbrev pub bridged : Subgrouping → List ℕ → Telling
+bridged (subgrouping m t w i o) out = telling (verdictPaper (m .answer) .number) (subgroupedInto m out) (t ∷ w ∷ i ∷ o ∷ [])

@@ -2,8 +2,10 @@
 // factor, how many factors are below, over and above, and their handles. A handle that is not wholly in the list is no factor, which fits no buffer
 // (17); a count that is missing is 0.
 ghost use mathlib.Core.Path.{_≡_};
+ghost use mathlib.Core.List.{[], _∷_};
 ghost use lib.ListN.{length, getD};
-ghost use Rattle.capi_values.specs.Bridge.{reachedCode, countedCode, paperInto};
+ghost use Rattle.egg.specs.Factor.{verdictPaper};
+ghost use Rattle.capi_values.specs.Bridge.{reachedCode, countedCode, telling, inOut, judged};
 ghost use Rattle.capi_handles.specs.Product.{byteOf, productOf, productAt};
 ghost use Rattle.group_handles.specs.Handles.{handles, seen};
 ghost use Rattle.subgroup.specs.Outline.{outlineOf, Measured};
@@ -11,7 +13,7 @@ ghost use Rattle.subgroup_build.specs.Generated.{fromGenerators};
 ghost use Rattle.subgroup_predicate.specs.Predicate.{fromPredicate};
 ghost use Rattle.subgroup_sides.specs.Sides.{leftProduct, rightProduct};
 ghost use Rattle.subgroup.specs.Questions.{toOverAnswer, toSubAnswer, generatorAnswer, generatorCountAnswer};
-ghost use Rattle.capi_subgroup.specs.Subgroup.{subgroupFrom, withinCode, subgroupedInto, Bridged, bridged};
+ghost use Rattle.capi_subgroup.specs.Subgroup.{subgroupFrom, withinCode, subgroupedInto, bridged};
 use egg::GeneratorId;
 use egg::GroupElementId;
 use egg::Made;
@@ -71,20 +73,21 @@ fn within_code(r: Within) -> u64
     }
 }
 
-// Writes the verdict, the element count and how many generators the subgroup has.
-fn write_subgrouped(out: &mut [u32], m: Subgrouped)
-    ensures { λ x. ⌜ now (out .exit) ≡ subgroupedInto m (now (out .entry)) ⌝ }
+// Writes the verdict, the element count and how many generators the subgroup has. Hands the verdict's number back.
+fn write_subgrouped(out: &mut [u32], m: Subgrouped) -> u32
+    ensures { λ x. ⌜ (x ≡ verdictPaper (m .answer) .number) × (now (out .exit) ≡ subgroupedInto m (now (out .entry))) ⌝ }
 {
     let answer = m.answer;
     let s = m.subgroup;
     let factor = s.factor;
-    capi_values::inner::write_made(out, Made { answer, factor });
+    let number = capi_values::inner::write_made(out, Made { answer, factor });
     egg::inner::put(out, 5, factor.generators as usize);
+    number
 }
 
-// Builds the subgroup that the elements gens of a product generate; inn maps the overgroup to it, outw back. Refuses in this order: 17 for a handle
-// that does not fit, 14 for the first entry that is no element, 15 for an overgroup too large to number, 1 for more than 8 generators, 4 for a room
-// out of range or a short buffer, 17, 5 or 6 while it numbers, then 8 to 12.
+// Builds the subgroup that the elements gens of a product generate; inn maps the overgroup to it, outw back. Refuses in this order: 4 for an out
+// shorter than 6, 17 for a handle that does not fit, 14 for the first entry that is no element, 15 for an overgroup too large to number, 1 for more
+// than 8 generators, 4 for a room out of range or a short buffer, 17, 5 or 6 while it numbers, then 8 to 12.
 #[no_mangle]
 pub extern "C" fn hg_subgroup(
     from: &[u32],
@@ -98,17 +101,20 @@ pub extern "C" fn hg_subgroup(
     outw: &mut [u32],
     room: u32,
     out: &mut [u32],
-)
-    ensures { λ x. ⌜ Bridged.holds (now (table .exit)) (now (work .exit)) (now (inn .exit)) (now (outw .exit)) (now (out .exit)) ≡ bridged (fromGenerators (now (from .entry)) (productOf (now (handles .entry)) count) (now (gens .entry)) (now (table .entry)) start (now (work .entry)) (now (inn .entry)) (now (outw .entry)) room) (now (out .entry)) ⌝ }
+) -> u32
+    ensures { λ r. ⌜ telling r (now (out .exit)) (now (table .exit) ∷ now (work .exit) ∷ now (inn .exit) ∷ now (outw .exit) ∷ []) ≡ inOut 6 (now (out .entry)) (now (table .entry) ∷ now (work .entry) ∷ now (inn .entry) ∷ now (outw .entry) ∷ []) (bridged (fromGenerators (now (from .entry)) (productOf (now (handles .entry)) count) (now (gens .entry)) (now (table .entry)) start (now (work .entry)) (now (inn .entry)) (now (outw .entry)) room) (now (out .entry))) ⌝ }
 {
+    if out.len() < 6 {
+        return 4;
+    }
     let over = capi_handles::inner::product_of(handles, count);
     let m = subgroup::from_generators(from, over, gens, table, start, work, inn, outw, room);
-    write_subgrouped(out, m);
+    write_subgrouped(out, m)
 }
 
 // Builds the subgroup of a byte for each element of the product, not 0 for a member; table and work are lent as for eight generators. Refuses in this
-// order: 17 for a handle that does not fit, 15 for an overgroup too large to number, 4 for a room out of range, a short buffer or too few bytes; then
-// the first refusal of a build, or 15 for a ninth generator.
+// order: 4 for an out shorter than 6, 17 for a handle that does not fit, 15 for an overgroup too large to number, 4 for a room out of range, a short
+// buffer or too few bytes; then the first refusal of a build, or 15 for a ninth generator.
 #[no_mangle]
 pub extern "C" fn hg_subgroup_predicate(
     from: &[u32],
@@ -122,12 +128,15 @@ pub extern "C" fn hg_subgroup_predicate(
     outw: &mut [u32],
     room: u32,
     out: &mut [u32],
-)
-    ensures { λ x. ⌜ Bridged.holds (now (table .exit)) (now (work .exit)) (now (inn .exit)) (now (outw .exit)) (now (out .exit)) ≡ bridged (fromPredicate (now (from .entry)) (productOf (now (handles .entry)) count) (now (members .entry)) (now (table .entry)) start (now (work .entry)) (now (inn .entry)) (now (outw .entry)) room) (now (out .entry)) ⌝ }
+) -> u32
+    ensures { λ r. ⌜ telling r (now (out .exit)) (now (table .exit) ∷ now (work .exit) ∷ now (inn .exit) ∷ now (outw .exit) ∷ []) ≡ inOut 6 (now (out .entry)) (now (table .entry) ∷ now (work .entry) ∷ now (inn .entry) ∷ now (outw .entry) ∷ []) (bridged (fromPredicate (now (from .entry)) (productOf (now (handles .entry)) count) (now (members .entry)) (now (table .entry)) start (now (work .entry)) (now (inn .entry)) (now (outw .entry)) room) (now (out .entry))) ⌝ }
 {
+    if out.len() < 6 {
+        return 4;
+    }
     let over = capi_handles::inner::product_of(handles, count);
     let m = subgroup::from_predicate(from, over, members, table, start, work, inn, outw, room);
-    write_subgrouped(out, m);
+    write_subgrouped(out, m)
 }
 
 // Answers the element of the overgroup that the subgroup's e is. Refuses in this order: 17 for a handle that does not fit or a short map, 14 for an
@@ -188,7 +197,7 @@ pub extern "C" fn hg_subgroup_generators(from: &[u32], table: &[u32], sub: &[u32
 }
 
 // Writes into out whether a subgroup can have a product's factors below it: then these go in front of those that it has below. Refuses in this order:
-// 17 for a handle that does not fit, 15 for more than 8 factors or too many elements on a side.
+// 4 for an out shorter than 4, 17 for a handle that does not fit, 15 for more than 8 factors or too many elements on a side.
 #[no_mangle]
 pub extern "C" fn hg_subgroup_left(
     from: &[u32],
@@ -197,14 +206,17 @@ pub extern "C" fn hg_subgroup_left(
     count: u8,
     sub: &[u32],
     out: &mut [u32],
-)
-    ensures { λ x. ⌜ now (out .exit) ≡ paperInto (leftProduct (length (now (from .entry))) (length (now (table .entry))) (productOf (now (handles .entry)) count) (subgroupFrom (now (sub .entry))) .answer) (now (out .entry)) ⌝ }
+) -> u32
+    ensures { λ r. ⌜ telling r (now (out .exit)) [] ≡ inOut 4 (now (out .entry)) [] (judged (leftProduct (length (now (from .entry))) (length (now (table .entry))) (productOf (now (handles .entry)) count) (subgroupFrom (now (sub .entry))) .answer) (now (out .entry))) ⌝ }
 {
+    if out.len() < 4 {
+        return 4;
+    }
     let g = capi_handles::inner::product_of(handles, count);
     let s = subgroup_from(sub);
     let m = subgroup::product_left(from, table, g, s);
     let v = m.answer;
-    capi_values::inner::write_verdict(out, v);
+    capi_values::inner::write_verdict(out, v)
 }
 
 // Writes into out whether a subgroup can have a product's factors above it: then these go behind those that it has above. Refuses as hg_subgroup_left
@@ -217,12 +229,15 @@ pub extern "C" fn hg_subgroup_right(
     handles: &[u32],
     count: u8,
     out: &mut [u32],
-)
-    ensures { λ x. ⌜ now (out .exit) ≡ paperInto (rightProduct (length (now (from .entry))) (length (now (table .entry))) (subgroupFrom (now (sub .entry))) (productOf (now (handles .entry)) count) .answer) (now (out .entry)) ⌝ }
+) -> u32
+    ensures { λ r. ⌜ telling r (now (out .exit)) [] ≡ inOut 4 (now (out .entry)) [] (judged (rightProduct (length (now (from .entry))) (length (now (table .entry))) (subgroupFrom (now (sub .entry))) (productOf (now (handles .entry)) count) .answer) (now (out .entry))) ⌝ }
 {
+    if out.len() < 4 {
+        return 4;
+    }
     let g = capi_handles::inner::product_of(handles, count);
     let s = subgroup_from(sub);
     let m = subgroup::product_right(from, table, s, g);
     let v = m.answer;
-    capi_values::inner::write_verdict(out, v);
+    capi_values::inner::write_verdict(out, v)
 }

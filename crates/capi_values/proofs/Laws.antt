@@ -1,7 +1,7 @@
--- What a list holds after the stores of an answer.
+-- What a list holds after the stores of an answer, and what a function leaves by the length of `out`.
 use Prim.Native.Nat.{ℕ, _<_, _≤_}
 use mathlib.Core.Path.{_≡_, ap, _∙_}
-use mathlib.Core.List.{List}
+use mathlib.Core.List.{List, [], _∷_}
 use borrow.Author.Tests.{lt-ltb, le-ltb}
 use lib.ListN.{length}
 use Rattle.egg.specs.declared.Refusal.{Refusal}
@@ -9,8 +9,9 @@ use Rattle.egg.specs.declared.Made.{Made}
 use Rattle.egg.specs.declared.Verdict.{Verdict}
 use Rattle.egg.specs.declared.Verdict.the-variants.{Fine, Refused}
 use Rattle.egg.specs.Table.{putAt}
+use Rattle.egg.specs.Factor.{verdictPaper}
 use Rattle.build_lending.specs.Lending.{Making, making}
-use Rattle.capi_values.specs.Bridge.{paperInto, madeInto, Bridged, bridged, Telling, telling, inOut}
+use Rattle.capi_values.specs.Bridge.{paperInto, madeInto, Telling, telling, inOut, judged, bridged}
 
 -- Four stores, one after the other.
 pub stored-four : (l : List ℕ) (a b c d : ℕ) {l₁ l₂ l₃ l₄ : List ℕ} → l₁ ≡ putAt l 0 a → l₂ ≡ putAt l₁ 1 b → l₃ ≡ putAt l₂ 2 c → l₄ ≡ putAt l₃ 3 d
@@ -31,12 +32,16 @@ pub made-written : (m : Made) (l : List ℕ) {l₁ l₂ : List ℕ} → l₁ ≡
 unfolding madeInto
 made-written m l p q = q ∙ rw p
 
-pub bridge-holds : {m : Made} {t w : List ℕ} {x : Making} (out : List ℕ) {l : List ℕ} → making m t w ≡ x → l ≡ madeInto m out → Bridged.holds t w l ≡ bridged x out
-bridge-holds {m} {t} {w} out p q = ap (Bridged.holds t w) q ∙ ap (λ (y : Making). bridged y out) p
-
 -- The number returned and the list written, and the other lists as the call leaves them.
 pub told : {n r : ℕ} {o l : List ℕ} {lent : List (List ℕ)} → (r ≡ n) × (l ≡ o) → telling r l lent ≡ telling n o lent
 told (p, q) = rw (p, q)
+
+pub judged-told : {v w : Verdict} (out : List ℕ) {r : ℕ} {l : List ℕ} → v ≡ w → (r ≡ verdictPaper v .number) × (l ≡ paperInto v out) → telling r l [] ≡ judged w out
+judged-told out e p = told p ∙ ap (λ (x : Verdict). judged x out) e
+
+pub bridge-told : {m : Made} {t w : List ℕ} {x : Making} (out : List ℕ) {r : ℕ} {l : List ℕ} → making m t w ≡ x
+    → (r ≡ verdictPaper (m .answer) .number) × (l ≡ madeInto m out) → telling r l (t ∷ w ∷ []) ≡ bridged x out
+bridge-told out e p = told p ∙ ap (λ (x : Making). bridged x out) e
 
 -- Where `out` is long enough, what the function does is what it leaves; else it returns 4 and leaves every list as it was.
 module _ (k : ℕ) (out : List ℕ) (lent : List (List ℕ)) (done : Telling) where

@@ -1,7 +1,6 @@
--- This file defines how handles and answers are passed between a C caller and the calls: by numbers, alone or in a lent list `out`. What does not fit
--- the list is dropped.
+-- This file defines how handles and answers are passed between a C caller and the calls: by numbers, alone or in a lent list `out`.
 use Prim.Native.Nat.{ℕ, _+_, _*_}
-use mathlib.Core.List.{List}
+use mathlib.Core.List.{List, [], _∷_}
 use lib.ListN.{length, getD}
 use lib.Dec.{ltb}
 use Rattle.egg.specs.declared.Refusal.{Refusal}
@@ -50,14 +49,6 @@ paperInto v out = papered (verdictPaper v) out
 unfoldable pub madeInto : Made → List ℕ → List ℕ
 madeInto m out = putAt (paperInto (m .answer) out) 4 (m .factor .elements)
 
--- What the three lent lists hold after a build: table, work, and the answer's.
-pub data Bridged : Type 0 where
-  holds : List ℕ → List ℕ → List ℕ → Bridged
-
--- The same for what was made, with its answer written into the list `out`.
-abbrev pub bridged : Making → List ℕ → Bridged
-bridged (making m t w) out = Bridged.holds t w (madeInto m out)
-
 -- What a C function leaves that writes its verdict into `out`: the number that it returns, 0 where nothing is refused; what `out` holds; and what the
 -- other lists hold that it may write, in the order of its parameters.
 pub data Telling : Type 0 where
@@ -67,3 +58,11 @@ pub data Telling : Type 0 where
 -- since no other answer could be given whole, and no list is touched. Else it is what the function does.
 unfoldable pub inOut : ℕ → List ℕ → List (List ℕ) → Telling → Telling
 inOut k out lent done = pick (ltb (length out) k) (telling 4 out lent) done
+
+-- A verdict alone, of a function that writes nothing but `out`.
+abbrev pub judged : Verdict → List ℕ → Telling
+judged v out = telling (verdictPaper v .number) (paperInto v out) []
+
+-- What was made: its verdict and count, and the table and the work.
+abbrev pub bridged : Making → List ℕ → Telling
+bridged (making m t w) out = telling (verdictPaper (m .answer) .number) (madeInto m out) (t ∷ w ∷ [])

@@ -1,6 +1,7 @@
 // Turns handles and answers into numbers, for the crates that export the calls as C functions.
 ghost use mathlib.Core.Path.{_≡_};
 ghost use Prim.Native.Nat.{_+_, _*_};
+ghost use Rattle.egg.specs.Factor.{verdictPaper};
 ghost use Rattle.capi_values.specs.Bridge.{handle, reachedCode, countedCode, paperInto, madeInto};
 use egg::Counted;
 use egg::Factor;
@@ -48,19 +49,20 @@ pub fn factor_of(start: usize, room: u32, n: u8, count: u32) -> Factor
     }
 }
 
-// Writes a refusal's number and its three places to the list's first four numbers.
-pub fn write_refusal(out: &mut [u32], r: Refusal)
-    ensures { λ x. ⌜ now (out .exit) ≡ paperInto (Verdict.Refused r) (now (out .entry)) ⌝ }
+// Writes a refusal's number and its three places to the list's first four numbers, and hands the number back.
+pub fn write_refusal(out: &mut [u32], r: Refusal) -> u32
+    ensures { λ x. ⌜ (x ≡ r .number) × (now (out .exit) ≡ paperInto (Verdict.Refused r) (now (out .entry))) ⌝ }
 {
     egg::inner::put(out, 0, r.number as usize);
     egg::inner::put(out, 1, r.a as usize);
     egg::inner::put(out, 2, r.b as usize);
     egg::inner::put(out, 3, r.c as usize);
+    r.number
 }
 
-// Writes the number and the three places of a verdict to the list's first four numbers, which are 0 where it is fine.
-pub fn write_verdict(out: &mut [u32], v: Verdict)
-    ensures { λ x. ⌜ now (out .exit) ≡ paperInto v (now (out .entry)) ⌝ }
+// Writes the number and the three places of a verdict to the list's first four numbers, which are 0 where it is fine, and hands the number back.
+pub fn write_verdict(out: &mut [u32], v: Verdict) -> u32
+    ensures { λ x. ⌜ (x ≡ verdictPaper v .number) × (now (out .exit) ≡ paperInto v (now (out .entry))) ⌝ }
 {
     match v {
         Verdict::Refused(why) => write_refusal(out, why),
@@ -69,16 +71,18 @@ pub fn write_verdict(out: &mut [u32], v: Verdict)
             egg::inner::put(out, 1, 0);
             egg::inner::put(out, 2, 0);
             egg::inner::put(out, 3, 0);
+            0
         }
     }
 }
 
-// Writes the verdict, and the element count after it.
-pub fn write_made(out: &mut [u32], m: Made)
-    ensures { λ x. ⌜ now (out .exit) ≡ madeInto m (now (out .entry)) ⌝ }
+// Writes the verdict, and the element count after it, and hands the verdict's number back.
+pub fn write_made(out: &mut [u32], m: Made) -> u32
+    ensures { λ x. ⌜ (x ≡ verdictPaper (m .answer) .number) × (now (out .exit) ≡ madeInto m (now (out .entry))) ⌝ }
 {
     let v = m.answer;
     let f = m.factor;
-    write_verdict(out, v);
+    let number = write_verdict(out, v);
     egg::inner::put(out, 4, f.elements as usize);
+    number
 }

@@ -31,7 +31,7 @@ fn put_byte(out: &mut [u8], at: usize, b: u8) -> usize
 }
 
 // Stores the bytes of a word.
-fn write_word(out: &mut [u8], at: usize, word: &[u8]) -> usize
+pub fn write_word(out: &mut [u8], at: usize, word: &[u8]) -> usize
     requires { ⌜ EndFits at (now word) ⌝ }
     ensures { λ r. ⌜ Writes (now (out .entry)) at (now (word .entry)) (now (out .exit)) r ⌝ }
 {

@@ -1,2 +1,4 @@
 pub mod Orders
 pub mod Pages
+pub mod Fits
+pub mod Whole

@@ -3,9 +3,12 @@
 use Prim.Native.Nat.{ℕ, zero, suc, _+_, _*_}
 use mathlib.Core.List.{List, [], _∷_}
 use lib.ListN.{length, getD, replicate}
+use lib.Seq.{sets}
 use lib.Dec.{ltb, eqb}
 use Rattle.egg.specs.declared.Verdict.{Verdict}
 use Rattle.egg.specs.declared.Verdict.the-variants as verdict
+use Rattle.egg.specs.declared.Counted.{Counted}
+use Rattle.egg.specs.declared.Counted.the-variants as counted
 use Rattle.egg.specs.Table.{pick}
 use Rattle.egg.specs.Pairs.{pairCount, ordersRight}
 use Rattle.build_lending.specs.Lending.{Making, making}
@@ -46,3 +49,12 @@ listingOf input =
     (pick (eqb (length input) (2 * pairCount (getD input 0 0) + 1))
     (rightPage (ordersRight (ordersIn (pairCount (getD input 0 0)) input 0) (getD input 0 0)) (getD input 0 0) (ordersIn (pairCount (getD input 0 0)) input 0))
     (refusedText 2)))
+
+-- What is answered to a buffer of `size` bytes: how long the page is, or, where the buffer is shorter, "4 | .. a lent buffer short".
+unfoldable pub listingCount : List ℕ → ℕ → Counted
+listingCount input size =
+    pick (ltb size (length (listingOf input))) (counted.Refused (record { number = 4; a = 0; b = 0; c = 0 })) (counted.Count (length (listingOf input)))
+
+-- What the buffer holds afterwards: the whole page from its front on, or, where it is shorter, what it held.
+unfoldable pub listed : List ℕ → List ℕ → List ℕ
+listed input out = pick (ltb (length out) (length (listingOf input))) out (sets out 0 (listingOf input))

@@ -3,7 +3,7 @@
 use Prim.Native.Nat.{ℕ}
 use mathlib.Core.Path.{sym, _∙_, ap}
 use mathlib.Core.List.{List, [], _∷_}
-use Rattle.capi_values.specs.Bridge.{Bridged, telling}
+use Rattle.capi_values.specs.Bridge.{telling}
 use Rattle.capi_factor_build.proofs.hg_composed.Kinds as hg-composed-kinds
 use Rattle.capi_factor_build.proofs.hg_composed.Reads as hg-composed-reads
 use Rattle.capi_factor_build.proofs.hg_enumerate.Kinds as hg-enumerate-kinds
@@ -40,17 +40,17 @@ use Rattle.capi_factor.proofs.hg_check.Kinds as hg-check-kinds
 use Rattle.capi_factor.proofs.hg_check.Reads as hg-check-reads
 use Rattle.promises.specs.Unique.{Unique}
 
--- The functions that make a factor: the table, the work and the list of the answer.
+-- The functions that make a factor: the number, the list of the answer, the table and the work.
 pub hg-composed-unique : Unique 4 hg-composed-kinds.ps hg-composed-kinds.r hg-composed-reads.Post
-    (λ κs a x. Bridged.holds (x .0 .now) (x .1 .1 .0 .now) (x .1 .1 .1 .1 .1 .1 .0 .now))
+    (λ κs a x. telling a (x .1 .1 .1 .1 .1 .1 .0 .now) (x .0 .now ∷ x .1 .1 .0 .now ∷ []))
 hg-composed-unique = λ κs args a b x y p q. p ∙ sym q
 
 pub hg-enumerate-unique : Unique 4 hg-enumerate-kinds.ps hg-enumerate-kinds.r hg-enumerate-reads.Post
-    (λ κs a x. Bridged.holds (x .0 .now) (x .1 .1 .0 .now) (x .1 .1 .1 .1 .1 .1 .0 .now))
+    (λ κs a x. telling a (x .1 .1 .1 .1 .1 .1 .0 .now) (x .0 .now ∷ x .1 .1 .0 .now ∷ []))
 hg-enumerate-unique = λ κs args a b x y p q. p ∙ sym q
 
 pub hg-image-read-unique : Unique 4 hg-image-read-kinds.ps hg-image-read-kinds.r hg-image-read-reads.Post
-    (λ κs a x. Bridged.holds (x .1 .0 .now) (x .1 .1 .1 .0 .now) (x .1 .1 .1 .1 .0 .now))
+    (λ κs a x. telling a (x .1 .1 .1 .1 .0 .now) (x .1 .0 .now ∷ x .1 .1 .1 .0 .now ∷ []))
 hg-image-read-unique = λ κs args a b x y p q. p ∙ sym q
 
 pub hg-image-verdict-unique : Unique 3 hg-image-verdict-kinds.ps hg-image-verdict-kinds.r hg-image-verdict-reads.Post
@@ -96,6 +96,6 @@ pub hg-image-write-unique : Unique 2 hg-image-write-kinds.ps hg-image-write-kind
     {A = ℕ × List ℕ} (λ κs a x. (a, x .1 .1 .1 .1 .1 .0 .now))
 hg-image-write-unique = λ κs args a b x y p q. ap (λ c. (c, x .1 .1 .1 .1 .1 .0 .now)) (p .0 ∙ sym (q .0)) ∙ ap (λ l. (b, l)) (p .1 ∙ sym (q .1))
 
--- The list of the answer: this function hands nothing back.
-pub hg-check-unique : Unique 3 hg-check-kinds.ps hg-check-kinds.r hg-check-reads.Post (λ κs a x. x .1 .1 .1 .1 .1 .1 .0 .now)
+-- The number and the list of the answer: the factor is only read.
+pub hg-check-unique : Unique 3 hg-check-kinds.ps hg-check-kinds.r hg-check-reads.Post (λ κs a x. telling a (x .1 .1 .1 .1 .1 .1 .0 .now) [])
 hg-check-unique = λ κs args a b x y p q. p ∙ sym q

@@ -2,8 +2,8 @@
 -- the values at entry, so two outcomes that meet it are both that.
 use Prim.Native.Nat.{ℕ}
 use mathlib.Core.Path.{sym, _∙_, ap}
-use mathlib.Core.List.{List}
-use Rattle.capi_values.specs.Bridge.{Bridged}
+use mathlib.Core.List.{List, [], _∷_}
+use Rattle.capi_values.specs.Bridge.{telling}
 use Rattle.capi_group_build.proofs.hg_product.Kinds as hg-product-kinds
 use Rattle.capi_group_build.proofs.hg_product.Reads as hg-product-reads
 use Rattle.capi_group.proofs.hg_product_count.Kinds as hg-product-count-kinds
@@ -42,8 +42,8 @@ use Rattle.capi_group_build.proofs.hg_product_flatten.Kinds as hg-product-flatt
 use Rattle.capi_group_build.proofs.hg_product_flatten.Reads as hg-product-flatten-reads
 use Rattle.promises.specs.Unique.{Unique}
 
--- The list of the answer: this function hands nothing back.
-pub hg-product-unique : Unique 4 hg-product-kinds.ps hg-product-kinds.r hg-product-reads.Post (λ κs a x. x .1 .1 .1 .1 .1 .0 .now)
+-- The number and the list of the answer: this function writes nothing else.
+pub hg-product-unique : Unique 4 hg-product-kinds.ps hg-product-kinds.r hg-product-reads.Post (λ κs a x. telling a (x .1 .1 .1 .1 .1 .0 .now) [])
 hg-product-unique = λ κs args a b x y p q. p ∙ sym q
 
 -- The questions, which only read.
@@ -98,7 +98,7 @@ pub hg-product-word-unique : Unique 3 hg-product-word-kinds.ps hg-product-word-k
     {A = ℕ × List ℕ} (λ κs a x. (a, x .1 .1 .1 .1 .0 .now))
 hg-product-word-unique = λ κs args a b x y p q. ap (λ c. (c, x .1 .1 .1 .1 .0 .now)) (p .0 ∙ sym (q .0)) ∙ ap (λ l. (b, l)) (p .1 ∙ sym (q .1))
 
--- The table, the work and the list of the answer; the buffer of the product is only read.
+-- The number, the list of the answer, the table and the work; the buffer of the product is only read.
 pub hg-product-flatten-unique : Unique 5 hg-product-flatten-kinds.ps hg-product-flatten-kinds.r hg-product-flatten-reads.Post
-    (λ κs a x. Bridged.holds (x .1 .1 .1 .0 .now) (x .1 .1 .1 .1 .1 .0 .now) (x .1 .1 .1 .1 .1 .1 .1 .0 .now))
+    (λ κs a x. telling a (x .1 .1 .1 .1 .1 .1 .1 .0 .now) (x .1 .1 .1 .0 .now ∷ x .1 .1 .1 .1 .1 .0 .now ∷ []))
 hg-product-flatten-unique = λ κs args a b x y p q. p ∙ sym q

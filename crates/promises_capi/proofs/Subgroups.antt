@@ -1,7 +1,8 @@
 -- Each C function of a subgroup has one answer and leaves one thing in each lent list, by its own contract. Every contract is an equation with a definition
 -- over the values at entry, so two outcomes that meet it are both that.
 use mathlib.Core.Path.{sym, _∙_}
-use Rattle.capi_subgroup.specs.Subgroup.{Bridged}
+use mathlib.Core.List.{[], _∷_}
+use Rattle.capi_values.specs.Bridge.{telling}
 use Rattle.capi_subgroup.proofs.hg_subgroup.Kinds as hg-subgroup-kinds
 use Rattle.capi_subgroup.proofs.hg_subgroup.Reads as hg-subgroup-reads
 use Rattle.capi_subgroup.proofs.hg_subgroup_predicate.Kinds as hg-subgroup-predicate-kinds
@@ -20,15 +21,15 @@ use Rattle.capi_subgroup.proofs.hg_subgroup_right.Kinds as hg-subgroup-right-ki
 use Rattle.capi_subgroup.proofs.hg_subgroup_right.Reads as hg-subgroup-right-reads
 use Rattle.promises.specs.Unique.{Unique}
 
--- The functions that make a subgroup: the table, the work, both maps and the list of the answer. The overgroup's buffer is only read.
+-- The functions that make a subgroup: the number, the list of the answer, the table, the work and both maps. The overgroup's buffer is only read.
 pub hg-subgroup-unique : Unique 8 hg-subgroup-kinds.ps hg-subgroup-kinds.r hg-subgroup-reads.Post
-    (λ κs a x. Bridged.holds (x .1 .1 .1 .1 .0 .now) (x .1 .1 .1 .1 .1 .1 .0 .now)
-    (x .1 .1 .1 .1 .1 .1 .1 .0 .now) (x .1 .1 .1 .1 .1 .1 .1 .1 .0 .now) (x .1 .1 .1 .1 .1 .1 .1 .1 .1 .1 .0 .now))
+    (λ κs a x. telling a (x .1 .1 .1 .1 .1 .1 .1 .1 .1 .1 .0 .now)
+    (x .1 .1 .1 .1 .0 .now ∷ x .1 .1 .1 .1 .1 .1 .0 .now ∷ x .1 .1 .1 .1 .1 .1 .1 .0 .now ∷ x .1 .1 .1 .1 .1 .1 .1 .1 .0 .now ∷ []))
 hg-subgroup-unique = λ κs args a b x y p q. p ∙ sym q
 
 pub hg-subgroup-predicate-unique : Unique 8 hg-subgroup-predicate-kinds.ps hg-subgroup-predicate-kinds.r hg-subgroup-predicate-reads.Post
-    (λ κs a x. Bridged.holds (x .1 .1 .1 .1 .0 .now) (x .1 .1 .1 .1 .1 .1 .0 .now)
-    (x .1 .1 .1 .1 .1 .1 .1 .0 .now) (x .1 .1 .1 .1 .1 .1 .1 .1 .0 .now) (x .1 .1 .1 .1 .1 .1 .1 .1 .1 .1 .0 .now))
+    (λ κs a x. telling a (x .1 .1 .1 .1 .1 .1 .1 .1 .1 .1 .0 .now)
+    (x .1 .1 .1 .1 .0 .now ∷ x .1 .1 .1 .1 .1 .1 .0 .now ∷ x .1 .1 .1 .1 .1 .1 .1 .0 .now ∷ x .1 .1 .1 .1 .1 .1 .1 .1 .0 .now ∷ []))
 hg-subgroup-predicate-unique = λ κs args a b x y p q. p ∙ sym q
 
 -- The questions, which only read.
@@ -44,9 +45,9 @@ hg-subgroup-generator-unique = λ κs args a b x y p q. p ∙ sym q
 pub hg-subgroup-generators-unique : Unique 3 hg-subgroup-generators-kinds.ps hg-subgroup-generators-kinds.r hg-subgroup-generators-reads.Post (λ κs a x. a)
 hg-subgroup-generators-unique = λ κs args a b x y p q. p ∙ sym q
 
--- The list of the answer: these functions hand nothing back.
-pub hg-subgroup-left-unique : Unique 5 hg-subgroup-left-kinds.ps hg-subgroup-left-kinds.r hg-subgroup-left-reads.Post (λ κs a x. x .1 .1 .1 .1 .1 .0 .now)
+-- The number and the list of the answer: these functions write nothing else.
+pub hg-subgroup-left-unique : Unique 5 hg-subgroup-left-kinds.ps hg-subgroup-left-kinds.r hg-subgroup-left-reads.Post (λ κs a x. telling a (x .1 .1 .1 .1 .1 .0 .now) [])
 hg-subgroup-left-unique = λ κs args a b x y p q. p ∙ sym q
 
-pub hg-subgroup-right-unique : Unique 5 hg-subgroup-right-kinds.ps hg-subgroup-right-kinds.r hg-subgroup-right-reads.Post (λ κs a x. x .1 .1 .1 .1 .1 .0 .now)
+pub hg-subgroup-right-unique : Unique 5 hg-subgroup-right-kinds.ps hg-subgroup-right-kinds.r hg-subgroup-right-reads.Post (λ κs a x. telling a (x .1 .1 .1 .1 .1 .0 .now) [])
 hg-subgroup-right-unique = λ κs args a b x y p q. p ∙ sym q

@@ -108,14 +108,14 @@ type In = *const u32;
 type Out = *mut u32;
 
 unsafe extern "C" {
-    fn hg_composed(t: Out, tn: usize, start: usize, w: Out, wn: usize, r: In, rn: usize, n: u8, room: u32, o: Out, on: usize);
-    fn hg_enumerate(t: Out, tn: usize, start: usize, w: Out, wn: usize, m: In, mn: usize, n: u8, room: u32, o: Out, on: usize);
-    fn hg_begin(t: Out, tn: usize, start: usize, room: u32, n: u8, o: Out, on: usize);
-    fn hg_add(t: Out, tn: usize, start: usize, room: u32, n: u8, count: u32, e: u32, g: u8, o: Out, on: usize);
+    fn hg_composed(t: Out, tn: usize, start: usize, w: Out, wn: usize, r: In, rn: usize, n: u8, room: u32, o: Out, on: usize) -> u32;
+    fn hg_enumerate(t: Out, tn: usize, start: usize, w: Out, wn: usize, m: In, mn: usize, n: u8, room: u32, o: Out, on: usize) -> u32;
+    fn hg_begin(t: Out, tn: usize, start: usize, room: u32, n: u8, o: Out, on: usize) -> u32;
+    fn hg_add(t: Out, tn: usize, start: usize, room: u32, n: u8, count: u32, e: u32, g: u8, o: Out, on: usize) -> u32;
     fn hg_set(t: Out, tn: usize, start: usize, room: u32, n: u8, count: u32, e: u32, g: u8, x: u32) -> u64;
-    fn hg_build(t: Out, tn: usize, start: usize, room: u32, n: u8, count: u32, w: Out, wn: usize, o: Out, on: usize);
+    fn hg_build(t: Out, tn: usize, start: usize, room: u32, n: u8, count: u32, w: Out, wn: usize, o: Out, on: usize) -> u32;
     fn hg_image_write(t: In, tn: usize, start: usize, room: u32, n: u8, count: u32, o: *mut u8, on: usize) -> u64;
-    fn hg_image_read(i: *const u8, len: usize, t: Out, tn: usize, start: usize, w: Out, wn: usize, o: Out, on: usize);
+    fn hg_image_read(i: *const u8, len: usize, t: Out, tn: usize, start: usize, w: Out, wn: usize, o: Out, on: usize) -> u32;
     fn hg_image_check(i: *const u8, len: usize, w: *mut u8, wn: usize) -> u32;
     fn hg_image_need(i: *const u8, len: usize) -> u64;
     fn hg_image_verdict(i: *const u8, len: usize, w: *mut u8, wn: usize, o: Out, on: usize) -> u32;
@@ -132,9 +132,9 @@ unsafe extern "C" {
     fn hg_length(t: In, tn: usize, start: usize, room: u32, n: u8, count: u32, e: u32) -> u64;
     fn hg_word(t: In, tn: usize, start: usize, room: u32, n: u8, count: u32, e: u32, o: *mut u8, on: usize) -> u64;
     fn hg_part(t: In, tn: usize, start: usize, room: u32, n: u8, count: u32, e: u32, k: usize) -> u64;
-    fn hg_check(t: In, tn: usize, start: usize, room: u32, n: u8, count: u32, m: In, mn: usize, o: Out, on: usize);
+    fn hg_check(t: In, tn: usize, start: usize, room: u32, n: u8, count: u32, m: In, mn: usize, o: Out, on: usize) -> u32;
 
-    fn hg_product(t: In, tn: usize, a: In, an: usize, ac: u8, b: In, bn: usize, bc: u8, o: Out, on: usize);
+    fn hg_product(t: In, tn: usize, a: In, an: usize, ac: u8, b: In, bn: usize, bc: u8, o: Out, on: usize) -> u32;
     fn hg_product_count(t: In, tn: usize, h: In, hn: usize, count: u8) -> u64;
     fn hg_product_generators(t: In, tn: usize, h: In, hn: usize, count: u8) -> u64;
     fn hg_product_generator(t: In, tn: usize, h: In, hn: usize, count: u8, g: u8) -> u64;
@@ -166,19 +166,19 @@ unsafe extern "C" {
         room: u32,
         o: Out,
         on: usize,
-    );
+    ) -> u32;
 }
 
 #[rustfmt::skip]
 unsafe extern "C" {
-    fn hg_subgroup(f: In, fl: usize, h: In, hn: usize, count: u8, g: In, gn: usize, t: Out, tn: usize, start: usize, w: Out, wn: usize, i: Out, il: usize, b: Out, bl: usize, room: u32, o: Out, on: usize);
-    fn hg_subgroup_predicate(f: In, fl: usize, h: In, hn: usize, count: u8, m: *const u8, mn: usize, t: Out, tn: usize, start: usize, w: Out, wn: usize, i: Out, il: usize, b: Out, bl: usize, room: u32, o: Out, on: usize);
+    fn hg_subgroup(f: In, fl: usize, h: In, hn: usize, count: u8, g: In, gn: usize, t: Out, tn: usize, start: usize, w: Out, wn: usize, i: Out, il: usize, b: Out, bl: usize, room: u32, o: Out, on: usize) -> u32;
+    fn hg_subgroup_predicate(f: In, fl: usize, h: In, hn: usize, count: u8, m: *const u8, mn: usize, t: Out, tn: usize, start: usize, w: Out, wn: usize, i: Out, il: usize, b: Out, bl: usize, room: u32, o: Out, on: usize) -> u32;
     fn hg_subgroup_over(f: In, fl: usize, t: In, tn: usize, s: In, sn: usize, b: In, bl: usize, e: u32) -> u64;
     fn hg_subgroup_back(f: In, fl: usize, t: In, tn: usize, s: In, sn: usize, i: In, il: usize, x: u32) -> u64;
     fn hg_subgroup_generator(f: In, fl: usize, t: In, tn: usize, s: In, sn: usize, b: In, bl: usize, g: u8) -> u64;
     fn hg_subgroup_generators(f: In, fl: usize, t: In, tn: usize, s: In, sn: usize) -> u64;
-    fn hg_subgroup_left(f: In, fl: usize, t: In, tn: usize, h: In, hn: usize, count: u8, s: In, sn: usize, o: Out, on: usize);
-    fn hg_subgroup_right(f: In, fl: usize, t: In, tn: usize, s: In, sn: usize, h: In, hn: usize, count: u8, o: Out, on: usize);
+    fn hg_subgroup_left(f: In, fl: usize, t: In, tn: usize, h: In, hn: usize, count: u8, s: In, sn: usize, o: Out, on: usize) -> u32;
+    fn hg_subgroup_right(f: In, fl: usize, t: In, tn: usize, s: In, sn: usize, h: In, hn: usize, count: u8, o: Out, on: usize) -> u32;
 }
 
 /// A question of a factor, in the table slice `$t` with the handle `$h`. The other arguments are numbers, or the pointer and the
@@ -212,49 +212,50 @@ fn coded(x: u64) -> Answer<u32> {
     if number == 0 { Ok(value) } else { Err(Refusal::new(number, [value, 0, 0])) }
 }
 
-fn verdict(out: &[u32]) -> Answer<u32> {
-    if out[0] == 0 { Ok(out[1]) } else { Err(Refusal::new(out[0], [out[1], out[2], out[3]])) }
+/// The number that was returned, with the places that stand behind it in the list.
+fn verdict(number: u32, out: &[u32]) -> Answer<u32> {
+    if number == 0 { Ok(out[1]) } else { Err(Refusal::new(number, [out[1], out[2], out[3]])) }
 }
 
-fn made(out: [u32; 5], start: usize, room: u32, generators: u8) -> Answer<Handle> {
-    verdict(&out).map(|_| Handle { start, room, generators, elements: out[4] })
+fn made(number: u32, out: [u32; 5], start: usize, room: u32, generators: u8) -> Answer<Handle> {
+    verdict(number, &out).map(|_| Handle { start, room, generators, elements: out[4] })
 }
 
 /// A factor from composed rows.
 pub fn composed(t: &mut [u32], start: usize, w: &mut [u32], rows: &[u32], n: u8, room: u32) -> Answer<Handle> {
     let mut out = [0; 5];
     // SAFETY: pointers and lengths of slices, as said at the head of this file.
-    unsafe {
+    let number = unsafe {
         hg_composed(t.as_mut_ptr(), t.len(), start, w.as_mut_ptr(), w.len(), rows.as_ptr(), rows.len(), n, room, out.as_mut_ptr(), 5)
     };
-    made(out, start, room, n)
+    made(number, out, start, room, n)
 }
 
 /// A factor from pair orders.
 pub fn enumerate(t: &mut [u32], start: usize, w: &mut [u32], orders: &[u32], n: u8, room: u32) -> Answer<Handle> {
     let mut out = [0; 5];
     // SAFETY: pointers and lengths of slices, as said at the head of this file.
-    unsafe {
+    let number = unsafe {
         hg_enumerate(t.as_mut_ptr(), t.len(), start, w.as_mut_ptr(), w.len(), orders.as_ptr(), orders.len(), n, room, out.as_mut_ptr(), 5)
     };
-    made(out, start, room, n)
+    made(number, out, start, room, n)
 }
 
 /// Begins a build.
 pub fn begin(t: &mut [u32], start: usize, room: u32, n: u8) -> Answer<Handle> {
     let mut out = [0; 5];
     // SAFETY: pointers and lengths of slices, as said at the head of this file.
-    unsafe { hg_begin(t.as_mut_ptr(), t.len(), start, room, n, out.as_mut_ptr(), 5) };
-    made(out, start, room, n)
+    let number = unsafe { hg_begin(t.as_mut_ptr(), t.len(), start, room, n, out.as_mut_ptr(), 5) };
+    made(number, out, start, room, n)
 }
 
 /// A new element, reached from `e` by `g`.
 pub fn add(t: &mut [u32], b: Handle, e: u32, g: u8) -> Grown {
     let mut out = [0; 5];
     // SAFETY: pointers and lengths of slices, as said at the head of this file.
-    unsafe { hg_add(t.as_mut_ptr(), t.len(), b.start, b.room, b.generators, b.elements, e, g, out.as_mut_ptr(), 5) };
+    let number = unsafe { hg_add(t.as_mut_ptr(), t.len(), b.start, b.room, b.generators, b.elements, e, g, out.as_mut_ptr(), 5) };
     let none = Handle { start: 0, room: 0, generators: 0, elements: 0 };
-    Grown { answer: verdict(&out), builder: if out[4] == 0 { none } else { Handle { elements: out[4], ..b } } }
+    Grown { answer: verdict(number, &out), builder: if out[4] == 0 { none } else { Handle { elements: out[4], ..b } } }
 }
 
 /// Stores the step from `e` by `g` to `x`; whether the place was new.
@@ -268,8 +269,10 @@ pub fn set(t: &mut [u32], b: Handle, e: u32, g: u8, x: u32) -> Answer<bool> {
 pub fn build(t: &mut [u32], b: Handle, w: &mut [u32]) -> Answer<Handle> {
     let mut out = [0; 5];
     // SAFETY: pointers and lengths of slices, as said at the head of this file.
-    unsafe { hg_build(t.as_mut_ptr(), t.len(), b.start, b.room, b.generators, b.elements, w.as_mut_ptr(), w.len(), out.as_mut_ptr(), 5) };
-    made(out, b.start, b.room, b.generators)
+    let number = unsafe {
+        hg_build(t.as_mut_ptr(), t.len(), b.start, b.room, b.generators, b.elements, w.as_mut_ptr(), w.len(), out.as_mut_ptr(), 5)
+    };
+    made(number, out, b.start, b.room, b.generators)
 }
 
 /// Writes the image of a factor to the start of a buffer; its length.
@@ -281,9 +284,10 @@ pub fn image_write(t: &[u32], h: Handle, out: &mut [u8]) -> Answer<u32> {
 pub fn image_read(image: &[u8], t: &mut [u32], start: usize, w: &mut [u32]) -> Answer<Handle> {
     let mut out = [0; 5];
     // SAFETY: pointers and lengths of slices, as said at the head of this file.
-    unsafe { hg_image_read(image.as_ptr(), image.len(), t.as_mut_ptr(), t.len(), start, w.as_mut_ptr(), w.len(), out.as_mut_ptr(), 5) };
+    let number =
+        unsafe { hg_image_read(image.as_ptr(), image.len(), t.as_mut_ptr(), t.len(), start, w.as_mut_ptr(), w.len(), out.as_mut_ptr(), 5) };
     let n = image.get(5).copied().unwrap_or(0);
-    made(out, start, out[4], n)
+    made(number, out, start, out[4], n)
 }
 
 /// Checks an image in lent bytes: the refusal's number, or 0.
@@ -303,8 +307,8 @@ pub fn image_need(image: &[u8]) -> Answer<u32> {
 pub fn image_verdict(image: &[u8], work: &mut [u8]) -> Answer<()> {
     let mut out = [0; 4];
     // SAFETY: pointers and lengths of slices, as said at the head of this file.
-    unsafe { hg_image_verdict(image.as_ptr(), image.len(), work.as_mut_ptr(), work.len(), out.as_mut_ptr(), 4) };
-    verdict(&out).map(drop)
+    let number = unsafe { hg_image_verdict(image.as_ptr(), image.len(), work.as_mut_ptr(), work.len(), out.as_mut_ptr(), 4) };
+    verdict(number, &out).map(drop)
 }
 
 /// Walks a word of generators from an element: the element reached, or 65,536 + the refusal's number.
@@ -405,16 +409,16 @@ pub fn period(t: &[u32], h: Handle, a: u32) -> Answer<u32> {
 /// Checks a factor against pair orders.
 pub fn check(t: &[u32], h: Handle, orders: &[u32]) -> Answer<()> {
     let mut out = [0; 4];
-    ask!(hg_check, t, h, orders.as_ptr(), orders.len(), out.as_mut_ptr(), 4);
-    verdict(&out).map(drop)
+    let number = ask!(hg_check, t, h, orders.as_ptr(), orders.len(), out.as_mut_ptr(), 4);
+    verdict(number, &out).map(drop)
 }
 
 /// The product of two products, whose factors stand one after the other in both lists; how many factors it has.
 pub fn product(t: &[u32], a: &Handles, b: &Handles) -> Answer<u32> {
     let mut out = [0; 5];
     let (second, len) = (b.numbers.as_ptr(), b.numbers.len());
-    ask_product!(hg_product, t, a, second, len, b.count, out.as_mut_ptr(), 5);
-    verdict(&out).map(|_| out[4])
+    let number = ask_product!(hg_product, t, a, second, len, b.count, out.as_mut_ptr(), 5);
+    verdict(number, &out).map(|_| out[4])
 }
 
 /// How many elements a product has.
@@ -517,8 +521,8 @@ pub fn product_word(t: &[u32], p: &Handles, e: u32, out: &mut [u8]) -> Answer<u3
 pub fn product_flatten(from: &[u32], p: &Handles, generators: u8, t: &mut [u32], start: usize, w: &mut [u32], room: u32) -> Answer<Handle> {
     let mut out = [0; 5];
     let (table, tn, work, wn) = (t.as_mut_ptr(), t.len(), w.as_mut_ptr(), w.len());
-    ask_product!(hg_product_flatten, from, p, table, tn, start, work, wn, room, out.as_mut_ptr(), 5);
-    made(out, start, room, generators)
+    let number = ask_product!(hg_product_flatten, from, p, table, tn, start, work, wn, room, out.as_mut_ptr(), 5);
+    made(number, out, start, room, generators)
 }
 
 /// The lent buffers of a subgroup, which are told apart by their names.
@@ -542,8 +546,8 @@ macro_rules! ask_buffers {
         let (t, tn, w, wn) = (t.as_mut_ptr(), t.len(), w.as_mut_ptr(), w.len());
         let (i, il, b, bl) = (i.as_mut_ptr(), i.len(), b.as_mut_ptr(), b.len());
         let (list, len) = ($list.as_ptr(), $list.len());
-        ask_product!($call, $from, $over, list, len, t, tn, $start, w, wn, i, il, b, bl, $room, out.as_mut_ptr(), 6);
-        verdict(&out).map(|_| Handle { start: $start, room: $room, generators: out[5] as u8, elements: out[4] })
+        let number = ask_product!($call, $from, $over, list, len, t, tn, $start, w, wn, i, il, b, bl, $room, out.as_mut_ptr(), 6);
+        verdict(number, &out).map(|_| Handle { start: $start, room: $room, generators: out[5] as u8, elements: out[4] })
     }};
 }
 
@@ -592,16 +596,17 @@ pub fn subgroup_left(from: &[u32], table: &[u32], g: &Handles, s: &Sides) -> Ans
     let mut out = [0; 4];
     let (h, hn, sides, sn) = (g.numbers.as_ptr(), g.numbers.len(), s.numbers.as_ptr(), s.numbers.len());
     // SAFETY: pointers and lengths of slices, as said at the head of this file.
-    unsafe { hg_subgroup_left(from.as_ptr(), from.len(), table.as_ptr(), table.len(), h, hn, g.count, sides, sn, out.as_mut_ptr(), 4) };
-    verdict(&out).map(drop)
+    let number =
+        unsafe { hg_subgroup_left(from.as_ptr(), from.len(), table.as_ptr(), table.len(), h, hn, g.count, sides, sn, out.as_mut_ptr(), 4) };
+    verdict(number, &out).map(drop)
 }
 
 /// Whether they can be multiplied on above it.
 pub fn subgroup_right(from: &[u32], table: &[u32], s: &Sides, g: &Handles) -> Answer<()> {
     let mut out = [0; 4];
     let (h, hn) = (g.numbers.as_ptr(), g.numbers.len());
-    ask_subgroup!(hg_subgroup_right, from, table, s, h, hn, g.count, out.as_mut_ptr(), 4);
-    verdict(&out).map(drop)
+    let number = ask_subgroup!(hg_subgroup_right, from, table, s, h, hn, g.count, out.as_mut_ptr(), 4);
+    verdict(number, &out).map(drop)
 }
 
 /// Generators as the bytes that a walk takes.

@@ -21,7 +21,7 @@ same-length : tie.Need-same-length
 same-length c = search needs
 
 returns : tie.Need-returns
-returns c = grown-written ((c .before .before .before .before .before .before .before .before .before .before .before .before .args .g)) ((c .before .before .before .before .before .before .before .before .before .before .before .before .args .out .now)) ((c .before .before .before .before .before .before .before .write-reached .ensures)) ((c .before .before .put .ensures))
+returns c = ((c .before .before .before .before .before .before .before .write-reached .ensures .0), grown-written ((c .before .before .before .before .before .before .before .before .before .before .before .before .args .g)) ((c .before .before .before .before .before .before .before .before .before .before .before .before .args .out .now)) ((c .before .before .before .before .before .before .before .write-reached .ensures .1)) ((c .before .before .put .ensures)))
 
 pub write-grown-spec : {M : Type 1} → statement M
 write-grown-spec =

@@ -36,13 +36,13 @@ same-length : tie.Need-same-length
 same-length c = search needs
 
 returns : tie.Need-returns
-returns c = reached-refused _ ((c .before .before .before .before .before .before .before .before .args .out .now)) ((c .before .before .before .before .before .r .given .1)) ((c .before .before .write-refusal .ensures))
+returns c = (rw (c .before .before .before .before .before .r .given .1) (c .before .before .write-refusal .ensures .0), reached-refused _ ((c .before .before .before .before .before .before .before .before .args .out .now)) ((c .before .before .before .before .before .r .given .1)) ((c .before .before .write-refusal .ensures .1)))
 
 same-length-2 : tie.Need-same-length-2
 same-length-2 c = search needs
 
 returns-2 : tie.Need-returns-2
-returns-2 c = reached-element _ ((c .before .before .before .before .before .before .before .before .before .before .before .before .before .before .before .before .before .before .before .before .before .args .out .now)) ((c .before .before .before .before .before .before .before .before .before .before .before .before .before .before .before .before .before .before .r2 .given .1)) ((c .before .before .before .before .before .before .before .before .before .before .before .before .before .before .before .put .ensures)) ((c .before .before .before .before .before .before .before .before .before .before .put2 .ensures)) ((c .before .before .before .before .before .before .put3 .ensures)) ((c .before .before .put4 .ensures))
+returns-2 c = (rw (c .before .before .before .before .before .before .before .before .before .before .before .before .before .before .before .before .before .before .r2 .given .1), reached-element _ ((c .before .before .before .before .before .before .before .before .before .before .before .before .before .before .before .before .before .before .before .before .before .args .out .now)) ((c .before .before .before .before .before .before .before .before .before .before .before .before .before .before .before .before .before .before .r2 .given .1)) ((c .before .before .before .before .before .before .before .before .before .before .before .before .before .before .before .put .ensures)) ((c .before .before .before .before .before .before .before .before .before .before .put2 .ensures)) ((c .before .before .before .before .before .before .put3 .ensures)) ((c .before .before .put4 .ensures)))
 
 pub write-reached-spec : {M : Type 1} → statement M
 write-reached-spec =

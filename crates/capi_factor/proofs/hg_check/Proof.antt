@@ -1,5 +1,5 @@
 -- The verdict, written.
-use mathlib.Core.Path.{_≡_, refl, sym, ap, _∙_}
+use Rattle.capi_values.proofs.Laws.{judged-told, out-long, out-short}
 use borrow.Author.Needs.{needs}
 use Rattle.capi_factor.proofs.hg_check.Statement.{statement}
 use Rattle.capi_factor.proofs.hg_check.Tie as tie
@@ -8,6 +8,9 @@ use Rattle.capi_factor.proofs.hg_check.Lts as lts
 use Rattle.capi_values.proofs.inner.factor_of.Reads as factor-of-reads
 use Rattle.capi_values.proofs.inner.write_verdict.Reads as write-verdict-reads
 use Rattle.factor.proofs.check.Reads as check-reads
+
+returns : tie.Need-returns
+returns c = out-short 4 (c .before .before .before .before .args .out .now) _ _ (c .if1 .taken)
 
 factor-of-requires : tie.Need-factor-of-requires
 factor-of-requires c κs = search needs
@@ -21,10 +24,16 @@ write-verdict-requires c κs = search needs
 same-length : tie.Need-same-length
 same-length c = search needs
 
-returns : tie.Need-returns
-returns c = rw (c .before .before .write-verdict .ensures, c .before .before .before .before .check .ensures, c .before .before .before .before .before .factor-of .ensures)
+returns-2 : tie.Need-returns-2
+returns-2 c = out-long 4 _ _ _ (c .before .before .before .before .before .before .if1 .left) (rw (← (c .before .before .before .before .before .factor-of .ensures)) (judged-told (c .before .before .before .before .before .before .before .before .before .before .args .out .now) (c .before .before .before .before .check .ensures) (c .before .before .write-verdict .ensures)))
 
 pub hg-check-spec : {M : Type 1} → statement M
 hg-check-spec =
     tie.close
-    (tie.spec factor-of-requires check-requires write-verdict-requires same-length returns)
+    (tie.spec
+    returns
+    factor-of-requires
+    check-requires
+    write-verdict-requires
+    same-length
+    returns-2)

@@ -21,7 +21,7 @@ same-length : tie.Need-same-length
 same-length c = search needs
 
 returns : tie.Need-returns
-returns c = grouped-written ((c .before .before .before .before .before .before .before .before .before .before .before .args .g)) ((c .before .before .before .before .before .before .before .before .before .before .before .args .out .now)) ((c .before .before .before .before .before .before .before .write-verdict .ensures)) ((c .before .before .put .ensures))
+returns c = ((c .before .before .before .before .before .before .before .write-verdict .ensures .0), grouped-written ((c .before .before .before .before .before .before .before .before .before .before .before .args .g)) ((c .before .before .before .before .before .before .before .before .before .before .before .args .out .now)) ((c .before .before .before .before .before .before .before .write-verdict .ensures .1)) ((c .before .before .put .ensures)))
 
 pub write-grouped-spec : {M : Type 1} → statement M
 write-grouped-spec =

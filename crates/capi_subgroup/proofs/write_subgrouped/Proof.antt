@@ -21,7 +21,7 @@ same-length : tie.Need-same-length
 same-length c = search needs
 
 returns : tie.Need-returns
-returns c = subgrouped-written ((c .before .before .before .before .before .before .before .before .before .before .before .before .args .m)) ((c .before .before .before .before .before .before .before .before .before .before .before .before .args .out .now)) ((c .before .before .before .before .before .before .before .write-made .ensures)) ((c .before .before .put .ensures))
+returns c = ((c .before .before .before .before .before .before .before .write-made .ensures .0), subgrouped-written ((c .before .before .before .before .before .before .before .before .before .before .before .before .args .m)) ((c .before .before .before .before .before .before .before .before .before .before .before .before .args .out .now)) ((c .before .before .before .before .before .before .before .write-made .ensures .1)) ((c .before .before .put .ensures)))
 
 pub write-subgrouped-spec : {M : Type 1} → statement M
 write-subgrouped-spec =

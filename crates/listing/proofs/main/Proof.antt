@@ -1,11 +1,15 @@
 -- The buffer keeps its length, and every listing fits it; so the used part of it is as long as what was used.
-use native.Mathlib.Omega.{arith}
 use mathlib.Core.Path.{sym}
 use lib.Seq.{length-take-le}
+use Rattle.listing_page.proofs.Fits.{count-fits}
 use borrow.Author.Needs.{needs}
-use Rattle.listing.proofs.Fits.{fits-buffer}
 use Rattle.listing.proofs.main.Statement.{statement}
 use Rattle.listing.proofs.main.Tie as tie
+use Rattle.listing.proofs.main.Reads as reads
+use Rattle.listing.proofs.main.Lts as lts
+use Rattle.io.proofs.read_full.Reads as read-full-reads
+use Rattle.io.proofs.write_all.Reads as write-all-reads
+use Rattle.listing_page.proofs.listing.Reads as listing-reads
 
 slice-aggregate-read-full : tie.Need-slice-aggregate-read-full
 slice-aggregate-read-full c = search needs
@@ -25,17 +29,29 @@ slice-aggregate-listing-2 c = search needs
 listing-requires : tie.Need-listing-requires
 listing-requires c κs = search needs
 
+enum-known-answer : tie.Need-enum-known-answer
+enum-known-answer c = search needs
+
+cast-text : tie.Need-cast-text
+cast-text c = search needs
+
 array-share-prefix-text : tie.Need-array-share-prefix-text
-array-share-prefix-text c = fits-buffer _ (c .before .listing .ensures .0) (c .before .listing .kept .1 .0)
+array-share-prefix-text c = count-fits _ _ (c .before .before .before .before .listing .ensures .0) (c .before .answer .given .1) (c .before .before .before .before .listing .kept .1 .0)
 
 slice-aggregate-write-all : tie.Need-slice-aggregate-write-all
-slice-aggregate-write-all c = sym (length-take-le _ (c .before .before .listing .last .1 .0) (fits-buffer _ (c .before .before .listing .ensures .0) (c .before .before .listing .kept .1 .0)))
+slice-aggregate-write-all c = sym (length-take-le _ (c .before .before .before .before .before .listing .last .1 .0) (count-fits _ _ (c .before .before .before .before .before .listing .ensures .0) (c .before .before .answer .given .1) (c .before .before .before .before .before .listing .kept .1 .0)))
 
 write-all-requires : tie.Need-write-all-requires
 write-all-requires c κs = search needs
 
+enum-told : tie.Need-enum-told
+enum-told c = search needs
+
 returns : tie.Need-returns
 returns c = search needs
+
+returns-2 : tie.Need-returns-2
+returns-2 c = search needs
 
 pub main-spec : {M : Type 1} → statement M
 main-spec =
@@ -47,7 +63,11 @@ main-spec =
     slice-aggregate-listing
     slice-aggregate-listing-2
     listing-requires
+    enum-known-answer
+    cast-text
     array-share-prefix-text
     slice-aggregate-write-all
     write-all-requires
-    returns)
+    enum-told
+    returns
+    returns-2)

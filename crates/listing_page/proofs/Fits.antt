@@ -1,25 +1,27 @@
--- Every listing fits the program's buffer: a refusal is short, and what an accepted enumeration with room 120 prints has at most 120 lines with at most
+-- Every listing fits the buffer in which it is made: a refusal is short, and what an accepted enumeration with room 120 prints has at most 120 lines with at most
 -- four steps each, by what the handle of an accepted enumeration says.
 use Prim.Native.Nat.{ℕ, _+_, _*_, _≤_}
-use mathlib.Core.Path.{_≡_, refl, ap}
+use mathlib.Core.Path.{_≡_, refl, sym, ap, _∙_}
 use mathlib.Core.Bool.{Bool, true, false}
 use mathlib.Core.List.{List}
 use native.Mathlib.Nat.{mul-le-mul}
 use native.Mathlib.Omega.{arith}
-use borrow.Author.Tests.{ltb-false}
+use borrow.Author.Tests.{ltb-false, le-ltb}
 use lib.ListN.{length, getD, replicate}
 use lib.Dec.{ltb, eqb}
 use Rattle.egg.specs.declared.Factor.{Factor}
 use Rattle.egg.specs.declared.Verdict.{Verdict}
 use Rattle.egg.specs.declared.Verdict.the-variants as verdict
+use Rattle.egg.specs.declared.Counted.{Counted}
+use Rattle.egg.specs.declared.Counted.the-variants as counted
 use Rattle.egg.specs.Table.{pick}
 use Rattle.egg.specs.Pairs.{pairCount, ordersRight}
 use Rattle.build_lending.specs.Lending.{Making, making}
 use Rattle.enumeration.specs.Calls.{enumerates}
 use Rattle.enumeration.proofs.Handle.{accepted-handle}
 use Rattle.listing_lines.specs.Text.{groupText, refusedText}
-use Rattle.listing_page.specs.Listing.{ordersIn, pageBy, pageOf, rightPage, listingOf}
-use Rattle.listing.specs.Fits.{Fits}
+use Rattle.listing_page.specs.Listing.{ordersIn, pageBy, pageOf, rightPage, listingOf, listingCount}
+use Rattle.listing_page.specs.Fits.{Fits}
 use Rattle.listing_lines.proofs.Bounds.{group-length, refused-length}
 
 refused-fits : (number : ℕ) → Fits (refusedText number)
@@ -69,6 +71,22 @@ listing-fits input =
     (right-fits (ordersRight (ordersIn (pairCount (getD input 0 0)) input 0) (getD input 0 0)) (getD input 0 0) (ordersIn (pairCount (getD input 0 0)) input 0))
     (refused-fits 2)))
 
--- So a listing's length is a place in a buffer of that many bytes.
-pub fits-buffer : (input : List ℕ) {used size : ℕ} → used ≡ length (listingOf input) → size ≡ 9268 → used ≤ size
-fits-buffer input a b = omega (arith, listing-fits input .most)
+-- So into a buffer of that many bytes every listing is written whole, and none is refused.
+pub listing-whole : (input : List ℕ) (size : ℕ) → 9268 ≤ size → listingCount input size ≡ counted.Count (length (listingOf input))
+unfolding listingCount
+listing-whole input size h =
+    let q : length (listingOf input) ≤ size = omega (arith, listing-fits input .most) in
+    simp (le-ltb _ _ q)
+
+abbrev countOf : Counted → ℕ
+countOf (counted.Count k) = k
+countOf (counted.Refused r) = 0
+
+-- A length that was answered is a place in a buffer of that many bytes, whatever the size that was lent.
+pub count-fits : (input : List ℕ) (size : ℕ) {used room : ℕ} {answer : Counted} → answer ≡ listingCount input size → answer ≡ counted.Count used → room ≡ 9268
+    → used ≤ room
+unfolding listingCount
+count-fits input size {used} {room} p q e = omega (arith, by (ltb size (length (listingOf input))) (ap countOf (sym q ∙ p))) where
+  by : (b : Bool) → used ≡ countOf (pick b (counted.Refused (record { number = 4; a = 0; b = 0; c = 0 })) (counted.Count (length (listingOf input)))) → used ≤ 9268
+  by true u = omega arith
+  by false u = omega (arith, listing-fits input .most)

@@ -1,0 +1,230 @@
+//! Every C function that writes its verdict into a list `out`, at both sides of the edge: a list that is just long enough gets the whole answer, one that is
+//! longer keeps the rest, and a shorter one is refused with 4 before anything else, with every list as it was. What is expected is document 01's.
+use hypergroup::raw::{self, Handle, Handles, Sides};
+
+type In = *const u32;
+type Out = *mut u32;
+
+#[rustfmt::skip]
+unsafe extern "C" {
+    fn hg_begin(t: Out, tn: usize, start: usize, room: u32, n: u8, o: Out, on: usize) -> u32;
+    fn hg_add(t: Out, tn: usize, start: usize, room: u32, n: u8, count: u32, e: u32, g: u8, o: Out, on: usize) -> u32;
+    fn hg_build(t: Out, tn: usize, start: usize, room: u32, n: u8, count: u32, w: Out, wn: usize, o: Out, on: usize) -> u32;
+    fn hg_check(t: In, tn: usize, start: usize, room: u32, n: u8, count: u32, m: In, mn: usize, o: Out, on: usize) -> u32;
+    fn hg_composed(t: Out, tn: usize, start: usize, w: Out, wn: usize, r: In, rn: usize, n: u8, room: u32, o: Out, on: usize) -> u32;
+    fn hg_enumerate(t: Out, tn: usize, start: usize, w: Out, wn: usize, m: In, mn: usize, n: u8, room: u32, o: Out, on: usize) -> u32;
+    fn hg_product(t: In, tn: usize, a: In, an: usize, ac: u8, b: In, bn: usize, bc: u8, o: Out, on: usize) -> u32;
+    fn hg_product_flatten(f: In, fl: usize, h: In, hn: usize, count: u8, t: Out, tn: usize, start: usize, w: Out, wn: usize, room: u32, o: Out, on: usize) -> u32;
+    fn hg_image_read(i: *const u8, len: usize, t: Out, tn: usize, start: usize, w: Out, wn: usize, o: Out, on: usize) -> u32;
+    fn hg_subgroup(f: In, fl: usize, h: In, hn: usize, count: u8, g: In, gn: usize, t: Out, tn: usize, start: usize, w: Out, wn: usize, i: Out, il: usize, b: Out, bl: usize, room: u32, o: Out, on: usize) -> u32;
+    fn hg_subgroup_predicate(f: In, fl: usize, h: In, hn: usize, count: u8, m: *const u8, mn: usize, t: Out, tn: usize, start: usize, w: Out, wn: usize, i: Out, il: usize, b: Out, bl: usize, room: u32, o: Out, on: usize) -> u32;
+    fn hg_subgroup_left(f: In, fl: usize, t: In, tn: usize, h: In, hn: usize, count: u8, s: In, sn: usize, o: Out, on: usize) -> u32;
+    fn hg_subgroup_right(f: In, fl: usize, t: In, tn: usize, s: In, sn: usize, h: In, hn: usize, count: u8, o: Out, on: usize) -> u32;
+}
+
+const S3: [u32; 12] = [1, 2, 0, 3, 4, 0, 5, 1, 2, 5, 3, 4];
+
+/// What stands in every list before a call, so that a store shows.
+const OLD: u32 = 0xA5A5_A5A5;
+
+/// Lists that a call is lent to write: so many numbers each.
+fn lent(sizes: &[usize]) -> Vec<Vec<u32>> {
+    sizes.iter().map(|&size| vec![OLD; size]).collect()
+}
+
+/// A call with the lists in `lists` lent and `out` last. `whole` is what `out` must hold, its first number being the one that is returned.
+fn edge(what: &str, lists: &[Vec<u32>], whole: &[u32], call: impl Fn(&mut [Vec<u32>], &mut [u32]) -> u32) {
+    let run = |size: usize| {
+        let (mut lists, mut out) = (lists.to_vec(), vec![OLD; size]);
+        (call(&mut lists, &mut out), lists, out)
+    };
+    let (number, left, out) = run(whole.len());
+    assert_eq!((number, &out[..]), (whole[0], whole), "{what}, as long as it has to be");
+    let (again, beside, longer) = run(whole.len() + 3);
+    assert_eq!((again, &longer[..whole.len()], &beside), (number, whole, &left), "{what}, longer");
+    assert!(longer[whole.len()..].iter().all(|&x| x == OLD), "{what}: what is behind the answer");
+    for size in 0..whole.len() {
+        let (number, left, out) = run(size);
+        assert_eq!(number, 4, "{what} with {size} numbers");
+        assert!(left == lists && out.iter().all(|&x| x == OLD), "{what} with {size} numbers writes nothing");
+    }
+}
+
+/// A table in which S3 stands behind one number, and its handle.
+fn s3() -> (Vec<u32>, Handle) {
+    let (mut table, mut work) = (vec![OLD; 49], vec![OLD; 192]);
+    let handle = raw::composed(&mut table, 1, &mut work, &S3, 2, 6).unwrap();
+    (table, handle)
+}
+
+/// The factor's handle `count` times.
+fn times(h: Handle, count: usize) -> Handles {
+    std::iter::repeat_n(h, count).collect()
+}
+
+#[test]
+fn a_factor_from_rows_and_from_orders() {
+    let composed = |rows: Vec<u32>, n: u8, room: u32| {
+        // SAFETY: here and below, pointers and lengths of slices, of which those that are written overlap no other.
+        move |l: &mut [Vec<u32>], o: &mut [u32]| unsafe {
+            let [t, w] = l else { unreachable!() };
+            hg_composed(t.as_mut_ptr(), t.len(), 1, w.as_mut_ptr(), w.len(), rows.as_ptr(), rows.len(), n, room, o.as_mut_ptr(), o.len())
+        }
+    };
+    let enumerated = |orders: Vec<u32>, n: u8, room: u32| {
+        move |l: &mut [Vec<u32>], o: &mut [u32]| unsafe {
+            let [t, w] = l else { unreachable!() };
+            let (m, mn) = (orders.as_ptr(), orders.len());
+            hg_enumerate(t.as_mut_ptr(), t.len(), 1, w.as_mut_ptr(), w.len(), m, mn, n, room, o.as_mut_ptr(), o.len())
+        }
+    };
+    edge("composed", &lent(&[49, 192]), &[0, 0, 0, 0, 6], composed(S3.to_vec(), 2, 6));
+    edge("composed, 10", &lent(&[33, 128]), &[10, 1, 2, 2, 0], composed(vec![1, 2, 3, 3, 0, 0, 2, 1], 2, 4));
+    edge("composed, 1", &lent(&[0, 0]), &[1, 9, 0, 0, 0], composed(vec![], 9, 1));
+    edge("enumerate", &lent(&[49, 192]), &[0, 0, 0, 0, 6], enumerated(vec![3], 2, 6));
+    edge("enumerate, 3", &lent(&[49, 192]), &[3, 0, 0, 0, 0], enumerated(vec![1], 2, 6));
+    edge("enumerate, 5", &lent(&[41, 160]), &[5, 3, 0, 0, 0], enumerated(vec![3], 2, 5));
+}
+
+#[test]
+fn a_builder() {
+    let begun = |n: u8| {
+        move |l: &mut [Vec<u32>], o: &mut [u32]| unsafe { hg_begin(l[0].as_mut_ptr(), l[0].len(), 1, 2, n, o.as_mut_ptr(), o.len()) }
+    };
+    edge("begin", &lent(&[13]), &[0, 0, 0, 0, 1], begun(1));
+    edge("begin, 1", &lent(&[13]), &[1, 9, 0, 0, 0], begun(9));
+    edge("begin, 4", &lent(&[12]), &[4, 0, 0, 0, 0], begun(1));
+
+    let mut table = vec![OLD; 13];
+    let b = raw::begin(&mut table, 1, 2, 1).unwrap();
+    let added = |b: Handle, e: u32| {
+        move |l: &mut [Vec<u32>], o: &mut [u32]| unsafe {
+            let t = &mut l[0];
+            hg_add(t.as_mut_ptr(), t.len(), b.start, b.room, b.generators, b.elements, e, 0, o.as_mut_ptr(), o.len())
+        }
+    };
+    edge("add", &[table.clone()], &[0, 1, 0, 0, 2], added(b, 0));
+    edge("add, 14", &[table.clone()], &[14, 0, 0, 0, 1], added(b, 1));
+    let b = raw::add(&mut table, b, 0, 0).builder;
+    edge("add, 5", &[table.clone()], &[5, 1, 0, 0, 0], added(b, 1));
+
+    let built = |l: &mut [Vec<u32>], o: &mut [u32]| unsafe {
+        let [t, w] = l else { unreachable!() };
+        hg_build(t.as_mut_ptr(), t.len(), b.start, b.room, b.generators, b.elements, w.as_mut_ptr(), w.len(), o.as_mut_ptr(), o.len())
+    };
+    edge("build, 8", &[table.clone(), vec![OLD; 20]], &[8, 1, 0, 0, 0], built);
+    raw::set(&mut table, b, 1, 0, 0).unwrap();
+    edge("build", &[table.clone(), vec![OLD; 20]], &[0, 0, 0, 0, 2], built);
+    edge("build, 4", &[table.clone(), vec![OLD; 19]], &[4, 0, 0, 0, 0], built);
+}
+
+#[test]
+fn a_check_and_an_image() {
+    let (table, h) = s3();
+    let checked = |h: Handle, orders: Vec<u32>| {
+        let table = table.clone();
+        move |_: &mut [Vec<u32>], o: &mut [u32]| unsafe {
+            let (t, tn) = (table.as_ptr(), table.len());
+            hg_check(t, tn, h.start, h.room, h.generators, h.elements, orders.as_ptr(), orders.len(), o.as_mut_ptr(), o.len())
+        }
+    };
+    edge("check", &[], &[0, 0, 0, 0], checked(h, vec![3]));
+    edge("check, 2", &[], &[2, 0, 0, 0], checked(h, vec![]));
+    edge("check, 13", &[], &[13, 0, 0, 1], checked(h, vec![2]));
+    edge("check, 17", &[], &[17, 0, 0, 0], checked(Handle { start: 2, ..h }, vec![3]));
+
+    let read = |image: Vec<u8>| {
+        move |l: &mut [Vec<u32>], o: &mut [u32]| unsafe {
+            let [t, w] = l else { unreachable!() };
+            hg_image_read(image.as_ptr(), image.len(), t.as_mut_ptr(), t.len(), 1, w.as_mut_ptr(), w.len(), o.as_mut_ptr(), o.len())
+        }
+    };
+    let z2 = vec![0, 0, 0, 8, 1, 1, 0, 2, 0, 1, 0, 0];
+    edge("image", &lent(&[13, 20]), &[0, 0, 0, 0, 2], read(z2.clone()));
+    edge("image, 4", &lent(&[12, 20]), &[4, 0, 0, 0, 0], read(z2.clone()));
+    edge("image, 16", &lent(&[13, 20]), &[16, 0, 0, 0, 0], read(z2[1..].to_vec()));
+    edge("image, 7", &lent(&[13, 20]), &[7, 0, 0, 2, 0], read(vec![0, 0, 0, 8, 1, 1, 0, 2, 0, 2, 0, 0]));
+}
+
+#[test]
+fn a_product() {
+    let (table, h) = s3();
+    let multiplied = |a: Handles, b: Handles| {
+        let table = table.clone();
+        move |_: &mut [Vec<u32>], o: &mut [u32]| unsafe {
+            let (t, tn, first, second) = (table.as_ptr(), table.len(), &a.numbers, &b.numbers);
+            hg_product(t, tn, first.as_ptr(), first.len(), a.count, second.as_ptr(), second.len(), b.count, o.as_mut_ptr(), o.len())
+        }
+    };
+    edge("product", &[], &[0, 0, 0, 0, 3], multiplied(times(h, 2), times(h, 1)));
+    edge("product, 15", &[], &[15, 0, 0, 0, 1], multiplied(times(h, 8), times(h, 1)));
+    edge("product, 17", &[], &[17, 0, 0, 0, 1], multiplied(times(Handle { start: 2, ..h }, 1), times(h, 1)));
+
+    let flattened = |p: Handles, room: u32| {
+        let table = table.clone();
+        move |l: &mut [Vec<u32>], o: &mut [u32]| unsafe {
+            let [t, w] = l else { unreachable!() };
+            let (f, fl, list) = (table.as_ptr(), table.len(), &p.numbers);
+            let (t, tn, w, wn) = (t.as_mut_ptr(), t.len(), w.as_mut_ptr(), w.len());
+            hg_product_flatten(f, fl, list.as_ptr(), list.len(), p.count, t, tn, 1, w, wn, room, o.as_mut_ptr(), o.len())
+        }
+    };
+    edge("flatten", &lent(&[49, 192]), &[0, 0, 0, 0, 6], flattened(times(h, 1), 6));
+    edge("flatten, 7", &lent(&[433, 4032]), &[7, 0, 2, 6, 0], flattened(times(h, 2), 36));
+    edge("flatten, 4", &lent(&[49, 191]), &[4, 0, 0, 0, 0], flattened(times(h, 1), 6));
+}
+
+#[test]
+fn a_subgroup() {
+    let (table, h) = s3();
+    let over = times(h, 1);
+    let generated = |generators: Vec<u32>| {
+        let (table, over) = (table.clone(), over.clone());
+        move |l: &mut [Vec<u32>], o: &mut [u32]| unsafe {
+            let [t, w, i, b] = l else { unreachable!() };
+            let (f, fl, g, gn) = (table.as_ptr(), table.len(), generators.as_ptr(), generators.len());
+            let (h, hn, count) = (over.numbers.as_ptr(), over.numbers.len(), over.count);
+            let (t, tn, w, wn) = (t.as_mut_ptr(), t.len(), w.as_mut_ptr(), w.len());
+            let (i, il, b, bl) = (i.as_mut_ptr(), i.len(), b.as_mut_ptr(), b.len());
+            hg_subgroup(f, fl, h, hn, count, g, gn, t, tn, 1, w, wn, i, il, b, bl, 3, o.as_mut_ptr(), o.len())
+        }
+    };
+    edge("subgroup", &lent(&[19, 30, 6, 3]), &[0, 0, 0, 0, 3, 1], generated(vec![3]));
+    edge("subgroup, 14", &lent(&[19, 30, 6, 3]), &[14, 1, 0, 0, 0, 0], generated(vec![3, 6]));
+    edge("subgroup, 9", &lent(&[19, 30, 6, 3]), &[9, 0, 0, 0, 0, 0], generated(vec![0]));
+
+    let of = |members: Vec<u8>| {
+        let (table, over) = (table.clone(), over.clone());
+        move |l: &mut [Vec<u32>], o: &mut [u32]| unsafe {
+            let [t, w, i, b] = l else { unreachable!() };
+            let (f, fl, m, mn) = (table.as_ptr(), table.len(), members.as_ptr(), members.len());
+            let (h, hn, count) = (over.numbers.as_ptr(), over.numbers.len(), over.count);
+            let (t, tn, w, wn) = (t.as_mut_ptr(), t.len(), w.as_mut_ptr(), w.len());
+            let (i, il, b, bl) = (i.as_mut_ptr(), i.len(), b.as_mut_ptr(), b.len());
+            hg_subgroup_predicate(f, fl, h, hn, count, m, mn, t, tn, 1, w, wn, i, il, b, bl, 3, o.as_mut_ptr(), o.len())
+        }
+    };
+    edge("predicate", &lent(&[61, 1248, 6, 3]), &[0, 0, 0, 0, 3, 1], of(vec![1, 0, 0, 1, 1, 0]));
+    edge("predicate, 4", &lent(&[61, 1248, 6, 3]), &[4, 0, 0, 0, 0, 0], of(vec![1, 0, 0, 1, 1]));
+
+    let (mut own, mut work, mut inward, mut outward) = (vec![OLD; 18], vec![OLD; 30], vec![OLD; 6], vec![OLD; 3]);
+    let buffers = raw::SubgroupBuffers { table: &mut own, work: &mut work, inward: &mut inward, outward: &mut outward };
+    let sub = raw::subgroup(&table, &over, &[3], buffers, 0, 3).unwrap();
+    let sides = Sides::new(sub, &times(h, 0), &over, &times(h, 0)).numbers;
+    let beside = |left: bool, g: Handles| {
+        let (table, own, sides) = (table.clone(), own.clone(), sides.clone());
+        move |_: &mut [Vec<u32>], o: &mut [u32]| unsafe {
+            let (f, fl, t, tn, s, sn) = (table.as_ptr(), table.len(), own.as_ptr(), own.len(), sides.as_ptr(), sides.len());
+            let (list, len) = (g.numbers.as_ptr(), g.numbers.len());
+            match left {
+                true => hg_subgroup_left(f, fl, t, tn, list, len, g.count, s, sn, o.as_mut_ptr(), o.len()),
+                false => hg_subgroup_right(f, fl, t, tn, s, sn, list, len, g.count, o.as_mut_ptr(), o.len()),
+            }
+        }
+    };
+    for left in [true, false] {
+        edge("a factor beside it", &[], &[0, 0, 0, 0], beside(left, times(h, 1)));
+        edge("beside it, 15", &[], &[15, 0, 0, 0], beside(left, times(h, 8)));
+        edge("beside it, 17", &[], &[17, 0, 0, 0], beside(left, times(Handle { start: 2, ..h }, 1)));
+    }
+}
