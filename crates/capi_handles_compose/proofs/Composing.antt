@@ -13,9 +13,8 @@ use Rattle.egg.specs.declared.Reached.{Reached}
 use Rattle.egg.specs.declared.Reached.the-variants.{Element, Refused}
 use Rattle.egg.specs.Factor.{fitsIn}
 use Rattle.egg.proofs.Rooms.{some}
-use Rattle.group_digits.specs.declared.inner.Asked.{Asked}
 use Rattle.group_handles.specs.Handles.{elementsOf, allFit}
-use Rattle.group_digits.specs.Digits.{digitOf, digitwise}
+use Rattle.group_digits.specs.Digits.{Asked, digitOf, digitwise}
 use Rattle.group_handles.proofs.Lists.{fits-at, positive}
 use Rattle.group_digits.proofs.Walks.{Gathering, gathering, gathers-on, gathers-stop, gathers-end, below-element, digit-below, sum-fits, stride-fits}
 use Rattle.capi_handles.proofs.Looks.{placed}

@@ -15,9 +15,8 @@ use Rattle.egg.specs.Factor.{fitsIn, stretch, refusedReach}
 use Rattle.egg.proofs.Rooms.{false-true}
 use Rattle.build_lending.proofs.Fits.{fits-small}
 use Rattle.factor_questions.specs.Walks.{inverseIn}
-use Rattle.group_digits.specs.declared.inner.Asked.the-variants.{Inverse}
 use Rattle.group_handles.specs.Handles.{handles, elementsOf, allFit, capped}
-use Rattle.group_digits.specs.Digits.{digitOf, inverts}
+use Rattle.group_digits.specs.Digits.{Inverse, digitOf, inverts}
 use Rattle.group_handles.proofs.Caps.{cap-small}
 use Rattle.group_handles.proofs.Lists.{positive}
 use Rattle.group_digits.proofs.Walks.{Gathering, gathering, gathers-on, gathers-stop, gathers-end, stride-fits}

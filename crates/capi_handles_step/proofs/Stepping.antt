@@ -20,7 +20,7 @@ use Rattle.theory_radix.specs.Radix.{count, stride, project, replace}
 use Rattle.theory_radix.proofs.RadixLaws.{high-small, projected-fits, replace-is, replace-small}
 use Rattle.group_handles.specs.Handles.{sizes, elementsOf, generatorsOf, allFit}
 use Rattle.group_digits.specs.Digits.{above, stepIn}
-use Rattle.group_handles.proofs.Lists.{sizes-at, sizes-length, fits-at}
+use Rattle.group_handles.proofs.Lists.{sizes-at, sizes-length, fits-at, positive}
 use Rattle.group_walk.proofs.Steps.{steps-found}
 use Rattle.group_digits.proofs.Walks.{below-element, step-below}
 use Rattle.group_digits.proofs.Splits.{stride-pos}
@@ -48,7 +48,7 @@ module _ (t : List ℕ) (hs : List Factor) (f e x : ℕ) (a : allFit (length t) 
         record {
           fits = u;
           some = some (length t) (getD hs f noFactor) u;
-          strides = stride-pos (length t) hs f a;
+          strides = stride-pos hs f (positive (length t) hs a);
           down = rw q (projected-fits (sizes hs) f e);
           up = λ y n. rw q (omega (arith, m, replace-small (sizes hs) f e y i k (rw (← q) n)));
           same = rw (← q) at (steps-found t hs f e x l k o b);

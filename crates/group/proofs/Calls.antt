@@ -1,6 +1,6 @@
--- Laws of the call that joins digits, one for each answer; and a word that the call wrote had room.
+-- Laws of the call that joins digits, one for each answer; of a word that the call wrote, which had room; and of a call with no argument.
 use Prim.Native.Nat.{ℕ, _≤_}
-use mathlib.Core.Path.{_≡_, sym, _∙_}
+use mathlib.Core.Path.{_≡_, refl, sym, _∙_}
 use mathlib.Core.Bool.{true, false}
 use mathlib.Core.List.{List}
 use lib.ListN.{length}
@@ -14,7 +14,10 @@ use Rattle.egg.specs.declared.Reached.{Reached}
 use Rattle.egg.specs.declared.Reached.the-variants as reached
 use Rattle.egg.specs.Factor.{refusedReach}
 use Rattle.group_handles.specs.declared.Group.{Group}
-use Rattle.group_handles.specs.Handles.{handles, sizes, elementsOf, allFit, admits}
+use Rattle.group_handles.specs.Handles.{handles, sizes, elementsOf, allFit, seen, admits, admitsSeen}
+use Rattle.group_handles.specs.declared.inner.Seen.{Seen}
+use Rattle.group_handles.specs.declared.inner.Limit.the-variants.{Number}
+use Rattle.group_handles.proofs.Admitted.{looked, admits-seen}
 use Rattle.group_digits.specs.Splits.{digitsRight, joinTail}
 use Rattle.group_words.specs.Words.{lengths, readables, writes}
 use Rattle.factor.proofs.Questions.{counted-by}
@@ -39,3 +42,8 @@ pub answer-fits : (t : List ℕ) (g : Group) (e : GroupElementId) (size : ℕ) {
 unfolding writeAnswer writes
 answer-fits t g e size q h =
     by-fits (lengths t (handles g) (e .0)) (readables t (handles g) (e .0)) size (counted-by (admits (length t) g (e .0) (elementsOf (handles g)) 0 1) (sym q ∙ h))
+
+-- A call with no argument, by what was seen.
+pub none-admitted : (len : ℕ) (g : Group) {s : Seen} → s ≡ seen len (handles g) → {v : Verdict} → v ≡ admitsSeen s (g .count) 0 (Number 1) 0 (Number 1)
+    → v ≡ admits len g 0 1 0 1
+none-admitted len g q e = admits-seen g (looked len (handles g) q) 0 (Number 1) 1 0 (Number 1) 1 e (λ f. refl) (λ f. refl)

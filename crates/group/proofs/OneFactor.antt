@@ -32,10 +32,8 @@ use Rattle.factor_walk.proofs.Letters.{letter-below}
 use Rattle.factor_words.specs.Words.{readable, spell, lengthIn, writeIn, writtenBy}
 use Rattle.factor_words.proofs.Words.{never-both}
 use Rattle.group_handles.specs.declared.Group.{Group}
-use Rattle.group_digits.specs.declared.inner.Asked.{Asked}
-use Rattle.group_digits.specs.declared.inner.Asked.the-variants.{Compose, Inverse, Conjugate}
 use Rattle.group_handles.specs.Handles.{handles, elementsOf, generatorsOf, limited, admits}
-use Rattle.group_digits.specs.Digits.{above, digitOf, digitwise, stepIn, composes, inverts}
+use Rattle.group_digits.specs.Digits.{Asked, Compose, Inverse, Conjugate, above, digitOf, digitwise, stepIn, composes, inverts}
 use Rattle.group_powers.specs.Powers.{oddToo, byHalving, negated, powers, powiAlone}
 use Rattle.group_handles.specs.Counts.{onCounted}
 use Rattle.group_words.specs.Words.{lengths, readables, spells, writesBy, writes, leaves}

@@ -18,9 +18,8 @@ use Rattle.factor.specs.Questions.{filledBy}
 use Rattle.egg.specs.Answers.{ifReach, ifCount}
 use Rattle.theory_radix.specs.Radix.{project, inject}
 use Rattle.group_handles.specs.declared.Group.{Group}
-use Rattle.group_digits.specs.declared.inner.Asked.the-variants.{Conjugate}
 use Rattle.group_handles.specs.Handles.{handles, sizes, elementsOf, generatorsOf, allFit, admits}
-use Rattle.group_digits.specs.Digits.{digitOf, digitwise, stepIn, composes, inverts}
+use Rattle.group_digits.specs.Digits.{Conjugate, digitOf, digitwise, stepIn, composes, inverts}
 use Rattle.group_digits.specs.Splits.{splitTail, digitsLeft, digitsRight, joinTail}
 use Rattle.group_powers.specs.Powers.{powers}
 use Rattle.group_periods.specs.Periods.{periods}

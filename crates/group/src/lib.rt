@@ -25,12 +25,10 @@ pub use group_handles::trivial;
 pub fn element_count(table: &[u32], g: Group) -> Counted
     ensures { λ r. ⌜ r ≡ countAnswer (now (table .entry)) g ⌝ }
 {
-    match group_handles::inner::admit(table, g, 0, Limit::Number(1), 0, Limit::Number(1)) {
+    let seen = group_handles::inner::look(table, g);
+    match group_handles::inner::admit_none_seen(seen, g.count) {
         Verdict::Refused(why) => Counted::Refused(why),
-        Verdict::Fine => {
-            let seen = group_handles::inner::look(table, g);
-            Counted::Count((seen.elements % 4294967296) as u32)
-        }
+        Verdict::Fine => Counted::Count((seen.elements % 4294967296) as u32),
     }
 }
 
@@ -38,12 +36,10 @@ pub fn element_count(table: &[u32], g: Group) -> Counted
 pub fn generator_count(table: &[u32], g: Group) -> Counted
     ensures { λ r. ⌜ r ≡ generatorsAnswer (now (table .entry)) g ⌝ }
 {
-    match group_handles::inner::admit(table, g, 0, Limit::Number(1), 0, Limit::Number(1)) {
+    let seen = group_handles::inner::look(table, g);
+    match group_handles::inner::admit_none_seen(seen, g.count) {
         Verdict::Refused(why) => Counted::Refused(why),
-        Verdict::Fine => {
-            let seen = group_handles::inner::look(table, g);
-            Counted::Count(seen.generators)
-        }
+        Verdict::Fine => Counted::Count(seen.generators),
     }
 }
 
@@ -56,14 +52,7 @@ pub fn generator(table: &[u32], g: Group, x: GeneratorId) -> Reached
         let h = g.factors[0];
         return factor::generator(table, h, x);
     }
-    match group_handles::inner::admit(
-        table,
-        g,
-        x.0 as u32,
-        Limit::Generators,
-        0,
-        Limit::Number(1),
-    ) {
+    match group_handles::inner::admit_one(table, g, x.0 as u32, Limit::Generators) {
         Verdict::Refused(why) => Reached::Refused(why),
         Verdict::Fine => group_digits::inner::step_in(table, g, GroupElementId(0), x),
     }
@@ -119,7 +108,7 @@ pub fn project(table: &[u32], g: Group, f: u8, e: GroupElementId) -> Reached
         Limit::Elements,
     ) {
         Verdict::Refused(why) => Reached::Refused(why),
-        Verdict::Fine => group_digits::inner::project_in(table, g, f as usize, e),
+        Verdict::Fine => group_digits::inner::project_in(g, f as usize, e),
     }
 }
 
@@ -139,7 +128,7 @@ pub fn inject(table: &[u32], g: Group, f: u8, x: GroupElementId) -> Reached
         Limit::Number(n),
     ) {
         Verdict::Refused(why) => Reached::Refused(why),
-        Verdict::Fine => group_digits::inner::inject_in(table, g, f as usize, x),
+        Verdict::Fine => group_digits::inner::inject_in(g, f as usize, x),
     }
 }
 
@@ -148,9 +137,9 @@ pub fn inject(table: &[u32], g: Group, f: u8, x: GroupElementId) -> Reached
 pub fn split(table: &[u32], g: Group, e: GroupElementId, out: &mut [u32]) -> Counted
     ensures { λ r. ⌜ (r ≡ splitAnswer (now (table .entry)) g e (length (now (out .entry)))) × (now (out .exit) ≡ splitLeaves (now (table .entry)) g e (now (out .entry))) ⌝ }
 {
-    match group_handles::inner::admit(table, g, e.0, Limit::Elements, 0, Limit::Number(1)) {
+    match group_handles::inner::admit_one(table, g, e.0, Limit::Elements) {
         Verdict::Refused(why) => Counted::Refused(why),
-        Verdict::Fine => group_digits::inner::split_in(table, g, e, out),
+        Verdict::Fine => group_digits::inner::split_in(g, e, out),
     }
 }
 
@@ -165,7 +154,7 @@ pub fn join(table: &[u32], g: Group, digits: &[u32]) -> Reached
     }
     match group_digits::inner::digits_right(g, digits) {
         Verdict::Refused(why) => Reached::Refused(why),
-        Verdict::Fine => group_digits::inner::join_in(table, g, digits),
+        Verdict::Fine => group_digits::inner::join_in(g, seen.elements, digits),
     }
 }
 
@@ -193,7 +182,7 @@ pub fn inverse(table: &[u32], g: Group, a: GroupElementId) -> Reached
         let h = g.factors[0];
         return factor::inverse(table, h, a);
     }
-    match group_handles::inner::admit(table, g, a.0, Limit::Elements, 0, Limit::Number(1)) {
+    match group_handles::inner::admit_one(table, g, a.0, Limit::Elements) {
         Verdict::Refused(why) => Reached::Refused(why),
         Verdict::Fine => group_digits::inner::inverse_digits(table, g, a),
     }
@@ -221,7 +210,7 @@ pub fn powi(table: &[u32], g: Group, a: GroupElementId, i: i32) -> Reached
         let h = g.factors[0];
         return group_powers::inner::one::powi(table, h, a, i);
     }
-    match group_handles::inner::admit(table, g, a.0, Limit::Elements, 0, Limit::Number(1)) {
+    match group_handles::inner::admit_one(table, g, a.0, Limit::Elements) {
         Verdict::Refused(why) => Reached::Refused(why),
         Verdict::Fine => group_powers::inner::powi_in(table, g, a, i),
     }
@@ -232,7 +221,7 @@ pub fn powi(table: &[u32], g: Group, a: GroupElementId, i: i32) -> Reached
 pub fn period(table: &[u32], g: Group, a: GroupElementId) -> Counted
     ensures { λ r. ⌜ r ≡ periodAnswer (now (table .entry)) g a ⌝ }
 {
-    match group_handles::inner::admit(table, g, a.0, Limit::Elements, 0, Limit::Number(1)) {
+    match group_handles::inner::admit_one(table, g, a.0, Limit::Elements) {
         Verdict::Refused(why) => Counted::Refused(why),
         Verdict::Fine => group_periods::inner::periods(table, g, a),
     }
@@ -247,7 +236,7 @@ pub fn word_length(table: &[u32], g: Group, e: GroupElementId) -> Counted
         let h = g.factors[0];
         return factor::word_length(table, h, e);
     }
-    match group_handles::inner::admit(table, g, e.0, Limit::Elements, 0, Limit::Number(1)) {
+    match group_handles::inner::admit_one(table, g, e.0, Limit::Elements) {
         Verdict::Refused(why) => Counted::Refused(why),
         Verdict::Fine => group_words::inner::lengths(table, g, e),
     }
@@ -262,7 +251,7 @@ pub fn write_word(table: &[u32], g: Group, e: GroupElementId, out: &mut [u8]) ->
         let h = g.factors[0];
         return factor::write_word(table, h, e, out);
     }
-    match group_handles::inner::admit(table, g, e.0, Limit::Elements, 0, Limit::Number(1)) {
+    match group_handles::inner::admit_one(table, g, e.0, Limit::Elements) {
         Verdict::Refused(why) => Counted::Refused(why),
         Verdict::Fine => group_words::inner::write_in(table, g, e, out),
     }

@@ -3,7 +3,7 @@ use Prim.Native.Nat.{ℕ, zero, suc, _+_, _*_, _-_, _/_, _%_, _≤_, _<_}
 use mathlib.Core.Path.{_≡_, refl, sym, ap, _∙_}
 use mathlib.Core.Bool.{Bool, true, false}
 use mathlib.Core.List.{List, [], _∷_, _++_}
-use native.Mathlib.Nat.{mul-assoc, mul-add, add-assoc, mul-zero, mul-pos, mul-le-mul-left, mod-le, div-le-self}
+use native.Mathlib.Nat.{mul-assoc, mul-add, add-assoc, mul-zero, mul-pos, mul-le-mul-left, mod-le, div-le-self, zero-div}
 use native.Mathlib.Omega.{arith}
 use borrow.Author.Tests.{lt-ltb, le-ltb, le-leb, lt-leb, ltb-true}
 use lib.ListN.{length, getD, drop}
@@ -16,42 +16,54 @@ use Rattle.egg.specs.declared.Counted.the-variants as counted
 use Rattle.egg.specs.declared.Reached.the-variants as reached
 use Rattle.egg.specs.Table.{putAt}
 use Rattle.egg.specs.Scan.{refusedOf}
-use Rattle.egg.specs.Factor.{fitsIn, refusedReach}
-use Rattle.egg.proofs.Rooms.{and-first, and-second, some}
+use Rattle.egg.specs.Factor.{refusedReach}
 use Rattle.egg.proofs.Scans.{scan-fine, Scanning, scanning}
 use Rattle.build_lending.specs.Lending.{noFactor}
 use Rattle.theory_radix.specs.Radix.{stride, split, join}
-use Rattle.theory_radix.proofs.RadixLaws.{stride-next, stride-small}
+use Rattle.theory_radix.proofs.RadixLaws.{stride-next, stride-small, range-pos, high-small}
 use Rattle.group_handles.specs.declared.Group.{Group}
-use Rattle.group_handles.specs.Handles.{handles, sizes, elementsOf, allFit, limited}
+use Rattle.group_handles.specs.Handles.{handles, sizes, elementsOf, limited}
 use Rattle.group_digits.specs.Splits.{splitTail, digitsLeft, digitRight, digitsRight, fewer, joinTail}
-use Rattle.group_handles.proofs.Lists.{sizes-at, sizes-length, positive}
+use Rattle.group_handles.proofs.Lists.{sizes-at, sizes-length, handle-at}
 use Rattle.group_digits.proofs.Walks.{Walk, walk, walk-on}
 
-pub stride-pos : (len : ℕ) (hs : List Factor) (f : ℕ) → allFit len hs ≡ true → 0 < stride (sizes hs) f
-stride-pos len [] zero a = omega arith
-stride-pos len [] (suc f) a = omega arith
-stride-pos len (x ∷ hs) zero a = omega arith
-stride-pos len (x ∷ hs) (suc f) a =
-    mul-pos (some len x (and-first (fitsIn len x) _ a)) (stride-pos len hs f (and-second (fitsIn len x) _ a))
+-- Where the product has an element, no factor has none.
+module _ (x : Factor) (hs : List Factor) (p : 0 < elementsOf (x ∷ hs)) where
+  first-pos : 0 < x .elements
+  first-pos = range-pos (x .elements) (elementsOf hs) 0 p
 
-pub size-pos : (len : ℕ) (hs : List Factor) (f : ℕ) → allFit len hs ≡ true → 0 < getD (sizes hs) f 1
-size-pos len [] f a = omega arith
-size-pos len (x ∷ hs) zero a = some len x (and-first (fitsIn len x) _ a)
-size-pos len (x ∷ hs) (suc f) a = size-pos len hs f (and-second (fitsIn len x) _ a)
+  rest-pos : 0 < elementsOf hs
+  rest-pos = rw zero-div at (high-small (x .elements) (elementsOf hs) 0 p)
 
-module _ (len : ℕ) (hs : List Factor) (i : ℕ) {h : Factor} {s : ℕ} (a : allFit len hs ≡ true) (q : h ≡ getD hs i noFactor) (l : i < length hs) (p : s ≡ stride (sizes hs) i) where
+pub stride-pos : (hs : List Factor) (f : ℕ) → 0 < elementsOf hs → 0 < stride (sizes hs) f
+stride-pos [] zero p = omega arith
+stride-pos [] (suc f) p = omega arith
+stride-pos (x ∷ hs) zero p = omega arith
+stride-pos (x ∷ hs) (suc f) p = mul-pos (first-pos x hs p) (stride-pos hs f (rest-pos x hs p))
+
+pub size-pos : (hs : List Factor) (f : ℕ) → 0 < elementsOf hs → 0 < getD (sizes hs) f 1
+size-pos [] f p = omega arith
+size-pos (x ∷ hs) zero p = first-pos x hs p
+size-pos (x ∷ hs) (suc f) p = size-pos hs f (rest-pos x hs p)
+
+-- The factor of a turn has an element.
+pub some-at : (g : Group) (f : ℕ) {k : ℕ} → k ≡ length (handles g) → f < k → 0 < elementsOf (handles g) → 0 < getD (g .factors) f noFactor .elements
+some-at g f q l p =
+    let d : f < length (handles g) = rw (← q) l in
+    rw (handle-at g f q l, sizes-at (handles g) f d) (size-pos (handles g) f p)
+
+module _ (hs : List Factor) (i : ℕ) {h : Factor} {s : ℕ} (q : h ≡ getD hs i noFactor) (l : i < length hs) (p : s ≡ stride (sizes hs) i) where
   pub stride-on : s * h .elements ≡ stride (sizes hs) (i + 1)
   stride-on =
       let z : i + 1 ≡ suc i = omega arith in
       rw (z, q, sizes-at hs i l, p) (sym (stride-next (sizes hs) i))
 
-  pub stride-bound : s * h .elements ≤ elementsOf hs
-  stride-bound = rw stride-on (stride-small (sizes hs) (i + 1) (positive len hs a))
+  pub stride-bound : 0 < elementsOf hs → s * h .elements ≤ elementsOf hs
+  stride-bound a = rw stride-on (stride-small (sizes hs) (i + 1) a)
 
-pub inject-bound : (len : ℕ) (hs : List Factor) (f x : ℕ) {s : ℕ} → allFit len hs ≡ true → s ≡ stride (sizes hs) f → x < getD (sizes hs) f 1 → s * x ≤ elementsOf hs
-inject-bound len hs f x {s} a p h =
-    let b : stride (sizes hs) f * getD (sizes hs) f 1 ≤ elementsOf hs = rw (← stride-next (sizes hs) f) (stride-small (sizes hs) (suc f) (positive len hs a)) in
+pub inject-bound : (hs : List Factor) (f x : ℕ) {s : ℕ} → 0 < elementsOf hs → s ≡ stride (sizes hs) f → x < getD (sizes hs) f 1 → s * x ≤ elementsOf hs
+inject-bound hs f x {s} a p h =
+    let b : stride (sizes hs) f * getD (sizes hs) f 1 ≤ elementsOf hs = rw (← stride-next (sizes hs) f) (stride-small (sizes hs) (suc f) a) in
     let c : s * getD (sizes hs) f 1 ≤ elementsOf hs = rw p b in
     omega (arith, c, mul-le-mul-left s h)
 

@@ -19,10 +19,8 @@ use Rattle.factor_word_letters.specs.Spell.{cellWithin, readable, letters}
 use Rattle.factor_questions.specs.Walks.{follow, along, readBack, backBy, backAlong, composeIn, inverseIn, conjugateIn}
 use Rattle.egg.specs.Answers.{onReached}
 use Rattle.theory_radix.proofs.RadixLaws.{joined-small, high-small, range-pos}
-use Rattle.group_digits.specs.declared.inner.Asked.{Asked}
-use Rattle.group_digits.specs.declared.inner.Asked.the-variants.{Compose, Inverse, Conjugate}
 use Rattle.group_handles.specs.Handles.{elementsOf}
-use Rattle.group_digits.specs.Digits.{above, digitOf, digitwise, stepIn}
+use Rattle.group_digits.specs.Digits.{Asked, Compose, Inverse, Conjugate, above, digitOf, digitwise, stepIn}
 
 -- s is the stride of the factor f, and `low` has the digits before it.
 pub record Walk (hs : List Factor) (f s low : ℕ) : Type 0 where

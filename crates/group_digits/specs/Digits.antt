@@ -10,12 +10,16 @@ use Rattle.egg.specs.Table.{pick}
 use Rattle.egg.specs.Factor.{stretch, refusedReach, readStep}
 use Rattle.factor_questions.specs.Walks.{composeIn, inverseIn, conjugateIn}
 use Rattle.egg.specs.Answers.{onReached}
-use Rattle.group_digits.specs.declared.inner.Asked.{Asked}
-use Rattle.group_digits.specs.declared.inner.Asked.the-variants.{Compose, Inverse, Conjugate}
 
 -- x + N·y, where the other factors answered y; where they refused, their refusal.
 abbrev pub above : ℕ → ℕ → Reached → Reached
 above x N r = onReached r (λ y. Element (record { 0 = x + N * y }))
+
+-- The questions that are answered factor by factor.
+pub data Asked : Type 0 where
+  Compose : Asked
+  Inverse : Asked
+  Conjugate : Asked
 
 -- What one factor h answers about its digits a and b. (An inverse has one argument: b counts for nothing.)
 abbrev pub digitOf : (asked : Asked) (t : List ℕ) (h : Factor) (a b : ℕ) → Reached

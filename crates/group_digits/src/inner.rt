@@ -4,8 +4,8 @@ ghost use mathlib.Core.Bool.{true};
 ghost use Prim.Native.Nat.{_<_, _≤_};
 ghost use lib.ListN.{length, getD};
 ghost use Rattle.theory_radix.specs.Radix.{stride, project, inject};
-ghost use Rattle.group_handles.specs.Handles.{handles, sizes, elementsOf, allFit};
-ghost use Rattle.group_digits.specs.Digits.{digitOf, digitwise, stepIn};
+ghost use Rattle.group_handles.specs.Handles.{handles, sizes, elementsOf, allFit, capped};
+ghost use Rattle.group_digits.specs.Digits.{Asked, digitOf, digitwise, stepIn};
 ghost use Rattle.group_digits.specs.Splits.{digitsLeft, digitsRight, fewer, splitTail, joinTail};
 use egg::Counted;
 use egg::GeneratorId;
@@ -13,13 +13,6 @@ use egg::GroupElementId;
 use egg::Reached;
 use egg::Verdict;
 use group_handles::Group;
-
-// The questions that are answered factor by factor. Only the definitions use these names.
-pub enum Asked {
-    Compose,
-    Inverse,
-    Conjugate,
-}
 
 // Goes factor by factor: the elements are split on the way, and `sum` holds the digits answered so far, each times its stride. Each question has a
 // loop of its own, because one loop for all, with the question as an argument, took half as long again.
@@ -151,8 +144,8 @@ pub fn step_in(table: &[u32], g: Group, e: GroupElementId, x: GeneratorId) -> Re
 }
 
 // By how much the product's number grows when the digit of the factor f grows by one.
-fn stride_of(table: &[u32], g: Group, f: usize) -> u32
-    requires { ⌜ (allFit (length (now table)) (handles g) ≡ true) × ((elementsOf (handles g) ≤ 4294967295) × (f < length (handles g))) ⌝ }
+fn stride_of(g: Group, f: usize) -> u32
+    requires { ⌜ (0 < elementsOf (handles g)) × ((elementsOf (handles g) ≤ 4294967295) × (f < length (handles g))) ⌝ }
     ensures { λ r. ⌜ r ≡ stride (sizes (handles g)) f ⌝ }
 {
     let mut i: usize = 0;
@@ -166,29 +159,29 @@ fn stride_of(table: &[u32], g: Group, f: usize) -> u32
 }
 
 // Answers the digit of e in the factor f.
-pub fn project_in(table: &[u32], g: Group, f: usize, e: GroupElementId) -> Reached
-    requires { ⌜ (allFit (length (now table)) (handles g) ≡ true) × ((elementsOf (handles g) ≤ 4294967295) × (f < length (handles g))) ⌝ }
+pub fn project_in(g: Group, f: usize, e: GroupElementId) -> Reached
+    requires { ⌜ (0 < elementsOf (handles g)) × ((elementsOf (handles g) ≤ 4294967295) × (f < length (handles g))) ⌝ }
     ensures { λ r. ⌜ r ≡ Reached.Element (record { 0 = project (sizes (handles g)) f (e .0) }) ⌝ }
 {
     let x = e.0;
-    let s = stride_of(table, g, f);
+    let s = stride_of(g, f);
     let n = group_handles::inner::size_of(g, f);
     Reached::Element(GroupElementId(x / s % n))
 }
 
 // Answers the element whose digit in the factor f is x, and 0 in the others.
-pub fn inject_in(table: &[u32], g: Group, f: usize, x: GroupElementId) -> Reached
-    requires { ⌜ (allFit (length (now table)) (handles g) ≡ true) × ((elementsOf (handles g) ≤ 4294967295) × ((f < length (handles g)) × (x .0 < getD (sizes (handles g)) f 1))) ⌝ }
+pub fn inject_in(g: Group, f: usize, x: GroupElementId) -> Reached
+    requires { ⌜ (0 < elementsOf (handles g)) × ((elementsOf (handles g) ≤ 4294967295) × ((f < length (handles g)) × (x .0 < getD (sizes (handles g)) f 1))) ⌝ }
     ensures { λ r. ⌜ r ≡ Reached.Element (record { 0 = inject (sizes (handles g)) f (x .0) }) ⌝ }
 {
     let d = x.0;
-    let s = stride_of(table, g, f);
+    let s = stride_of(g, f);
     Reached::Element(GroupElementId(s * d))
 }
 
 // Writes the digits of e from place 0 on. Refuses with 4 a list that is short.
-pub fn split_in(table: &[u32], g: Group, e: GroupElementId, out: &mut [u32]) -> Counted
-    requires { ⌜ allFit (length (now table)) (handles g) ≡ true ⌝ }
+pub fn split_in(g: Group, e: GroupElementId, out: &mut [u32]) -> Counted
+    requires { ⌜ 0 < elementsOf (handles g) ⌝ }
     ensures { λ r. ⌜ (r ≡ splitTail (handles g) (length (now (out .entry)))) × (now (out .exit) ≡ digitsLeft (splitTail (handles g) (length (now (out .entry)))) (sizes (handles g)) (e .0) (now (out .entry))) ⌝ }
 {
     let c = group_handles::inner::listed(g);
@@ -228,16 +221,16 @@ pub fn digits_right(g: Group, digits: &[u32]) -> Verdict
     Verdict::Fine
 }
 
-// Refuses with 15 a product too large, then with 4 a list that is short; else adds up each digit times its stride.
-pub fn join_in(table: &[u32], g: Group, digits: &[u32]) -> Reached
-    requires { ⌜ (allFit (length (now table)) (handles g) ≡ true) × (digitsRight (sizes (handles g)) (now digits) ≡ Verdict.Fine) ⌝ }
+// Refuses with 15 a product too large, then with 4 a list that is short; else adds up each digit times its stride. `elements` is how many the product
+// has, as far as 32 bits can tell: who calls has looked at the handles already.
+pub fn join_in(g: Group, elements: u64, digits: &[u32]) -> Reached
+    requires { ⌜ (0 < elementsOf (handles g)) × ((elements ≡ capped (elementsOf (handles g))) × (digitsRight (sizes (handles g)) (now digits) ≡ Verdict.Fine)) ⌝ }
     ensures { λ r. ⌜ r ≡ joinTail g (now (digits .entry)) ⌝ }
 {
     if 8 < g.count {
         return egg::inner::refuse(15, 0);
     }
-    let seen = group_handles::inner::look(table, g);
-    if 4294967295 < seen.elements {
+    if 4294967295 < elements {
         return egg::inner::refuse(15, 0);
     }
     let c = group_handles::inner::listed(g);

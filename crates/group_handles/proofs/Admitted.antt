@@ -116,15 +116,15 @@ module _ {len : ℕ} (g : Group) {s : Seen} (w : Looked len (handles g) s) where
   admits-seen a la m b lb n q x y = q ∙ same-order (s .fit) (w .fits) x y within-seen
 
 -- 17 and 15 by what was seen.
-module _ (len : ℕ) (g : Group) {s : Seen} (q : s ≡ seen len (handles g)) where
-  pub seen-fit : {b : Bool} → s .fit ≡ b → allFit len (handles g) ≡ b
-  seen-fit e = ap (λ (x : Seen). x .fit) (sym q) ∙ e
+pub seen-fit : (len : ℕ) (g : Group) {s : Seen} → s ≡ seen len (handles g) → {b : Bool} → s .fit ≡ b → allFit len (handles g) ≡ b
+seen-fit len g q e = ap (λ (x : Seen). x .fit) (sym q) ∙ e
 
-  pub seen-few : g .count ≤ 8 → s .elements ≤ 4294967295 → limited g ≡ true
-  seen-few h k = sym (limited-elements g h (ap (λ (x : Seen). x .elements) q)) ∙ le-leb _ _ k
+module _ (g : Group) {m : ℕ} (q : m ≡ capped (elementsOf (handles g))) where
+  pub seen-few : g .count ≤ 8 → m ≤ 4294967295 → limited g ≡ true
+  seen-few h k = sym (limited-elements g h q) ∙ le-leb _ _ k
 
-  pub seen-many : g .count ≤ 8 → 4294967295 < s .elements → limited g ≡ false
-  seen-many h k = sym (limited-elements g h (ap (λ (x : Seen). x .elements) q)) ∙ lt-leb _ _ k
+  pub seen-many : g .count ≤ 8 → 4294967295 < m → limited g ≡ false
+  seen-many h k = sym (limited-elements g h q) ∙ lt-leb _ _ k
 
 module _ (len : ℕ) (g : Group) (a : ℕ) {m n : ℕ} (p : m ≡ n) where
   pub first-is : (b lb : ℕ) {v : Verdict} → v ≡ admits len g a m b lb → v ≡ admits len g a n b lb

@@ -109,34 +109,23 @@ pub fn all_fit(table: &[u32], g: Group) -> bool
     s.fit
 }
 
-// How many elements the product has, as far as 32 bits can tell.
+// How many elements the product has, as far as 32 bits can tell. What the pass shows of them is the same over every buffer, so it is made over any
+// one. The same for generators.
 pub fn elements_of(g: Group) -> u64
     ensures { λ r. ⌜ r ≡ capped (elementsOf (handles g)) ⌝ }
 {
-    let c = listed(g);
-    let mut f: usize = 0;
-    let mut p: u64 = 1;
-    while f < c {
-        let h = g.factors[f];
-        p = times(p, h.elements);
-        f += 1;
-    }
-    p
+    let buffer = [0; 1];
+    let s = look(&buffer, g);
+    s.elements
 }
 
 // How many generators the product has; it lists eight handles at most, so the sum is small.
 pub fn generators_of(g: Group) -> u32
     ensures { λ r. ⌜ (r ≡ generatorsOf (handles g)) × (r ≤ 2040) ⌝ }
 {
-    let c = listed(g);
-    let mut f: usize = 0;
-    let mut n: u32 = 0;
-    while f < c {
-        let h = g.factors[f];
-        n += h.generators as u32;
-        f += 1;
-    }
-    n
+    let buffer = [0; 1];
+    let s = look(&buffer, g);
+    s.generators
 }
 
 // Whether the product has at most 8 factors and 4,294,967,295 elements.
@@ -190,12 +179,33 @@ pub fn admit_seen(s: Seen, count: u8, a: u32, la: Limit, b: u32, lb: Limit) -> V
     Verdict::Fine
 }
 
+// The same for a call with one argument: the place of the second has 0, which is below 1.
+pub fn admit_one_seen(s: Seen, count: u8, a: u32, la: Limit) -> Verdict
+    ensures { λ r. ⌜ r ≡ admitsSeen s count a la 0 (Limit.Number 1) ⌝ }
+{
+    admit_seen(s, count, a, la, 0, Limit::Number(1))
+}
+
+// The same for a call with no argument.
+pub fn admit_none_seen(s: Seen, count: u8) -> Verdict
+    ensures { λ r. ⌜ r ≡ admitsSeen s count 0 (Limit.Number 1) 0 (Limit.Number 1) ⌝ }
+{
+    admit_one_seen(s, count, 0, Limit::Number(1))
+}
+
 // Looks at the handles, and refuses as `admit_seen` does.
 pub fn admit(table: &[u32], g: Group, a: u32, la: Limit, b: u32, lb: Limit) -> Verdict
     ensures { λ r. ⌜ r ≡ admits (length (now (table .entry))) g a (limitOf (handles g) la) b (limitOf (handles g) lb) ⌝ }
 {
     let s = look(table, g);
     admit_seen(s, g.count, a, la, b, lb)
+}
+
+// The same for a call with one argument.
+pub fn admit_one(table: &[u32], g: Group, a: u32, la: Limit) -> Verdict
+    ensures { λ r. ⌜ r ≡ admits (length (now (table .entry))) g a (limitOf (handles g) la) 0 1 ⌝ }
+{
+    admit(table, g, a, la, 0, Limit::Number(1))
 }
 
 // A refusal, with the value that is no product beside it.

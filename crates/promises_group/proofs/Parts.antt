@@ -20,10 +20,8 @@ use Rattle.theory_products.proofs.ProductLaws.{trivial-group, product-group, ea
 use Rattle.theory_products.proofs.StepLaws.{side, WhichFactor, left, right, step-left, step-right}
 use Rattle.theory_products.proofs.Componentwise.{op-parted, inv-parted, conjugate-parted}
 use Rattle.theory_products.proofs.TableParts.{table-worded}
-use Rattle.group_digits.specs.declared.inner.Asked.{Asked}
-use Rattle.group_digits.specs.declared.inner.Asked.the-variants.{Compose, Inverse, Conjugate}
 use Rattle.group_handles.specs.Handles.{elementsOf, generatorsOf, allFit}
-use Rattle.group_digits.specs.Digits.{digitOf, digitwise, stepIn}
+use Rattle.group_digits.specs.Digits.{Asked, Compose, Inverse, Conjugate, digitOf, digitwise, stepIn}
 use Rattle.promises_group.specs.Products.{part, parts, AllAccepted, none, more}
 
 module _ (t : List ℕ) where

@@ -23,10 +23,8 @@ use Rattle.factor_laws.specs.Refuses.{VerdictIn, ReachedIn, CountedIn}
 use Rattle.factor_laws.proofs.Refuses.{reached-element, reached-refused, reached-pick, reached-on, reached-if, counted-count, counted-refused, counted-pick, counted-if}
 use Rattle.factor_laws.proofs.Refuses.{verdict-fine, verdict-refused, verdict-pick, verdict-then, verdict-scan, reached-widen, step-in, compose-in, inverse-in, conjugate-in}
 use Rattle.group_handles.specs.declared.Group.{Group}
-use Rattle.group_digits.specs.declared.inner.Asked.{Asked}
-use Rattle.group_digits.specs.declared.inner.Asked.the-variants.{Compose, Inverse, Conjugate}
 use Rattle.group_handles.specs.Handles.{handles, sizes, elementsOf, generatorsOf, allFit, limited, admits, joins}
-use Rattle.group_digits.specs.Digits.{digitOf, digitwise, stepIn, composes, inverts}
+use Rattle.group_digits.specs.Digits.{Asked, Compose, Inverse, Conjugate, digitOf, digitwise, stepIn, composes, inverts}
 use Rattle.group_powers.specs.Powers.{oddToo, byHalving, negated, powers}
 use Rattle.group_periods.specs.Periods.{periodFrom, periods}
 use Rattle.group_handles.specs.Counts.{onCounted, onElement}

@@ -16,10 +16,8 @@ use Rattle.promises.specs.Leaves.{Lent}
 use Rattle.promises.specs.Unaltered.{Wrote}
 use Rattle.promises.proofs.Unaltered.{kept}
 use Rattle.group_handles.specs.declared.Group.{Group}
-use Rattle.group_digits.specs.declared.inner.Asked.{Asked}
-use Rattle.group_digits.specs.declared.inner.Asked.the-variants.{Compose, Inverse, Conjugate}
 use Rattle.group_handles.specs.Handles.{handles, allFit, admits}
-use Rattle.group_digits.specs.Digits.{digitOf, digitwise, stepIn, composes, inverts}
+use Rattle.group_digits.specs.Digits.{Asked, Compose, Inverse, Conjugate, digitOf, digitwise, stepIn, composes, inverts}
 use Rattle.group_powers.specs.Powers.{powers}
 use Rattle.group_periods.specs.Periods.{periodOf, periods}
 use Rattle.group_words.specs.Words.{lengths, readables, spells, writes, leaves}

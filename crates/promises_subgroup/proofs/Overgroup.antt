@@ -14,8 +14,7 @@ use Rattle.build_lending.specs.Lending.{workNeed}
 use Rattle.theory.specs.Group.{GroupOn}
 use Rattle.theory_products.specs.Product.{product}
 use Rattle.theory_products.proofs.ProductLaws.{product-group}
-use Rattle.group_digits.specs.declared.inner.Asked.the-variants.{Compose}
-use Rattle.group_digits.specs.Digits.{digitOf, digitwise}
+use Rattle.group_digits.specs.Digits.{Compose, digitOf, digitwise}
 use Rattle.group_handles.specs.Handles.{elementsOf}
 use Rattle.promises_group.specs.Products.{parts, AllAccepted}
 use Rattle.promises_group.proofs.Parts.{parts-elements, all-groups, composes-are}

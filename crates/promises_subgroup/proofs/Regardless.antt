@@ -27,9 +27,8 @@ use Rattle.promises.specs.Unaltered.{Wrote, part}
 use Rattle.build_laws.proofs.Lent.{handle, within-cell}
 use Rattle.theory_radix.proofs.RadixLaws.{joined-small, high-small, range-pos}
 use Rattle.group_handles.specs.declared.Group.{Group}
-use Rattle.group_digits.specs.declared.inner.Asked.the-variants.{Compose}
 use Rattle.group_handles.specs.Handles.{handles, elementsOf, allFit, groupOf}
-use Rattle.group_digits.specs.Digits.{digitOf, digitwise, composes}
+use Rattle.group_digits.specs.Digits.{Compose, digitOf, digitwise, composes}
 use Rattle.group_handles.proofs.Lists.{positive}
 use Rattle.group_digits.proofs.Walks.{Below, element, below-element, below-on, digit-below}
 use Rattle.build_numbering.specs.Build.{renumbering, renumberIn}

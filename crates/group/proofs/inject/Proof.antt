@@ -5,6 +5,7 @@ use Rattle.group.specs.Questions.{injectAnswer}
 use Rattle.factor.proofs.Admits.{reach-refused, reach-fine}
 use Rattle.group_handles.proofs.Admitted.{ready, goes-on, first-is, second-is}
 use Rattle.group_handles.specs.Handles.{handles}
+use Rattle.group_handles.proofs.Lists.{positive}
 use borrow.Author.Needs.{needs}
 use Rattle.group.proofs.inject.Statement.{statement}
 use Rattle.group.proofs.inject.Tie as tie
@@ -28,7 +29,7 @@ enum-told : tie.Need-enum-told
 enum-told c = search needs
 
 inject-in-requires : tie.Need-inject-in-requires
-inject-in-requires c κs = ((ready (length (c .before .before .before .before .before .before .args .table .now)) (c .before .before .before .before .before .before .args .g) _ _ _ _ (second-is (length (c .before .before .before .before .before .before .args .table .now)) (c .before .before .before .before .before .before .args .g) (c .before .before .before .before .before .before .args .x .0) (c .before .before .before .before .size-of .ensures) (c .before .before .before .before .before .before .args .f) (length (handles (c .before .before .before .before .before .before .args .g))) (first-is (length (c .before .before .before .before .before .before .args .table .now)) (c .before .before .before .before .before .before .args .g) (c .before .before .before .before .before .before .args .f) (c .before .before .before .listed .ensures .0) (c .before .before .before .before .before .before .args .x .0) (c .before .before .before .before .size-of .result) (c .before .before .admit .ensures))) (c .enum-told .given .1)) .0, ((ready (length (c .before .before .before .before .before .before .args .table .now)) (c .before .before .before .before .before .before .args .g) _ _ _ _ (second-is (length (c .before .before .before .before .before .before .args .table .now)) (c .before .before .before .before .before .before .args .g) (c .before .before .before .before .before .before .args .x .0) (c .before .before .before .before .size-of .ensures) (c .before .before .before .before .before .before .args .f) (length (handles (c .before .before .before .before .before .before .args .g))) (first-is (length (c .before .before .before .before .before .before .args .table .now)) (c .before .before .before .before .before .before .args .g) (c .before .before .before .before .before .before .args .f) (c .before .before .before .listed .ensures .0) (c .before .before .before .before .before .before .args .x .0) (c .before .before .before .before .size-of .result) (c .before .before .admit .ensures))) (c .enum-told .given .1)) .1, ((goes-on (length (c .before .before .before .before .before .before .args .table .now)) (c .before .before .before .before .before .before .args .g) _ _ _ _ (second-is (length (c .before .before .before .before .before .before .args .table .now)) (c .before .before .before .before .before .before .args .g) (c .before .before .before .before .before .before .args .x .0) (c .before .before .before .before .size-of .ensures) (c .before .before .before .before .before .before .args .f) (length (handles (c .before .before .before .before .before .before .args .g))) (first-is (length (c .before .before .before .before .before .before .args .table .now)) (c .before .before .before .before .before .before .args .g) (c .before .before .before .before .before .before .args .f) (c .before .before .before .listed .ensures .0) (c .before .before .before .before .before .before .args .x .0) (c .before .before .before .before .size-of .result) (c .before .before .admit .ensures))) (c .enum-told .given .1)) .first, (goes-on (length (c .before .before .before .before .before .before .args .table .now)) (c .before .before .before .before .before .before .args .g) _ _ _ _ (second-is (length (c .before .before .before .before .before .before .args .table .now)) (c .before .before .before .before .before .before .args .g) (c .before .before .before .before .before .before .args .x .0) (c .before .before .before .before .size-of .ensures) (c .before .before .before .before .before .before .args .f) (length (handles (c .before .before .before .before .before .before .args .g))) (first-is (length (c .before .before .before .before .before .before .args .table .now)) (c .before .before .before .before .before .before .args .g) (c .before .before .before .before .before .before .args .f) (c .before .before .before .listed .ensures .0) (c .before .before .before .before .before .before .args .x .0) (c .before .before .before .before .size-of .result) (c .before .before .admit .ensures))) (c .enum-told .given .1)) .second)))
+inject-in-requires c κs = (positive (length (c .before .before .before .before .before .before .args .table .now)) (handles (c .before .before .before .before .before .before .args .g)) ((ready (length (c .before .before .before .before .before .before .args .table .now)) (c .before .before .before .before .before .before .args .g) _ _ _ _ (second-is (length (c .before .before .before .before .before .before .args .table .now)) (c .before .before .before .before .before .before .args .g) (c .before .before .before .before .before .before .args .x .0) (c .before .before .before .before .size-of .ensures) (c .before .before .before .before .before .before .args .f) (length (handles (c .before .before .before .before .before .before .args .g))) (first-is (length (c .before .before .before .before .before .before .args .table .now)) (c .before .before .before .before .before .before .args .g) (c .before .before .before .before .before .before .args .f) (c .before .before .before .listed .ensures .0) (c .before .before .before .before .before .before .args .x .0) (c .before .before .before .before .size-of .result) (c .before .before .admit .ensures))) (c .enum-told .given .1)) .0), ((ready (length (c .before .before .before .before .before .before .args .table .now)) (c .before .before .before .before .before .before .args .g) _ _ _ _ (second-is (length (c .before .before .before .before .before .before .args .table .now)) (c .before .before .before .before .before .before .args .g) (c .before .before .before .before .before .before .args .x .0) (c .before .before .before .before .size-of .ensures) (c .before .before .before .before .before .before .args .f) (length (handles (c .before .before .before .before .before .before .args .g))) (first-is (length (c .before .before .before .before .before .before .args .table .now)) (c .before .before .before .before .before .before .args .g) (c .before .before .before .before .before .before .args .f) (c .before .before .before .listed .ensures .0) (c .before .before .before .before .before .before .args .x .0) (c .before .before .before .before .size-of .result) (c .before .before .admit .ensures))) (c .enum-told .given .1)) .1, ((goes-on (length (c .before .before .before .before .before .before .args .table .now)) (c .before .before .before .before .before .before .args .g) _ _ _ _ (second-is (length (c .before .before .before .before .before .before .args .table .now)) (c .before .before .before .before .before .before .args .g) (c .before .before .before .before .before .before .args .x .0) (c .before .before .before .before .size-of .ensures) (c .before .before .before .before .before .before .args .f) (length (handles (c .before .before .before .before .before .before .args .g))) (first-is (length (c .before .before .before .before .before .before .args .table .now)) (c .before .before .before .before .before .before .args .g) (c .before .before .before .before .before .before .args .f) (c .before .before .before .listed .ensures .0) (c .before .before .before .before .before .before .args .x .0) (c .before .before .before .before .size-of .result) (c .before .before .admit .ensures))) (c .enum-told .given .1)) .first, (goes-on (length (c .before .before .before .before .before .before .args .table .now)) (c .before .before .before .before .before .before .args .g) _ _ _ _ (second-is (length (c .before .before .before .before .before .before .args .table .now)) (c .before .before .before .before .before .before .args .g) (c .before .before .before .before .before .before .args .x .0) (c .before .before .before .before .size-of .ensures) (c .before .before .before .before .before .before .args .f) (length (handles (c .before .before .before .before .before .before .args .g))) (first-is (length (c .before .before .before .before .before .before .args .table .now)) (c .before .before .before .before .before .before .args .g) (c .before .before .before .before .before .before .args .f) (c .before .before .before .listed .ensures .0) (c .before .before .before .before .before .before .args .x .0) (c .before .before .before .before .size-of .result) (c .before .before .admit .ensures))) (c .enum-told .given .1)) .second)))
 
 returns : tie.Need-returns
 unfolding injectAnswer

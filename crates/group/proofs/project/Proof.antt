@@ -5,6 +5,8 @@ use Rattle.group.specs.Questions.{projectAnswer}
 use Rattle.factor.proofs.Admits.{reach-refused, reach-fine}
 use Rattle.group_handles.proofs.Admitted.{ready, goes-on, first-is}
 use Rattle.group_handles.specs.Handles.{handles, elementsOf}
+use Rattle.group_handles.specs.Handles.{handles}
+use Rattle.group_handles.proofs.Lists.{positive}
 use borrow.Author.Needs.{needs}
 use Rattle.group.proofs.project.Statement.{statement}
 use Rattle.group.proofs.project.Tie as tie
@@ -25,7 +27,7 @@ enum-told : tie.Need-enum-told
 enum-told c = search needs
 
 project-in-requires : tie.Need-project-in-requires
-project-in-requires c κs = ((ready (length (c .before .before .before .before .before .args .table .now)) (c .before .before .before .before .before .args .g) _ _ _ _ (first-is (length (c .before .before .before .before .before .args .table .now)) (c .before .before .before .before .before .args .g) (c .before .before .before .before .before .args .f) (c .before .before .before .listed .ensures .0) (c .before .before .before .before .before .args .e .0) (elementsOf (handles (c .before .before .before .before .before .args .g))) (c .before .before .admit .ensures)) (c .enum-told .given .1)) .0, ((ready (length (c .before .before .before .before .before .args .table .now)) (c .before .before .before .before .before .args .g) _ _ _ _ (first-is (length (c .before .before .before .before .before .args .table .now)) (c .before .before .before .before .before .args .g) (c .before .before .before .before .before .args .f) (c .before .before .before .listed .ensures .0) (c .before .before .before .before .before .args .e .0) (elementsOf (handles (c .before .before .before .before .before .args .g))) (c .before .before .admit .ensures)) (c .enum-told .given .1)) .1, goes-on (length (c .before .before .before .before .before .args .table .now)) (c .before .before .before .before .before .args .g) _ _ _ _ (first-is (length (c .before .before .before .before .before .args .table .now)) (c .before .before .before .before .before .args .g) (c .before .before .before .before .before .args .f) (c .before .before .before .listed .ensures .0) (c .before .before .before .before .before .args .e .0) (elementsOf (handles (c .before .before .before .before .before .args .g))) (c .before .before .admit .ensures)) (c .enum-told .given .1) .first))
+project-in-requires c κs = (positive (length (c .before .before .before .before .before .args .table .now)) (handles (c .before .before .before .before .before .args .g)) ((ready (length (c .before .before .before .before .before .args .table .now)) (c .before .before .before .before .before .args .g) _ _ _ _ (first-is (length (c .before .before .before .before .before .args .table .now)) (c .before .before .before .before .before .args .g) (c .before .before .before .before .before .args .f) (c .before .before .before .listed .ensures .0) (c .before .before .before .before .before .args .e .0) (elementsOf (handles (c .before .before .before .before .before .args .g))) (c .before .before .admit .ensures)) (c .enum-told .given .1)) .0), ((ready (length (c .before .before .before .before .before .args .table .now)) (c .before .before .before .before .before .args .g) _ _ _ _ (first-is (length (c .before .before .before .before .before .args .table .now)) (c .before .before .before .before .before .args .g) (c .before .before .before .before .before .args .f) (c .before .before .before .listed .ensures .0) (c .before .before .before .before .before .args .e .0) (elementsOf (handles (c .before .before .before .before .before .args .g))) (c .before .before .admit .ensures)) (c .enum-told .given .1)) .1, goes-on (length (c .before .before .before .before .before .args .table .now)) (c .before .before .before .before .before .args .g) _ _ _ _ (first-is (length (c .before .before .before .before .before .args .table .now)) (c .before .before .before .before .before .args .g) (c .before .before .before .before .before .args .f) (c .before .before .before .listed .ensures .0) (c .before .before .before .before .before .args .e .0) (elementsOf (handles (c .before .before .before .before .before .args .g))) (c .before .before .admit .ensures)) (c .enum-told .given .1) .first))
 
 returns : tie.Need-returns
 unfolding projectAnswer

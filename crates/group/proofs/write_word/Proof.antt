@@ -1,4 +1,4 @@
--- A product of one factor is asked as the factor is. Else the verdict of `admit` decides, and the work's own contract is the answer.
+-- A product of one factor is asked as the factor is. Else the verdict of `admit_one` decides, and the work's own contract is the answer.
 use lib.ListN.{length}
 use mathlib.Core.Path.{_∙_, refl, sym}
 use Rattle.group.specs.Questions.{writeAnswer, written}
@@ -26,8 +26,8 @@ same-length c = search needs
 returns : tie.Need-returns
 returns c = ((c .before .before .write-word .ensures .0) ∙ one-write (c .before .before .before .before .before .before .before .before .before .args .table .now) (c .before .before .before .before .before .before .before .before .before .args .t2) _ ((c .before .before .before .before .before .before .alone .ensures) (c .before .before .before .before .before .if1 .taken) .counted) ((c .before .before .before .before .before .before .alone .ensures) (c .before .before .before .before .before .if1 .taken) .listed) (c .before .before .before .before .before .before .before .before .before .args .e) (length (c .before .before .before .before .before .before .before .before .before .args .out .now)), (c .before .before .write-word .ensures .1) ∙ one-written (c .before .before .before .before .before .before .before .before .before .args .table .now) (c .before .before .before .before .before .before .before .before .before .args .t2) _ ((c .before .before .before .before .before .before .alone .ensures) (c .before .before .before .before .before .if1 .taken) .counted) ((c .before .before .before .before .before .before .alone .ensures) (c .before .before .before .before .before .if1 .taken) .listed) (c .before .before .before .before .before .before .before .before .before .args .e) (c .before .before .before .before .before .before .before .before .before .args .out .now))
 
-admit-requires : tie.Need-admit-requires
-admit-requires c κs = search needs
+admit-one-requires : tie.Need-admit-one-requires
+admit-one-requires c κs = search needs
 
 enum-known-why : tie.Need-enum-known-why
 enum-known-why c = search needs
@@ -36,18 +36,18 @@ enum-told : tie.Need-enum-told
 enum-told c = search needs
 
 write-in-requires : tie.Need-write-in-requires
-write-in-requires c κs = (ready (length (c .before .before .before .before .before .before .before .before .args .table .now)) (c .before .before .before .before .before .before .before .before .args .t2) _ _ _ _ (c .before .before .before .admit .ensures) (c .before .enum-told .given .1)) .0
+write-in-requires c κs = (ready (length (c .before .before .before .before .before .before .before .before .args .table .now)) (c .before .before .before .before .before .before .before .before .args .t2) _ _ _ _ (c .before .before .before .admit-one .ensures) (c .before .enum-told .given .1)) .0
 
 returns-2 : tie.Need-returns-2
 unfolding writeAnswer written
-returns-2 c = wrote (c .before .before .before .before .before .before .before .before .args .table .now) (handles (c .before .before .before .before .before .before .before .before .args .t2)) (c .before .before .before .before .before .before .before .before .args .e .0) (c .before .before .before .before .before .before .before .before .args .out .now) (sym (count-refused (c .before .before .before .admit .ensures) _ (c .before .why .given .1))) refl refl
+returns-2 c = wrote (c .before .before .before .before .before .before .before .before .args .table .now) (handles (c .before .before .before .before .before .before .before .before .args .t2)) (c .before .before .before .before .before .before .before .before .args .e .0) (c .before .before .before .before .before .before .before .before .args .out .now) (sym (count-refused (c .before .before .before .admit-one .ensures) _ (c .before .why .given .1))) refl refl
 
 same-length-2 : tie.Need-same-length-2
 same-length-2 c = search needs
 
 returns-3 : tie.Need-returns-3
 unfolding writeAnswer written
-returns-3 c = wrote (c .before .before .before .before .before .before .before .before .before .before .before .args .table .now) (handles (c .before .before .before .before .before .before .before .before .before .before .before .args .t2)) (c .before .before .before .before .before .before .before .before .before .before .before .args .e .0) (c .before .before .before .before .before .before .before .before .before .before .before .args .out .now) (sym (count-fine (c .before .before .before .before .before .before .admit .ensures) _ (c .before .before .before .before .enum-told .given .1))) (c .before .before .write-in .ensures .0) (c .before .before .write-in .ensures .1)
+returns-3 c = wrote (c .before .before .before .before .before .before .before .before .before .before .before .args .table .now) (handles (c .before .before .before .before .before .before .before .before .before .before .before .args .t2)) (c .before .before .before .before .before .before .before .before .before .before .before .args .e .0) (c .before .before .before .before .before .before .before .before .before .before .before .args .out .now) (sym (count-fine (c .before .before .before .before .before .before .admit-one .ensures) _ (c .before .before .before .before .enum-told .given .1))) (c .before .before .write-in .ensures .0) (c .before .before .write-in .ensures .1)
 
 pub write-word-spec : {M : Type 1} → statement M
-write-word-spec = tie.close (tie.spec alone-requires element-copy-out-h write-word-requires same-length returns admit-requires enum-known-why enum-told write-in-requires returns-2 same-length-2 returns-3)
+write-word-spec = tie.close (tie.spec alone-requires element-copy-out-h write-word-requires same-length returns admit-one-requires enum-known-why enum-told write-in-requires returns-2 same-length-2 returns-3)

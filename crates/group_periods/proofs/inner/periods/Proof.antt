@@ -55,7 +55,7 @@ div-m : tie.Need-div-m Inv-loop μ-loop
 div-m c = omega (arith, gcd-pos (c .before .before .before .before .before .before .before .before .loop .m) (c .before .before .r .given .0 .0) (c .gcd .ensures) (c .before .before .before .before .before .before .before .before .loop .inv .some))
 
 mul-m : tie.Need-mul-m Inv-loop μ-loop
-mul-m c = omega (arith, multiple-bound (c .before .before .before .before .before .before .before .before .loop .inv) (turn-at (c .before .before .before .before .before .before .before .before .before .before .before .args .t2) (c .before .before .before .before .before .before .before .before .loop .f) (c .before .before .before .before .before .before .before .before .before .listed .ensures .0) (c .before .before .before .before .before .before .before .loop-test .taken)) (rw (c .before .before .before .before .before .part .ensures) at (c .before .before .before .before .period-in .ensures)) (c .before .before .r .given .1) (c .gcd .ensures) (stride-on (length (c .before .before .before .before .before .before .before .before .before .before .before .args .table .now)) (handles (c .before .before .before .before .before .before .before .before .before .before .before .args .t2)) (c .before .before .before .before .before .before .before .before .loop .f) (c .before .before .before .before .before .before .before .before .before .before .before .pre .0) (handle-at (c .before .before .before .before .before .before .before .before .before .before .before .args .t2) (c .before .before .before .before .before .before .before .before .loop .f) (c .before .before .before .before .before .before .before .before .before .listed .ensures .0) (c .before .before .before .before .before .before .before .loop-test .taken)) (rw (← (c .before .before .before .before .before .before .before .before .before .listed .ensures .0)) (c .before .before .before .before .before .before .before .loop-test .taken)) refl), stride-small (sizes (handles (c .before .before .before .before .before .before .before .before .before .before .before .args .t2))) ((c .before .before .before .before .before .before .before .before .loop .f) + 1) (positive (length (c .before .before .before .before .before .before .before .before .before .before .before .args .table .now)) (handles (c .before .before .before .before .before .before .before .before .before .before .before .args .t2)) (c .before .before .before .before .before .before .before .before .before .before .before .pre .0)), (c .before .before .before .before .before .before .before .before .before .before .before .pre .1))
+mul-m c = omega (arith, multiple-bound (c .before .before .before .before .before .before .before .before .loop .inv) (turn-at (c .before .before .before .before .before .before .before .before .before .before .before .args .t2) (c .before .before .before .before .before .before .before .before .loop .f) (c .before .before .before .before .before .before .before .before .before .listed .ensures .0) (c .before .before .before .before .before .before .before .loop-test .taken)) (rw (c .before .before .before .before .before .part .ensures) at (c .before .before .before .before .period-in .ensures)) (c .before .before .r .given .1) (c .gcd .ensures) (stride-on (handles (c .before .before .before .before .before .before .before .before .before .before .before .args .t2)) (c .before .before .before .before .before .before .before .before .loop .f) (handle-at (c .before .before .before .before .before .before .before .before .before .before .before .args .t2) (c .before .before .before .before .before .before .before .before .loop .f) (c .before .before .before .before .before .before .before .before .before .listed .ensures .0) (c .before .before .before .before .before .before .before .loop-test .taken)) (rw (← (c .before .before .before .before .before .before .before .before .before .listed .ensures .0)) (c .before .before .before .before .before .before .before .loop-test .taken)) refl), stride-small (sizes (handles (c .before .before .before .before .before .before .before .before .before .before .before .args .t2))) ((c .before .before .before .before .before .before .before .before .loop .f) + 1) (positive (length (c .before .before .before .before .before .before .before .before .before .before .before .args .table .now)) (handles (c .before .before .before .before .before .before .before .before .before .before .before .args .t2)) (c .before .before .before .before .before .before .before .before .before .before .before .pre .0)), (c .before .before .before .before .before .before .before .before .before .before .before .pre .1))
 
 div-rest : tie.Need-div-rest Inv-loop μ-loop
 div-rest c = omega (arith, (some-there (c .before .before .before .before .before .before .before .before .before .before .before .args .t2) (c .before .before .before .before .before .before .before .before .loop .f) (c .before .before .before .before .before .before .before .before .before .listed .ensures .0) (c .before .before .before .before .before .before .before .loop-test .taken) (length (c .before .before .before .before .before .before .before .before .before .before .before .args .table .now)) (c .before .before .before .before .before .before .before .before .before .before .before .pre .0)))
@@ -67,7 +67,7 @@ loop-less : tie.Need-loop-less Inv-loop μ-loop
 loop-less c = omega (arith, (c .before .before .before .before .before .before .before .loop-test .taken))
 
 loop-again : tie.Need-loop-again Inv-loop μ-loop
-loop-again c = multiple-on (c .before .before .before .before .before .before .before .before .loop .inv) (turn-at (c .before .before .before .before .before .before .before .before .before .before .before .args .t2) (c .before .before .before .before .before .before .before .before .loop .f) (c .before .before .before .before .before .before .before .before .before .listed .ensures .0) (c .before .before .before .before .before .before .before .loop-test .taken)) (rw (c .before .before .before .before .before .part .ensures) at (c .before .before .before .before .period-in .ensures)) (c .before .before .r .given .1) (c .gcd .ensures) (stride-on (length (c .before .before .before .before .before .before .before .before .before .before .before .args .table .now)) (handles (c .before .before .before .before .before .before .before .before .before .before .before .args .t2)) (c .before .before .before .before .before .before .before .before .loop .f) (c .before .before .before .before .before .before .before .before .before .before .before .pre .0) (handle-at (c .before .before .before .before .before .before .before .before .before .before .before .args .t2) (c .before .before .before .before .before .before .before .before .loop .f) (c .before .before .before .before .before .before .before .before .before .listed .ensures .0) (c .before .before .before .before .before .before .before .loop-test .taken)) (rw (← (c .before .before .before .before .before .before .before .before .before .listed .ensures .0)) (c .before .before .before .before .before .before .before .loop-test .taken)) refl)
+loop-again c = multiple-on (c .before .before .before .before .before .before .before .before .loop .inv) (turn-at (c .before .before .before .before .before .before .before .before .before .before .before .args .t2) (c .before .before .before .before .before .before .before .before .loop .f) (c .before .before .before .before .before .before .before .before .before .listed .ensures .0) (c .before .before .before .before .before .before .before .loop-test .taken)) (rw (c .before .before .before .before .before .part .ensures) at (c .before .before .before .before .period-in .ensures)) (c .before .before .r .given .1) (c .gcd .ensures) (stride-on (handles (c .before .before .before .before .before .before .before .before .before .before .before .args .t2)) (c .before .before .before .before .before .before .before .before .loop .f) (handle-at (c .before .before .before .before .before .before .before .before .before .before .before .args .t2) (c .before .before .before .before .before .before .before .before .loop .f) (c .before .before .before .before .before .before .before .before .before .listed .ensures .0) (c .before .before .before .before .before .before .before .loop-test .taken)) (rw (← (c .before .before .before .before .before .before .before .before .before .listed .ensures .0)) (c .before .before .before .before .before .before .before .loop-test .taken)) refl)
 
 returns-2 : tie.Need-returns-2 Inv-loop μ-loop
 returns-2 c = multiple-end (c .before .loop .inv) (turned-all (handles (c .before .before .before .before .args .t2)) (c .before .loop .f) (c .before .before .listed .ensures .0) (c .loop-test .left))
