@@ -226,7 +226,7 @@ uint64_t hg_length(const uint32_t *table, size_t table_len, size_t start, uint32
     uint32_t count, uint32_t e);
 
 /* Writes the word of e to the start of out and answers its length. Refuses as hg_length does,
- * then with 4 a short out, then with 17 a letter that cannot be read. */
+ * then with 4 a short out, then with 17 a cell of letters that is out of range. */
 uint64_t hg_word(const uint32_t *table, size_t table_len, size_t start, uint32_t room, uint8_t n,
     uint32_t count, uint32_t e, uint8_t *out, size_t out_len);
 
@@ -319,7 +319,7 @@ uint64_t hg_product_join(const uint32_t *table, size_t table_len, const uint32_t
     size_t handles_len, uint8_t count, const uint32_t *digits, size_t digits_len);
 
 /* Writes the word of e to the start of out and answers its length. Refuses as hg_product_length
- * does, then with 4 a short out, then with 17 a letter that cannot be read. */
+ * does, then with 4 a short out, then with 17 a cell of letters that is out of range. */
 uint64_t hg_product_word(const uint32_t *table, size_t table_len, const uint32_t *handles,
     size_t handles_len, uint8_t count, uint32_t e, uint8_t *out, size_t out_len);
 

@@ -23,8 +23,8 @@ pub extern "C" fn hg_length(
     counted_code(factor::word_length(table, factor_of(start, room, n, count), GroupElementId(e)))
 }
 
-// Writes the word of e to the start of out and answers its length. Refuses as hg_length does, then with 4 a short out, then with 17 a letter that
-// cannot be read.
+// Writes the word of e to the start of out and answers its length. Refuses as hg_length does, then with 4 a short out, then with 17 a cell of letters
+// that is out of range.
 #[no_mangle]
 pub extern "C" fn hg_word(
     table: &[u32],

@@ -82,8 +82,8 @@ pub extern "C" fn hg_product_join(table: &[u32], handles: &[u32], count: u8, dig
     capi_values::inner::reached_code(group::join(table, g, digits))
 }
 
-// Writes the word of e to the start of out and answers its length. Refuses as hg_product_length does, then with 4 a short out, then with 17 a letter
-// that cannot be read.
+// Writes the word of e to the start of out and answers its length. Refuses as hg_product_length does, then with 4 a short out, then with 17 a cell of letters
+// that is out of range.
 #[no_mangle]
 pub extern "C" fn hg_product_word(
     table: &[u32],

@@ -1,6 +1,6 @@
 // Products and conjugates by as few reads as they can be had. They are found by the quick walks of `factor_quick_walks`
-// where every number that is looked at is in range and, for a second element whose word has more than five letters, its
-// inverse has no longer word; else they are found as `factor_questions` defines them.
+// where every number that is looked at is in range, nothing stands above a word's first letter and, for a second element
+// whose word has more than five letters, its inverse has no longer word; else as `factor_questions` defines them.
 ghost use mathlib.Core.Path.{_≡_};
 ghost use mathlib.Core.Bool.{true};
 ghost use Prim.Native.Nat.{_+_, _*_, _<_, _≤_};

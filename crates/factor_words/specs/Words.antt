@@ -13,7 +13,7 @@ unfoldable pub use Rattle.factor_word_letters.specs.Spell.{readableBy, spellBy}
 unfoldable pub lengthIn : List ℕ → ℕ → ℕ → Counted
 lengthIn s n e = pick (ltb 4096 (lengthOf s n e)) (counted.Refused (record { number = 17; a = 0; b = 0; c = 0 })) (counted.Count (lengthOf s n e))
 
--- The length of the word that is written into a buffer of `size` bytes. "4 if short, after 17 in a length"; then 17 in a letter. After any refusal
+-- The length of the word that is written into a buffer of `size` bytes. "4 if short, after 17 in a length"; then 17 in a cell of letters. After any refusal
 -- the buffer is as it was.
 unfoldable pub writeIn : (s : List ℕ) (n count e size : ℕ) → Counted
 writeIn s n count e size =

@@ -48,7 +48,7 @@ fn write_long(s: &[u32], n: u8, count: u32, e: GroupElementId, len: u32, out: &m
 }
 
 // Writes the recorded word of e and answers its length. Refuses 17 for a length over 4,096, then 4 for a buffer that is
-// shorter, then 17 for a letter that cannot be read.
+// shorter, then 17 for a cell of letters that is out of range.
 pub fn write_in(s: &[u32], n: u8, count: u32, e: GroupElementId, out: &mut [u8]) -> Counted
     ensures { λ r. ⌜ (r ≡ writeIn (now (s .entry)) n count (e .0) (length (now (out .entry)))) × (now (out .exit) ≡ writtenBy (writeIn (now (s .entry)) n count (e .0) (length (now (out .entry)))) (now (s .entry)) n (e .0) (now (out .entry))) ⌝ }
 {

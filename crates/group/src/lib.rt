@@ -243,7 +243,7 @@ pub fn word_length(table: &[u32], g: Group, e: GroupElementId) -> Counted
 }
 
 // Writes the word of e to the start of a lent byte buffer and answers its length. Refuses as `word_length` does, then with 4 a buffer that is short,
-// then with 17 a letter that cannot be read.
+// then with 17 a cell of letters that is out of range.
 pub fn write_word(table: &[u32], g: Group, e: GroupElementId, out: &mut [u8]) -> Counted
     ensures { λ r. ⌜ (r ≡ writeAnswer (now (table .entry)) g e (length (now (out .entry)))) × (now (out .exit) ≡ written (now (table .entry)) g e (now (out .entry))) ⌝ }
 {

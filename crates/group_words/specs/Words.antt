@@ -33,7 +33,7 @@ spells t (h ∷ hs) e start offset out =
     spells t hs (e / h .elements) (start + lengthOf (stretch t h) (h .generators) (e % h .elements)) (offset + h .generators)
     (spellFrom (lengthOf (stretch t h) (h .generators) (e % h .elements)) (stretch t h) (h .generators) (e % h .elements) start offset out)
 
--- "4 if short, after 17 in a length"; then 17 for a letter that cannot be read. The length is known or refused, and `readable` says whether all
+-- "4 if short, after 17 in a length"; then 17 for a cell of letters that is out of range. The length is known or refused, and `readable` says whether all
 -- letters can be read.
 abbrev pub writesBy : Counted → Bool → ℕ → Counted
 writesBy (Count k) readable size =

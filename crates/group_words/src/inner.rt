@@ -90,7 +90,7 @@ fn spells(table: &[u32], g: Group, e: GroupElementId, out: &mut [u8])
     }
 }
 
-// Refuses in this order: 17 for a recorded length over 4,096, 4 for a short buffer, 17 for a letter that cannot be read; else writes the word.
+// Refuses in this order: 17 for a recorded length over 4,096, 4 for a short buffer, 17 for a cell of letters that is out of range; else writes the word.
 pub fn write_in(table: &[u32], g: Group, e: GroupElementId, out: &mut [u8]) -> Counted
     requires { ⌜ allFit (length (now table)) (handles g) ≡ true ⌝ }
     ensures { λ r. ⌜ (r ≡ writes (now (table .entry)) (handles g) (e .0) (length (now (out .entry)))) × (now (out .exit) ≡ leaves (writes (now (table .entry)) (handles g) (e .0) (length (now (out .entry)))) (now (table .entry)) (handles g) (e .0) (now (out .entry))) ⌝ }
