@@ -2,8 +2,6 @@
 ghost use mathlib.Core.Path.{_≡_};
 ghost use Prim.Native.Nat.{_+_};
 ghost use Rattle.factor_walk.specs.Walked.{shown, lettersRight, walkIn};
-ghost use Rattle.factor_word_walks.specs.Walks.{follow};
-use egg::GeneratorId;
 use egg::GroupElementId;
 use egg::Reached;
 use egg::Verdict;
@@ -37,30 +35,12 @@ pub fn letters_right(n: u32, word: &[u8]) -> Verdict
     Verdict::Fine
 }
 
-// From an element along the letters of a word, one step after the other.
-fn follow(s: &[u32], n: u8, count: u32, from: GroupElementId, word: &[u8]) -> Reached
-    ensures { λ r. ⌜ r ≡ follow (now (s .entry)) n count (from .0) (now (word .entry)) ⌝ }
-{
-    let mut x = from;
-    let mut i = 0;
-    while i < word.len() {
-        let g = word[i];
-        let next = egg::inner::next(s, n, count, x, GeneratorId(g));
-        let Reached::Element(y) = next else {
-            return next;
-        };
-        x = y;
-        i += 1;
-    }
-    Reached::Element(x)
-}
-
 // Refuses the first letter that is no generator; else walks.
 pub fn walk_in(s: &[u32], n: u8, count: u32, from: GroupElementId, word: &[u8]) -> Reached
     ensures { λ r. ⌜ r ≡ walkIn (now (s .entry)) n count (from .0) (now (word .entry)) ⌝ }
 {
     match letters_right(n as u32, word) {
         Verdict::Refused(why) => Reached::Refused(why),
-        Verdict::Fine => follow(s, n, count, from, word),
+        Verdict::Fine => factor_word_walks::inner::follow(s, n, count, from, word),
     }
 }

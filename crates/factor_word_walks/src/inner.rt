@@ -9,7 +9,7 @@ use egg::GroupElementId;
 use egg::Reached;
 
 // From an element along the letters of a word.
-fn follow(s: &[u32], n: u8, count: u32, from: GroupElementId, word: &[u8]) -> Reached
+pub fn follow(s: &[u32], n: u8, count: u32, from: GroupElementId, word: &[u8]) -> Reached
     ensures { λ r. ⌜ r ≡ follow (now (s .entry)) n count (from .0) (now (word .entry)) ⌝ }
 {
     let mut x = from;

@@ -1,8 +1,8 @@
 // The refusals of a walk in a product, and the walk in digits.
 ghost use mathlib.Core.Path.{_≡_};
-ghost use Prim.Native.Nat.{_<_};
+ghost use Prim.Native.Nat.{ℕ, _<_};
 ghost use lib.ListN.{length};
-ghost use Rattle.group_handles.specs.Handles.{handles, generatorsOf};
+ghost use Rattle.group_handles.specs.Handles.{handles, elementsOf, generatorsOf, capped, seen};
 ghost use Rattle.group_walk.specs.Walked.{follows, admitsWalk, walkAnswer, Going, Owned};
 use egg::GeneratorId;
 use egg::GroupElementId;
@@ -10,13 +10,13 @@ use egg::Reached;
 use egg::Verdict;
 use egg::inner::chosen;
 use group_handles::Group;
+use group_handles::inner::Seen;
 
-// Refuses in this order: 17 for a handle that does not fit, 14 for the start and then for the first letter that is out of range, 15 for a product too
-// large.
-fn admit_walk(table: &[u32], g: Group, e: u32, word: &[u8]) -> Verdict
-    ensures { λ r. ⌜ r ≡ admitsWalk (length (now (table .entry))) g e (now (word .entry)) ⌝ }
+// Refuses, by what one pass over the handles has shown, in this order: 17 for a handle that does not fit, 14 for the start and then for the first letter
+// that is out of range, 15 for a product too large.
+fn admit_walk(s: Seen, g: Group, e: u32, word: &[u8]) -> Verdict
+    ensures { λ r. ⌜ (len : ℕ) → s ≡ seen len (handles g) → r ≡ admitsWalk len g e (now (word .entry)) ⌝ }
 {
-    let s = group_handles::inner::look(table, g);
     if !s.fit {
         return egg::inner::refused(17, 0, 0, 0);
     }
@@ -64,12 +64,12 @@ fn find(g: Group, x: u32) -> Owner
 }
 
 // Walks in digits. A digit that cannot be stepped on ends it with 17.
-fn follow(table: &[u32], g: Group, from: GroupElementId, word: &[u8]) -> Reached
-    requires { ⌜ Going (length (now table)) g (from .0) (now word) ⌝ }
+fn follow(table: &[u32], g: Group, elements: u64, from: GroupElementId, word: &[u8]) -> Reached
+    requires { ⌜ (Going (length (now table)) g (from .0) (now word)) × (elements ≡ capped (elementsOf (handles g))) ⌝ }
     ensures { λ r. ⌜ r ≡ follows (now (table .entry)) (handles g) (from .0) (now (word .entry)) ⌝ }
 {
     let mut digits = [0; 8];
-    group_digits::inner::split_in(table, g, from, &mut digits);
+    group_digits::inner::split_in(g, from, &mut digits);
     let mut i: usize = 0;
     while i < word.len() {
         let x = factor_walk::inner::wide(word[i]);
@@ -89,15 +89,16 @@ fn follow(table: &[u32], g: Group, from: GroupElementId, word: &[u8]) -> Reached
         digits[f] = y.0;
         i += 1;
     }
-    group_digits::inner::join_in(table, g, &digits)
+    group_digits::inner::join_in(g, elements, &digits)
 }
 
 // Refuses what is to be refused before anything is read; else walks.
 pub fn walk(table: &[u32], g: Group, from: GroupElementId, word: &[u8]) -> Reached
     ensures { λ r. ⌜ r ≡ walkAnswer (now (table .entry)) g from (now (word .entry)) ⌝ }
 {
-    match admit_walk(table, g, from.0, word) {
+    let s = group_handles::inner::look(table, g);
+    match admit_walk(s, g, from.0, word) {
         Verdict::Refused(why) => Reached::Refused(why),
-        Verdict::Fine => follow(table, g, from, word),
+        Verdict::Fine => follow(table, g, s.elements, from, word),
     }
 }
