@@ -11,7 +11,7 @@ Our archives are for x86-64. Elsewhere they would run under an emulator, and no 
 proved modules are compiled for the machine's own processor (host/build.sh makes target/here/ours), which is not what is
 shipped.
 
-Arguments choose the tables (enumerations, questions, products, ones, subgroups, maps, images); without any, all are
+Arguments choose the tables (enumerations, questions, products, walks, ones, subgroups, maps, images); without any, all are
 measured."""
 
 import pathlib

@@ -1,11 +1,10 @@
 -- Laws of a step in a product by the factor that has the generator, over any list of handles.
-use Prim.Native.Nat.{ℕ, zero, suc, _+_, _*_, _-_, _/_, _%_, _≤_, _<_}
-use mathlib.Core.Path.{_≡_, refl, sym, ap, _∙_}
+use Prim.Native.Nat.{ℕ, _+_, _*_, _-_, _/_, _%_, _≤_, _<_}
+use mathlib.Core.Path.{_≡_, sym, ap, _∙_}
 use mathlib.Core.Bool.{true}
-use mathlib.Core.List.{List, [], _∷_}
-use native.Mathlib.Nat.{div-one, mul-one, mod-add-div, div-div-eq-div-mul, zero-div, zero-mod}
+use mathlib.Core.List.{List}
+use native.Mathlib.Nat.{zero-div, zero-mod}
 use native.Mathlib.Omega.{arith}
-use borrow.Author.Tests.{lt-ltb, le-ltb}
 use lib.ListN.{length, getD, take}
 use Rattle.egg.specs.declared.Factor.{Factor}
 use Rattle.egg.specs.declared.Refusal.{Refusal}
@@ -16,10 +15,10 @@ use Rattle.egg.specs.Factor.{fitsIn, stretch, readStep}
 use Rattle.egg.proofs.Rooms.{some}
 use Rattle.build_lending.specs.Lending.{noFactor}
 use Rattle.egg.specs.Answers.{onReached}
-use Rattle.theory_radix.specs.Radix.{count, stride, project, replace}
-use Rattle.theory_radix.proofs.RadixLaws.{high-small, projected-fits, replace-is, replace-small}
+use Rattle.theory_radix.specs.Radix.{stride}
+use Rattle.theory_radix.proofs.RadixLaws.{projected-fits, replace-small}
 use Rattle.group_handles.specs.Handles.{sizes, elementsOf, generatorsOf, allFit}
-use Rattle.group_digits.specs.Digits.{above, stepIn}
+use Rattle.group_digits.specs.Digits.{stepIn}
 use Rattle.group_handles.proofs.Lists.{sizes-at, sizes-length, fits-at, positive}
 use Rattle.group_walk.proofs.Steps.{steps-found}
 use Rattle.group_digits.proofs.Walks.{below-element, step-below}

@@ -74,6 +74,8 @@ fn arguments_out_of_range() {
     assert_eq!(refused(s3.check(&[2])).0, 13);
 }
 
+type Walk<'a> = &'a dyn Fn(Element, &[Generator]) -> Result<Element, Refusal>;
+
 /// The start has position 0 and the turn at i has i + 1, whatever comes behind; an empty word leads to its start, and looks at it.
 #[test]
 fn walks_refuse_by_position() {
@@ -81,7 +83,6 @@ fn walks_refuse_by_position() {
     let pair = Product::new([&s3, &Factor::from_rows(1, &[1, 0]).unwrap()]).unwrap();
     let one = Product::new([&s3]).unwrap();
     let none = Product::new([]).unwrap();
-    type Walk<'a> = &'a dyn Fn(Element, &[Generator]) -> Result<Element, Refusal>;
     let walks: [(Walk, u32, u8); 4] =
         [(&|e, w| s3.walk(e, w), 6, 2), (&|e, w| one.walk(e, w), 6, 2), (&|e, w| pair.walk(e, w), 12, 3), (&|e, w| none.walk(e, w), 1, 0)];
     for (walk, count, n) in walks {
