@@ -15,7 +15,8 @@ use Rattle.theory.proofs.BoundedTests.{all-holds}
 use Rattle.theory.proofs.Counting.{numbered-table}
 use Rattle.theory.proofs.Reading.{read-exact}
 use Rattle.theory.proofs.Test.{check-exact}
-use Rattle.theory.proofs.Examples.{s3, s3-rule, s3-check}
+use Rattle.theory.specs.Examples.{s3}
+use Rattle.theory.proofs.Examples.{s3-rule, s3-check}
 use Rattle.theory_radix.specs.Radix.{split, project}
 use Rattle.theory_products.specs.Product.{Part, table-part, product, digit-ranges, factor, none, more, Shortest}
 use Rattle.theory_products.specs.Power.{powi, halving}
