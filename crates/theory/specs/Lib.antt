@@ -13,3 +13,4 @@ pub mod Past
 pub mod Parting
 pub mod Subgroup
 pub mod Orbit
+pub mod Examples
