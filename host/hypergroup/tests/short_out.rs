@@ -131,7 +131,7 @@ fn a_check_and_an_image() {
     edge("check", &[], &[0, 0, 0, 0], checked(h, vec![3]));
     edge("check, 2", &[], &[2, 0, 0, 0], checked(h, vec![]));
     edge("check, 13", &[], &[13, 0, 0, 1], checked(h, vec![2]));
-    edge("check, 17", &[], &[17, 0, 0, 0], checked(Handle { start: 2, ..h }, vec![3]));
+    edge("check, 17", &[], &[17, 0, 0, 0], checked(h.at(2), vec![3]));
 
     let read = |image: Vec<u8>| {
         move |l: &mut [Vec<u32>], o: &mut [u32]| unsafe {
@@ -158,7 +158,7 @@ fn a_product() {
     };
     edge("product", &[], &[0, 0, 0, 0, 3], multiplied(times(h, 2), times(h, 1)));
     edge("product, 15", &[], &[15, 0, 0, 0, 1], multiplied(times(h, 8), times(h, 1)));
-    edge("product, 17", &[], &[17, 0, 0, 0, 1], multiplied(times(Handle { start: 2, ..h }, 1), times(h, 1)));
+    edge("product, 17", &[], &[17, 0, 0, 0, 1], multiplied(times(h.at(2), 1), times(h, 1)));
 
     let flattened = |p: Handles, room: u32| {
         let table = table.clone();
@@ -225,6 +225,6 @@ fn a_subgroup() {
     for left in [true, false] {
         edge("a factor beside it", &[], &[0, 0, 0, 0], beside(left, times(h, 1)));
         edge("beside it, 15", &[], &[15, 0, 0, 0], beside(left, times(h, 8)));
-        edge("beside it, 17", &[], &[17, 0, 0, 0], beside(left, times(Handle { start: 2, ..h }, 1)));
+        edge("beside it, 17", &[], &[17, 0, 0, 0], beside(left, times(h.at(2), 1)));
     }
 }
