@@ -15,7 +15,7 @@ use group_handles::inner::Seen;
 // Refuses, by what one pass over the handles has shown, in this order: 17 for a handle that does not fit, 14 for the start and then for the first letter
 // that is out of range, 15 for a product too large.
 fn admit_walk(s: Seen, g: Group, e: u32, word: &[u8]) -> Verdict
-    ensures { λ r. ⌜ (len : ℕ) → s ≡ seen len (handles g) → r ≡ admitsWalk len g e (now (word .entry)) ⌝ }
+    ensures { λ r. ⌜ ((len : ℕ) → s ≡ seen len (handles g) → r ≡ admitsWalk len g e (now (word .entry))) ⌝ }
 {
     if !s.fit {
         return egg::inner::refused(17, 0, 0, 0);

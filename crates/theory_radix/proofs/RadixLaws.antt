@@ -8,6 +8,7 @@ use native.Mathlib.Nat.{mul-le-mul-left, mul-le-mul-right, zero-div, eq-zero-or-
 use native.Mathlib.Omega.{arith}
 use mathlib.Core.Logic.{⊎-elim}
 use lib.ListN.{length, getD, set}
+use lib.Seq.{getD-set-same, getD-set-other}
 use Rattle.theory_radix.specs.Radix.{count, stride, split, join, Digits, none, more, project, replace}
 
 -- One digit d, and the number x of the others.
@@ -68,6 +69,12 @@ project-is [] f e = mod-one (e / stride [] f)
 project-is (N ∷ Ns) zero e = rw div-one
 project-is (N ∷ Ns) (suc f) e = rw (← div-div-eq-div-mul) (project-is Ns f (e / N))
 
+pub project-small : (Ns : List ℕ) (f e : ℕ) → e < count Ns → project Ns f e < getD Ns f 1
+project-small Ns f e h = rw (project-is Ns f e) (digits-below (split-digits Ns e h) f)
+
+project-join : {Ns ds : List ℕ} → Digits Ns ds → (f : ℕ) → project Ns f (join Ns ds) ≡ getD ds f 0
+project-join {Ns} {ds} t f = project-is Ns f (join Ns ds) ∙ ap (λ l. getD l f 0) (split-join t)
+
 -- The strides, each from the one before.
 pub stride-next : (Ns : List ℕ) (f : ℕ) → stride Ns (suc f) ≡ stride Ns f * getD Ns f 1
 stride-next [] zero = refl
@@ -106,3 +113,15 @@ replace-is (N ∷ Ns) (suc f) e x h k =
 
 pub replace-small : (Ns : List ℕ) (f e x : ℕ) → f < length Ns → e < count Ns → x < getD Ns f 1 → replace Ns f e x < count Ns
 replace-small Ns f e x h k l = rw (replace-is Ns f e x h k) (join-small (digits-set (split-digits Ns e k) f x l))
+
+-- The digits after a replacement.
+pub project-same : (Ns : List ℕ) (f e x : ℕ) → f < length Ns → e < count Ns → x < getD Ns f 1 → project Ns f (replace Ns f e x) ≡ x
+project-same Ns f e x h k l =
+    ap (project Ns f) (replace-is Ns f e x h k) ∙ project-join (digits-set (split-digits Ns e k) f x l) f
+    ∙ getD-set-same (split Ns e) f x 0 (rw (split-length Ns e) h)
+
+pub project-other : (Ns : List ℕ) (f g e x : ℕ) → f < length Ns → e < count Ns → x < getD Ns f 1 → ¬ (g ≡ f)
+    → project Ns g (replace Ns f e x) ≡ project Ns g e
+project-other Ns f g e x h k l n =
+    ap (project Ns g) (replace-is Ns f e x h k) ∙ project-join (digits-set (split-digits Ns e k) f x l) g
+    ∙ getD-set-other (split Ns e) f g x 0 n ∙ sym (project-is Ns g e)
