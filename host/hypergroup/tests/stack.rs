@@ -131,7 +131,9 @@ fn products() {
     assert_eq!(in_thread(|| p.conjugate(backs, backs)), Ok(backs));
     assert_eq!(in_thread(|| p.conjugate(both, both)), Ok(both));
     assert_eq!(in_thread(|| p.word_length(both)), Ok(8192));
-    assert_eq!(in_thread(|| p.word(both)).unwrap().len(), 8192);
+    let turns = in_thread(|| p.word(both)).unwrap();
+    assert_eq!(turns.len(), 8192);
+    assert_eq!(in_thread(|| p.walk(Element(0), &turns)), Ok(both));
     assert_eq!(in_thread(|| p.project(1, both)), Ok(last));
     assert_eq!(in_thread(|| p.inject(0, last)), p.join(&[last, Element(0)]));
     assert_eq!(in_thread(|| p.powi(both, i32::MIN)), in_thread(|| p.powi(both, i32::MIN % 12_282)));
