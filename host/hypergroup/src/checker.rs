@@ -48,9 +48,10 @@ impl Checker {
     }
 
     /// Checks as [`Image::check`] does. The work buffer grows to what the largest image has needed, N(32n²+100) bytes for N elements and
-    /// n generators, and so to no more than 2,148 bytes for each element of the limit. Its
-    /// time grows with the elements times the longest word, which has at most 4,096 letters, so that the limit is one on time too:
-    /// [`Image::check`] says what the dearest image takes.
+    /// n generators, and so to no more than 2,148 bytes for each element of the limit.
+    ///
+    /// The time of a check grows with the elements times their longest word, which has at most 4,096 letters, so that the limit is one on
+    /// time too; [`Image::check`] says what the dearest image takes.
     ///
     /// # Errors
     ///
