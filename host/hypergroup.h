@@ -18,9 +18,9 @@
  *         // Two turns, each its own inverse; the one and then the other has order 3.
  *         const uint32_t orders[] = {3};
  *         uint32_t out[5];
- *         hg_enumerate(table, TABLE, 0, work, WORK, orders, 1, TURNS, ROOM, out, 5);
- *         if (out[0] != HG_ACCEPTED) {
- *             printf("refused: %u, at %u, %u, %u\n", out[0], out[1], out[2], out[3]);
+ *         uint32_t refused = hg_enumerate(table, TABLE, 0, work, WORK, orders, 1, TURNS, ROOM, out, 5);
+ *         if (refused != HG_ACCEPTED) {
+ *             printf("refused: %u, at %u, %u, %u\n", refused, out[1], out[2], out[3]);
  *             return 1;
  *         }
  *         // The handle of what was built: the start, the room, the generators, the elements.
@@ -42,8 +42,8 @@
  *
  * How long a list has to be, with n generators and the room R, which is how many elements the factor may
  * have; a longer one is taken, and what is beyond is as it was
- * - table: start + R(2n + 4), HG_TABLE. A factor may be built into any stretch of a table, from start on.
- *   The table is kept for the questions; work is needed while the call runs.
+ * - table: start + R(2n + 4), which is start + HG_TABLE(n, R). A factor may be built into any stretch of
+ *   a table, from start on. The table is kept for the questions; work is needed while the call runs.
  * - work: R(6n^2 + 4n), HG_WORK. For an image N(32n^2 + 100) bytes, HG_IMAGE_WORK.
  * - rows, of hg_composed: Rn, element by element; those of elements that are not reached are not read.
  * - orders: n(n - 1)/2 exactly, for the pairs (0,1),(0,2),(1,2),(0,3),(1,3),(2,3),(0,4)..; each from 2 to
@@ -53,25 +53,30 @@
  * - inn and outw, a subgroup's maps: as many as the overgroup has elements, and R. members: a byte for
  *   each element of the overgroup. For hg_subgroup n is how many elements gens has, for
  *   hg_subgroup_predicate 8, whatever comes out.
- * - out of a word: its length, at most 4,096 bytes (hg_length, hg_product_length). Of hg_product_split: as
- *   many as there are factors. Of hg_image_write: 8 + 2nN bytes, HG_IMAGE.
+ * - out of a word: its length in bytes. hg_length tells it, at most 4,096; and hg_product_length, at most
+ *   4,096 for each factor, which is 32,768 for eight. Of hg_product_split: as many as there are factors.
+ *   Of hg_image_write: 8 + 2nN bytes, HG_IMAGE.
  * - out of any other call: 4 numbers; 5 of hg_product and of whatever builds; 6 of hg_subgroup and
  *   hg_subgroup_predicate.
  *
  * What comes back
  * - hg_image_check: 0, or the refusal's number. n is byte 5 of the image and N the number in bytes 6 and
  *   7, the higher first. After a bad head (16, 1) or short work (4) the work is as it was; else the bytes
- *   that it needs are 0.
+ *   that it needs are 0. For bytes from anyone ask hg_image_need first: it refuses what the head alone
+ *   excludes, before any work is lent. An image that no group has may have all its words walked: the
+ *   dearest known, of 262 KB, takes seconds. A server sets a limit on N.
  * - hg_image_walk: the element reached, below 65,536; or HG_WALK_REFUSED + the refusal's number.
  * - A question of a factor: the element or the count; or the refusal's number * 2^32 + its first place:
  *   HG_REFUSED and HG_VALUE. Refused, it writes nothing.
  * - A build, a check against orders, hg_product, hg_subgroup_left and hg_subgroup_right: each returns the
  *   refusal's number, 0 for accepted. out gets that number and its three places; after a build also the
- *   element count, as the fifth. An out too short for that is 4 before anything else is looked at, and no
- *   list is touched; in a longer one the rest is as it was. A handle is `start`, `room`, `n`, `count`.
+ *   element count, as the fifth (0 where it is refused). An out too short for that is 4 before anything
+ *   else is looked at, and no list is touched; in a longer one the rest is as it was. A handle is `start`,
+ *   `room`, `n`, `count`.
  * - hg_image_verdict: what hg_image_check returns, with the places in out in the same way. hg_image_need:
  *   how many bytes of work both need, or a refusal as of a question.
  * - hg_walk and hg_product_walk: as a question; the start is position 0 and the first turn position 1.
+ *   Positions stop at 4,294,967,295: a turn that is further on is told as that one.
  * - What a build leaves: refused before it starts (1 to 4, 14, and 15 to 17 given then), every list but
  *   out as it was; refused later, 0 in all that it needs of table, work and maps; accepted, 0 in the
  *   work, and in table and maps beyond the last element.

@@ -67,10 +67,16 @@ prove() {
     mkdir -p $notes
     tell $notes "$(below "$@" | wc -l)" 9>&- &
     teller=$!
+    # It takes no notice of Ctrl-C, as what runs in the background does, and would wait for its note for ever.
+    trap 'kill $teller 2>/dev/null' EXIT
+    trap 'exit 129' HUP
+    trap 'exit 130' INT
+    trap 'exit 143' TERM
     status=0
     rt check "$@" </dev/null >$notes/log 2>&1 || status=$?
     : >$notes/over
     wait $teller
+    trap - EXIT HUP INT TERM
     [ $status -eq 0 ] || grep -v -e ': proved$' -e ' proved (' -e '^library ' $notes/log >&2
     return $status
 }

@@ -1,6 +1,7 @@
 //! Links the archive of the proved library, libhypergroup.a. `./archives` in the top folder makes it, and never this script: a proof takes minutes, and cargo shows
 //! nothing of what a build script does. Where there is no archive, what links nothing (`cargo check`, `doc`, `clippy`) works all the same, with a warning, and a
-//! build fails with the command's name. `HYPERGROUP_ARCHIVES` names another folder that has the archive.
+//! build fails with the command's name. `HYPERGROUP_ARCHIVES` names another folder that has the archive, by an absolute path: cargo and the linker each start from
+//! a folder of their own.
 use std::fs;
 use std::path::{Path, PathBuf};
 use std::time::UNIX_EPOCH;
@@ -10,6 +11,7 @@ fn main() {
     let root = Path::new(&told("CARGO_MANIFEST_DIR")).join("../..");
     let root = root.canonicalize().unwrap_or(root);
     let (folder, lacking) = match std::env::var("HYPERGROUP_ARCHIVES") {
+        Ok(given) if Path::new(&given).is_relative() => (None, "HYPERGROUP_ARCHIVES is not an absolute path".to_string()),
         Ok(given) => (Some(PathBuf::from(given)), "HYPERGROUP_ARCHIVES names a folder without libhypergroup.a".to_string()),
         Err(_) => made(&root),
     };

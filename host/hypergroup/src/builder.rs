@@ -39,7 +39,7 @@ impl Builder {
     ///
     /// 1 for more than 8 generators, 4 for a room outside 1 to 65,535.
     pub fn new(generators: u8, room: u32) -> Result<Self, Refusal> {
-        let (mut table, _) = raw::lent(generators, room);
+        let mut table = raw::lent_table(generators, room);
         let handle = raw::begin(&mut table, 0, room, generators).map_err(|no| no.said(4, Said::Room))?;
         Ok(Builder { table, handle })
     }

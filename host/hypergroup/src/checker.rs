@@ -1,4 +1,5 @@
-use crate::{Image, Refusal, raw};
+use crate::{Image, OwnedImage, Refusal, raw};
+use alloc::sync::Arc;
 use alloc::vec::Vec;
 use core::fmt;
 
@@ -49,6 +50,9 @@ impl Checker {
     /// Checks as [`Image::check`] does. The work buffer grows to what the largest image has needed, N(32n²+100) bytes for N elements and
     /// n generators, and so to no more than 2,148 bytes for each element of the limit.
     ///
+    /// The time of a check grows with the elements times their longest word, which has at most 4,096 letters, so that the limit is one on
+    /// time too; [`Image::check`] says what the dearest image takes.
+    ///
     /// # Errors
     ///
     /// A [`Refusal`] where [`Image::check`] has one, or [`Unchecked::TooLarge`] where the head is right and says more elements than this
@@ -64,8 +68,17 @@ impl Checker {
             self.work = Vec::new();
             self.work.resize(need, 0);
         }
-        raw::image_verdict(bytes, &mut self.work[..need])?;
-        Ok(Image::checked(bytes))
+        Ok(Image::in_work(bytes, &mut self.work[..need])?)
+    }
+
+    /// The same, of an image that is to be kept: its bytes are shared, and not copied.
+    ///
+    /// # Errors
+    ///
+    /// Those of [`Checker::check`].
+    pub fn check_owned(&mut self, bytes: Arc<[u8]>) -> Result<OwnedImage, Unchecked> {
+        self.check(&bytes)?;
+        Ok(OwnedImage::checked(bytes))
     }
 
     /// How many elements an image may have.

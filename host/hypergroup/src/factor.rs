@@ -8,8 +8,9 @@ use alloc::{vec, vec::Vec};
 /// A group given by its table: what each generator does to each element.
 ///
 /// Elements are numbered from the identity, 0, in the order in which reading the table row by row meets them; the identity's row is
-/// 1 to n. A factor owns its table, so that nothing can alter it; its clones and the products of it share that table, which has the
-/// rows of its elements and no more, however much room it was built in.
+/// 1 to n. A factor owns its table, so that nothing can alter it; the table has the rows of its elements and no more, however much room
+/// it was built in. Its clones share that table, and so do products of it alone. A product with other factors has a table of its own
+/// with a copy of each distinct factor, and the factors that it hands out share that one.
 ///
 /// ```
 /// use hypergroup::{Element, Factor, Generator};
@@ -64,7 +65,7 @@ impl Factor {
     /// # Errors
     ///
     /// 1 for more than 8 generators; 4 where there are no rows, or the last does not have a number for each generator; 5 where a row
-    /// is missing; 6, where a word would pass 4,096 generators; 7, where elements are not numbered in the order in which they appear; 8
+    /// is missing, or a 65,536th element is needed; 6, where a word would pass 4,096 generators; 7, where elements are not numbered in the order in which they appear; 8
     /// to 12 where no group has these steps, or the identity's row is not 1 to n.
     ///
     /// ```
@@ -79,7 +80,8 @@ impl Factor {
         let (room, part) = (rows.len().checked_div(n).unwrap_or(1), rows.len().checked_rem(n).unwrap_or(0));
         // A list that ends within a row is lent as none, so that the library refuses it as too short.
         let (lent, said) = if part == 0 { (rows, Said::Rows) } else { (&[][..], Said::PartOfRow) };
-        Self::composed(generators, lent, room.min(65_535) as u32).map_err(|no| no.said(4, said).said(5, Said::Rows))
+        let beyond = if room > 65_535 { Said::Most } else { Said::Rows };
+        Self::composed(generators, lent, room.min(65_535) as u32).map_err(|no| no.said(4, said).said(5, beyond))
     }
 
     /// The group whose right steps a function tells: the element that an element, composed with a generator, comes to.
@@ -341,7 +343,7 @@ impl Factor {
         raw::image_need(bytes)?;
         let (n, count) = Image::head(bytes);
         let (mut table, mut work) = raw::lent(n, count);
-        let handle = raw::image_read(bytes, &mut table, 0, &mut work)?;
+        let handle = raw::image_read(bytes, &mut table, 0, &mut work).map_err(|no| no.said(5, Said::Image))?;
         Ok(Factor::new(&table, handle))
     }
 

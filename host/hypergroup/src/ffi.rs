@@ -97,6 +97,7 @@ impl Sides {
 /// What adding an element answers, and the builder that goes on: one with no elements, which fits no buffer, where the build ended.
 #[derive(Clone, Copy, Debug, PartialEq, Eq)]
 #[non_exhaustive]
+#[must_use]
 pub struct Grown {
     /// The new element.
     pub answer: Answer<u32>,
@@ -221,7 +222,7 @@ fn made(number: u32, out: [u32; 5], start: usize, room: u32, generators: u8) -> 
     verdict(number, &out).map(|_| Handle { start, room, generators, elements: out[4] })
 }
 
-/// A factor from composed rows.
+/// A factor from composed rows: `rows` has n numbers for each element of the room, element by element; those that are not reached are not read.
 pub fn composed(t: &mut [u32], start: usize, w: &mut [u32], rows: &[u32], n: u8, room: u32) -> Answer<Handle> {
     let mut out = [0; 5];
     // SAFETY: pointers and lengths of slices, as said at the head of this file.
@@ -231,7 +232,7 @@ pub fn composed(t: &mut [u32], start: usize, w: &mut [u32], rows: &[u32], n: u8,
     made(number, out, start, room, n)
 }
 
-/// A factor from pair orders.
+/// A factor from pair orders: n(n - 1)/2 of them, for the pairs (0,1), (0,2), (1,2), (0,3) and so on.
 pub fn enumerate(t: &mut [u32], start: usize, w: &mut [u32], orders: &[u32], n: u8, room: u32) -> Answer<Handle> {
     let mut out = [0; 5];
     // SAFETY: pointers and lengths of slices, as said at the head of this file.
@@ -290,7 +291,8 @@ pub fn image_read(image: &[u8], t: &mut [u32], start: usize, w: &mut [u32]) -> A
     made(number, out, start, out[4], n)
 }
 
-/// Checks an image in lent bytes: the refusal's number, or 0.
+/// Checks an image in lent bytes: the refusal's number, or 0. [`image_need`] tells how many bytes of work it needs.
+#[must_use]
 pub fn image_check(image: &[u8], work: &mut [u8]) -> u32 {
     // SAFETY: pointers and lengths of slices, as said at the head of this file.
     unsafe { hg_image_check(image.as_ptr(), image.len(), work.as_mut_ptr(), work.len()) }
@@ -528,13 +530,13 @@ pub fn product_flatten(from: &[u32], p: &Handles, generators: u8, t: &mut [u32],
 /// The lent buffers of a subgroup, which are told apart by their names.
 #[derive(Debug)]
 pub struct SubgroupBuffers<'a> {
-    /// Where its factor is built.
+    /// Where its factor is built: `start` and [`table_need`](crate::raw::table_need) numbers.
     pub table: &'a mut [u32],
-    /// The work of that build.
+    /// The work of that build: [`work_need`](crate::raw::work_need) numbers.
     pub work: &'a mut [u32],
-    /// The map from the overgroup to it.
+    /// The map from the overgroup to it: as many numbers as the overgroup has elements.
     pub inward: &'a mut [u32],
-    /// The map back.
+    /// The map back: as many numbers as the room.
     pub outward: &'a mut [u32],
 }
 
@@ -551,12 +553,13 @@ macro_rules! ask_buffers {
     }};
 }
 
-/// The subgroup that elements of a product generate, built into the stretch of the table that starts at `start`.
+/// The subgroup that elements of a product generate, built into the stretch of the table that starts at `start`. It has a generator for each number of
+/// `generators`, and table and work are for so many.
 pub fn subgroup(from: &[u32], over: &Handles, generators: &[u32], lent: SubgroupBuffers<'_>, start: usize, room: u32) -> Answer<Handle> {
     ask_buffers!(hg_subgroup, from, over, generators, lent, start, room)
 }
 
-/// The same from a byte for each element of the product, not 0 for a member; table and work are as for eight generators.
+/// The same from `members`, a byte for each element of the product, not 0 for a member; table and work are as for eight generators.
 pub fn subgroup_predicate(
     from: &[u32],
     over: &Handles,

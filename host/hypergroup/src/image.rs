@@ -1,4 +1,5 @@
 use crate::ffi::letters;
+use crate::refusal::Said;
 use crate::{Element, Factor, Generator, Refusal, raw};
 use alloc::vec;
 
@@ -39,7 +40,12 @@ impl<'a> Image<'a> {
     pub fn check(bytes: &'a [u8]) -> Result<Self, Refusal> {
         // What the head alone excludes is refused before any work is made.
         let need = raw::image_need(bytes)?;
-        raw::image_verdict(bytes, &mut vec![0; need as usize])?;
+        Self::in_work(bytes, &mut vec![0; need as usize])
+    }
+
+    /// The same in lent work, as much as is needed.
+    pub(crate) fn in_work(bytes: &'a [u8], work: &mut [u8]) -> Result<Self, Refusal> {
+        raw::image_verdict(bytes, work).map_err(|no| no.said(5, Said::Image))?;
         Ok(Image { bytes })
     }
 

@@ -34,6 +34,21 @@
 //!
 //! Whatever is refused says so by a [`Refusal`]; the numbers that a call can have stand in its documentation under "Errors". Clones of
 //! every type share their tables, but for a [`Builder`]'s, and every type is `Send` and `Sync`. The crate needs no `std`, only `alloc`.
+//!
+//! # Building
+//!
+//! The crate links the proved library, `libhypergroup.a`, which lies outside of the package, so that it is named by its path:
+//!
+//! ```toml
+//! [dependencies]
+//! hypergroup = { path = "../hypergroup-proved/host/hypergroup" }
+//! ```
+//!
+//! First `./archives`, in the top folder of that repository, proves the library and compiles it, in ten minutes or so the first time; it
+//! needs the Rattle toolchain. Where there is none, the environment variable `HYPERGROUP_ARCHIVES` names a folder that has the archive
+//! already, by an absolute path. The library that is shipped is for x86-64 Linux. On 64-bit Arm Linux `./archives` makes one for that
+//! processor too, of the same proved modules compiled by another back end, and a build there says so. Elsewhere nothing can be linked;
+//! `cargo check`, `doc` and `clippy` work on any machine, without an archive.
 #![no_std]
 #![warn(missing_docs, clippy::missing_errors_doc, clippy::must_use_candidate)]
 
@@ -99,11 +114,19 @@ pub mod raw {
         room as usize * (6 * n * n + 4 * n)
     }
 
-    /// Zeroed table and work for a build; nothing where the generators or the room are to be refused anyway.
+    /// Whether a build with these is to be refused whatever it is lent.
+    fn beyond(generators: u8, room: u32) -> bool {
+        generators > 8 || room > 65_535
+    }
+
+    /// A zeroed table for a build; an empty one where the generators or the room are to be refused anyway.
+    pub(crate) fn lent_table(generators: u8, room: u32) -> Vec<u32> {
+        if beyond(generators, room) { vec![] } else { vec![0; table_need(generators, room)] }
+    }
+
+    /// Zeroed table and work for a build, or nothing, in the same way.
     pub(crate) fn lent(generators: u8, room: u32) -> (Vec<u32>, Vec<u32>) {
-        if generators > 8 || room > 65_535 {
-            return (vec![], vec![]);
-        }
-        (vec![0; table_need(generators, room)], vec![0; work_need(generators, room)])
+        let work = if beyond(generators, room) { vec![] } else { vec![0; work_need(generators, room)] };
+        (lent_table(generators, room), work)
     }
 }

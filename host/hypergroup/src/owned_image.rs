@@ -27,6 +27,9 @@ pub struct OwnedImage {
 impl OwnedImage {
     /// Checks that these bytes store a table that some group has, and that all its elements are reached.
     ///
+    /// An `Arc` is shared; other bytes are copied into one first, also where they are refused then. `try_from` of a slice or a `Vec` copies
+    /// them once they are checked, and [`Checker::check_owned`](crate::Checker::check_owned) has a limit.
+    ///
     /// # Errors
     ///
     /// Those of [`Image::check`].
@@ -34,6 +37,11 @@ impl OwnedImage {
         let bytes = bytes.into();
         Image::check(&bytes)?;
         Ok(OwnedImage { bytes })
+    }
+
+    /// The image that owns bytes that have been checked.
+    pub(crate) fn checked(bytes: Arc<[u8]>) -> Self {
+        OwnedImage { bytes }
     }
 
     /// The image over these bytes; nothing is checked again.

@@ -312,7 +312,7 @@ impl Product {
     /// # Ok::<(), hypergroup::Refusal>(())
     /// ```
     pub fn flatten(&self) -> Result<Factor, Refusal> {
-        self.flatten_with_room(self.elements.min(65_535))
+        self.flatten_with_room(self.elements.min(65_535)).map_err(|no| no.said(5, Said::Elements))
     }
 
     /// The same in no more than so much room, so that it takes no more memory: of a large product the numbers mostly skip ahead soon.

@@ -38,13 +38,17 @@ pub(crate) enum Said {
     Room,
     /// 4 and 5: the room is the number of rows.
     Rows,
+    /// 5: there are more rows than elements may be.
+    Most,
+    /// 5: the room is the number of elements that the image says.
+    Image,
     /// 4: the last row is not whole.
     PartOfRow,
     /// 4: the list of digits is short.
     Digits,
     /// 15: there are more than 8 factors.
     Factors,
-    /// 15: there are too many elements.
+    /// 5 and 15: there are too many elements.
     Elements,
     /// 15: the overgroup has too many elements.
     Overgroup,
@@ -63,7 +67,8 @@ impl Refusal {
     pub const BAD_ORDER: u32 = 3;
     /// A room of 0 or above 65,535, or a list that is too short.
     pub const BAD_ROOM: u32 = 4;
-    /// An element beyond the room is needed; the places are the element and the generator that lead to it.
+    /// An element is needed beyond the room, the rows, or the elements that an image has; the places are the element and the generator
+    /// that lead to it.
     pub const BEYOND_ROOM: u32 = 5;
     /// A word would pass 4,096 generators; the places are the element and the generator that lead to its element.
     pub const WORD_TOO_LONG: u32 = 6;
@@ -71,7 +76,8 @@ impl Refusal {
     pub const SKIPS_AHEAD: u32 = 7;
     /// No step leads on from an element by a generator, or none to it; the places are these two.
     pub const MISSING_STEP: u32 = 8;
-    /// A generator that moves nothing at an element, or a wrong row or count; the places are the element and the generator.
+    /// A generator that moves nothing at an element, or a wrong row: the places are the element and the generator. Or a wrong count: the
+    /// places are the element and how many generators there are.
     pub const FIXED_POINT: u32 = 9;
     /// The inverse of an inverse differs; the places are the element, its inverse and that one's.
     pub const BAD_INVERSE: u32 = 10;
@@ -136,11 +142,16 @@ impl fmt::Display for Refusal {
             (4, Said::Digits) => write!(f, "there are fewer digits than factors"),
             (4, _) => write!(f, "the room is 0 or above 65,535, or a lent buffer is short"),
             (5, Said::Rows) => write!(f, "there is no row for the element that element {a}, generator {b} leads to"),
+            (5, Said::Most) => write!(f, "element {a}, generator {b} leads to one element more than the 65,535 that there may be"),
+            (5, Said::Image) => write!(f, "element {a}, generator {b} leads to one element more than the image has"),
+            (5, Said::Elements) => write!(f, "the product has more than 65,535 elements"),
             (5, _) => write!(f, "an element beyond the room is needed at element {a}, generator {b}"),
             (6, _) => write!(f, "the word of the element after element {a}, generator {b} would pass 4,096 generators"),
             (7, _) => write!(f, "the number {c} at element {a}, generator {b} skips ahead"),
             (8, _) => write!(f, "a successor or predecessor is missing at element {a}, generator {b}"),
-            (9, _) => write!(f, "a fixed point, or a wrong row or count, at element {a}, generator {b}"),
+            (9, _) => {
+                write!(f, "a fixed point or a wrong row at element {a}, generator {b} (or a wrong count there, of {b} generators)")
+            }
             (10, _) => write!(f, "the inverse of {a} is {b}, and the inverse of {b} is {c}"),
             (11, _) => write!(f, "the identity's row is not 1 to n: generator {a} is out of place"),
             (12, _) => write!(f, "no group has these right steps"),

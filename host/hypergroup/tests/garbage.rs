@@ -495,6 +495,7 @@ fn questions_of_subgroups() {
         asked(raw::subgroup_over(&from, &table, &s, &map, a));
         asked(raw::subgroup_back(&from, &table, &s, &map, a));
         asked(raw::subgroup_generator(&from, &table, &s, &map, g));
+        asked(raw::subgroup_generators(&from, &table, &s));
         asked(raw::subgroup_left(&from, &table, &below, &s));
         asked(raw::subgroup_right(&from, &table, &s, &above));
     }
@@ -568,7 +569,15 @@ fn images() {
             image[at] = r.byte();
         }
         let mut work = vec![0xa5; r.below(2000) as usize];
+        let mut again = work.clone();
         let number = raw::image_check(&image, &mut work);
+        // The verdict is the check's, with the same work left; and the need is what decides about 4, or has the refusal that comes of the head.
+        assert_eq!(raw::image_verdict(&image, &mut again).err().map_or(0, |x| x.number), number);
+        assert_eq!(again, work);
+        match raw::image_need(&image) {
+            Ok(need) => assert_eq!(number == 4, work.len() < need as usize),
+            Err(x) => assert!([1, 16].contains(&x.number) && [x.number, 4].contains(&number), "{number} {x:?}"),
+        }
         assert!([0, 1, 4, 5, 7, 8, 9, 10, 11, 12, 16].contains(&number), "{number}");
         let (n, count) = (image[5], u32::from(image[6]) * 256 + u32::from(image[7]));
         // Of a bad head no buffer's length is looked at.
@@ -608,6 +617,8 @@ fn empty_lists() {
     assert_eq!(raw::product_count(&[], &Handles::default()), Ok(1));
     assert_eq!(raw::product_split(&[], &Handles::default(), 0, &mut []), Ok(0));
     assert_eq!(raw::image_check(&[], &mut []), 16);
+    assert_eq!(raw::image_verdict(&[], &mut []).unwrap_err().number, 16);
+    assert_eq!(raw::image_need(&[]).unwrap_err().number, 16);
     assert_eq!(raw::image_walk(&[], 0, &[]), 65_552);
     assert_eq!(raw::composed(&mut [], 0, &mut [], &[], 0, 1).unwrap_err().number, 4);
 }

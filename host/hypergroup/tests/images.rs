@@ -2,6 +2,7 @@
 use hypergroup::raw::{self, Answer};
 use hypergroup::{Checker, Factor, Image, Refusal, Unchecked};
 use std::collections::BTreeMap;
+use std::sync::Arc;
 
 const BYTE: u8 = 165;
 
@@ -221,6 +222,13 @@ fn a_checker_has_a_limit_and_one_buffer() {
     for (bytes, work) in [(&z2, 264), (&z3, 396), (&z2, 396), (&z3, 396)] {
         assert_eq!(checker.check(bytes).unwrap().bytes(), bytes);
         assert_eq!(checker.work(), work);
+    }
+    // What is to be kept shares its bytes, and is refused in the same way.
+    let shared: Arc<[u8]> = z3.clone().into();
+    let kept = checker.check_owned(shared.clone()).unwrap();
+    assert_eq!((kept.bytes().as_ptr(), kept.element_count(), checker.work()), (shared.as_ptr(), 3, 396));
+    for bytes in [&broken, &ring(4), &z2[1..].to_vec()] {
+        assert_eq!(checker.check_owned(bytes[..].into()).unwrap_err(), checker.check(bytes).unwrap_err());
     }
     let refusal = checker.check(&broken).unwrap_err();
     assert_eq!(refusal, Unchecked::Refused(Image::check(&broken).unwrap_err()));

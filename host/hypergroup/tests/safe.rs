@@ -1,5 +1,5 @@
 //! The safe types: what is shared, what is refused and in which words, and both sides of each edge.
-use hypergroup::{Builder, Element, Factor, Generator, Image, OwnedImage, Product, Refusal, Subgroup};
+use hypergroup::{Builder, Checker, Element, Factor, Generator, Image, OwnedImage, Product, Refusal, Stored, Subgroup, Unchecked};
 use std::collections::HashSet;
 use std::sync::Arc;
 
@@ -32,6 +32,13 @@ fn everything_can_be_sent_and_shared() {
     shared::<OwnedImage>();
     shared::<Image<'static>>();
     shared::<Refusal>();
+    shared::<Unchecked>();
+    shared::<Stored>();
+    shared::<Element>();
+    shared::<Generator>();
+    // A checker has a buffer of its own that nobody needs twice.
+    fn sent<T: Send + Sync + 'static>() {}
+    sent::<Checker>();
 }
 
 /// A factor that was built in more room than it needs is cut to its elements: it is the one that an image tells, which is read with no more, in every answer.
@@ -326,13 +333,33 @@ fn refusals_in_words() {
     assert_eq!(says(Factor::from_rows(1, &[])), "refused (4): there are no rows");
     assert_eq!(says(Factor::from_rows(2, &[1])), "refused (4): the last row does not have a number for each generator");
     assert_eq!(says(Factor::from_rows(1, &[1])), "refused (5): there is no row for the element that element 0, generator 0 leads to");
+    let tree = |rows: u32| Factor::from_rows(2, &(1..=2 * rows).collect::<Vec<_>>());
+    assert_eq!(says(tree(65_535)), "refused (5): there is no row for the element that element 32767, generator 0 leads to");
+    let most = "refused (5): element 32767, generator 0 leads to one element more than the 65,535 that there may be";
+    assert_eq!([says(tree(65_536)), says(tree(70_000))], [most; 2]);
+    let beyond = [0, 0, 0, 8, 1, 1, 0, 2, 0, 1, 0, 2];
+    let images = [
+        says(Image::check(&beyond)),
+        says(OwnedImage::check(beyond)),
+        says(OwnedImage::try_from(&beyond[..])),
+        says(Factor::from_image(&beyond)),
+        Checker::new(2).check(&beyond).unwrap_err().to_string(),
+        Checker::new(2).check_owned(beyond.into()).unwrap_err().to_string(),
+    ];
+    assert_eq!(images, ["refused (5): element 1, generator 0 leads to one element more than the image has"; 6]);
+    let square = (&cycle(2) * &cycle(2)).unwrap();
+    assert_eq!(says(square.flatten_with_room(3)), "refused (5): an element beyond the room is needed at element 1, generator 1");
+    let fixed = "refused (9): a fixed point or a wrong row at element 0, generator 0 (or a wrong count there, of 0 generators)";
+    assert_eq!(says(Factor::from_rows(1, &[0])), fixed);
     assert_eq!(says(Factor::from_orders(2, &[3], 5)), "refused (5): an element beyond the room is needed at element 3, generator 0");
     assert_eq!(says(Factor::from_orders(2, &[3], 0)), "refused (4): the room is 0 or above 65,535");
     assert_eq!(says(Factor::from_compose_fn(2, |e, _| e, 65_536)), "refused (4): the room is 0 or above 65,535");
     assert_eq!(says(Builder::new(2, 0)), "refused (4): the room is 0 or above 65,535");
     assert_eq!(says(over.join(&[])), "refused (4): there are fewer digits than factors");
     let mut builder = Builder::new(1, 1).unwrap();
+    assert_eq!((builder.element_count(), builder.generator_count()), (1, 1));
     assert_eq!(builder.add(Element(0), Generator(0)).unwrap_err().number, Refusal::BEYOND_ROOM);
+    assert_eq!((builder.element_count(), builder.generator_count()), (0, 0));
     for no in [builder.add(Element(0), Generator(0)).unwrap_err(), builder.set(Element(0), Generator(0), Element(0)).unwrap_err()] {
         assert_eq!(no.to_string(), "refused (17): an earlier refusal has ended this build");
     }

@@ -16,6 +16,7 @@ unsafe extern "C" {
     fn hg_product(t: In, tn: usize, a: In, an: usize, ac: u8, b: In, bn: usize, bc: u8, o: Out, on: usize) -> u32;
     fn hg_product_flatten(f: In, fl: usize, h: In, hn: usize, count: u8, t: Out, tn: usize, start: usize, w: Out, wn: usize, room: u32, o: Out, on: usize) -> u32;
     fn hg_image_read(i: *const u8, len: usize, t: Out, tn: usize, start: usize, w: Out, wn: usize, o: Out, on: usize) -> u32;
+    fn hg_image_verdict(i: *const u8, len: usize, w: *mut u8, wn: usize, o: Out, on: usize) -> u32;
     fn hg_subgroup(f: In, fl: usize, h: In, hn: usize, count: u8, g: In, gn: usize, t: Out, tn: usize, start: usize, w: Out, wn: usize, i: Out, il: usize, b: Out, bl: usize, room: u32, o: Out, on: usize) -> u32;
     fn hg_subgroup_predicate(f: In, fl: usize, h: In, hn: usize, count: u8, m: *const u8, mn: usize, t: Out, tn: usize, start: usize, w: Out, wn: usize, i: Out, il: usize, b: Out, bl: usize, room: u32, o: Out, on: usize) -> u32;
     fn hg_subgroup_left(f: In, fl: usize, t: In, tn: usize, h: In, hn: usize, count: u8, s: In, sn: usize, o: Out, on: usize) -> u32;
@@ -144,6 +145,19 @@ fn a_check_and_an_image() {
     edge("image, 4", &lent(&[12, 20]), &[4, 0, 0, 0, 0], read(z2.clone()));
     edge("image, 16", &lent(&[13, 20]), &[16, 0, 0, 0, 0], read(z2[1..].to_vec()));
     edge("image, 7", &lent(&[13, 20]), &[7, 0, 0, 2, 0], read(vec![0, 0, 0, 8, 1, 1, 0, 2, 0, 2, 0, 0]));
+
+    // Its work is bytes: four in each number, and 264 for two elements and one generator.
+    let judged = |image: Vec<u8>| {
+        move |l: &mut [Vec<u32>], o: &mut [u32]| unsafe {
+            let (w, wn) = (l[0].as_mut_ptr().cast(), 4 * l[0].len());
+            hg_image_verdict(image.as_ptr(), image.len(), w, wn, o.as_mut_ptr(), o.len())
+        }
+    };
+    edge("verdict", &lent(&[66]), &[0, 0, 0, 0], judged(z2.clone()));
+    edge("verdict, 4", &lent(&[65]), &[4, 0, 0, 0], judged(z2.clone()));
+    edge("verdict, 16", &lent(&[66]), &[16, 0, 0, 0], judged(z2[1..].to_vec()));
+    edge("verdict, 5", &lent(&[66]), &[5, 1, 0, 0], judged(vec![0, 0, 0, 8, 1, 1, 0, 2, 0, 1, 0, 2]));
+    edge("verdict, 7", &lent(&[66]), &[7, 0, 0, 2], judged(vec![0, 0, 0, 8, 1, 1, 0, 2, 0, 2, 0, 0]));
 }
 
 #[test]

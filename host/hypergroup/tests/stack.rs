@@ -172,6 +172,8 @@ fn builds() {
     let image = in_thread(|| long.factor.to_image()).unwrap();
     assert_eq!(in_thread(|| Factor::from_image(&image)).as_ref(), Ok(&long.factor));
     let checked = in_thread(|| Image::check(&image)).unwrap();
+    let mut work = vec![0; in_thread(|| raw::image_need(&image)).unwrap() as usize];
+    assert_eq!(in_thread(|| raw::image_check(&image, &mut work)), 0);
     assert_eq!(in_thread(|| checked.walk(Element(0), &long.factor.word(long.last).unwrap())), Ok(long.last));
 }
 
