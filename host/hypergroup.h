@@ -343,8 +343,9 @@ uint32_t hg_product_flatten(const uint32_t *from, size_t from_len, const uint32_
  * the head says, then 8 to 12. */
 uint32_t hg_image_check(const uint8_t *image, size_t image_len, uint8_t *work, size_t work_len);
 
-/* Answers how many bytes of work a check of the image needs. Refuses what no work can change: 16
- * or 1 for the head, then 16 where there is no generator and more than one element. */
+/* Answers how many bytes of work a check of the image needs. Refuses what no work that is long
+ * enough can change: 16 or 1 for the head, then 16 where there is no generator and more than one
+ * element. */
 uint64_t hg_image_need(const uint8_t *image, size_t image_len);
 
 /* Checks an image in lent bytes as hg_image_check does, writes the verdict into out, its number

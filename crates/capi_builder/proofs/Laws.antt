@@ -15,7 +15,7 @@ use Rattle.builder.specs.declared.Grown.{Grown}
 use Rattle.builder.specs.declared.Stored.{Stored}
 use Rattle.builder.specs.Calls.{Leaving, leaving}
 use Rattle.capi_values.specs.Bridge.{paperInto, telling}
-use Rattle.capi_builder.specs.Answers.{reachedInto, begunInto, grownInto, storedCode, begunWith, grownWith, storedWith}
+use Rattle.capi_builder.specs.Answers.{reachedInto, begunInto, grownInto, storedCode, begunTold, grownTold, storedTold}
 use Rattle.capi_values.proofs.Laws.{stored-four, told}
 
 pub reached-refused : (r : Refusal) {x : Reached} (l : List ℕ) {m : List ℕ} → x ≡ reached.Refused r → m ≡ paperInto (Refused r) l → m ≡ reachedInto x l
@@ -32,12 +32,12 @@ unfolding grownInto
 grown-written g l p q = q ∙ rw p
 
 pub begun-told : {b : Begun} {t : List ℕ} {x : Leaving Begun} (out : List ℕ) {r : ℕ} {l : List ℕ} → leaving b t ≡ x
-    → (r ≡ verdictPaper (b .answer) .number) × (l ≡ begunInto b out) → telling r l (t ∷ []) ≡ begunWith x out
-begun-told out e p = told p ∙ ap (λ (y : Leaving Begun). begunWith y out) e
+    → (r ≡ verdictPaper (b .answer) .number) × (l ≡ begunInto b out) → telling r l (t ∷ []) ≡ begunTold x out
+begun-told out e p = told p ∙ ap (λ (y : Leaving Begun). begunTold y out) e
 
 pub grown-told : {g : Grown} {t : List ℕ} {x : Leaving Grown} (out : List ℕ) {r : ℕ} {l : List ℕ} → leaving g t ≡ x
-    → (r ≡ reachedPaper (g .answer) .number) × (l ≡ grownInto g out) → telling r l (t ∷ []) ≡ grownWith x out
-grown-told out e p = told p ∙ ap (λ (y : Leaving Grown). grownWith y out) e
+    → (r ≡ reachedPaper (g .answer) .number) × (l ≡ grownInto g out) → telling r l (t ∷ []) ≡ grownTold x out
+grown-told out e p = told p ∙ ap (λ (y : Leaving Grown). grownTold y out) e
 
-pub stored-leaves : {s : Stored} {t : List ℕ} {x : Leaving Stored} {r : ℕ} → leaving s t ≡ x → r ≡ storedCode s → leaving r t ≡ storedWith x
-stored-leaves {s} {t} p q = ap (λ (k : ℕ). leaving k t) q ∙ ap storedWith p
+pub stored-leaves : {s : Stored} {t : List ℕ} {x : Leaving Stored} {r : ℕ} → leaving s t ≡ x → r ≡ storedCode s → leaving r t ≡ storedTold x
+stored-leaves {s} {t} p q = ap (λ (k : ℕ). leaving k t) q ∙ ap storedTold p

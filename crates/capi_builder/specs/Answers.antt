@@ -30,13 +30,13 @@ unfoldable pub grownInto : Grown → List ℕ → List ℕ
 grownInto g out = putAt (reachedInto (g .answer) out) 4 (g .builder .0 .elements)
 
 -- What `begin` leaves: its number, its answer in `out`, and the table.
-abbrev pub begunWith : Leaving Begun → List ℕ → Telling
-begunWith (leaving b t) out = telling (verdictPaper (b .answer) .number) (begunInto b out) (t ∷ [])
+abbrev pub begunTold : Leaving Begun → List ℕ → Telling
+begunTold (leaving b t) out = telling (verdictPaper (b .answer) .number) (begunInto b out) (t ∷ [])
 
 -- The same of `add_successor`; its number is 0 where it has made an element.
-abbrev pub grownWith : Leaving Grown → List ℕ → Telling
-grownWith (leaving g t) out = telling (reachedPaper (g .answer) .number) (grownInto g out) (t ∷ [])
+abbrev pub grownTold : Leaving Grown → List ℕ → Telling
+grownTold (leaving g t) out = telling (reachedPaper (g .answer) .number) (grownInto g out) (t ∷ [])
 
 -- The one number of a stored step, and what the table holds.
-abbrev pub storedWith : Leaving Stored → Leaving ℕ
-storedWith (leaving s t) = leaving (storedCode s) t
+abbrev pub storedTold : Leaving Stored → Leaving ℕ
+storedTold (leaving s t) = leaving (storedCode s) t

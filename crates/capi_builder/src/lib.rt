@@ -4,7 +4,7 @@ ghost use mathlib.Core.List.{[], _∷_};
 ghost use Rattle.egg.specs.Factor.{verdictPaper, reachedPaper};
 ghost use Rattle.builder.specs.Calls.{Leaving, begins, grows, stores, builds};
 ghost use Rattle.capi_values.specs.Bridge.{handle, telling, inOut, bridged};
-ghost use Rattle.capi_builder.specs.Answers.{storedCode, reachedInto, begunInto, grownInto, begunWith, grownWith, storedWith};
+ghost use Rattle.capi_builder.specs.Answers.{storedCode, reachedInto, begunInto, grownInto, begunTold, grownTold, storedTold};
 use builder::Begun;
 use builder::Builder;
 use builder::Grown;
@@ -82,7 +82,7 @@ pub extern "C" fn hg_begin(
     n: u8,
     out: &mut [u32],
 ) -> u32
-    ensures { λ r. ⌜ telling r (now (out .exit)) (now (table .exit) ∷ []) ≡ inOut 5 (now (out .entry)) (now (table .entry) ∷ []) (begunWith (begins (now (table .entry)) start room n) (now (out .entry))) ⌝ }
+    ensures { λ r. ⌜ telling r (now (out .exit)) (now (table .exit) ∷ []) ≡ inOut 5 (now (out .entry)) (now (table .entry) ∷ []) (begunTold (begins (now (table .entry)) start room n) (now (out .entry))) ⌝ }
 {
     if out.len() < 5 {
         return 4;
@@ -105,7 +105,7 @@ pub extern "C" fn hg_add(
     g: u8,
     out: &mut [u32],
 ) -> u32
-    ensures { λ r. ⌜ telling r (now (out .exit)) (now (table .exit) ∷ []) ≡ inOut 5 (now (out .entry)) (now (table .entry) ∷ []) (grownWith (grows (now (table .entry)) (record { 0 = handle start room n count }) (record { 0 = e }) (record { 0 = g })) (now (out .entry))) ⌝ }
+    ensures { λ r. ⌜ telling r (now (out .exit)) (now (table .exit) ∷ []) ≡ inOut 5 (now (out .entry)) (now (table .entry) ∷ []) (grownTold (grows (now (table .entry)) (record { 0 = handle start room n count }) (record { 0 = e }) (record { 0 = g })) (now (out .entry))) ⌝ }
 {
     if out.len() < 5 {
         return 4;
@@ -128,7 +128,7 @@ pub extern "C" fn hg_set(
     g: u8,
     x: u32,
 ) -> u64
-    ensures { λ r. ⌜ Leaving.leaving r (now (table .exit)) ≡ storedWith (stores (now (table .entry)) (record { 0 = handle start room n count }) (record { 0 = e }) (record { 0 = g }) (record { 0 = x })) ⌝ }
+    ensures { λ r. ⌜ Leaving.leaving r (now (table .exit)) ≡ storedTold (stores (now (table .entry)) (record { 0 = handle start room n count }) (record { 0 = e }) (record { 0 = g }) (record { 0 = x })) ⌝ }
 {
     let b = builder_of(start, room, n, count);
     let from = GroupElementId(e);

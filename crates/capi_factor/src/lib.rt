@@ -6,7 +6,7 @@ ghost use mathlib.Core.List.{[]};
 ghost use Rattle.egg.specs.Factor.{stepAnswer};
 ghost use Rattle.factor.specs.Questions.{inverseAnswer, conjugateAnswer, generatorAnswer, countAnswer};
 ghost use Rattle.factor.specs.Relations.{checkAnswer};
-ghost use Rattle.capi_values.specs.Bridge.{handle, reachedCode, countedCode, telling, inOut, judged};
+ghost use Rattle.capi_values.specs.Bridge.{handle, reachedCode, countedCode, telling, inOut, verdictTold};
 use capi_values::inner::counted_code;
 use capi_values::inner::factor_of;
 use capi_values::inner::reached_code;
@@ -101,7 +101,7 @@ pub extern "C" fn hg_check(
     orders: &[u32],
     out: &mut [u32],
 ) -> u32
-    ensures { λ r. ⌜ telling r (now (out .exit)) [] ≡ inOut 4 (now (out .entry)) [] (judged (checkAnswer (now (table .entry)) (handle start room n count) (now (orders .entry))) (now (out .entry))) ⌝ }
+    ensures { λ r. ⌜ telling r (now (out .exit)) [] ≡ inOut 4 (now (out .entry)) [] (verdictTold (checkAnswer (now (table .entry)) (handle start room n count) (now (orders .entry))) (now (out .entry))) ⌝ }
 {
     if out.len() < 4 {
         return 4;

@@ -21,8 +21,8 @@ pub extern "C" fn hg_image_check(image: &[u8], work: &mut [u8]) -> u32
     image::check(image, work)
 }
 
-// Answers how many bytes of work a check of the image needs. Refuses what no work can change: 16 or 1 for the head, then 16 where there is no
-// generator and more than one element.
+// Answers how many bytes of work a check of the image needs. Refuses what no work that is long enough can change: 16 or 1 for the head, then
+// 16 where there is no generator and more than one element.
 #[no_mangle]
 pub extern "C" fn hg_image_need(image: &[u8]) -> u64
     ensures { λ r. ⌜ r ≡ countedCode (imageNeed (now (image .entry))) ⌝ }

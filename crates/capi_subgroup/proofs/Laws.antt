@@ -20,11 +20,11 @@ use Rattle.subgroup.proofs.Outlines.{outline-is}
 use Rattle.group_handles.specs.declared.inner.Seen.{Seen}
 use Rattle.group_handles.specs.Handles.{handles, seen}
 use Rattle.capi_handles.specs.Product.{byteOf, handleAt, productAt}
-use Rattle.capi_subgroup.specs.Subgroup.{subgroupFrom, subgroupedInto, bridged}
+use Rattle.capi_subgroup.specs.Subgroup.{subgroupFrom, subgroupedInto, subgroupTold}
 
 pub subgroup-told : {m : Subgrouped} {t w i o : List ℕ} {x : Subgrouping} (out : List ℕ) {r : ℕ} {l : List ℕ} → subgrouping m t w i o ≡ x
-    → (r ≡ verdictPaper (m .answer) .number) × (l ≡ subgroupedInto m out) → telling r l (t ∷ w ∷ i ∷ o ∷ []) ≡ bridged x out
-subgroup-told out e p = told p ∙ ap (λ (y : Subgrouping). bridged y out) e
+    → (r ≡ verdictPaper (m .answer) .number) × (l ≡ subgroupedInto m out) → telling r l (t ∷ w ∷ i ∷ o ∷ []) ≡ subgroupTold x out
+subgroup-told out e p = told p ∙ ap (λ (y : Subgrouping). subgroupTold y out) e
 
 pub subgrouped-written : (m : Subgrouped) (l : List ℕ) {l₁ l₂ : List ℕ} → l₁ ≡ madeInto (record { answer = m .answer; factor = m .subgroup .factor }) l
     → l₂ ≡ putAt l₁ 5 (m .subgroup .factor .generators) → l₂ ≡ subgroupedInto m l

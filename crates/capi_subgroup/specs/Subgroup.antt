@@ -33,5 +33,5 @@ unfoldable pub subgroupedInto : Subgrouped → List ℕ → List ℕ
 subgroupedInto m out = putAt (madeInto (record { answer = m .answer; factor = m .subgroup .factor }) out) 5 (m .subgroup .factor .generators)
 
 -- What was made: its number, its verdict and counts in `out`, and the table, the work and both maps.
-abbrev pub bridged : Subgrouping → List ℕ → Telling
-bridged (subgrouping m t w i o) out = telling (verdictPaper (m .answer) .number) (subgroupedInto m out) (t ∷ w ∷ i ∷ o ∷ [])
+abbrev pub subgroupTold : Subgrouping → List ℕ → Telling
+subgroupTold (subgrouping m t w i o) out = telling (verdictPaper (m .answer) .number) (subgroupedInto m out) (t ∷ w ∷ i ∷ o ∷ [])

@@ -5,7 +5,7 @@ ghost use mathlib.Core.Path.{_≡_};
 ghost use mathlib.Core.List.{[], _∷_};
 ghost use lib.ListN.{length, getD};
 ghost use Rattle.egg.specs.Factor.{verdictPaper};
-ghost use Rattle.capi_values.specs.Bridge.{reachedCode, countedCode, telling, inOut, judged};
+ghost use Rattle.capi_values.specs.Bridge.{reachedCode, countedCode, telling, inOut, verdictTold};
 ghost use Rattle.capi_handles.specs.Product.{byteOf, productOf, productAt};
 ghost use Rattle.group_handles.specs.Handles.{handles, seen};
 ghost use Rattle.subgroup.specs.Outline.{outlineOf, Measured};
@@ -13,7 +13,7 @@ ghost use Rattle.subgroup_build.specs.Generated.{fromGenerators};
 ghost use Rattle.subgroup_predicate.specs.Predicate.{fromPredicate};
 ghost use Rattle.subgroup_sides.specs.Sides.{leftProduct, rightProduct};
 ghost use Rattle.subgroup.specs.Questions.{toOverAnswer, toSubAnswer, generatorAnswer, generatorCountAnswer};
-ghost use Rattle.capi_subgroup.specs.Subgroup.{subgroupFrom, withinCode, subgroupedInto, bridged};
+ghost use Rattle.capi_subgroup.specs.Subgroup.{subgroupFrom, withinCode, subgroupedInto, subgroupTold};
 use egg::GeneratorId;
 use egg::GroupElementId;
 use egg::Made;
@@ -102,7 +102,7 @@ pub extern "C" fn hg_subgroup(
     room: u32,
     out: &mut [u32],
 ) -> u32
-    ensures { λ r. ⌜ telling r (now (out .exit)) (now (table .exit) ∷ now (work .exit) ∷ now (inn .exit) ∷ now (outw .exit) ∷ []) ≡ inOut 6 (now (out .entry)) (now (table .entry) ∷ now (work .entry) ∷ now (inn .entry) ∷ now (outw .entry) ∷ []) (bridged (fromGenerators (now (from .entry)) (productOf (now (handles .entry)) count) (now (gens .entry)) (now (table .entry)) start (now (work .entry)) (now (inn .entry)) (now (outw .entry)) room) (now (out .entry))) ⌝ }
+    ensures { λ r. ⌜ telling r (now (out .exit)) (now (table .exit) ∷ now (work .exit) ∷ now (inn .exit) ∷ now (outw .exit) ∷ []) ≡ inOut 6 (now (out .entry)) (now (table .entry) ∷ now (work .entry) ∷ now (inn .entry) ∷ now (outw .entry) ∷ []) (subgroupTold (fromGenerators (now (from .entry)) (productOf (now (handles .entry)) count) (now (gens .entry)) (now (table .entry)) start (now (work .entry)) (now (inn .entry)) (now (outw .entry)) room) (now (out .entry))) ⌝ }
 {
     if out.len() < 6 {
         return 4;
@@ -129,7 +129,7 @@ pub extern "C" fn hg_subgroup_predicate(
     room: u32,
     out: &mut [u32],
 ) -> u32
-    ensures { λ r. ⌜ telling r (now (out .exit)) (now (table .exit) ∷ now (work .exit) ∷ now (inn .exit) ∷ now (outw .exit) ∷ []) ≡ inOut 6 (now (out .entry)) (now (table .entry) ∷ now (work .entry) ∷ now (inn .entry) ∷ now (outw .entry) ∷ []) (bridged (fromPredicate (now (from .entry)) (productOf (now (handles .entry)) count) (now (members .entry)) (now (table .entry)) start (now (work .entry)) (now (inn .entry)) (now (outw .entry)) room) (now (out .entry))) ⌝ }
+    ensures { λ r. ⌜ telling r (now (out .exit)) (now (table .exit) ∷ now (work .exit) ∷ now (inn .exit) ∷ now (outw .exit) ∷ []) ≡ inOut 6 (now (out .entry)) (now (table .entry) ∷ now (work .entry) ∷ now (inn .entry) ∷ now (outw .entry) ∷ []) (subgroupTold (fromPredicate (now (from .entry)) (productOf (now (handles .entry)) count) (now (members .entry)) (now (table .entry)) start (now (work .entry)) (now (inn .entry)) (now (outw .entry)) room) (now (out .entry))) ⌝ }
 {
     if out.len() < 6 {
         return 4;
@@ -207,7 +207,7 @@ pub extern "C" fn hg_subgroup_left(
     sub: &[u32],
     out: &mut [u32],
 ) -> u32
-    ensures { λ r. ⌜ telling r (now (out .exit)) [] ≡ inOut 4 (now (out .entry)) [] (judged (leftProduct (length (now (from .entry))) (length (now (table .entry))) (productOf (now (handles .entry)) count) (subgroupFrom (now (sub .entry))) .answer) (now (out .entry))) ⌝ }
+    ensures { λ r. ⌜ telling r (now (out .exit)) [] ≡ inOut 4 (now (out .entry)) [] (verdictTold (leftProduct (length (now (from .entry))) (length (now (table .entry))) (productOf (now (handles .entry)) count) (subgroupFrom (now (sub .entry))) .answer) (now (out .entry))) ⌝ }
 {
     if out.len() < 4 {
         return 4;
@@ -230,7 +230,7 @@ pub extern "C" fn hg_subgroup_right(
     count: u8,
     out: &mut [u32],
 ) -> u32
-    ensures { λ r. ⌜ telling r (now (out .exit)) [] ≡ inOut 4 (now (out .entry)) [] (judged (rightProduct (length (now (from .entry))) (length (now (table .entry))) (subgroupFrom (now (sub .entry))) (productOf (now (handles .entry)) count) .answer) (now (out .entry))) ⌝ }
+    ensures { λ r. ⌜ telling r (now (out .exit)) [] ≡ inOut 4 (now (out .entry)) [] (verdictTold (rightProduct (length (now (from .entry))) (length (now (table .entry))) (subgroupFrom (now (sub .entry))) (productOf (now (handles .entry)) count) .answer) (now (out .entry))) ⌝ }
 {
     if out.len() < 4 {
         return 4;

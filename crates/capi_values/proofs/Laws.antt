@@ -11,7 +11,7 @@ use Rattle.egg.specs.declared.Verdict.the-variants.{Fine, Refused}
 use Rattle.egg.specs.Table.{putAt}
 use Rattle.egg.specs.Factor.{verdictPaper}
 use Rattle.build_lending.specs.Lending.{Making, making}
-use Rattle.capi_values.specs.Bridge.{paperInto, madeInto, Telling, telling, inOut, judged, bridged}
+use Rattle.capi_values.specs.Bridge.{paperInto, madeInto, Telling, telling, inOut, verdictTold, bridged}
 
 -- Four stores, one after the other.
 pub stored-four : (l : List ℕ) (a b c d : ℕ) {l₁ l₂ l₃ l₄ : List ℕ} → l₁ ≡ putAt l 0 a → l₂ ≡ putAt l₁ 1 b → l₃ ≡ putAt l₂ 2 c → l₄ ≡ putAt l₃ 3 d
@@ -36,8 +36,8 @@ made-written m l p q = q ∙ rw p
 pub told : {n r : ℕ} {o l : List ℕ} {lent : List (List ℕ)} → (r ≡ n) × (l ≡ o) → telling r l lent ≡ telling n o lent
 told (p, q) = rw (p, q)
 
-pub judged-told : {v w : Verdict} (out : List ℕ) {r : ℕ} {l : List ℕ} → v ≡ w → (r ≡ verdictPaper v .number) × (l ≡ paperInto v out) → telling r l [] ≡ judged w out
-judged-told out e p = told p ∙ ap (λ (x : Verdict). judged x out) e
+pub verdict-told : {v w : Verdict} (out : List ℕ) {r : ℕ} {l : List ℕ} → v ≡ w → (r ≡ verdictPaper v .number) × (l ≡ paperInto v out) → telling r l [] ≡ verdictTold w out
+verdict-told out e p = told p ∙ ap (λ (x : Verdict). verdictTold x out) e
 
 pub bridge-told : {m : Made} {t w : List ℕ} {x : Making} (out : List ℕ) {r : ℕ} {l : List ℕ} → making m t w ≡ x
     → (r ≡ verdictPaper (m .answer) .number) × (l ≡ madeInto m out) → telling r l (t ∷ w ∷ []) ≡ bridged x out

@@ -60,8 +60,8 @@ unfoldable pub inOut : ℕ → List ℕ → List (List ℕ) → Telling → Tell
 inOut k out lent done = pick (ltb (length out) k) (telling 4 out lent) done
 
 -- A verdict alone, of a function that writes nothing but `out`.
-abbrev pub judged : Verdict → List ℕ → Telling
-judged v out = telling (verdictPaper v .number) (paperInto v out) []
+abbrev pub verdictTold : Verdict → List ℕ → Telling
+verdictTold v out = telling (verdictPaper v .number) (paperInto v out) []
 
 -- What was made: its verdict and count, and the table and the work.
 abbrev pub bridged : Making → List ℕ → Telling

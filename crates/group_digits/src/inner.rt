@@ -1,4 +1,6 @@
-// The work of the calls, done once the handles are known to fit and the product's elements to have numbers of 32 bits.
+// The work of the calls. What reads the table is done once the handles are known to fit and the product's elements to have numbers of 32 bits.
+// `project_in`, `inject_in`, `split_in` and `join_in` read no table, and ask of the handles that each has an element; the first two, that the product's
+// elements have numbers of 32 bits too.
 ghost use mathlib.Core.Path.{_≡_};
 ghost use mathlib.Core.Bool.{true};
 ghost use Prim.Native.Nat.{_<_, _≤_};

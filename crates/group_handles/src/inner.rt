@@ -109,8 +109,8 @@ pub fn all_fit(table: &[u32], g: Group) -> bool
     s.fit
 }
 
-// How many elements the product has, as far as 32 bits can tell. What the pass shows of them is the same over every buffer, so it is made over any
-// one. The same for generators.
+// How many elements the product has, as far as 32 bits can tell. What the pass shows of elements and generators is the same over every buffer; so
+// here and in `generators_of` a buffer of one zero is made only to be passed.
 pub fn elements_of(g: Group) -> u64
     ensures { λ r. ⌜ r ≡ capped (elementsOf (handles g)) ⌝ }
 {

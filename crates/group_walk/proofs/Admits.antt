@@ -15,7 +15,7 @@ use Rattle.group_handles.specs.declared.Group.{Group}
 use Rattle.group_handles.specs.declared.inner.Seen.{Seen}
 use Rattle.group_handles.specs.Handles.{handles, elementsOf, generatorsOf, allFit, limited, seen}
 use Rattle.group_handles.proofs.Admitted.{looked, elements-seen}
-use Rattle.group_walk.specs.Walked.{admitsWalk, Going}
+use Rattle.group_walk.specs.Walked.{admitsWalk, Walkable}
 
 module _ (len : ℕ) (g : Group) (e : ℕ) (w : List ℕ) where
   pub walk-handle : allFit len (handles g) ≡ false → refusedOf 17 0 0 0 ≡ admitsWalk len g e w
@@ -41,19 +41,19 @@ module _ (len : ℕ) (g : Group) (e : ℕ) (w : List ℕ) where
         unfolding admitsWalk
         walk-fine z = rw fits (simp (lt-leb _ _ h) (rw (← q, k, z)))
 
-  goes : admitsWalk len g e w ≡ Fine → Going len g e w
+  goes : admitsWalk len g e w ≡ Fine → Walkable len g e w
   goes q =
       by (allFit len (handles g)) (leb (elementsOf (handles g)) e) (lettersRight (generatorsOf (handles g)) w) (limited g) refl refl refl refl
     where
       by : (x y : Bool) (v : Verdict) (z : Bool) → allFit len (handles g) ≡ x → leb (elementsOf (handles g)) e ≡ y
-          → lettersRight (generatorsOf (handles g)) w ≡ v → limited g ≡ z → Going len g e w
+          → lettersRight (generatorsOf (handles g)) w ≡ v → limited g ≡ z → Walkable len g e w
       by false y v z a b c d = absurd (refused-fine (walk-handle a ∙ q))
       by true true v z a b c d = absurd (refused-fine (walk-start a (leb-true _ _ b) ∙ q))
       by true false (Refused r) z a b c d = absurd (refused-fine (walk-letter a (leb-false _ _ b) (sym c) refl ∙ q))
       by true false Fine false a b c d = absurd (refused-fine (walk-large a (leb-false _ _ b) (sym c) refl d ∙ q))
       by true false Fine true a b c d = record { fits = a; start = leb-false _ _ b; letters = c; within = d }
 
-  pub going : {v : Verdict} → v ≡ admitsWalk len g e w → v ≡ Fine → Going len g e w
+  pub going : {v : Verdict} → v ≡ admitsWalk len g e w → v ≡ Fine → Walkable len g e w
   going q k = goes (sym q ∙ k)
 
 -- What one pass over the handles shows of the start and the letters.

@@ -32,7 +32,7 @@ use Rattle.group_digits.specs.Digits.{stepIn}
 use Rattle.group_digits.specs.Splits.{splitTail, digitsLeft, digitRight, digitsRight, fewer, joinTail}
 use Rattle.group_digits.proofs.Splits.{digit-good}
 use Rattle.group_digits.proofs.Walks.{below-element, step-below}
-use Rattle.group_walk.specs.Walked.{follows, Going, Owned}
+use Rattle.group_walk.specs.Walked.{follows, Walkable, Owned}
 use Rattle.group_walk.proofs.Steps.{steps-found}
 
 -- The list starts with the digits of e.
@@ -161,7 +161,7 @@ short zero l = omega arith
 short (suc k) [] = omega arith
 short (suc k) (x ∷ l) = omega (arith, short k l)
 
-module _ {len : ℕ} {g : Group} {e : ℕ} {w : List ℕ} (G : Going len g e w) where
+module _ {len : ℕ} {g : Group} {e : ℕ} {w : List ℕ} (G : Walkable len g e w) where
   pub few-listed : length (handles g) ≤ 8
   few-listed = omega (arith, short (g .count) (g .factors), few-factors g (G .within))
 

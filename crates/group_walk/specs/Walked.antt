@@ -40,7 +40,7 @@ unfoldable pub walkAnswer : List ℕ → Group → GroupElementId → List ℕ �
 walkAnswer t g e w = ifReach (admitsWalk (length t) g (e .0) w) (follows t (handles g) (e .0) w)
 
 -- What is known where a walk goes on.
-pub record Going (len : ℕ) (g : Group) (e : ℕ) (w : List ℕ) : Type 0 where
+pub record Walkable (len : ℕ) (g : Group) (e : ℕ) (w : List ℕ) : Type 0 where
   pub fits : allFit len (handles g) ≡ true
   pub start : e < elementsOf (handles g)
   pub letters : lettersRight (generatorsOf (handles g)) w ≡ Fine

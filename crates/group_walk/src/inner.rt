@@ -3,7 +3,7 @@ ghost use mathlib.Core.Path.{_≡_};
 ghost use Prim.Native.Nat.{ℕ, _<_};
 ghost use lib.ListN.{length};
 ghost use Rattle.group_handles.specs.Handles.{handles, elementsOf, generatorsOf, capped, seen};
-ghost use Rattle.group_walk.specs.Walked.{follows, admitsWalk, walkAnswer, Going, Owned};
+ghost use Rattle.group_walk.specs.Walked.{follows, admitsWalk, walkAnswer, Walkable, Owned};
 use egg::GeneratorId;
 use egg::GroupElementId;
 use egg::Reached;
@@ -65,7 +65,7 @@ fn find(g: Group, x: u32) -> Owner
 
 // Walks in digits. A digit that cannot be stepped on ends it with 17.
 fn follow(table: &[u32], g: Group, elements: u64, from: GroupElementId, word: &[u8]) -> Reached
-    requires { ⌜ (Going (length (now table)) g (from .0) (now word)) × (elements ≡ capped (elementsOf (handles g))) ⌝ }
+    requires { ⌜ (Walkable (length (now table)) g (from .0) (now word)) × (elements ≡ capped (elementsOf (handles g))) ⌝ }
     ensures { λ r. ⌜ r ≡ follows (now (table .entry)) (handles g) (from .0) (now (word .entry)) ⌝ }
 {
     let mut digits = [0; 8];

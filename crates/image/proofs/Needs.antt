@@ -24,9 +24,9 @@ module _ (l : List ℕ) {h : ℕ} (qh : h ≡ headNumber l) where
     right : headNumber l ≡ 0
     right = sym qh ∙ z
 
-    pub need-alone : {x : Counted} → (eqb n 0 && ltb 1 count) ≡ true → x ≡ Refused (numbered 16 0 0 0) → x ≡ imageNeed l
+    pub need-out-of-reach : {x : Counted} → (eqb n 0 && ltb 1 count) ≡ true → x ≡ Refused (numbered 16 0 0 0) → x ≡ imageNeed l
     unfolding imageNeed
-    need-alone a q = let b : (eqb (headGenerators l) 0 && ltb 1 (headElements l)) ≡ true = rw (qn, qc) at a in simp (eq-eqb _ _ right) (rw b q)
+    need-out-of-reach a q = let b : (eqb (headGenerators l) 0 && ltb 1 (headElements l)) ≡ true = rw (qn, qc) at a in simp (eq-eqb _ _ right) (rw b q)
 
     pub need-count : (eqb n 0 && ltb 1 count) ≡ false → {k : ℕ} → k ≡ bytesNeed n count → Count k ≡ imageNeed l
     unfolding imageNeed

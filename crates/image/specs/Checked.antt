@@ -25,8 +25,8 @@ imageVerdict l size =
     (headElements l)))
     (refusedOf (headNumber l) (headPlace l) 0 0)
 
--- How many bytes of work the check needs, or the refusal that no work can change: the head's own, and 16 where there is no generator and more than one
--- element, for without a generator the identity alone is reached.
+-- How many bytes of work the check needs, or the refusal that no work which is long enough can change: the head's own, and 16 where there is no
+-- generator and more than one element, for without a generator the identity alone is reached.
 unfoldable pub imageNeed : List ℕ → Counted
 imageNeed l =
     pick (eqb (headNumber l) 0)

@@ -105,14 +105,14 @@ fn head_place(image: &[u8], found: u32) -> u32
 }
 
 // True where there is no generator and more than one element, which cannot be reached then.
-fn alone(n: u8, count: u32) -> bool
+fn out_of_reach(n: u8, count: u32) -> bool
     ensures { λ r. ⌜ r ≡ (eqb n 0 && ltb 1 count) ⌝ }
 {
     if n == 0 { 1 < count } else { false }
 }
 
-// Answers how many bytes of work the check of an image needs. Refuses what the head alone decides, whatever work is lent: 16 or 1 for the head, then
-// 16 where there is no generator and more than one element.
+// Answers how many bytes of work the check of an image needs. Refuses what the head alone decides, and what no work that is long enough can change: 16
+// or 1 for the head, then 16 where there is no generator and more than one element.
 pub fn need(image: &[u8]) -> Counted
     ensures { λ r. ⌜ r ≡ imageNeed (now (image .entry)) ⌝ }
 {
@@ -127,7 +127,7 @@ pub fn need(image: &[u8]) -> Counted
     }
     let n = generators(image);
     let count = elements(image);
-    if alone(n, count) {
+    if out_of_reach(n, count) {
         return egg::inner::refused_count(16);
     }
     Counted::Count(bytes_need(n, count) as u32)

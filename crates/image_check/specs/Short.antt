@@ -51,7 +51,7 @@ abbrev pub verdictBy : (List ℕ → Verdict) → Placed → ℕ → Verdict
 verdictBy check (placed (counted.Refused r) t) room = Refused r
 verdictBy check (placed (counted.Count c) t) room = pick (ltb c room) (refusedOf 16 0 0 0) (check t)
 
--- Its number.
+-- The number of that verdict.
 abbrev pub numberBy : (List ℕ → Verdict) → Placed → ℕ → ℕ
 numberBy check (placed (counted.Refused r) t) room = r .number
 numberBy check (placed (counted.Count c) t) room = pick (ltb c room) 16 (verdictNumber (check t))
@@ -64,6 +64,6 @@ judged size w rows n room = verdictBy (λ t. short t w n room) (readAll (compose
 unfoldable pub ruled : (size : ℕ) (w rows : List ℕ) (n room : ℕ) → Verdict
 ruled size w rows n room = verdictBy (λ t. verdictOf (check-group t w n room)) (readAll (composedAt rows n) n room (replicate size 0)) room
 
--- Its number.
+-- The number of the verdict that reading into 32-bit buffers and all of 8 to 12 give.
 unfoldable pub built : (size : ℕ) (w rows : List ℕ) (n room : ℕ) → ℕ
 built size w rows n room = numberBy (λ t. verdictOf (check-group t w n room)) (readAll (composedAt rows n) n room (replicate size 0)) room

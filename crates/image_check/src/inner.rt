@@ -151,7 +151,7 @@ fn check_table(b: &mut [u8], at: usize, n: u8, count: u32) -> Verdict
     checking::identity_row(&b[..at], n)
 }
 
-// Checks 8 to 12.
+// Makes the checks 8 to 12, and hands back the first refusal.
 fn check_all(b: &mut [u8], at: usize, n: u8, count: u32) -> Verdict
     requires { ⌜ at ≤ length (now b) ⌝ }
     ensures { λ r. ⌜ SomeWork (length (cells (drop at (now (b .entry))))) (λ w. r ≡ short (cells (take at (now (b .entry)))) w n count) ⌝ }

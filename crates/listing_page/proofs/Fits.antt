@@ -9,6 +9,7 @@ use native.Mathlib.Omega.{arith}
 use borrow.Author.Tests.{ltb-false, le-ltb}
 use lib.ListN.{length, getD, replicate}
 use lib.Dec.{ltb, eqb}
+use lib.Seq.{sets}
 use Rattle.egg.specs.declared.Factor.{Factor}
 use Rattle.egg.specs.declared.Verdict.{Verdict}
 use Rattle.egg.specs.declared.Verdict.the-variants as verdict
@@ -20,7 +21,7 @@ use Rattle.build_lending.specs.Lending.{Making, making}
 use Rattle.enumeration.specs.Calls.{enumerates}
 use Rattle.enumeration.proofs.Handle.{accepted-handle}
 use Rattle.listing_lines.specs.Text.{groupText, refusedText}
-use Rattle.listing_page.specs.Listing.{ordersIn, pageBy, pageOf, rightPage, listingOf, listingCount}
+use Rattle.listing_page.specs.Listing.{ordersIn, pageBy, pageOf, rightPage, listingOf, listingCount, listingLeaves}
 use Rattle.listing_page.specs.Fits.{Fits}
 use Rattle.listing_lines.proofs.Bounds.{group-length, refused-length}
 
@@ -71,12 +72,13 @@ listing-fits input =
     (right-fits (ordersRight (ordersIn (pairCount (getD input 0 0)) input 0) (getD input 0 0)) (getD input 0 0) (ordersIn (pairCount (getD input 0 0)) input 0))
     (refused-fits 2)))
 
--- So into a buffer of that many bytes every listing is written whole, and none is refused.
-pub listing-whole : (input : List ℕ) (size : ℕ) → 9268 ≤ size → listingCount input size ≡ counted.Count (length (listingOf input))
-unfolding listingCount
-listing-whole input size h =
-    let q : length (listingOf input) ≤ size = omega (arith, listing-fits input .most) in
-    simp (le-ltb _ _ q)
+-- So into a buffer of that many bytes every listing is written whole, from its front on, and none is refused.
+pub listing-whole : (input out : List ℕ) → 9268 ≤ length out
+    → (listingCount input (length out) ≡ counted.Count (length (listingOf input))) × (listingLeaves input out ≡ sets out 0 (listingOf input))
+unfolding listingCount listingLeaves
+listing-whole input out h =
+    let q : length (listingOf input) ≤ length out = omega (arith, listing-fits input .most) in
+    (simp (le-ltb _ _ q), simp (le-ltb _ _ q))
 
 abbrev countOf : Counted → ℕ
 countOf (counted.Count k) = k

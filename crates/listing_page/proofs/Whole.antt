@@ -10,7 +10,7 @@ use Rattle.egg.specs.declared.Counted.{Counted}
 use Rattle.egg.specs.declared.Counted.the-variants.{Count, Refused}
 use Rattle.listing_lines.specs.Text.{Writes, EndFits}
 use Rattle.listing_lines.proofs.Laws.{kept}
-use Rattle.listing_page.specs.Listing.{listingOf, listingCount, listed}
+use Rattle.listing_page.specs.Listing.{listingOf, listingCount, listingLeaves}
 use Rattle.listing_page.proofs.Fits.{listing-fits}
 use Rattle.listing_page.proofs.Orders.{front}
 
@@ -33,15 +33,15 @@ module _ (input : List ℕ) {page made : List ℕ} {used : ℕ} (w : Writes page
 
   module _ (out : List ℕ) where
     pub page-short : {r : Counted} → r ≡ Refused (record { number = 4; a = 0; b = 0; c = 0 }) → length out < used
-        → (r ≡ listingCount input (length out)) × (out ≡ listed input out)
-    unfolding listingCount listed
+        → (r ≡ listingCount input (length out)) × (out ≡ listingLeaves input out)
+    unfolding listingCount listingLeaves
     page-short p h =
         let q : length out < length (listingOf input) = omega (arith, used-is) in
         (p ∙ simp (lt-ltb _ _ q), simp (lt-ltb _ _ q))
 
     pub page-whole : {after : List ℕ} {end : ℕ} → used ≤ length out → Writes out 0 (take used made) after end
-        → (Count used ≡ listingCount input (length out)) × (after ≡ listed input out)
-    unfolding listingCount listed
+        → (Count used ≡ listingCount input (length out)) × (after ≡ listingLeaves input out)
+    unfolding listingCount listingLeaves
     page-whole h copy =
         let q : length (listingOf input) ≤ length out = omega (arith, used-is) in
         (simp (le-ltb _ _ q) (ap Count used-is), simp (le-ltb _ _ q) (copy .holds ∙ ap (sets out 0) used-front))

@@ -56,5 +56,5 @@ listingCount input size =
     pick (ltb size (length (listingOf input))) (counted.Refused (record { number = 4; a = 0; b = 0; c = 0 })) (counted.Count (length (listingOf input)))
 
 -- What the buffer holds afterwards: the whole page from its front on, or, where it is shorter, what it held.
-unfoldable pub listed : List ℕ → List ℕ → List ℕ
-listed input out = pick (ltb (length out) (length (listingOf input))) out (sets out 0 (listingOf input))
+unfoldable pub listingLeaves : List ℕ → List ℕ → List ℕ
+listingLeaves input out = pick (ltb (length out) (length (listingOf input))) out (sets out 0 (listingOf input))

@@ -35,6 +35,7 @@ use Rattle.promises.specs.Leaves.{Leaves, untouched, zeros, tableFor, lentFor}
 use Rattle.promises.proofs.ReadLengths.{adds-length}
 use Rattle.promises.proofs.Unaltered.{stretch-long}
 use Rattle.promises_builder.specs.Builds.{BuildRight}
+use Rattle.promises_builder.specs.Calls.{ownLent}
 use Rattle.promises_builder.proofs.Ways.{parts, same-refusal, build-number, build-zeros}
 
 -- Refusals that are one.
@@ -155,7 +156,7 @@ module _ (t : List ℕ) (b : Builder) (e : GroupElementId) (g : GeneratorId) (r 
 
   pub grows-leaves : grows t b e g ≡ leaving (record { answer = reached.Refused r; builder = b′ }) t′
       → Leaves (placed (length t) (b .0) e g ≡ verdict.Fine) (14 ∷ 17 ∷ []) (5 ∷ 6 ∷ 17 ∷ [])
-      (tableFor t (b .0 .start) (b .0 .generators) (b .0 .room) t′ ∷ []) r
+      (ownLent t b t′ ∷ []) r
   unfolding grows grown
   grows-leaves h = by (placed (length t) f e g) refl h where
     answer-is : {x y : Grown} → x ≡ y → x .answer ≡ y .answer
@@ -205,11 +206,11 @@ module _ (t : List ℕ) (b : Builder) (e : GroupElementId) (g : GeneratorId) (to
   store-numbers = says-then (placedStep (length t) (b .0) e g to) _ step-numbers (search early)
 
   pub stores-leaves : stores t b e g to ≡ leaving (stored.Refused r) t′
-      → Leaves (storable t (b .0) e g to ≡ verdict.Fine) (14 ∷ 17 ∷ []) [] (tableFor t (b .0 .start) (b .0 .generators) (b .0 .room) t′ ∷ []) r
+      → Leaves (storable t (b .0) e g to ≡ verdict.Fine) (14 ∷ 17 ∷ []) [] (ownLent t b t′ ∷ []) r
   unfolding stores
   stores-leaves h = by (storable t (b .0) e g to) refl (isNew (stretch t (b .0)) (b .0 .generators) e g) _ h where
     by : (v : Verdict) → storable t (b .0) e g to ≡ v → (new : Bool) (l : List ℕ) → storesBy t v new l ≡ leaving (stored.Refused r) t′
-        → Leaves (storable t (b .0) e g to ≡ verdict.Fine) (14 ∷ 17 ∷ []) [] (tableFor t (b .0 .start) (b .0 .generators) (b .0 .room) t′ ∷ []) r
+        → Leaves (storable t (b .0) e g to ≡ verdict.Fine) (14 ∷ 17 ∷ []) [] (ownLent t b t′ ∷ []) r
     by verdict.Fine p true l q = let v : stored.New ≡ stored.Refused r = left q .0 in let z : _≡_ {A = ℕ} 0 1 = cc in absurd (omega arith)
     by verdict.Fine p false l q = let v : stored.Known ≡ stored.Refused r = left q .0 in let z : _≡_ {A = ℕ} 0 1 = cc in absurd (omega arith)
     by (verdict.Refused x) p new l q =

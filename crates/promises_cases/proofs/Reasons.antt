@@ -2,12 +2,13 @@
 use Prim.Native.Nat.{ℕ}
 use mathlib.Core.List.{[], _∷_}
 use lib.ListN.{replicate}
+use Rattle.theory.specs.Examples.{crossedRows}
 use Rattle.build_lending.specs.Lending.{tableNeed, workNeed}
 use Rattle.build_reading.specs.Reading.{composedAt}
 use Rattle.build_laws.specs.Taken.{Groupless}
 use Rattle.promises_refusals.specs.Faults.{Lacks, Strays, Twists, Misnumbers}
 use Rattle.promises_refusals.proofs.EachNumber.{composed-8, composed-9, composed-10, composed-11, composed-12}
-use Rattle.promises_cases.specs.Tables.{twisted, repeated, crossed}
+use Rattle.promises_cases.specs.Tables.{twisted, repeated}
 use Rattle.promises_cases.proofs.Cases.{known-cases}
 
 -- In rows 1 / 1 nothing leads to the identity; in row 0 the identity stays.
@@ -24,5 +25,5 @@ pub repeated-is : Misnumbers (composedAt repeated 2) 2 2 1
 repeated-is = composed-11 (replicate (tableNeed 2 2) 7) 0 (replicate (workNeed 2 2) 9) repeated 2 2 1 0 0 .0 (known-cases .generator-twice) .1 .0
 
 -- The crossed table passes reading and 8 to 11, and is no group's.
-pub crossed-is : (N : ℕ) × Groupless (composedAt crossed 4) 4 16 N
-crossed-is = composed-12 (replicate (tableNeed 4 16) 7) 0 (replicate (workNeed 4 16) 9) crossed 4 16 0 0 0 .0 (known-cases .crossed-refused) .1 .0
+pub crossed-is : (N : ℕ) × Groupless (composedAt crossedRows 4) 4 16 N
+crossed-is = composed-12 (replicate (tableNeed 4 16) 7) 0 (replicate (workNeed 4 16) 9) crossedRows 4 16 0 0 0 .0 (known-cases .crossed-refused) .1 .0

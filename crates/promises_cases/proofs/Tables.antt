@@ -1,11 +1,10 @@
--- The tables of the theory's examples are these.
+-- The steps that composed rows are read by are, for the rows of the theory's two examples, the steps of these examples.
 use mathlib.Core.Path.{_≡_, refl}
-use Rattle.theory.specs.Examples as examples
+use Rattle.theory.specs.Examples.{s3Rows, s3, crossedRows, crossed}
 use Rattle.build_reading.specs.Reading.{composedAt}
-use Rattle.promises_cases.specs.Tables.{s3, crossed}
 
-pub s3-same : composedAt s3 2 ≡ examples.s3
+pub s3-same : composedAt s3Rows 2 ≡ s3
 s3-same = refl
 
-pub crossed-same : composedAt crossed 4 ≡ examples.crossed
+pub crossed-same : composedAt crossedRows 4 ≡ crossed
 crossed-same = refl

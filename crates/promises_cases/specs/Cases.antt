@@ -4,6 +4,7 @@ use mathlib.Core.Path.{_≡_}
 use mathlib.Core.List.{[], _∷_}
 use lib.ListN.{replicate}
 use lib.IntN.{pos, negsuc}
+use Rattle.theory.specs.Examples.{s3Rows, crossedRows}
 use Rattle.egg.specs.Table.{stepOf}
 use Rattle.egg.specs.Factor.{verdictPaper, reachedPaper, countedPaper}
 use Rattle.build_lending.specs.Lending.{making}
@@ -17,7 +18,8 @@ use Rattle.image.specs.Image.{imageNumber}
 use Rattle.image_writing.specs.Written.{rowsOf}
 use Rattle.image.specs.Written.{writtenImage}
 use Rattle.image.specs.Read.{readImage}
-use Rattle.promises_cases.specs.Tables.{square, s3, z2, z3, twisted, repeated, crossed, z2-image, none-image, rows, orders, madeBy, tableBy, element, factorOf, acceptedAs, answer, inversesOf, both, S3, S3-Z2}
+use Rattle.promises_refusals.specs.Parts.{madeBy, tableBy, element}
+use Rattle.promises_cases.specs.Tables.{square, z2, z3, twisted, repeated, z2-image, none-image, rows, orders, factorOf, acceptedAs, answer, inversesOf, both, S3, S3-Z2}
 
 -- Each case stands under document 01's own line.
 pub record KnownCases : Type 0 where
@@ -26,15 +28,15 @@ pub record KnownCases : Type 0 where
   pub square-rows : rowsOf 4 (stepOf (tableBy (orders 2 4 (2 ∷ []))) 2) 2 0 ≡ square
   -- "orders [3] (S3): rows 1 2 / 0 3 / 4 0 / 5 1 / 2 5 / 3 4; inverses 0 1 2 4 3 5; word of 5 is 0,1,0."
   pub s3-made : madeBy (orders 2 6 (3 ∷ [])) ≡ acceptedAs 2 6 6
-  pub s3-rows : rowsOf 6 (stepOf (tableBy (orders 2 6 (3 ∷ []))) 2) 2 0 ≡ s3
+  pub s3-rows : rowsOf 6 (stepOf (tableBy (orders 2 6 (3 ∷ []))) 2) 2 0 ≡ s3Rows
   pub s3-inverses : inversesOf 6 (tableBy (orders 2 6 (3 ∷ []))) 2 0 ≡ 0 ∷ 1 ∷ 2 ∷ 4 ∷ 3 ∷ 5 ∷ []
   pub s3-word : factor.wordPart (tableBy (orders 2 6 (3 ∷ []))) (factorOf 2 6 6) (element 5) (replicate 4 9) ≡ 0 ∷ 1 ∷ 0 ∷ []
   -- The same table comes from its rows.
-  pub s3-composed : rows 2 6 s3 ≡ orders 2 6 (3 ∷ [])
+  pub s3-composed : rows 2 6 s3Rows ≡ orders 2 6 (3 ∷ [])
   -- "S3: compose(1,3)=2, compose(3,1)=5, conjugate(1,2)=5."
-  pub s3-compose : reachedPaper (factor.composeAnswer (tableBy (rows 2 6 s3)) (factorOf 2 6 6) (element 1) (element 3)) ≡ answer 2
-  pub s3-other : reachedPaper (factor.composeAnswer (tableBy (rows 2 6 s3)) (factorOf 2 6 6) (element 3) (element 1)) ≡ answer 5
-  pub s3-conjugate : reachedPaper (factor.conjugateAnswer (tableBy (rows 2 6 s3)) (factorOf 2 6 6) (element 1) (element 2)) ≡ answer 5
+  pub s3-compose : reachedPaper (factor.composeAnswer (tableBy (rows 2 6 s3Rows)) (factorOf 2 6 6) (element 1) (element 3)) ≡ answer 2
+  pub s3-other : reachedPaper (factor.composeAnswer (tableBy (rows 2 6 s3Rows)) (factorOf 2 6 6) (element 3) (element 1)) ≡ answer 5
+  pub s3-conjugate : reachedPaper (factor.conjugateAnswer (tableBy (rows 2 6 s3Rows)) (factorOf 2 6 6) (element 1) (element 2)) ≡ answer 5
   -- "S3: powi(3,2)=4, powi(3,-1)=4, powi(3,i32::MIN)=3, period(3)=3."
   pub s3-power : reachedPaper (group.powiAnswer both S3 (element 3) (pos 2)) ≡ answer 4
   pub s3-minus-1 : reachedPaper (group.powiAnswer both S3 (element 3) (negsuc 0)) ≡ answer 4
@@ -64,9 +66,9 @@ pub record KnownCases : Type 0 where
   -- "rows 1 1 / 0 0: refused 11 at generator 1."
   pub generator-twice : paperOf (rows 2 2 repeated) ≡ paper 11 1 0 0
   -- "the crossed table .. The Rust takes it; here 12. Words 0,2,1 and 0,1,2 reach 12 and 11."
-  pub crossed-refused : paperOf (rows 4 16 crossed) ≡ paper 12 0 0 0
-  pub crossed-first : walk (composedAt crossed 4) 0 (0 ∷ 2 ∷ 1 ∷ []) ≡ 12
-  pub crossed-second : walk (composedAt crossed 4) 0 (0 ∷ 1 ∷ 2 ∷ []) ≡ 11
+  pub crossed-refused : paperOf (rows 4 16 crossedRows) ≡ paper 12 0 0 0
+  pub crossed-first : walk (composedAt crossedRows 4) 0 (0 ∷ 2 ∷ 1 ∷ []) ≡ 12
+  pub crossed-second : walk (composedAt crossedRows 4) 0 (0 ∷ 1 ∷ 2 ∷ []) ≡ 11
   -- "Z3, rows 1 / 2 / 0, checked against no orders: 13 at (0,0,0)."
   pub z3-made : madeBy (rows 1 3 z3) ≡ acceptedAs 1 3 3
   pub z3-orders : verdictPaper (checkAnswer (tableBy (rows 1 3 z3)) (factorOf 1 3 3) []) ≡ paper 13 0 0 0

@@ -4,6 +4,7 @@ use Prim.Native.Nat.{ℕ}
 use mathlib.Core.Path.{_≡_}
 use mathlib.Core.List.{List, [], _∷_, _++_}
 use lib.ListN.{replicate}
+use Rattle.theory.specs.Examples.{crossedRows}
 use Rattle.egg.specs.declared.Factor.{Factor}
 use Rattle.egg.specs.declared.Verdict.the-variants as verdict
 use Rattle.egg.specs.Factor.{countedPaper}
@@ -16,7 +17,8 @@ use Rattle.image_writing.specs.Written.{imageOf}
 use Rattle.image.specs.Written.{writeCount, writtenImage}
 use Rattle.image.specs.Read.{readImage}
 use Rattle.image.specs.Walked.{walkNumber}
-use Rattle.promises_cases.specs.Tables.{twisted, repeated, crossed, z2-image, none-image, tableBy, answer}
+use Rattle.promises_refusals.specs.Parts.{tableBy}
+use Rattle.promises_cases.specs.Tables.{twisted, repeated, z2-image, none-image, answer}
 
 -- The image of N rows of n numbers.
 abbrev pub imaged : List ℕ → ℕ → ℕ → List ℕ
@@ -51,7 +53,7 @@ pub record KnownImages : Type 0 where
   pub nine-is : imageNumber (imaged (0 ∷ []) 1 1) 132 ≡ 9
   pub ten : imageNumber (imaged twisted 2 4) 912 ≡ 10
   pub eleven : imageNumber (imaged repeated 2 2) 456 ≡ 11
-  pub twelve : imageNumber (imaged crossed 4 16) 9792 ≡ 12
+  pub twelve : imageNumber (imaged crossedRows 4 16) 9792 ≡ 12
   pub fewer : imageNumber two-of-three 396 ≡ 16
   pub skips : imageNumber (imaged (2 ∷ 0 ∷ []) 1 2) 264 ≡ 7
   pub beyond : imageNumber (imaged (1 ∷ []) 1 1) 132 ≡ 5

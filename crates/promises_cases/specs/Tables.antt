@@ -1,28 +1,25 @@
--- This file has the tables of document 01's known groups, one copy of each, and the calls on them. Rows stand one after the other. Buffers are lent
--- full of other numbers, and exactly as long as needed.
+-- This file has tables of document 01's known groups, beside those of S3 and of the crossed case, which stand in the theory's examples, and the calls
+-- on them. Rows stand one after the other. Buffers are lent full of other numbers, and exactly as long as needed.
 use Prim.Native.Nat.{ℕ, zero, suc, _+_}
 use mathlib.Core.List.{List, [], _∷_}
 use lib.ListN.{replicate}
+use Rattle.theory.specs.Examples.{s3Rows}
 use Rattle.egg.specs.declared.Factor.{Factor}
 use Rattle.egg.specs.declared.Made.{Made}
-use Rattle.egg.specs.declared.GroupElementId.{GroupElementId}
 use Rattle.egg.specs.declared.Verdict.the-variants.{Fine}
 use Rattle.egg.specs.Factor.{Paper}
 use Rattle.egg.specs.Table.{inverseOf}
-use Rattle.build_lending.specs.Lending.{tableNeed, workNeed, Making, making}
+use Rattle.build_lending.specs.Lending.{tableNeed, workNeed, Making}
 use Rattle.factor.specs.Composed.{composed}
 use Rattle.enumeration.specs.Calls.{enumerates}
 use Rattle.promises_refusals.specs.Papers.{paper}
+use Rattle.promises_refusals.specs.Parts.{tableBy}
 use Rattle.group_handles.specs.declared.Group.{Group}
 use Rattle.group_handles.specs.Handles.{groupOf}
 
 -- "orders [2]: rows 1 2 / 0 3 / 3 0 / 2 1".
 abbrev pub square : List ℕ
 square = 1 ∷ 2 ∷ 0 ∷ 3 ∷ 3 ∷ 0 ∷ 2 ∷ 1 ∷ []
-
--- "orders [3] (S3): rows 1 2 / 0 3 / 4 0 / 5 1 / 2 5 / 3 4".
-abbrev pub s3 : List ℕ
-s3 = 1 ∷ 2 ∷ 0 ∷ 3 ∷ 4 ∷ 0 ∷ 5 ∷ 1 ∷ 2 ∷ 5 ∷ 3 ∷ 4 ∷ []
 
 -- The group of two elements.
 abbrev pub z2 : List ℕ
@@ -40,14 +37,6 @@ twisted = 1 ∷ 2 ∷ 3 ∷ 3 ∷ 0 ∷ 0 ∷ 2 ∷ 1 ∷ []
 abbrev pub repeated : List ℕ
 repeated = 1 ∷ 1 ∷ 0 ∷ 0 ∷ []
 
--- "the crossed table, four generators, 16 rows", with four rows to a line.
-abbrev pub crossed : List ℕ
-crossed =
-    1 ∷ 2 ∷ 3 ∷ 4 ∷ 0 ∷ 5 ∷ 6 ∷ 7 ∷ 5 ∷ 0 ∷ 8 ∷ 9 ∷ 6 ∷ 8 ∷ 0 ∷ 10
-    ∷ 7 ∷ 9 ∷ 10 ∷ 0 ∷ 2 ∷ 1 ∷ 11 ∷ 12 ∷ 3 ∷ 12 ∷ 1 ∷ 13 ∷ 4 ∷ 11 ∷ 13 ∷ 1
-    ∷ 11 ∷ 3 ∷ 2 ∷ 14 ∷ 12 ∷ 4 ∷ 14 ∷ 2 ∷ 13 ∷ 14 ∷ 4 ∷ 3 ∷ 8 ∷ 7 ∷ 5 ∷ 15
-    ∷ 9 ∷ 6 ∷ 15 ∷ 5 ∷ 10 ∷ 15 ∷ 7 ∷ 6 ∷ 15 ∷ 10 ∷ 9 ∷ 8 ∷ 14 ∷ 13 ∷ 12 ∷ 11 ∷ []
-
 -- "image of Z2: 00 00 00 08 01 01 00 02 00 01 00 00".
 abbrev pub z2-image : List ℕ
 z2-image = 0 ∷ 0 ∷ 0 ∷ 8 ∷ 1 ∷ 1 ∷ 0 ∷ 2 ∷ 0 ∷ 1 ∷ 0 ∷ 0 ∷ []
@@ -63,18 +52,6 @@ rows n room r = composed (replicate (tableNeed n room) 7) 0 (replicate (workNeed
 -- The call on n generators and these pair orders, with this room.
 abbrev pub orders : ℕ → ℕ → List ℕ → Making
 orders n room o = enumerates (replicate (tableNeed n room) 7) 0 (replicate (workNeed n room) 9) o n room
-
--- What a call answers.
-abbrev pub madeBy : Making → Made
-madeBy (making m t w) = m
-
--- What a call leaves in the table.
-abbrev pub tableBy : Making → List ℕ
-tableBy (making m t w) = t
-
--- The element with this number.
-abbrev pub element : ℕ → GroupElementId
-element e = record { 0 = e }
 
 -- The handle of a factor of so many elements at the buffer's start.
 abbrev pub factorOf : ℕ → ℕ → ℕ → Factor
@@ -95,7 +72,7 @@ inversesOf (suc k) t n e = inverseOf t n e ∷ inversesOf k t n (e + 1)
 
 -- S3 and Z2 in one table buffer: S3 in the first 48 numbers, Z2 in the 12 after them.
 abbrev pub both : List ℕ
-both = tableBy (composed (tableBy (composed (replicate 60 7) 0 (replicate 192 9) s3 2 6)) 48 (replicate 20 9) z2 1 2)
+both = tableBy (composed (tableBy (composed (replicate 60 7) 0 (replicate 192 9) s3Rows 2 6)) 48 (replicate 20 9) z2 1 2)
 
 -- S3 as a product of one factor.
 abbrev pub S3 : Group

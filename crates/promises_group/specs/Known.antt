@@ -4,36 +4,24 @@ use Prim.Native.Nat.{ℕ, _/_, _%_}
 use mathlib.Core.Path.{_≡_}
 use mathlib.Core.List.{List, [], _∷_, _++_}
 use lib.ListN.{replicate, set}
+use Rattle.theory.specs.Examples.{s3Rows}
 use Rattle.egg.specs.declared.Factor.{Factor}
-use Rattle.egg.specs.declared.Made.{Made}
-use Rattle.egg.specs.declared.GroupElementId.{GroupElementId}
 use Rattle.egg.specs.declared.GeneratorId.{GeneratorId}
 use Rattle.egg.specs.declared.Verdict.the-variants.{Fine}
 use Rattle.egg.specs.declared.Counted.the-variants.{Count, Refused}
 use Rattle.egg.specs.Table.{stepOf}
 use Rattle.egg.specs.Scan.{refusedOf}
 use Rattle.egg.specs.Factor.{refusedReach}
-use Rattle.build_lending.specs.Lending.{Making, making, noFactor}
+use Rattle.build_lending.specs.Lending.{making, noFactor}
 use Rattle.factor.specs.Composed.{composed}
 use Rattle.factor_laws.specs.Accepted.{reach}
 use Rattle.group_handles.specs.declared.Group.{Group}
+use Rattle.promises_refusals.specs.Parts.{madeBy, tableBy, element}
 use Rattle.promises_group.specs.Products.{listed}
 use Rattle.group_handles.specs.Handles.{groupOf, noGroup, joins}
 use Rattle.group_flatten.specs.Flat.{flat}
 use Rattle.group.specs.Questions.{countAnswer, generatorsAnswer, generatorAnswer, stepAnswer, projectAnswer, injectAnswer, splitAnswer, splitLeaves, joinAnswer}
 use Rattle.group.specs.Questions.{composeAnswer, conjugateAnswer, periodAnswer, lengthAnswer, writeAnswer, written}
-
--- What a call answers.
-abbrev pub madeBy : Making → Made
-madeBy (making m t w) = m
-
--- What a call leaves in the table.
-abbrev pub tableBy : Making → List ℕ
-tableBy (making m t w) = t
-
--- The element with this number.
-abbrev pub element : ℕ → GroupElementId
-element e = record { 0 = e }
 
 -- The generator with this number.
 abbrev pub letter : ℕ → GeneratorId
@@ -42,8 +30,7 @@ letter x = record { 0 = x }
 -- The table buffer: S3 in the first 48 numbers, Z2 in the 12 after them.
 abbrev pub table : List ℕ
 table =
-    tableBy (composed (tableBy (composed (replicate 60 7) 0 (replicate 192 9) (1 ∷ 2 ∷ 0 ∷ 3 ∷ 4 ∷ 0 ∷ 5 ∷ 1 ∷ 2 ∷ 5 ∷ 3 ∷ 4 ∷ []) 2 6)) 48
-    (replicate 20 9) (1 ∷ 0 ∷ []) 1 2)
+    tableBy (composed (tableBy (composed (replicate 60 7) 0 (replicate 192 9) s3Rows 2 6)) 48 (replicate 20 9) (1 ∷ 0 ∷ []) 1 2)
 
 -- The handle of S3.
 abbrev pub s3 : Factor

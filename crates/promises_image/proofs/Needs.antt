@@ -21,7 +21,7 @@ use Rattle.image_cells.specs.Cells.{halves}
 use Rattle.image_check.specs.Short.{ruled}
 use Rattle.image.specs.Image.{headGenerators, headElements, headNumber, bytesNeed}
 use Rattle.image.specs.Checked.{imageVerdict, imageNeed}
-use Rattle.image.proofs.Needs.{need-bad, need-alone, need-count}
+use Rattle.image.proofs.Needs.{need-bad, need-out-of-reach, need-count}
 use Rattle.promises_image.specs.Images.{WellFormed}
 use Rattle.promises_image.proofs.Heads.{formed}
 use Rattle.promises_image.proofs.Back.{bad-verdict, lent-verdict}
@@ -70,7 +70,7 @@ module _ (l : List ℕ) where
       → (headNumber l ≡ 0 → bytesNeed (headGenerators l) (headElements l) ≤ size) → imageVerdict l size ≡ verdict.Refused r
   need-refused {r} q size long = by (eqb (headNumber l) 0) refl where
     right : headNumber l ≡ 0 → (b : Bool) → lone ≡ b → imageVerdict l size ≡ verdict.Refused r
-    right h true a = alone-verdict size h (long h) a ∙ ap refusal (need-alone l refl h refl refl a refl ∙ q)
+    right h true a = alone-verdict size h (long h) a ∙ ap refusal (need-out-of-reach l refl h refl refl a refl ∙ q)
     right h false a = absurd (never (need-count l refl h refl refl a refl ∙ q))
 
     by : (b : Bool) → eqb (headNumber l) 0 ≡ b → imageVerdict l size ≡ verdict.Refused r
@@ -80,7 +80,7 @@ module _ (l : List ℕ) where
   pub need-counted : {k : ℕ} → imageNeed l ≡ Count k → WellFormed l × (k ≡ bytesNeed (headGenerators l) (headElements l))
   need-counted {k} q = by (eqb (headNumber l) 0) refl where
     right : headNumber l ≡ 0 → (b : Bool) → lone ≡ b → WellFormed l × (k ≡ bytesNeed (headGenerators l) (headElements l))
-    right h true a = absurd (never (sym q ∙ sym (need-alone l refl h refl refl a refl)))
+    right h true a = absurd (never (sym q ∙ sym (need-out-of-reach l refl h refl refl a refl)))
     right h false a = (formed l h, sym (ap count-or (need-count l refl h refl refl a refl ∙ q)))
 
     by : (b : Bool) → eqb (headNumber l) 0 ≡ b → WellFormed l × (k ≡ bytesNeed (headGenerators l) (headElements l))

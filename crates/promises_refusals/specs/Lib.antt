@@ -5,3 +5,4 @@ pub mod Orders
 pub mod AsMet
 pub mod Asked
 pub mod Walked
+pub mod Parts

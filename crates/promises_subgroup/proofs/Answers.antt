@@ -39,7 +39,8 @@ use Rattle.theory.proofs.Subgroups.{right-inside}
 use Rattle.theory.proofs.FirstRow.{generators-are}
 use Rattle.build_numbering_laws.proofs.Builds.{builtOf, renumber-built}
 use Rattle.build_numbering_laws.proofs.SubgroupBuilds.{subgroup-9, subgroup-11}
-use Rattle.subgroup_build.specs.Lent.{shown, mapsRight, mapsBack}
+use Rattle.factor_walk.specs.Walked.{shown}
+use Rattle.subgroup_build.specs.Lent.{mapsRight, mapsBack}
 use Rattle.subgroup_rows.specs.Rows.{productOf}
 use Rattle.subgroup_build.specs.Generated.{entryRight, entriesRight, smallEnough, admitsGenerators, fromGenerators}
 use Rattle.subgroup_build.proofs.Admits.{small-limited, small-elements, maps-lent, maps-inn, maps-outw}

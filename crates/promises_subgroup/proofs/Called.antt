@@ -41,7 +41,8 @@ use Rattle.build_numbering_laws.proofs.Builds.{renumber-holds}
 use Rattle.build_numbering_laws.proofs.SubgroupBuilds.{subgroup-exactly}
 use Rattle.subgroup_build.specs.declared.Subgroup.{Subgroup}
 use Rattle.subgroup_build.specs.declared.Subgrouped.{Subgrouped}
-use Rattle.subgroup_build.specs.Lent.{shown, subgroupOf, subgrouping, mapsRight, mapsBack}
+use Rattle.factor_walk.specs.Walked.{shown}
+use Rattle.subgroup_build.specs.Lent.{subgroupOf, subgrouping, mapsRight, mapsBack}
 use Rattle.subgroup_rows.specs.Rows.{productOf}
 use Rattle.subgroup_build.specs.Generated.{entryRight, entriesRight, admitsGenerators, generatedInto, fromGenerators}
 use Rattle.subgroup_build.proofs.Admits.{generators-fine, admitted, small-elements, maps-lent, maps-inn, maps-outw}

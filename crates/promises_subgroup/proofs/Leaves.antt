@@ -39,7 +39,8 @@ use Rattle.build_numbering_laws.proofs.Partial.{total-answering}
 use Rattle.build_numbering_laws.proofs.Numberings.{refused-5-or-6}
 use Rattle.build_numbering_laws.proofs.Builds.{builtOf}
 use Rattle.subgroup_build.specs.declared.Subgroup.{Subgroup}
-use Rattle.subgroup_build.specs.Lent.{shown, subgrouping, mapsRight}
+use Rattle.factor_walk.specs.Walked.{shown}
+use Rattle.subgroup_build.specs.Lent.{subgrouping, mapsRight}
 use Rattle.subgroup_rows.specs.Rows.{productOf}
 use Rattle.subgroup_build.specs.Generated.{entryRight, entriesRight, smallEnough, admitsGenerators, fromGenerators}
 use Rattle.subgroup_build.proofs.Admits.{generators-fine, admitted}

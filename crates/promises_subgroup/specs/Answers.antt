@@ -17,7 +17,8 @@ use Rattle.group_handles.specs.Handles.{handles, elementsOf, allFit}
 use Rattle.promises_group.specs.Products.{direct}
 use Rattle.theory.specs.Orbit.{numberedStep, Appearing}
 use Rattle.theory.specs.Subgroup.{rightBy, FirstIdentity, FirstRepeat}
-use Rattle.subgroup_build.specs.Lent.{shown, Subgrouping, subgrouping}
+use Rattle.factor_walk.specs.Walked.{shown}
+use Rattle.subgroup_build.specs.Lent.{Subgrouping, subgrouping}
 use Rattle.promises_subgroup.specs.Generates.{Acceptable}
 
 -- What a call that makes a subgroup answers, on paper.

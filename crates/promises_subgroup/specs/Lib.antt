@@ -10,3 +10,4 @@ pub mod Altered
 pub mod Answers
 pub mod AlteredCases
 pub mod Whole
+pub mod AtWork

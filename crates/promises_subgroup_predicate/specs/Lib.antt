@@ -7,3 +7,4 @@ pub mod ToldAnswers
 pub mod Leaves
 pub mod Altered
 pub mod AlteredCases
+pub mod Sample

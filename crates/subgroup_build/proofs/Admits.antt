@@ -18,7 +18,8 @@ use Rattle.group_handles.specs.declared.Group.{Group}
 use Rattle.group_handles.specs.Handles.{handles, elementsOf, allFit, capped, limited}
 use Rattle.group_handles.proofs.Caps.{cap-beyond, cap-small}
 use Rattle.group_handles.proofs.Admitted.{few-elements}
-use Rattle.subgroup_build.specs.Lent.{shown, mapsRight}
+use Rattle.factor_walk.specs.Walked.{shown}
+use Rattle.subgroup_build.specs.Lent.{mapsRight}
 use Rattle.subgroup_build.specs.Generated.{entryRight, entriesRight, smallEnough, admitsGenerators}
 
 pub entries-begin : (M : ℕ) (gens : List ℕ) → Scanning (length gens) (entryRight M gens) 0 (entriesRight M gens)

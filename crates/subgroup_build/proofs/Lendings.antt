@@ -21,7 +21,8 @@ use Rattle.group_handles.specs.Handles.{handles, elementsOf}
 use Rattle.build_numbering.specs.Build.{Renumbering, renumbering, renumberIn}
 use Rattle.subgroup_rows.specs.Rows.{productOf}
 use Rattle.subgroup_build.specs.declared.Subgrouped.{Subgrouped}
-use Rattle.subgroup_build.specs.Lent.{shown, subgroupOf, Subgrouping, subgrouping, mapsRight, mapsBack}
+use Rattle.factor_walk.specs.Walked.{shown}
+use Rattle.subgroup_build.specs.Lent.{subgroupOf, Subgrouping, subgrouping, mapsRight, mapsBack}
 use Rattle.subgroup_build.specs.Generated.{generatedInto, ifSubgrouping}
 use Rattle.subgroup_build.proofs.Admits.{maps-inn, maps-outw}
 

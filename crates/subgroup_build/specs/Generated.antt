@@ -13,7 +13,8 @@ use Rattle.group_handles.specs.declared.Group.{Group}
 use Rattle.group_handles.specs.Handles.{handles, elementsOf, allFit, limited}
 use Rattle.build_numbering.specs.Build.{renumberIn}
 use Rattle.subgroup_rows.specs.Rows.{productOf}
-use Rattle.subgroup_build.specs.Lent.{shown, subgroupOf, Subgrouping, subgrouping, mapsRight, mapsBack}
+use Rattle.factor_walk.specs.Walked.{shown}
+use Rattle.subgroup_build.specs.Lent.{subgroupOf, Subgrouping, subgrouping, mapsRight, mapsBack}
 
 -- Refuses with 14 the entry at i where it is none of the overgroup's M elements; its place is the "position among these from 0, each entry of a word
 -- or list counted".

@@ -2,19 +2,14 @@
 use Prim.Native.Nat.{ℕ, _+_}
 use mathlib.Core.List.{List, []}
 use mathlib.Core.Bool.{Bool, _&&_}
-use lib.Dec.{ltb, leb}
+use lib.Dec.{leb}
 use Rattle.egg.specs.declared.Made.{Made}
-use Rattle.egg.specs.Table.{pick}
 use Rattle.build_lending.specs.Finish.{built}
 use Rattle.build_lending.specs.Lending.{tableNeed, workNeed, lentRight, within, madeOf}
 use Rattle.group_handles.specs.declared.Group.{Group}
 use Rattle.group_handles.specs.Handles.{groupOf}
 use Rattle.build_numbering.specs.Build.{Renumbering, renumbering}
 use Rattle.subgroup_build.specs.declared.Subgrouped.{Subgrouped}
-
--- A length or a position as far as 32 bits can tell: 4,294,967,295 stands for all that is above.
-abbrev pub shown : ℕ → ℕ
-shown i = pick (ltb i 4294967295) i 4294967295
 
 -- The subgroup's value for a factor that was made, with nothing multiplied on yet. After a refusal its factor fits no buffer.
 abbrev pub subgroupOf : Group → Made → Subgrouped

@@ -8,7 +8,7 @@ ghost use Rattle.build_lending.specs.Finish.{Built};
 ghost use Rattle.build_lending.specs.Lending.{noFactor};
 ghost use Rattle.group_handles.specs.Handles.{handles, elementsOf, allFit};
 ghost use Rattle.build_numbering.specs.Build.{Renumbering, renumberIn};
-ghost use Rattle.subgroup_build.specs.Lent.{shown, subgroupOf, Subgrouping, mapsRight};
+ghost use Rattle.subgroup_build.specs.Lent.{subgroupOf, Subgrouping, mapsRight};
 ghost use Rattle.subgroup_rows.specs.Rows.{productOf};
 ghost use Rattle.subgroup_build.specs.Generated.{entriesRight, smallEnough, admitsGenerators, generatedInto};
 use super::Subgroup;
@@ -20,13 +20,6 @@ use egg::Refusal;
 use egg::Verdict;
 use group_handles::Group;
 
-// A length or a position as far as 32 bits can tell: 4,294,967,295 stands for all that is above.
-pub fn shown(i: usize) -> u32
-    ensures { λ r. ⌜ r ≡ shown i ⌝ }
-{
-    if i < 4294967295 { i as u32 } else { 4294967295 }
-}
-
 // Refuses with 14 the first entry that is no element.
 fn entries_right(over: Group, gens: &[u32]) -> Verdict
     ensures { λ r. ⌜ r ≡ entriesRight (elementsOf (handles over)) (now (gens .entry)) ⌝ }
@@ -36,7 +29,7 @@ fn entries_right(over: Group, gens: &[u32]) -> Verdict
     while i < gens.len() {
         let x = egg::inner::get(gens, i);
         if m <= (x as u64) {
-            return egg::inner::refused(14, shown(i), 0, 0);
+            return egg::inner::refused(14, factor_walk::inner::shown(i), 0, 0);
         }
         i += 1;
     }
@@ -189,7 +182,10 @@ pub fn generated_into(
 {
     let k = gens.len();
     if 8 < k {
-        return subgroup_of(over, build_lending::inner::refused_made(1, shown(k)));
+        return subgroup_of(
+            over,
+            build_lending::inner::refused_made(1, factor_walk::inner::shown(k)),
+        );
     }
     let m = group_handles::inner::elements_of(over);
     if !maps_right(

@@ -1,5 +1,5 @@
 -- The verdict, written.
-use Rattle.capi_values.proofs.Laws.{judged-told, out-long, out-short}
+use Rattle.capi_values.proofs.Laws.{verdict-told, out-long, out-short}
 use borrow.Author.Needs.{needs}
 use Rattle.capi_factor.proofs.hg_check.Statement.{statement}
 use Rattle.capi_factor.proofs.hg_check.Tie as tie
@@ -25,7 +25,7 @@ same-length : tie.Need-same-length
 same-length c = search needs
 
 returns-2 : tie.Need-returns-2
-returns-2 c = out-long 4 _ _ _ (c .before .before .before .before .before .before .if1 .left) (rw (← (c .before .before .before .before .before .factor-of .ensures)) (judged-told (c .before .before .before .before .before .before .before .before .before .before .args .out .now) (c .before .before .before .before .check .ensures) (c .before .before .write-verdict .ensures)))
+returns-2 c = out-long 4 _ _ _ (c .before .before .before .before .before .before .if1 .left) (rw (← (c .before .before .before .before .before .factor-of .ensures)) (verdict-told (c .before .before .before .before .before .before .before .before .before .before .args .out .now) (c .before .before .before .before .check .ensures) (c .before .before .write-verdict .ensures)))
 
 pub hg-check-spec : {M : Type 1} → statement M
 hg-check-spec =

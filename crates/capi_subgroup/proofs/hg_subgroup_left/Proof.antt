@@ -1,7 +1,7 @@
 -- The call's own verdict, written.
 use mathlib.Core.Path.{ap}
 use Rattle.subgroup_build.specs.declared.Subgrouped.{Subgrouped}
-use Rattle.capi_values.proofs.Laws.{judged-told, out-long, out-short}
+use Rattle.capi_values.proofs.Laws.{verdict-told, out-long, out-short}
 use borrow.Author.Needs.{needs}
 use Rattle.capi_subgroup.proofs.hg_subgroup_left.Statement.{statement}
 use Rattle.capi_subgroup.proofs.hg_subgroup_left.Tie as tie
@@ -31,7 +31,7 @@ same-length : tie.Need-same-length
 same-length c = search needs
 
 returns-2 : tie.Need-returns-2
-returns-2 c = out-long 4 _ _ _ (c .before .before .before .before .before .before .before .if1 .left) (rw (← (c .before .before .before .before .before .before .product-of .ensures), ← (c .before .before .before .before .before .subgroup-from .ensures)) (judged-told (c .before .before .before .before .before .before .before .before .before .before .before .before .before .args .out .now) (ap (λ (m : Subgrouped). m .answer) (c .before .before .before .before .product-left .ensures)) (c .before .before .write-verdict .ensures)))
+returns-2 c = out-long 4 _ _ _ (c .before .before .before .before .before .before .before .if1 .left) (rw (← (c .before .before .before .before .before .before .product-of .ensures), ← (c .before .before .before .before .before .subgroup-from .ensures)) (verdict-told (c .before .before .before .before .before .before .before .before .before .before .before .before .before .args .out .now) (ap (λ (m : Subgrouped). m .answer) (c .before .before .before .before .product-left .ensures)) (c .before .before .write-verdict .ensures)))
 
 pub hg-subgroup-left-spec : {M : Type 1} → statement M
 hg-subgroup-left-spec =

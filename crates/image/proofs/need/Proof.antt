@@ -1,7 +1,7 @@
 -- One law for each answer.
 use mathlib.Core.Path.{sym, _∙_}
 use native.Mathlib.Omega.{arith}
-use Rattle.image.proofs.Needs.{need-bad, need-alone, need-count, need-fits}
+use Rattle.image.proofs.Needs.{need-bad, need-out-of-reach, need-count, need-fits}
 use borrow.Author.Needs.{needs}
 use Rattle.image.proofs.need.Statement.{statement}
 use Rattle.image.proofs.need.Tie as tie
@@ -21,14 +21,14 @@ generators-requires c κs = search needs
 elements-requires : tie.Need-elements-requires
 elements-requires c κs = search needs
 
-alone-requires : tie.Need-alone-requires
-alone-requires c κs = search needs
+out-of-reach-requires : tie.Need-out-of-reach-requires
+out-of-reach-requires c κs = search needs
 
 refused-count-requires : tie.Need-refused-count-requires
 refused-count-requires c κs = search needs
 
 returns-2 : tie.Need-returns-2
-returns-2 c = need-alone (c .before .before .before .before .before .before .before .before .args .image .now) (c .before .before .before .before .before .before .head .ensures) (c .before .before .before .before .before .if1 .left) (c .before .before .before .before .generators .ensures) (c .before .before .before .elements .ensures .at) (sym (c .before .before .alone .ensures) ∙ (c .before .if2 .taken)) (c .refused-count .ensures)
+returns-2 c = need-out-of-reach (c .before .before .before .before .before .before .before .before .args .image .now) (c .before .before .before .before .before .before .head .ensures) (c .before .before .before .before .before .if1 .left) (c .before .before .before .before .generators .ensures) (c .before .before .before .elements .ensures .at) (sym (c .before .before .out-of-reach .ensures) ∙ (c .before .if2 .taken)) (c .refused-count .ensures)
 
 bytes-need-requires : tie.Need-bytes-need-requires
 bytes-need-requires c κs = search needs
@@ -37,7 +37,7 @@ cast-t10 : tie.Need-cast-t10
 cast-t10 c = omega (arith, need-fits (c .before .before .before .before .before .before .before .before .args .image .now) (c .before .before .before .before .before .before .head .ensures) (c .before .before .before .before .before .if1 .left) (c .before .before .before .before .generators .ensures) (c .before .before .before .elements .ensures .at) (omega (arith, (c .before .before .before .elements .ensures .small))), (c .bytes-need .ensures))
 
 returns-3 : tie.Need-returns-3
-returns-3 c = need-count (c .before .before .before .before .before .before .before .before .args .image .now) (c .before .before .before .before .before .before .head .ensures) (c .before .before .before .before .before .if1 .left) (c .before .before .before .before .generators .ensures) (c .before .before .before .elements .ensures .at) (sym (c .before .before .alone .ensures) ∙ (c .before .if2 .left)) (c .bytes-need .ensures)
+returns-3 c = need-count (c .before .before .before .before .before .before .before .before .args .image .now) (c .before .before .before .before .before .before .head .ensures) (c .before .before .before .before .before .if1 .left) (c .before .before .before .before .generators .ensures) (c .before .before .before .elements .ensures .at) (sym (c .before .before .out-of-reach .ensures) ∙ (c .before .if2 .left)) (c .bytes-need .ensures)
 
 pub need-spec : {M : Type 1} → statement M
 need-spec =
@@ -48,7 +48,7 @@ need-spec =
     returns
     generators-requires
     elements-requires
-    alone-requires
+    out-of-reach-requires
     refused-count-requires
     returns-2
     bytes-need-requires
