@@ -19,7 +19,8 @@ fn rows_within(s: &[u32], n: u8, count: u32) -> bool
 // The number of a·b, where the quick walks find it; else the count, and then `compose_with_care` has the answer. A word
 // of at most five letters stands in its own row, and no other is waited for. A longer one is walked back in one of two
 // ways, and both read an inverse at the end, so that they join without a branch, which a processor would guess wrong
-// every other time.
+// every other time. (`&s[..]` is passed on to the walk back, and not `s`: that call is not put in line, and a slice that
+// is itself passed on would be copied at the start, for which short words too would wait, up to twice their time.)
 fn product_number(s: &[u32], n: u8, count: u32, a: GroupElementId, b: GroupElementId) -> u32
     ensures { λ r. ⌜ (r < count → composeIn (now (s .entry)) n count (a .0) (b .0) ≡ Reached.Element (record { 0 = r })) ⌝ }
 {
@@ -59,7 +60,7 @@ fn product_number(s: &[u32], n: u8, count: u32, a: GroupElementId, b: GroupEleme
     let from = egg::inner::chosen(inverted, i, first);
     let word = egg::inner::chosen(inverted, first, i);
     let x = factor_quick_walks::inner::retrace(
-        s,
+        &s[..],
         n,
         count,
         GroupElementId(from),
