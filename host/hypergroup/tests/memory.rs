@@ -1,25 +1,31 @@
-//! What the safe types keep, in bytes that are allocated. This file has one test, since it counts what all threads have allocated.
+//! What the safe types keep, in bytes that are allocated.
 use hypergroup::{Element, Factor, Product, Subgroup};
 use std::alloc::{GlobalAlloc, Layout, System};
-use std::sync::atomic::{AtomicUsize, Ordering::Relaxed};
+use std::cell::Cell;
 
-/// The system's allocator, with a count of the bytes that are allocated.
+/// The system's allocator, with a count of the bytes that this thread has allocated: the harness has threads of its own.
 struct Counted;
 
-static HELD: AtomicUsize = AtomicUsize::new(0);
+thread_local! {
+    static HELD: Cell<usize> = const { Cell::new(0) };
+}
+
+fn add(bytes: usize) {
+    HELD.with(|held| held.set(held.get().wrapping_add(bytes)));
+}
 
 // SAFETY: every call is handed on as it came.
 unsafe impl GlobalAlloc for Counted {
     unsafe fn alloc(&self, layout: Layout) -> *mut u8 {
-        HELD.fetch_add(layout.size(), Relaxed);
+        add(layout.size());
         unsafe { System.alloc(layout) }
     }
     unsafe fn alloc_zeroed(&self, layout: Layout) -> *mut u8 {
-        HELD.fetch_add(layout.size(), Relaxed);
+        add(layout.size());
         unsafe { System.alloc_zeroed(layout) }
     }
     unsafe fn dealloc(&self, at: *mut u8, layout: Layout) {
-        HELD.fetch_sub(layout.size(), Relaxed);
+        add(layout.size().wrapping_neg());
         unsafe { System.dealloc(at, layout) }
     }
 }
@@ -29,9 +35,9 @@ static COUNTED: Counted = Counted;
 
 /// What a call makes, with the bytes that it keeps.
 fn kept<T>(make: impl FnOnce() -> T) -> (T, usize) {
-    let before = HELD.load(Relaxed);
+    let before = HELD.get();
     let made = make();
-    (made, HELD.load(Relaxed) - before)
+    (made, HELD.get().wrapping_sub(before))
 }
 
 #[test]
