@@ -14,21 +14,21 @@ use Rattle.egg.specs.declared.Reached.the-variants.{Element, Refused}
 use Rattle.egg.specs.Factor.{fitsIn}
 use Rattle.egg.proofs.Rooms.{some}
 use Rattle.group_handles.specs.Handles.{elementsOf, allFit}
-use Rattle.group_digits.specs.Digits.{Asked, digitOf, digitwise}
+use Rattle.group_digits.specs.Digits.{PartQuestion, digitOf, digitwise}
 use Rattle.group_handles.proofs.Lists.{fits-at, positive}
 use Rattle.group_digits.proofs.Walks.{Gathering, gathering, gathers-on, gathers-stop, gathers-end, below-element, digit-below, sum-fits, stride-fits}
 use Rattle.capi_handles.proofs.Looks.{placed}
 
 -- The digits before f are gathered, in a product whose handles fit and whose elements have numbers of 32 bits.
-pub record Composing (k : Asked) (t : List ℕ) (hs : List Factor) (a b f s sum x y : ℕ) : Type 0 where
+pub record Composing (k : PartQuestion) (t : List ℕ) (hs : List Factor) (a b f s sum x y : ℕ) : Type 0 where
   pub gathers : Gathering (digitOf k t) hs a b f s sum x y
   pub fits : allFit (length t) hs ≡ true
   pub few : elementsOf hs ≤ 4294967295
 
-pub composing : (k : Asked) (t : List ℕ) (hs : List Factor) (a b : ℕ) → (allFit (length t) hs ≡ true) × (elementsOf hs ≤ 4294967295) → Composing k t hs a b 0 1 0 a b
+pub composing : (k : PartQuestion) (t : List ℕ) (hs : List Factor) (a b : ℕ) → (allFit (length t) hs ≡ true) × (elementsOf hs ≤ 4294967295) → Composing k t hs a b 0 1 0 a b
 composing k t hs a b p = record { gathers = gathering hs a b; fits = p .0; few = p .1 }
 
-module _ {k : Asked} {t : List ℕ} {hs : List Factor} {a b f s sum x y : ℕ} {h : Factor} (w : Composing k t hs a b f s sum x y)
+module _ {k : PartQuestion} {t : List ℕ} {hs : List Factor} {a b f s sum x y : ℕ} {h : Factor} (w : Composing k t hs a b f s sum x y)
     (d : drop f hs ≡ h ∷ drop (f + 1) hs)
   where
     pub handle-fits : fitsIn (length t) h ≡ true
@@ -54,6 +54,6 @@ module _ {k : Asked} {t : List ℕ} {hs : List Factor} {a b f s sum x y : ℕ} {
         pub composes-on : Composing k t hs a b (f + 1) (s * h .elements) (sum + s * e .0) (x / h .elements) (y / h .elements)
         composes-on = record { gathers = gathers-on (w .gathers) d q p in-range; fits = w .fits; few = w .few }
 
-pub composes-end : {k : Asked} {t : List ℕ} {hs : List Factor} {a b f s sum x y : ℕ} → Composing k t hs a b f s sum x y → drop f hs ≡ []
+pub composes-end : {k : PartQuestion} {t : List ℕ} {hs : List Factor} {a b f s sum x y : ℕ} → Composing k t hs a b f s sum x y → drop f hs ≡ []
     → Element (record { 0 = sum }) ≡ digitwise (digitOf k t) hs a b
 composes-end w d = gathers-end (w .gathers) d

@@ -5,7 +5,7 @@ ghost use mathlib.Core.Bool.{true};
 ghost use Prim.Native.Nat.{_≤_};
 ghost use lib.ListN.{length};
 ghost use Rattle.group_handles.specs.Handles.{handles, elementsOf, allFit};
-ghost use Rattle.group_digits.specs.Digits.{Asked, digitOf, digitwise};
+ghost use Rattle.group_digits.specs.Digits.{PartQuestion, digitOf, digitwise};
 ghost use Rattle.group.specs.Questions.{twoElements, composeAnswer, conjugateAnswer};
 ghost use Rattle.capi_handles.specs.Product.{productOf};
 use capi_handles::inner::handle_at;
@@ -34,7 +34,7 @@ fn compose_listed(
     b: GroupElementId,
 ) -> Reached
     requires { ⌜ (allFit (length (now table)) (handles (productOf (now l) count)) ≡ true) × (elementsOf (handles (productOf (now l) count)) ≤ 4294967295) ⌝ }
-    ensures { λ r. ⌜ r ≡ digitwise (digitOf Asked.Compose (now (table .entry))) (handles (productOf (now (l .entry)) count)) (a .0) (b .0) ⌝ }
+    ensures { λ r. ⌜ r ≡ digitwise (digitOf PartQuestion.Compose (now (table .entry))) (handles (productOf (now (l .entry)) count)) (a .0) (b .0) ⌝ }
 {
     let c = listed(count);
     let mut f: u32 = 0;
@@ -87,7 +87,7 @@ fn conjugate_listed(
     b: GroupElementId,
 ) -> Reached
     requires { ⌜ (allFit (length (now table)) (handles (productOf (now l) count)) ≡ true) × (elementsOf (handles (productOf (now l) count)) ≤ 4294967295) ⌝ }
-    ensures { λ r. ⌜ r ≡ digitwise (digitOf Asked.Conjugate (now (table .entry))) (handles (productOf (now (l .entry)) count)) (a .0) (b .0) ⌝ }
+    ensures { λ r. ⌜ r ≡ digitwise (digitOf PartQuestion.Conjugate (now (table .entry))) (handles (productOf (now (l .entry)) count)) (a .0) (b .0) ⌝ }
 {
     let c = listed(count);
     let mut f: u32 = 0;

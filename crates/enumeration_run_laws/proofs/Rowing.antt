@@ -22,7 +22,7 @@ use Rattle.enumeration_rows.specs.declared.inner.RelationTableRow.{RelationTabl
 use Rattle.egg.specs.Pairs.{pairCode}
 use Rattle.enumeration_rows.specs.Rows.{genOf, rowOf, newRow}
 use Rattle.enumeration_fill.specs.Fill.{rightCell, leftCell, backFrom, forwardFrom, backed, filled}
-use Rattle.enumeration_run_laws.specs.Invariant.{Step, TableOk, letters, RowOk}
+use Rattle.enumeration_run_laws.specs.Invariant.{Step, TableOk, rowLetters, RowOk}
 
 -- A generator leads back.
 module _ {n : ℕ} {m : ℕ → ℕ → ℕ} where
@@ -33,21 +33,21 @@ module _ {n : ℕ} {m : ℕ → ℕ → ℕ} where
     leads = join (append-right (turn (s .leads)) (g ∷ [])) (strike-double (word e) h);
   }
 
-pub letters-last : (pair l k : ℕ) → letters pair l (suc k) ≡ letters pair l k ++ genOf pair (l + k) .0 ∷ []
-unfolding letters
+pub letters-last : (pair l k : ℕ) → rowLetters pair l (suc k) ≡ rowLetters pair l k ++ genOf pair (l + k) .0 ∷ []
+unfolding rowLetters
 letters-last pair l zero = rw add-zero
 letters-last pair l (suc k) = let q : l + suc k ≡ suc l + k = omega arith in rw q (ap (λ (x : List ℕ). genOf pair l .0 ∷ x) (letters-last pair (suc l) k))
 
 -- The letters of a gap, with the last or the first of them taken off.
 module _ (pair l r : ℕ) (h : l < r) where
-  gap-last : letters pair l (suc (r - l)) ≡ letters pair l (suc (r - 1 - l)) ++ genOf pair r .0 ∷ []
+  gap-last : rowLetters pair l (suc (r - l)) ≡ rowLetters pair l (suc (r - 1 - l)) ++ genOf pair r .0 ∷ []
   gap-last =
       let q : suc (r - 1 - l) ≡ r - l = omega arith in
       let p : l + (r - l) ≡ r = omega arith in
       rw q (rw p at (letters-last pair l (r - l)))
 
-  gap-first : letters pair l (suc (r - l)) ≡ genOf pair l .0 ∷ letters pair (l + 1) (suc (r - (l + 1)))
-  unfolding letters
+  gap-first : rowLetters pair l (suc (r - l)) ≡ genOf pair l .0 ∷ rowLetters pair (l + 1) (suc (r - (l + 1)))
+  unfolding rowLetters
   gap-first =
       let q : r - l ≡ suc (r - (l + 1)) = omega arith in
       let p : l + 1 ≡ suc l = omega arith in
@@ -78,7 +78,7 @@ module _ {n : ℕ} {m : ℕ → ℕ → ℕ} {word : ℕ → List ℕ} {count : 
     moved-on : (leftCell t n r ≡ 0 → ⊥) → RowOk n m word count (rowOf (r .pair) (r .left + 1) (r .right) (record { 0 = leftCell t n r - 1 }) (r .to))
     moved-on z =
         let s = known-succ (r .from .0) (genOf (r .pair) (r .left) .0) (ok .gens (r .left)) z in
-        let rest = letters (r .pair) (r .left + 1) (suc (r .right - (r .left + 1))) in
+        let rest = rowLetters (r .pair) (r .left + 1) (suc (r .right - (r .left + 1))) in
         let whole : Equiv n m (word (r .from .0) ++ genOf (r .pair) (r .left) .0 ∷ [] ++ rest) (word (r .to .0)) =
         rw append-assoc (rw (gap-first (r .pair) (r .left) (r .right) gap) at (ok .leads)) in
         record {
@@ -123,7 +123,7 @@ module _ {n : ℕ} {m : ℕ → ℕ → ℕ} {word : ℕ → List ℕ} {count : 
 -- Where the ends have met, the letter between leads from the left element to the right one.
 pub met : {n : ℕ} {m : ℕ → ℕ → ℕ} {word : ℕ → List ℕ} {count : ℕ} {r : RelationTableRow} → RowOk n m word count r → r .left ≡ r .right
     → Step n m word count (r .from .0) (genOf (r .pair) (r .left) .0) (r .to .0)
-unfolding letters
+unfolding rowLetters
 met {n} {m} {word} {r = r} ok q = let z : r .right - r .left ≡ 0 = omega arith in
     record { from-below = ok .from-below; to-below = ok .to-below; leads = rw z at (ok .leads) }
 
@@ -131,13 +131,13 @@ met {n} {m} {word} {r = r} ok q = let z : r .right - r .left ≡ 0 = omega arith
 gen-two : (pair l : ℕ) → genOf pair (suc (suc l)) ≡ genOf pair l
 gen-two pair l = let q : suc (suc l) % 2 ≡ l % 2 = omega arith in rw q
 
-letters-two : (pair l k : ℕ) → letters pair (suc (suc l)) k ≡ letters pair l k
-unfolding letters
+letters-two : (pair l k : ℕ) → rowLetters pair (suc (suc l)) k ≡ rowLetters pair l k
+unfolding rowLetters
 letters-two pair l zero = refl
 letters-two pair l (suc k) = rw (gen-two pair l, letters-two pair (suc l) k)
 
-letters-alternate : (pair k : ℕ) → letters pair 0 (k * 2) ≡ alternate (genOf pair 0 .0) (genOf pair 1 .0) k
-unfolding letters
+letters-alternate : (pair k : ℕ) → rowLetters pair 0 (k * 2) ≡ alternate (genOf pair 0 .0) (genOf pair 1 .0) k
+unfolding rowLetters
 letters-alternate pair zero = refl
 letters-alternate pair (suc k) = let q : suc k * 2 ≡ suc (suc (k * 2)) = omega arith in
     rw (q, letters-two pair 0 (k * 2), letters-alternate pair k)
@@ -166,7 +166,7 @@ module _ {n : ℕ} (few : n ≤ 8) (i j pair : ℕ) (hi : i < j) (hj : j < n) (c
     by false = rw second-gen hj
 
   module _ {m : ℕ → ℕ → ℕ} (order : ℕ) (same-order : order ≡ m i j) (low : 1 ≤ order) where
-    relator-row : Relator n m (letters pair 0 (suc (order * 2 - 1 - 0)))
+    relator-row : Relator n m (rowLetters pair 0 (suc (order * 2 - 1 - 0)))
     relator-row =
         let q : suc (order * 2 - 1 - 0) ≡ order * 2 = omega arith in
         rw (q, letters-alternate pair order, first-gen, second-gen, same-order) (paired hi hj)

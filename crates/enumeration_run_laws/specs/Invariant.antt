@@ -44,9 +44,9 @@ pub record TableOk (n : ℕ) (m : ℕ → ℕ → ℕ) (word : ℕ → List ℕ)
   pub words : RecordsWords n word count t
 
 -- The letters of a pair's row from column l on, k of them.
-unfoldable pub letters : ℕ → ℕ → ℕ → List ℕ
-letters pair l zero = []
-letters pair l (suc k) = genOf pair l .0 ∷ letters pair (suc l) k
+unfoldable pub rowLetters : ℕ → ℕ → ℕ → List ℕ
+rowLetters pair l zero = []
+rowLetters pair l (suc k) = genOf pair l .0 ∷ rowLetters pair (suc l) k
 
 -- A row claims that the letters of its gap, both ends included, lead from its left element to its right one; that claim follows from the relations.
 pub record RowOk (n : ℕ) (m : ℕ → ℕ → ℕ) (word : ℕ → List ℕ) (count : ℕ) (r : RelationTableRow) : Type 0 where
@@ -56,7 +56,7 @@ pub record RowOk (n : ℕ) (m : ℕ → ℕ → ℕ) (word : ℕ → List ℕ) (
   pub gens : (i : ℕ) → genOf (r .pair) i .0 < n
   pub from-below : r .from .0 < count
   pub to-below : r .to .0 < count
-  pub leads : Equiv n m (word (r .from .0) ++ letters (r .pair) (r .left) (suc (r .right - r .left))) (word (r .to .0))
+  pub leads : Equiv n m (word (r .from .0) ++ rowLetters (r .pair) (r .left) (suc (r .right - r .left))) (word (r .to .0))
 
 -- Cell i of the work is of kind k. The first seven cells of a place have the kinds 0 to 6; the link to the next copy has 7, and the five numbers of a
 -- row have 12 down to 8.

@@ -33,7 +33,7 @@ use Rattle.factor_words.specs.Words.{readable, spell, lengthIn, writeIn, writte
 use Rattle.factor_words.proofs.Words.{never-both}
 use Rattle.group_handles.specs.declared.Group.{Group}
 use Rattle.group_handles.specs.Handles.{handles, elementsOf, generatorsOf, limited, admits}
-use Rattle.group_digits.specs.Digits.{Asked, Compose, Inverse, Conjugate, above, digitOf, digitwise, stepIn, composes, inverts}
+use Rattle.group_digits.specs.Digits.{PartQuestion, Compose, Inverse, Conjugate, above, digitOf, digitwise, stepIn, composes, inverts}
 use Rattle.group_powers.specs.Powers.{oddToo, byHalving, negated, powers, powiAlone}
 use Rattle.group_handles.specs.Counts.{onCounted}
 use Rattle.group_words.specs.Words.{lengths, readables, spells, writesBy, writes, leaves}
@@ -65,7 +65,7 @@ only N (Element x) = ap (λ (z : ℕ). Element (record { 0 = z })) (omega (arith
 only N (Refused r) = refl
 
 module _ (t : List ℕ) (h : Factor) where
-  one-digit : (k : Asked) (a b : ℕ) → a < h .elements → b < h .elements → digitwise (digitOf k t) (h ∷ []) a b ≡ digitOf k t h a b
+  one-digit : (k : PartQuestion) (a b : ℕ) → a < h .elements → b < h .elements → digitwise (digitOf k t) (h ∷ []) a b ≡ digitOf k t h a b
   unfolding digitwise
   one-digit k a b p q = rw (mod-eq-of-lt p, mod-eq-of-lt q) (only (h .elements) (digitOf k t h a b))
 
@@ -167,7 +167,7 @@ module _ (t : List ℕ) (g : Group) (h : Factor) (c : g .count ≡ 1) (q : handl
       let G : Goes (length t) g a (elementsOf (handles g)) 0 1 = goes-on (length t) g a _ 0 _ (one a) f in
       rw (whole (length t) g h c q) at (G .first)
 
-  digits : (k : Asked) (a b : ℕ) → a < h .elements → b < h .elements → digitOf k t h a b ≡ digitwise (digitOf k t) (handles g) a b
+  digits : (k : PartQuestion) (a b : ℕ) → a < h .elements → b < h .elements → digitOf k t h a b ≡ digitwise (digitOf k t) (handles g) a b
   digits k a b p r = sym (one-digit t h k a b p r) ∙ ap (λ (hs : List Factor). digitwise (digitOf k t) hs a b) (sym q)
 
   pub one-compose : (a b : GroupElementId) → factor.composeAnswer t h a b ≡ composeAnswer t g a b

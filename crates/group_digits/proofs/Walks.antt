@@ -20,7 +20,7 @@ use Rattle.factor_questions.specs.Walks.{follow, along, readBack, backBy, backA
 use Rattle.egg.specs.Answers.{onReached}
 use Rattle.theory_radix.proofs.RadixLaws.{joined-small, high-small, range-pos}
 use Rattle.group_handles.specs.Handles.{elementsOf}
-use Rattle.group_digits.specs.Digits.{Asked, Compose, Inverse, Conjugate, above, digitOf, digitwise, stepIn}
+use Rattle.group_digits.specs.Digits.{PartQuestion, Compose, Inverse, Conjugate, above, digitOf, digitwise, stepIn}
 
 -- s is the stride of the factor f, and `low` has the digits before it.
 pub record Walk (hs : List Factor) (f s low : ℕ) : Type 0 where
@@ -190,7 +190,7 @@ module _ (s : List ℕ) (n N : ℕ) where
   conjugate-below a b h =
       below-on (composeIn s n N a b) (compose-below a b h) (λ c hc. below-any (inverseIn s n N a) (λ i. compose-below c i hc))
 
-pub digit-below : (k : Asked) (t : List ℕ) (h : Factor) (a b : ℕ) → a < h .elements → Below (h .elements) (digitOf k t h a b)
+pub digit-below : (k : PartQuestion) (t : List ℕ) (h : Factor) (a b : ℕ) → a < h .elements → Below (h .elements) (digitOf k t h a b)
 digit-below Compose t h a b l = compose-below (stretch t h) (h .generators) (h .elements) a b l
 digit-below Inverse t h a b l = inverse-below (stretch t h) (h .generators) (h .elements) a
 digit-below Conjugate t h a b l = conjugate-below (stretch t h) (h .generators) (h .elements) a b l

@@ -16,13 +16,13 @@ abbrev pub above : ℕ → ℕ → Reached → Reached
 above x N r = onReached r (λ y. Element (record { 0 = x + N * y }))
 
 -- The questions that are answered factor by factor.
-pub data Asked : Type 0 where
-  Compose : Asked
-  Inverse : Asked
-  Conjugate : Asked
+pub data PartQuestion : Type 0 where
+  Compose : PartQuestion
+  Inverse : PartQuestion
+  Conjugate : PartQuestion
 
 -- What one factor h answers about its digits a and b. (An inverse has one argument: b counts for nothing.)
-abbrev pub digitOf : (asked : Asked) (t : List ℕ) (h : Factor) (a b : ℕ) → Reached
+abbrev pub digitOf : (asked : PartQuestion) (t : List ℕ) (h : Factor) (a b : ℕ) → Reached
 digitOf Compose t h a b = composeIn (stretch t h) (h .generators) (h .elements) a b
 digitOf Inverse t h a b = inverseIn (stretch t h) (h .generators) (h .elements) a
 digitOf Conjugate t h a b = conjugateIn (stretch t h) (h .generators) (h .elements) a b

@@ -7,7 +7,7 @@ ghost use Prim.Native.Nat.{_<_, _≤_};
 ghost use lib.ListN.{length, getD};
 ghost use Rattle.theory_radix.specs.Radix.{stride, project, inject};
 ghost use Rattle.group_handles.specs.Handles.{handles, sizes, elementsOf, allFit, capped};
-ghost use Rattle.group_digits.specs.Digits.{Asked, digitOf, digitwise, stepIn};
+ghost use Rattle.group_digits.specs.Digits.{PartQuestion, digitOf, digitwise, stepIn};
 ghost use Rattle.group_digits.specs.Splits.{digitsLeft, digitsRight, fewer, splitTail, joinTail};
 use egg::Counted;
 use egg::GeneratorId;
@@ -20,7 +20,7 @@ use group_handles::Group;
 // loop of its own, because one loop for all, with the question as an argument, took half as long again.
 pub fn compose_digits(table: &[u32], g: Group, a: GroupElementId, b: GroupElementId) -> Reached
     requires { ⌜ (allFit (length (now table)) (handles g) ≡ true) × (elementsOf (handles g) ≤ 4294967295) ⌝ }
-    ensures { λ r. ⌜ r ≡ digitwise (digitOf Asked.Compose (now (table .entry))) (handles g) (a .0) (b .0) ⌝ }
+    ensures { λ r. ⌜ r ≡ digitwise (digitOf PartQuestion.Compose (now (table .entry))) (handles g) (a .0) (b .0) ⌝ }
 {
     let c = group_handles::inner::listed(g);
     let mut f: usize = 0;
@@ -53,7 +53,7 @@ pub fn compose_digits(table: &[u32], g: Group, a: GroupElementId, b: GroupElemen
 
 pub fn inverse_digits(table: &[u32], g: Group, a: GroupElementId) -> Reached
     requires { ⌜ (allFit (length (now table)) (handles g) ≡ true) × (elementsOf (handles g) ≤ 4294967295) ⌝ }
-    ensures { λ r. ⌜ r ≡ digitwise (digitOf Asked.Inverse (now (table .entry))) (handles g) (a .0) 0 ⌝ }
+    ensures { λ r. ⌜ r ≡ digitwise (digitOf PartQuestion.Inverse (now (table .entry))) (handles g) (a .0) 0 ⌝ }
 {
     let c = group_handles::inner::listed(g);
     let mut f: usize = 0;
@@ -78,7 +78,7 @@ pub fn inverse_digits(table: &[u32], g: Group, a: GroupElementId) -> Reached
 
 pub fn conjugate_digits(table: &[u32], g: Group, a: GroupElementId, b: GroupElementId) -> Reached
     requires { ⌜ (allFit (length (now table)) (handles g) ≡ true) × (elementsOf (handles g) ≤ 4294967295) ⌝ }
-    ensures { λ r. ⌜ r ≡ digitwise (digitOf Asked.Conjugate (now (table .entry))) (handles g) (a .0) (b .0) ⌝ }
+    ensures { λ r. ⌜ r ≡ digitwise (digitOf PartQuestion.Conjugate (now (table .entry))) (handles g) (a .0) (b .0) ⌝ }
 {
     let c = group_handles::inner::listed(g);
     let mut f: usize = 0;

@@ -11,19 +11,19 @@ use Rattle.egg.specs.Factor.{stepAnswer}
 use Rattle.factor.specs.Questions.{composeAnswer, generatorAnswer, walkAnswer}
 
 -- What is asked next of the element that was answered; a refusal ends it.
-abbrev pub onElement : Reached → (GroupElementId → Reached) → Reached
-onElement (Element e) next = next e
-onElement (Refused r) next = Refused r
+abbrev pub thenFrom : Reached → (GroupElementId → Reached) → Reached
+thenFrom (Element e) next = next e
+thenFrom (Refused r) next = Refused r
 
 -- The live viewer at the element e: the answers of `step` for the turns, one after another.
 abbrev pub live : List ℕ → Factor → GroupElementId → List ℕ → Reached
 live t f e [] = Element e
-live t f e (g ∷ u) = onElement (stepAnswer t f e (record { 0 = g })) (λ x. live t f x u)
+live t f e (g ∷ u) = thenFrom (stepAnswer t f e (record { 0 = g })) (λ x. live t f x u)
 
 -- The turns gathered into one element: the answers of `compose` with the element of each turn's generator, one after another.
 abbrev pub gathered : List ℕ → Factor → GroupElementId → List ℕ → Reached
 gathered t f e [] = Element e
-gathered t f e (g ∷ u) = onElement (generatorAnswer t f (record { 0 = g })) (λ s. onElement (composeAnswer t f e s) (λ x. gathered t f x u))
+gathered t f e (g ∷ u) = thenFrom (generatorAnswer t f (record { 0 = g })) (λ s. thenFrom (composeAnswer t f e s) (λ x. gathered t f x u))
 
 -- The identity.
 abbrev pub identity : GroupElementId
@@ -56,5 +56,5 @@ turnsOf (at-once u ∷ l) = u ++ turnsOf l
 -- A viewer who is live at times and behind at times: `step` for the turns that come one by one, and one `compose` with the product of those that come at once.
 abbrev pub watched : List ℕ → Factor → GroupElementId → List Batch → Reached
 watched t f e [] = Element e
-watched t f e (one-by-one u ∷ l) = onElement (live t f e u) (λ x. watched t f x l)
-watched t f e (at-once u ∷ l) = onElement (gathered t f identity u) (λ p. onElement (composeAnswer t f e p) (λ x. watched t f x l))
+watched t f e (one-by-one u ∷ l) = thenFrom (live t f e u) (λ x. watched t f x l)
+watched t f e (at-once u ∷ l) = thenFrom (gathered t f identity u) (λ p. thenFrom (composeAnswer t f e p) (λ x. watched t f x l))

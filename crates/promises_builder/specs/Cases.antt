@@ -36,12 +36,12 @@ abbrev pub altering : ℕ → ℕ → Building → Building
 altering i x b = record { table = set (b .table) i x; builder = b .builder }
 
 -- The verdict of a build.
-abbrev pub answered : Making → Verdict
-answered (making m t w) = m .answer
+abbrev pub answerMade : Making → Verdict
+answerMade (making m t w) = m .answer
 
 -- `build` with a work that is just long enough.
-abbrev pub built : Building → Verdict
-built b = answered (builds (b .table) (b .builder) (replicate (workNeed (b .builder .0 .generators) (b .builder .0 .room)) 7))
+abbrev pub buildAnswer : Building → Verdict
+buildAnswer b = answerMade (builds (b .table) (b .builder) (replicate (workNeed (b .builder .0 .generators) (b .builder .0 .room)) 7))
 
 -- The builder after all steps of two generators were set, row by row.
 abbrev pub settingRows : List ℕ → ℕ → Building → Building
@@ -52,21 +52,21 @@ settingRows [] e b = b
 -- The cases, each with its answer.
 pub record Cases : Type 0 where
   -- Z3 with its elements added in another order than they stand in the rows: it is taken, with the numbers as they stand.
-  pub z3 : built (settingRows (1 ∷ 2 ∷ 2 ∷ 0 ∷ 0 ∷ 1 ∷ []) 0 (adding 0 0 (adding 0 1 (begunWith 2 3)))) ≡ Fine
+  pub z3 : buildAnswer (settingRows (1 ∷ 2 ∷ 2 ∷ 0 ∷ 0 ∷ 1 ∷ []) 0 (adding 0 0 (adding 0 1 (begunWith 2 3)))) ≡ Fine
   -- S3 with an element that skips ahead: 7 at (1,1) with 4.
-  pub s3-skips : built (settingRows (1 ∷ 2 ∷ 0 ∷ 4 ∷ 3 ∷ 0 ∷ 2 ∷ 5 ∷ 5 ∷ 1 ∷ 4 ∷ 3 ∷ []) 0
+  pub s3-skips : buildAnswer (settingRows (1 ∷ 2 ∷ 0 ∷ 4 ∷ 3 ∷ 0 ∷ 2 ∷ 5 ∷ 5 ∷ 1 ∷ 4 ∷ 3 ∷ []) 0
       (adding 4 0 (adding 1 1 (adding 2 0 (adding 0 1 (adding 0 0 (begunWith 2 6))))))) ≡ refusedOf 7 1 1 4
   -- Z2 with a successor altered to one that is no element's: 17.
-  pub beyond : built (altering 0 4 (setting 1 0 0 (adding 0 0 (begunWith 1 2)))) ≡ refusedOf 17 0 0 0
+  pub beyond : buildAnswer (altering 0 4 (setting 1 0 0 (adding 0 0 (begunWith 1 2)))) ≡ refusedOf 17 0 0 0
   -- The same, to a number that is one too high: the step is not set, by 17, and the table is as it was.
   pub set-beyond : stores (altering 0 3 (adding 0 0 (begunWith 1 2)) .table) (builderOf 0 2 1 2) (record { 0 = 0 }) (record { 0 = 0 }) (record { 0 = 1 })
       ≡ leaving (stored.Refused (numbered 17 0 0 0)) (altering 0 3 (adding 0 0 (begunWith 1 2)) .table)
   -- A step missing: 8 at its place.
-  pub no-successor : built (adding 0 0 (begunWith 1 2)) ≡ refusedOf 8 1 0 0
+  pub no-successor : buildAnswer (adding 0 0 (begunWith 1 2)) ≡ refusedOf 8 1 0 0
   -- A chain of three whose last element was cut off: it is not reached, so its row is not read, and its successor is missing.
-  pub unreached : built (setting 2 0 2 (setting 1 0 0 (adding 1 0 (adding 0 0 (begunWith 1 3))))) ≡ refusedOf 8 2 0 0
+  pub unreached : buildAnswer (setting 2 0 2 (setting 1 0 0 (adding 1 0 (adding 0 0 (begunWith 1 3))))) ≡ refusedOf 8 2 0 0
   -- The same where the identity has no predecessor: the successor comes first.
-  pub unreached-first : built (setting 1 0 1 (adding 1 0 (adding 0 0 (begunWith 1 3)))) ≡ refusedOf 8 2 0 0
+  pub unreached-first : buildAnswer (setting 1 0 1 (adding 1 0 (adding 0 0 (begunWith 1 3)))) ≡ refusedOf 8 2 0 0
   -- A recorded length altered to 4,097: a new element is refused by 17, and the stretch is zero.
   pub long-word : grows (altering 4 4097 (begunWith 1 2) .table) (builderOf 0 2 1 1) (record { 0 = 0 }) (record { 0 = 0 })
       ≡ leaving (record { answer = refusedReach 17 0; builder = builderOf 0 0 0 0 }) (replicate (tableNeed 1 2) 0)

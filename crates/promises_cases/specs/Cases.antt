@@ -19,13 +19,13 @@ use Rattle.image_writing.specs.Written.{rowsOf}
 use Rattle.image.specs.Written.{writtenImage}
 use Rattle.image.specs.Read.{readImage}
 use Rattle.promises_refusals.specs.Parts.{madeBy, tableBy, element}
-use Rattle.promises_cases.specs.Tables.{square, z2, z3, twisted, repeated, z2-image, none-image, rows, orders, factorOf, acceptedAs, answer, inversesOf, both, S3, S3-Z2}
+use Rattle.promises_cases.specs.Tables.{fourGroup, z2, z3, twisted, repeated, z2-image, none-image, rows, orders, factorOf, acceptedAs, answer, inversesOf, both, S3, S3-Z2}
 
 -- Each case stands under document 01's own line.
 pub record KnownCases : Type 0 where
   -- "orders [2]: rows 1 2 / 0 3 / 3 0 / 2 1."
   pub square-made : madeBy (orders 2 4 (2 ∷ [])) ≡ acceptedAs 2 4 4
-  pub square-rows : rowsOf 4 (stepOf (tableBy (orders 2 4 (2 ∷ []))) 2) 2 0 ≡ square
+  pub square-rows : rowsOf 4 (stepOf (tableBy (orders 2 4 (2 ∷ []))) 2) 2 0 ≡ fourGroup
   -- "orders [3] (S3): rows 1 2 / 0 3 / 4 0 / 5 1 / 2 5 / 3 4; inverses 0 1 2 4 3 5; word of 5 is 0,1,0."
   pub s3-made : madeBy (orders 2 6 (3 ∷ [])) ≡ acceptedAs 2 6 6
   pub s3-rows : rowsOf 6 (stepOf (tableBy (orders 2 6 (3 ∷ []))) 2) 2 0 ≡ s3Rows

@@ -18,8 +18,8 @@ use Rattle.group_handles.specs.declared.Group.{Group}
 use Rattle.group_handles.specs.Handles.{groupOf}
 
 -- "orders [2]: rows 1 2 / 0 3 / 3 0 / 2 1".
-abbrev pub square : List ℕ
-square = 1 ∷ 2 ∷ 0 ∷ 3 ∷ 3 ∷ 0 ∷ 2 ∷ 1 ∷ []
+abbrev pub fourGroup : List ℕ
+fourGroup = 1 ∷ 2 ∷ 0 ∷ 3 ∷ 3 ∷ 0 ∷ 2 ∷ 1 ∷ []
 
 -- The group of two elements.
 abbrev pub z2 : List ℕ

@@ -37,7 +37,7 @@ use Rattle.group_handles.specs.Handles.{handles, generatorsOf, allFit, limited,
 use Rattle.group_handles.proofs.Admitted.{few-factors, few-elements, admits-fine}
 use Rattle.group_digits.specs.Digits.{stepIn}
 use Rattle.group_flatten.specs.Flat.{flatIn, flatInto, flat}
-use Rattle.promises_group.specs.Flattening.{FlatRight, GroupWithin, numberRead, stepRead, StepUnread, StepsAnswered, FlatPaper, no-handle, too-large, many, short, unread, fault, taken}
+use Rattle.promises_group.specs.Flattening.{FlatRight, GroupWithin, numberRead, stepNumber, StepUnread, StepsAnswered, FlatPaper, no-handle, too-large, many, short, unread, fault, taken}
 use Rattle.promises_group.proofs.FlatReads.{Reads, by-numbers, not-read, reads}
 
 reach-refused : {k : ℕ} {x : Reached} → x ≡ reach k → x ≡ refusedReach 17 0 → ⊥
@@ -63,7 +63,7 @@ module _ (from : List ℕ) (g : Group) (table : List ℕ) (start : ℕ) (work : 
   size = tableNeed (generatorsOf (handles g)) room
 
   abbrev src : ℕ → ℕ → ℕ
-  src = stepRead from (handles g)
+  src = stepNumber from (handles g)
 
   enough : EnoughLent table start work (generatorsOf (handles g)) room
   enough = right-enough table start work n room (R .lent)
@@ -286,13 +286,13 @@ module _ (from : List ℕ) (g : Group) (table : List ℕ) (start : ℕ) (work : 
 
   -- Accepted exactly when the arguments are right and some group has the steps that are read, by the numbering rule, within the room.
   pub flat-accepted : (a b c : ℕ) → paperOf (flat from g table start work room) ≡ paper 0 a b c
-      ↔ (FlatRight from g table start work room × (((N : ℕ) × Taken (stepRead from (handles g)) (generatorsOf (handles g)) room N) × ((a ≡ 0) × ((b ≡ 0) × (c ≡ 0)))))
+      ↔ (FlatRight from g table start work room × (((N : ℕ) × Taken (stepNumber from (handles g)) (generatorsOf (handles g)) room N) × ((a ≡ 0) × ((b ≡ 0) × (c ≡ 0)))))
   flat-accepted a b c = (
     λ q. by (flat-answers (paper 0 a b c) .0 q) refl,
     λ h. rw (h .1 .1 .0, h .1 .1 .1 .0, h .1 .1 .1 .1) (flat-given-paper (taken (h .0) (h .1 .0 .1))),
   ) where
     by : {p : Paper} → FlatPaper from g table start work room p → p .number ≡ 0
-        → FlatRight from g table start work room × (((N : ℕ) × Taken (stepRead from hs) (generatorsOf hs) room N) × ((p .a ≡ 0) × ((p .b ≡ 0) × (p .c ≡ 0))))
+        → FlatRight from g table start work room × (((N : ℕ) × Taken (stepNumber from hs) (generatorsOf hs) room N) × ((p .a ≡ 0) × ((p .b ≡ 0) × (p .c ≡ 0))))
     by (no-handle q) k = absurd (omega arith)
     by (too-large q wrong) k = absurd (omega arith)
     by (many q L h) k = absurd (omega arith)

@@ -30,7 +30,7 @@ use Rattle.group_handles.specs.declared.Group.{Group}
 use Rattle.group_handles.specs.Handles as handling
 use Rattle.group_handles.specs.Handles.{handles, generatorsOf, allFit, admits}
 use Rattle.group_flatten.specs.Flat.{flatIn, ifMaking, flatInto, flat}
-use Rattle.promises_group.specs.Flattening.{FlatRight, flatBefore, flatAfter, stepRead}
+use Rattle.promises_group.specs.Flattening.{FlatRight, flatBefore, flatAfter, stepNumber}
 use Rattle.promises_group.proofs.FlatReads.{Reads, by-numbers, not-read, reads}
 
 -- A refused build leaves zeros.
@@ -40,7 +40,7 @@ module _ (from : List ℕ) (hs : List Factor) (room size : ℕ) (w₀ : List ℕ
     flat-zeros : {r : Refusal} {t w : List ℕ} → flatIn size w₀ from hs (generatorsOf hs) room ≡ built (Refused r) t w → Zeros r flatAfter size (length w₀) t w
     flat-zeros {r} {t} {w} h = by (reads from hs room size w₀ lo hi) where
       by : Reads from hs room size w₀ → Zeros r flatAfter size (length w₀) t w
-      by (by-numbers e own) = zeros-widen flatAfter refl (read-zeros (stepRead from hs) (generatorsOf hs) room size w₀ few lo hi fits (sym e ∙ h))
+      by (by-numbers e own) = zeros-widen flatAfter refl (read-zeros (stepNumber from hs) (generatorsOf hs) room size w₀ few lo hi fits (sym e ∙ h))
       by (not-read x g t₀ s q e) =
           let z : built (Refused (numbered 17 0 0 0)) (replicate size 0) (zeroed w₀) ≡ built (Refused r) t w = sym e ∙ h in
           let j : numbered 17 0 0 0 ≡ r = cc in

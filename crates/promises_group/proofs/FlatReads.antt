@@ -27,7 +27,7 @@ use Rattle.promises.proofs.ReadLengths.{placedTable, place-length}
 use Rattle.group_handles.specs.Handles.{generatorsOf}
 use Rattle.group_digits.specs.Digits.{stepIn}
 use Rattle.group_flatten.specs.Flat.{placeBy, rowBy, rowsBy, flatIn}
-use Rattle.promises_group.specs.Flattening.{numberRead, stepRead, StepsAnswered}
+use Rattle.promises_group.specs.Flattening.{numberRead, stepNumber, StepsAnswered}
 
 -- An answer that is no refusal but 17, which has no places.
 data Only17 : Reached → Type 0 where
@@ -134,7 +134,7 @@ module _ (from : List ℕ) (hs : List Factor) (room size : ℕ) where
         stopped t e x refl (ap (λ (y : Placed). thenPlaced y f′) (place-skip t n room count e x 65536 (omega arith))) q long
 
     came-row : (k e g count : ℕ) (t : List ℕ) → g + k ≤ generatorsOf hs → count ≤ room → length t ≡ size
-        → Came (rowBy k (stepIn from hs) (generatorsOf hs) room e g count t) (readRow k (stepRead from hs) (generatorsOf hs) room e g count t)
+        → Came (rowBy k (stepIn from hs) (generatorsOf hs) room e g count t) (readRow k (stepNumber from hs) (generatorsOf hs) room e g count t)
     unfolding rowBy readRow
     came-row zero e g count t h c long = same refl (c, long)
     came-row (suc k) e g count t h c long =
@@ -142,7 +142,7 @@ module _ (from : List ℕ) (hs : List Factor) (room size : ℕ) where
         (λ d l y z. came-row k e (g + 1) d l (omega arith) y z)
 
     came-rows : (k e count : ℕ) (t : List ℕ) → count ≤ room → length t ≡ size
-        → Came (rowsBy k (stepIn from hs) (generatorsOf hs) room e count t) (readFrom k (stepRead from hs) (generatorsOf hs) room e count t)
+        → Came (rowsBy k (stepIn from hs) (generatorsOf hs) room e count t) (readFrom k (stepNumber from hs) (generatorsOf hs) room e count t)
     unfolding rowsBy readFrom
     came-rows zero e count t c long = same refl (c, long)
     came-rows (suc k) e count t c long =
@@ -153,17 +153,17 @@ module _ (from : List ℕ) (hs : List Factor) (room size : ℕ) where
 -- The build is that of the numbers that are read, and where these are refused by 7 the number is the product's own; or a step is refused by 17, where the numbers
 -- are refused by 7, and all is zero.
 pub data Reads (from : List ℕ) (hs : List Factor) (room size : ℕ) (w : List ℕ) : Type 0 where
-  by-numbers : flatIn size w from hs (generatorsOf hs) room ≡ finishedPlaced (readAll (stepRead from hs) (generatorsOf hs) room (replicate size 0)) (generatorsOf hs) w
-      → ((r : Refusal) (t : List ℕ) → readAll (stepRead from hs) (generatorsOf hs) room (replicate size 0) ≡ placed (Refused r) t → StepsAnswered from hs r)
+  by-numbers : flatIn size w from hs (generatorsOf hs) room ≡ finishedPlaced (readAll (stepNumber from hs) (generatorsOf hs) room (replicate size 0)) (generatorsOf hs) w
+      → ((r : Refusal) (t : List ℕ) → readAll (stepNumber from hs) (generatorsOf hs) room (replicate size 0) ≡ placed (Refused r) t → StepsAnswered from hs r)
       → Reads from hs room size w
   not-read : (e x : ℕ) (t : List ℕ) → stepIn from hs e x ≡ refusedReach 17 0
-      → readAll (stepRead from hs) (generatorsOf hs) room (replicate size 0) ≡ placed (Refused (numbered 7 e x 65536)) t
+      → readAll (stepNumber from hs) (generatorsOf hs) room (replicate size 0) ≡ placed (Refused (numbered 7 e x 65536)) t
       → flatIn size w from hs (generatorsOf hs) room ≡ built (Refused (numbered 17 0 0 0)) (replicate size 0) (zeroed w) → Reads from hs room size w
 
 pub reads : (from : List ℕ) (hs : List Factor) (room size : ℕ) (w : List ℕ) → 1 ≤ room → room ≤ 65535 → Reads from hs room size w
 unfolding flatIn finished
 reads from hs room size w lo hi = by (came-rows from hs room size hi room 0 1 (replicate size 0) lo (length-replicate size 0)) where
-  by : Came from hs room size (rowsBy room (stepIn from hs) (generatorsOf hs) room 0 1 (replicate size 0)) (readAll (stepRead from hs) (generatorsOf hs) room (replicate size 0))
+  by : Came from hs room size (rowsBy room (stepIn from hs) (generatorsOf hs) room 0 1 (replicate size 0)) (readAll (stepNumber from hs) (generatorsOf hs) room (replicate size 0))
       → Reads from hs room size w
   by (same e h) = by-numbers (ap (λ (p : Placed). finishedPlaced p (generatorsOf hs) w) e) (λ r t q. subst (Fair from hs room size) q h)
   by (stopped t e x a b s long) =

@@ -34,7 +34,7 @@ use Rattle.group_handles.specs.declared.Group.{Group}
 use Rattle.group_handles.specs.Handles.{handles, generatorsOf}
 use Rattle.group_digits.specs.Digits.{stepIn}
 use Rattle.group_flatten.specs.Flat.{flatIn, flat}
-use Rattle.promises_group.specs.Flattening.{FlatRight, numberRead, stepRead, workFor, FlatRegardless}
+use Rattle.promises_group.specs.Flattening.{FlatRight, numberRead, stepNumber, workFor, FlatRegardless}
 use Rattle.promises_group.proofs.FlatReads.{Reads, by-numbers, not-read}
 use Rattle.promises_group.proofs.FlatLeaves.{flat-leaves}
 use Rattle.promises_group.proofs.FlatAnswers.{flat-is, work-long, flat-reads}
@@ -53,7 +53,7 @@ module _ (from : List ℕ) (g : Group) (table : List ℕ) (start : ℕ) (work : 
   w₀ = take (workNeed (generatorsOf (handles g)) room) work
 
   abbrev src : ℕ → ℕ → ℕ
-  src = stepRead from (handles g)
+  src = stepNumber from (handles g)
 
   enough : EnoughLent table start work (generatorsOf (handles g)) room
   enough = right-enough table start work n room (R .lent)

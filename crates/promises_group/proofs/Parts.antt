@@ -21,7 +21,7 @@ use Rattle.theory_products.proofs.StepLaws.{side, WhichFactor, left, right, ste
 use Rattle.theory_products.proofs.Componentwise.{op-parted, inv-parted, conjugate-parted}
 use Rattle.theory_products.proofs.TableParts.{table-worded}
 use Rattle.group_handles.specs.Handles.{elementsOf, generatorsOf, allFit}
-use Rattle.group_digits.specs.Digits.{Asked, Compose, Inverse, Conjugate, digitOf, digitwise, stepIn}
+use Rattle.group_digits.specs.Digits.{PartQuestion, Compose, Inverse, Conjugate, digitOf, digitwise, stepIn}
 use Rattle.promises_group.specs.Products.{part, parts, AllAccepted, none, more}
 
 module _ (t : List ℕ) where
@@ -48,7 +48,7 @@ module _ (t : List ℕ) where
   parts-generators (h ∷ hs) = ap (λ (n : ℕ). h .generators + n) (parts-generators hs)
 
   -- Any question that is taken factor by factor.
-  digits-are : (k : Asked) {F : Part → ℕ → ℕ → ℕ} → Parted F
+  digits-are : (k : PartQuestion) {F : Part → ℕ → ℕ → ℕ} → Parted F
       → ((h : Factor) (a b : ℕ) → Accepted t h → a < h .elements → b < h .elements → digitOf k t h a b ≡ reach (F (part t h) a b))
       → {hs : List Factor} → AllAccepted t hs → (a b : ℕ) → a < product (parts t hs) .elements → b < product (parts t hs) .elements
       → digitwise (digitOf k t) hs a b ≡ reach (F (product (parts t hs)) a b)

@@ -24,7 +24,7 @@ use Rattle.factor_laws.proofs.Refuses.{reached-element, reached-refused, reache
 use Rattle.factor_laws.proofs.Refuses.{verdict-fine, verdict-refused, verdict-pick, verdict-then, verdict-scan, reached-widen, step-in, compose-in, inverse-in, conjugate-in}
 use Rattle.group_handles.specs.declared.Group.{Group}
 use Rattle.group_handles.specs.Handles.{handles, sizes, elementsOf, generatorsOf, allFit, limited, admits, joins}
-use Rattle.group_digits.specs.Digits.{Asked, Compose, Inverse, Conjugate, digitOf, digitwise, stepIn, composes, inverts}
+use Rattle.group_digits.specs.Digits.{PartQuestion, Compose, Inverse, Conjugate, digitOf, digitwise, stepIn, composes, inverts}
 use Rattle.group_powers.specs.Powers.{oddToo, byHalving, negated, powers}
 use Rattle.group_periods.specs.Periods.{periodFrom, periods}
 use Rattle.group_handles.specs.Counts.{onCounted, onElement}
@@ -62,12 +62,12 @@ admits-unasked len g =
     verdict-pick (allFit len (handles g)) _ _ (verdict-pick (limited g) _ _ verdict-fine (verdict-refused _ refl)) (verdict-refused _ refl)
 
 -- Factor by factor.
-digit-in : (k : Asked) (t : List ℕ) (h : Factor) (a b : ℕ) → ReachedIn (14 ∷ 15 ∷ 17 ∷ []) (digitOf k t h a b)
+digit-in : (k : PartQuestion) (t : List ℕ) (h : Factor) (a b : ℕ) → ReachedIn (14 ∷ 15 ∷ 17 ∷ []) (digitOf k t h a b)
 digit-in Compose t h a b = reached-widen asked refl (compose-in (stretch t h) (h .generators) (h .elements) a b)
 digit-in Inverse t h a b = reached-widen asked refl (inverse-in (stretch t h) (h .generators) (h .elements) a)
 digit-in Conjugate t h a b = reached-widen asked refl (conjugate-in (stretch t h) (h .generators) (h .elements) a b)
 
-digits-in : (k : Asked) (t : List ℕ) (hs : List Factor) (a b : ℕ) → ReachedIn (14 ∷ 15 ∷ 17 ∷ []) (digitwise (digitOf k t) hs a b)
+digits-in : (k : PartQuestion) (t : List ℕ) (hs : List Factor) (a b : ℕ) → ReachedIn (14 ∷ 15 ∷ 17 ∷ []) (digitwise (digitOf k t) hs a b)
 unfolding digitwise
 digits-in k t [] a b = reached-element _
 digits-in k t (h ∷ hs) a b =

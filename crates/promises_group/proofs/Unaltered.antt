@@ -17,7 +17,7 @@ use Rattle.promises.specs.Unaltered.{Wrote}
 use Rattle.promises.proofs.Unaltered.{kept}
 use Rattle.group_handles.specs.declared.Group.{Group}
 use Rattle.group_handles.specs.Handles.{handles, allFit, admits}
-use Rattle.group_digits.specs.Digits.{Asked, Compose, Inverse, Conjugate, digitOf, digitwise, stepIn, composes, inverts}
+use Rattle.group_digits.specs.Digits.{PartQuestion, Compose, Inverse, Conjugate, digitOf, digitwise, stepIn, composes, inverts}
 use Rattle.group_powers.specs.Powers.{powers}
 use Rattle.group_periods.specs.Periods.{periodOf, periods}
 use Rattle.group_words.specs.Words.{lengths, readables, spells, writes, leaves}
@@ -34,12 +34,12 @@ module _ {t t′ : List ℕ} where
   all-accepted none = products.none
   all-accepted (more U Us) = products.more (U .accepted) (all-accepted Us)
 
-  digit-same : (k : Asked) {h : Factor} → Unaltered t t′ h → (a b : ℕ) → digitOf k t′ h a b ≡ digitOf k t h a b
+  digit-same : (k : PartQuestion) {h : Factor} → Unaltered t t′ h → (a b : ℕ) → digitOf k t′ h a b ≡ digitOf k t h a b
   digit-same Compose U a b = rw (U .stretches)
   digit-same Inverse U a b = rw (U .stretches)
   digit-same Conjugate U a b = rw (U .stretches)
 
-  digits-same : (k : Asked) {hs : List Factor} → AllUnaltered t t′ hs → (a b : ℕ) → digitwise (digitOf k t′) hs a b ≡ digitwise (digitOf k t) hs a b
+  digits-same : (k : PartQuestion) {hs : List Factor} → AllUnaltered t t′ hs → (a b : ℕ) → digitwise (digitOf k t′) hs a b ≡ digitwise (digitOf k t) hs a b
   unfolding digitwise
   digits-same k none a b = refl
   digits-same k (more {h} U Us) a b =

@@ -72,15 +72,15 @@ numberRead (reached.Element v) = v .0
 numberRead (reached.Refused r) = 65536
 
 -- The steps that are read, whatever the factors' stretches hold.
-abbrev pub stepRead : List ℕ → List Factor → ℕ → ℕ → ℕ
-stepRead from hs e x = numberRead (stepIn from hs e x)
+abbrev pub stepNumber : List ℕ → List Factor → ℕ → ℕ → ℕ
+stepNumber from hs e x = numberRead (stepIn from hs e x)
 
 -- "17 in what they read": nothing is refused before (element, generator), and the product's step there is refused by 17.
 pub record StepUnread (from : List ℕ) (hs : List Factor) (room : ℕ) : Type 0 where
   pub element : ℕ
   pub generator : ℕ
   pub count : ℕ
-  pub before : ReadSoFar (stepRead from hs) (generatorsOf hs) room element generator count
+  pub before : ReadSoFar (stepNumber from hs) (generatorsOf hs) room element generator count
   pub column : generator < generatorsOf hs
   pub refused : stepIn from hs element generator ≡ refusedReach 17 0
 
@@ -98,16 +98,16 @@ pub data FlatPaper (from : List ℕ) (g : Group) (table : List ℕ) (start : ℕ
   short : allFit (length from) (handles g) ≡ true → GroupWithin g → generatorsOf (handles g) ≤ 8 → ¬ (EnoughLent table start work (generatorsOf (handles g)) room)
       → FlatPaper from g table start work room (paper 4 0 0 0)
   unread : FlatRight from g table start work room → StepUnread from (handles g) room → FlatPaper from g table start work room (paper 17 0 0 0)
-  fault : {r : Refusal} → FlatRight from g table start work room → Fault (stepRead from (handles g)) (generatorsOf (handles g)) room r
+  fault : {r : Refusal} → FlatRight from g table start work room → Fault (stepNumber from (handles g)) (generatorsOf (handles g)) room r
       → StepsAnswered from (handles g) r → FlatPaper from g table start work room (refusalPaper r)
-  taken : {N : ℕ} → FlatRight from g table start work room → Taken (stepRead from (handles g)) (generatorsOf (handles g)) room N
+  taken : {N : ℕ} → FlatRight from g table start work room → Taken (stepNumber from (handles g)) (generatorsOf (handles g)) room N
       → FlatPaper from g table start work room (paper 0 0 0 0)
 
 -- What an accepted call gives, whatever the factors' stretches hold ("Demand 1 and 17 need no premise"): its arguments were right; each step that was read was answered, and some group has them by
 -- the numbering rule; the factor is accepted, so a group, and its steps are those; and the buffers are as after any acceptance.
 pub record FlatRegardless (from : List ℕ) (g : Group) (table : List ℕ) (start : ℕ) (work : List ℕ) (room : ℕ) (f : Factor) (t w : List ℕ) : Type 1 where
   pub right : FlatRight from g table start work room
-  pub taken : Taken (stepRead from (handles g)) (generatorsOf (handles g)) room (f .elements)
+  pub taken : Taken (stepNumber from (handles g)) (generatorsOf (handles g)) room (f .elements)
   pub accepted : Accepted t f
   pub answered : {e x : ℕ} → e < f .elements → x < generatorsOf (handles g) → stepIn from (handles g) e x ≡ reach (factorStep t f e x)
   pub made : FlatMade table start work (generatorsOf (handles g)) room f t w

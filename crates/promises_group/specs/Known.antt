@@ -57,8 +57,8 @@ abbrev pub nine : Group
 nine = record { factors = replicate 8 z2; count = 9 }
 
 -- A lent list of three numbers.
-abbrev pub short : List ℕ
-short = replicate 3 8
+abbrev pub threeNumbers : List ℕ
+threeNumbers = replicate 3 8
 
 -- The cases, each with its answer.
 pub record KnownProducts : Type 0 where
@@ -68,7 +68,7 @@ pub record KnownProducts : Type 0 where
   pub generator-2 : generatorAnswer table S3-Z2 (letter 2) ≡ reach 6
   pub stepped : stepAnswer table S3-Z2 (element 9) (letter 2) ≡ reach 3
   -- The digits and the word in longer lists, whose rest stays as it was.
-  pub split-9 : splitLeaves table S3-Z2 (element 9) short ≡ 3 ∷ 1 ∷ 8 ∷ []
+  pub split-9 : splitLeaves table S3-Z2 (element 9) threeNumbers ≡ 3 ∷ 1 ∷ 8 ∷ []
   pub split-counts : splitAnswer table S3-Z2 (element 9) 3 ≡ Count 2
   pub join-9 : joinAnswer table S3-Z2 (3 ∷ 1 ∷ 5 ∷ []) ≡ reach 9
   pub word-9 : written table S3-Z2 (element 9) (9 ∷ 9 ∷ 9 ∷ 9 ∷ []) ≡ 0 ∷ 1 ∷ 2 ∷ 9 ∷ []

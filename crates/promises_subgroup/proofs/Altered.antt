@@ -26,7 +26,7 @@ use Rattle.build_numbering_laws.proofs.Partial.{total-answering, partial-build}
 use Rattle.build_numbering_laws.proofs.Builds.{builtOf, renumber-built, renumber-filled, refused-maps}
 use Rattle.subgroup_build.specs.declared.Subgroup.{Subgroup}
 use Rattle.subgroup_build.specs.Lent.{subgrouping, mapsBack}
-use Rattle.subgroup_rows.specs.Rows.{productOf}
+use Rattle.subgroup_rows.specs.Rows.{productBy}
 use Rattle.subgroup_build.specs.Generated.{fromGenerators}
 use Rattle.promises_subgroup.specs.Generates.{Started}
 use Rattle.promises_subgroup.specs.Altered.{stepsRead, MapsAfter, filled, zeros, BySteps, Stopped, Regardless}
@@ -43,7 +43,7 @@ module _ (from : List ℕ) (over : Group) (gens table : List ℕ) (start : ℕ) 
   M = elementsOf (handles over)
 
   abbrev source : ℕ → ℕ → Reached
-  source = productOf from (handles over) gens
+  source = productBy from (handles over) gens
 
   abbrev size : ℕ
   size = tableNeed n room
@@ -104,12 +104,12 @@ module _ (from : List ℕ) (over : Group) (gens table : List ℕ) (start : ℕ) 
         is = z ∙ ap (λ (x : Built). mapsBack over table start work inn outw M n n room (renumbering x i o)) e;
       }
 
-  stopped : {r : Refusal} {t w i o : List ℕ} → RefusedAt (productOf from (handles over) gens) 0 n room (appearing I .0) (appearing I .1) r
-      → renumberIn size lent (productOf from (handles over) gens) n room M room 0 ≡ renumbering (built (counted.Refused r) t w) i o
+  stopped : {r : Refusal} {t w i o : List ℕ} → RefusedAt (productBy from (handles over) gens) 0 n room (appearing I .0) (appearing I .1) r
+      → renumberIn size lent (productBy from (handles over) gens) n room M room 0 ≡ renumbering (built (counted.Refused r) t w) i o
       → Stopped from over gens table start work inn outw room (fromGenerators from over gens table start work inn outw room)
   stopped {r} {t} {w} {i} {o} b e =
-      let Z = refused-stretches size lent (productOf from (handles over) gens) n room M room 0 e in
-      let Y = refused-maps size lent (productOf from (handles over) gens) n room M room 0 e in
+      let Z = refused-stretches size lent (productBy from (handles over) gens) n room M room 0 e in
+      let Y = refused-maps size lent (productBy from (handles over) gens) n room M room 0 e in
       let l : length (take (workNeed n room) work) ≡ workNeed n room = called.work-long from over gens table start work inn outw room S in
       record {
         count = appearing I .0;
@@ -147,7 +147,7 @@ module _ (from : List ℕ) (over : Group) (gens table : List ℕ) (start : ℕ) 
       let k : ℕ = length gens in
       let S = called.accepted-started from over gens table start work inn outw room q in
       let B = called.back-accepted from over gens table start work inn outw room
-      (renumberIn (tableNeed k room) (take (workNeed k room) work) (productOf from (handles over) gens) k room (elementsOf (handles over)) room 0)
+      (renumberIn (tableNeed k room) (take (workNeed k room) work) (productBy from (handles over) gens) k room (elementsOf (handles over)) room 0)
       (sym (called.is-build from over gens table start work inn outw room S) ∙ q) in
       regardless-at (B .value) (B .table-is) (B .work-is) (B .inn-is) (B .outw-is)
       (regardless from over gens k table start work inn outw room (S .fits) (S .small) (S .lent) (le-refl k) (S .few)

@@ -41,7 +41,7 @@ use Rattle.build_numbering_laws.proofs.Builds.{builtOf, renumber-built}
 use Rattle.build_numbering_laws.proofs.SubgroupBuilds.{subgroup-9, subgroup-11}
 use Rattle.factor_walk.specs.Walked.{shown}
 use Rattle.subgroup_build.specs.Lent.{mapsRight, mapsBack}
-use Rattle.subgroup_rows.specs.Rows.{productOf}
+use Rattle.subgroup_rows.specs.Rows.{productBy}
 use Rattle.subgroup_build.specs.Generated.{entryRight, entriesRight, smallEnough, admitsGenerators, fromGenerators}
 use Rattle.subgroup_build.proofs.Admits.{small-limited, small-elements, maps-lent, maps-inn, maps-outw}
 use Rattle.promises_subgroup.specs.Generates.{Started}
@@ -178,7 +178,7 @@ module _ (from : List ℕ) (over : Group) (gens table : List ℕ) (start : ℕ) 
   }
 
   abbrev build : Renumbering
-  build = renumberIn (tableNeed n room) (take (workNeed n room) work) (productOf from (handles over) gens) n room M room 0
+  build = renumberIn (tableNeed n room) (take (workNeed n room) work) (productBy from (handles over) gens) n room M room 0
 
   -- What has started, with N elements generated.
   module _ {N : ℕ} {elt : ℕ → ℕ} (Q : Generating from over gens table start work inn outw room N elt) where
@@ -197,13 +197,13 @@ module _ (from : List ℕ) (over : Group) (gens table : List ℕ) (start : ℕ) 
     hi : room ≤ 65535
     hi = called.hi from over gens table start work inn outw room S
 
-    the-build : builtOf (renumberIn (tableNeed (length gens) room) (take (workNeed (length gens) room) work) (productOf from (handles over) gens) (length gens) room
+    the-build : builtOf (renumberIn (tableNeed (length gens) room) (take (workNeed (length gens) room) work) (productBy from (handles over) gens) (length gens) room
         (elementsOf (handles over)) room 0)
         ≡ finishedPlaced (readAll (numberedStep N elt (rightBy (direct from over .op) (λ g. getD gens g 0))) (length gens) room
         (replicate (tableNeed (length gens) room) 0)) (length gens) (take (workNeed (length gens) room) work)
     the-build =
         renumber-built (Q .appearing) (right-inside (called.G from over gens table start work inn outw room S As) (called.gens-below from over gens table start work inn outw room S As))
-        (called.small from over gens table start work inn outw room S) (productOf from (handles over) gens) (called.answering from over gens table start work inn outw room S As)
+        (called.small from over gens table start work inn outw room S) (productBy from (handles over) gens) (called.answering from over gens table start work inn outw room S As)
         room room lo hi (le-refl room) (tableNeed n room) (take (workNeed n room) work) (Q .few) (le-refl (tableNeed n room))
         (called.work-fits from over gens table start work inn outw room S)
 
@@ -225,7 +225,7 @@ module _ (from : List ℕ) (over : Group) (gens table : List ℕ) (start : ℕ) 
         → subgroupPaper (fromGenerators from over gens table start work inn outw room) ≡ refusalPaper (numbered 9 0 g 0)
     is-9 L F =
         refused (ap builtOf (subgroup-9 (called.G from over gens table start work inn outw room S As) (called.gens-below from over gens table start work inn outw room S As)
-        (Q .appearing) (called.small from over gens table start work inn outw room S) (productOf from (handles over) gens)
+        (Q .appearing) (called.small from over gens table start work inn outw room S) (productBy from (handles over) gens)
         (called.answering from over gens table start work inn outw room S As) room room lo hi (le-refl room) (tableNeed n room) (take (workNeed n room) work) (Q .few)
         (le-refl (tableNeed n room)) (called.work-fits from over gens table start work inn outw room S) (L .within) (λ e h. L .short h) F .4))
 
@@ -233,7 +233,7 @@ module _ (from : List ℕ) (over : Group) (gens table : List ℕ) (start : ℕ) 
         → subgroupPaper (fromGenerators from over gens table start work inn outw room) ≡ refusalPaper (numbered 11 g 0 0)
     is-11 L F =
         refused (ap builtOf (subgroup-11 (called.G from over gens table start work inn outw room S As) (called.gens-below from over gens table start work inn outw room S As)
-        (Q .appearing) (called.small from over gens table start work inn outw room S) (productOf from (handles over) gens)
+        (Q .appearing) (called.small from over gens table start work inn outw room S) (productBy from (handles over) gens)
         (called.answering from over gens table start work inn outw room S As) room room lo hi (le-refl room) (tableNeed n room) (take (workNeed n room) work) (Q .few)
         (le-refl (tableNeed n room)) (called.work-fits from over gens table start work inn outw room S) (L .within) (λ e h. L .short h) F .4))
 

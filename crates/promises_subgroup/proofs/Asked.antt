@@ -27,7 +27,7 @@ use Rattle.subgroup_build.specs.declared.Subgroup.{Subgroup}
 use Rattle.subgroup_build.specs.declared.Subgrouped.{Subgrouped}
 use Rattle.subgroup.specs.declared.Within.the-variants as within
 use Rattle.subgroup.specs.Indices.{overOf, subOf}
-use Rattle.subgroup_sides.specs.Sides.{overSide, subSide, sidesFit, fewFactors, sidesLimited, admitsSides, leftOf, rightOf, refusedSubgroup, ifLimited, joinable, multiplied, leftProduct, rightProduct, strideOf}
+use Rattle.subgroup_sides.specs.Sides.{overSide, subSide, sidesFit, fewFactors, sidesLimited, admitsSides, putLeft, putRight, refusedSubgroup, ifLimited, joinable, multiplied, leftProduct, rightProduct, strideOf}
 use Rattle.subgroup.specs.Questions.{withinPaper, refusedWithin, carriedOver, carriedBack, toOverAnswer, toSubAnswer}
 use Rattle.subgroup_sides.proofs.Counts.{over-count, sub-count, second-small}
 use Rattle.subgroup.proofs.IndexLaws.{within-small}
@@ -126,13 +126,13 @@ fitting-fine true x e = (refl, e)
 fitting-fine false x e = absurd (refused-fine (ap (λ (y : Subgrouped). y .answer) e))
 
 module _ (from table : ℕ) (s : Subgroup) (g : Group) where
-  pub left-value : {t : Subgroup} → leftProduct from table g s ≡ record { answer = Fine; subgroup = t } → t ≡ leftOf g s
+  pub left-value : {t : Subgroup} → leftProduct from table g s ≡ record { answer = Fine; subgroup = t } → t ≡ putLeft g s
   unfolding leftProduct
-  left-value {t} q = multiplied-fine g (s .below) (leftOf g s) (fitting-fine (sidesFit from table s && allFit from (handles g)) _ q .1) .0
+  left-value {t} q = multiplied-fine g (s .below) (putLeft g s) (fitting-fine (sidesFit from table s && allFit from (handles g)) _ q .1) .0
 
-  pub right-value : {t : Subgroup} → rightProduct from table s g ≡ record { answer = Fine; subgroup = t } → t ≡ rightOf s g
+  pub right-value : {t : Subgroup} → rightProduct from table s g ≡ record { answer = Fine; subgroup = t } → t ≡ putRight s g
   unfolding rightProduct
-  right-value {t} q = multiplied-fine (s .above) g (rightOf s g) (fitting-fine (sidesFit from table s && allFit from (handles g)) _ q .1) .0
+  right-value {t} q = multiplied-fine (s .above) g (putRight s g) (fitting-fine (sidesFit from table s && allFit from (handles g)) _ q .1) .0
 
 module _ {from table : ℕ} {s : Subgroup} {inn outw : List ℕ} (K : Askable from table s inn outw) (g : Group) where
   parts-fit : fitsIn table (s .factor) && (allFit from (handles (s .below)) && (allFit from (handles (s .over)) && allFit from (handles (s .above)))) ≡ true
@@ -153,14 +153,14 @@ module _ {from table : ℕ} {s : Subgroup} {inn outw : List ℕ} (K : Askable fr
   f-fits : fitsIn table (s .factor) ≡ true
   f-fits = and-first _ _ parts-fit
 
-  left-fits : allFit from (handles g) ≡ true → sidesFit from table (leftOf g s) ≡ true
+  left-fits : allFit from (handles g) ≡ true → sidesFit from table (putLeft g s) ≡ true
   left-fits e =
-      fit-law from table (leftOf g s)
+      fit-law from table (putLeft g s)
       ∙ both f-fits (both (ap (allFit from) (handles-of (handles g ++ handles (s .below))) ∙ fit-both from (handles g) (handles (s .below)) ∙ both e b-fits) rest-fits)
 
-  right-fits : allFit from (handles g) ≡ true → sidesFit from table (rightOf s g) ≡ true
+  right-fits : allFit from (handles g) ≡ true → sidesFit from table (putRight s g) ≡ true
   right-fits e =
-      fit-law from table (rightOf s g)
+      fit-law from table (putRight s g)
       ∙ both f-fits (both b-fits (both (and-first (allFit from (handles (s .over))) (allFit from (handles (s .above))) rest-fits)
       (ap (allFit from) (handles-of (handles (s .above) ++ handles g)) ∙ fit-both from (handles (s .above)) (handles g)
       ∙ both (and-second (allFit from (handles (s .over))) _ rest-fits) e)))
@@ -169,7 +169,7 @@ module _ {from table : ℕ} {s : Subgroup} {inn outw : List ℕ} (K : Askable fr
   unfolding leftProduct
   left-known {t} q =
       let F = fitting-fine (sidesFit from table s && allFit from (handles g)) _ q in
-      let L = multiplied-fine g (s .below) (leftOf g s) (F .1) in
+      let L = multiplied-fine g (s .below) (putLeft g s) (F .1) in
       known-as (L .0) (record {
         fits = left-fits (and-second (sidesFit from table s) _ (F .0));
         limited = L .1;
@@ -182,7 +182,7 @@ module _ {from table : ℕ} {s : Subgroup} {inn outw : List ℕ} (K : Askable fr
   unfolding rightProduct
   right-known {t} q =
       let F = fitting-fine (sidesFit from table s && allFit from (handles g)) _ q in
-      let L = multiplied-fine (s .above) g (rightOf s g) (F .1) in
+      let L = multiplied-fine (s .above) g (putRight s g) (F .1) in
       known-as (L .0) (record {
         fits = right-fits (and-second (sidesFit from table s) _ (F .0));
         limited = L .1;

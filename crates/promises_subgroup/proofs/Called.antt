@@ -43,7 +43,7 @@ use Rattle.subgroup_build.specs.declared.Subgroup.{Subgroup}
 use Rattle.subgroup_build.specs.declared.Subgrouped.{Subgrouped}
 use Rattle.factor_walk.specs.Walked.{shown}
 use Rattle.subgroup_build.specs.Lent.{subgroupOf, subgrouping, mapsRight, mapsBack}
-use Rattle.subgroup_rows.specs.Rows.{productOf}
+use Rattle.subgroup_rows.specs.Rows.{productBy}
 use Rattle.subgroup_build.specs.Generated.{entryRight, entriesRight, admitsGenerators, generatedInto, fromGenerators}
 use Rattle.subgroup_build.proofs.Admits.{generators-fine, admitted, small-elements, maps-lent, maps-inn, maps-outw}
 use Rattle.promises_subgroup.specs.Carried.{MapsUndo, Homomorphic}
@@ -132,7 +132,7 @@ module _ (from : List ℕ) (over : Group) (gens table : List ℕ) (start : ℕ) 
   pub is-build : Started from over gens table start work inn outw room
       → fromGenerators from over gens table start work inn outw room
       ≡ mapsBack over table start work inn outw M n n room
-      (renumberIn (tableNeed n room) (take (workNeed n room) work) (productOf from (handles over) gens) n room M room 0)
+      (renumberIn (tableNeed n room) (take (workNeed n room) work) (productBy from (handles over) gens) n room M room 0)
   unfolding fromGenerators generatedInto
   is-build S =
       let v : admitsGenerators (length from) over gens ≡ Fine = sym (generators-fine (length from) over gens (S .fits) refl (S .entries) refl (S .small)) in
@@ -258,7 +258,7 @@ module _ (from : List ℕ) (over : Group) (gens table : List ℕ) (start : ℕ) 
     inv = direct from over .inv
 
     abbrev source : ℕ → ℕ → Reached
-    source = productOf from (handles over) gens
+    source = productBy from (handles over) gens
 
     pub G : GroupOn M op inv
     G = product-overgroup from As

@@ -41,7 +41,7 @@ use Rattle.build_numbering_laws.proofs.Builds.{builtOf}
 use Rattle.subgroup_build.specs.declared.Subgroup.{Subgroup}
 use Rattle.factor_walk.specs.Walked.{shown}
 use Rattle.subgroup_build.specs.Lent.{subgrouping, mapsRight}
-use Rattle.subgroup_rows.specs.Rows.{productOf}
+use Rattle.subgroup_rows.specs.Rows.{productBy}
 use Rattle.subgroup_build.specs.Generated.{entryRight, entriesRight, smallEnough, admitsGenerators, fromGenerators}
 use Rattle.subgroup_build.proofs.Admits.{generators-fine, admitted}
 use Rattle.promises_subgroup.specs.Generates.{Started}
@@ -80,8 +80,8 @@ module _ (from : List ℕ) (over : Group) (gens : List ℕ) (fits : allFit (leng
     by-reading (placed (Refused s) t₀) e {r} q =
         let i : s ≡ r = cc in
         subst (RefusalIn generatorsAfter) i
-        (reading (refused-5-or-6 A I small (total (productOf from (handles over) gens) 0)
-        (total-answering n (elementsOf (handles over)) (productOf from (handles over) gens) 0) room room lo hi (le-refl room)
+        (reading (refused-5-or-6 A I small (total (productBy from (handles over) gens) 0)
+        (total-answering n (elementsOf (handles over)) (productBy from (handles over) gens) 0) room room lo hi (le-refl room)
         (refused-read src n room size few lo hi enough e)))
 
     pub steps-number : {r : Refusal} {t w : List ℕ}

@@ -32,7 +32,7 @@ use Rattle.build_numbering.specs.Build.{renumbering, finishedMapped, renumberIn
 use Rattle.build_numbering_laws.proofs.Builds.{builtOf, settled-built, refused-maps, settled-count}
 use Rattle.subgroup_build.specs.declared.Subgroup.{Subgroup}
 use Rattle.subgroup_build.specs.Lent.{subgrouping, mapsRight}
-use Rattle.subgroup_rows.specs.Rows.{productOf}
+use Rattle.subgroup_rows.specs.Rows.{productBy}
 use Rattle.subgroup_build.specs.Generated.{fromGenerators}
 use Rattle.subgroup_build.proofs.Admits.{maps-lent, maps-inn, maps-outw}
 use Rattle.promises_subgroup.specs.Generates.{Started}
@@ -139,9 +139,9 @@ module _ (from : List ℕ) (over : Group) (gens table : List ℕ) (start : ℕ) 
   generators-cleared S q =
       let n : ℕ = length gens in
       let T = back-refused from over gens table start work inn outw room _ (sym (is-build from over gens table start work inn outw room S) ∙ q) in
-      let Z = refused-stretches (tableNeed n room) (take (workNeed n room) work) (productOf from (handles over) gens) n room (elementsOf (handles over)) room 0
+      let Z = refused-stretches (tableNeed n room) (take (workNeed n room) work) (productBy from (handles over) gens) n room (elementsOf (handles over)) room 0
       (T .is) in
-      let Y = refused-maps (tableNeed n room) (take (workNeed n room) work) (productOf from (handles over) gens) n room (elementsOf (handles over)) room 0
+      let Y = refused-maps (tableNeed n room) (take (workNeed n room) work) (productBy from (handles over) gens) n room (elementsOf (handles over)) room 0
       (T .is) in
       let l : length (take (workNeed n room) work) ≡ workNeed n room = work-long from over gens table start work inn outw room S in
       four-cleared table start work inn outw n (elementsOf (handles over)) room (S .lent)

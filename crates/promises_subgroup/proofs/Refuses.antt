@@ -24,7 +24,7 @@ use Rattle.subgroup_build.specs.declared.Subgroup.{Subgroup}
 use Rattle.subgroup_build.specs.declared.Subgrouped.{Subgrouped}
 use Rattle.subgroup.specs.declared.Within.{Within}
 use Rattle.subgroup.specs.declared.Within.the-variants as within
-use Rattle.subgroup_sides.specs.Sides.{sidesFit, sidesLimited, admitsSides, leftOf, rightOf, ifLimited, joinable, multiplied, leftProduct, rightProduct, strideOf, overCount}
+use Rattle.subgroup_sides.specs.Sides.{sidesFit, sidesLimited, admitsSides, putLeft, putRight, ifLimited, joinable, multiplied, leftProduct, rightProduct, strideOf, overCount}
 use Rattle.subgroup.specs.Questions.{ifWithin, carriedOver, carriedBack, toOverAnswer, toSubAnswer, generatorAnswer, admitsHandles, generatorCountAnswer, ifGrouped, overgroupAnswer}
 use Rattle.subgroup_sides.specs.Generators.{sideGenerator}
 use Rattle.promises_subgroup.specs.Refuses.{WithinIn, SubgroupRefuses}
@@ -104,11 +104,11 @@ side-in from table s g =
 module _ (from table : List ℕ) (s : Subgroup) where
   lefts : (g : Group) → VerdictIn (15 ∷ 17 ∷ []) (leftProduct (length from) (length table) g s .answer)
   unfolding leftProduct
-  lefts g = subgroup-pick (sidesFit (length from) (length table) s && allFit (length from) (handles g)) _ _ (multiplied-in g (s .below) (leftOf g s)) (verdict-refused _ refl)
+  lefts g = subgroup-pick (sidesFit (length from) (length table) s && allFit (length from) (handles g)) _ _ (multiplied-in g (s .below) (putLeft g s)) (verdict-refused _ refl)
 
   rights : (g : Group) → VerdictIn (15 ∷ 17 ∷ []) (rightProduct (length from) (length table) s g .answer)
   unfolding rightProduct
-  rights g = subgroup-pick (sidesFit (length from) (length table) s && allFit (length from) (handles g)) _ _ (multiplied-in (s .above) g (rightOf s g)) (verdict-refused _ refl)
+  rights g = subgroup-pick (sidesFit (length from) (length table) s && allFit (length from) (handles g)) _ _ (multiplied-in (s .above) g (putRight s g)) (verdict-refused _ refl)
 
   outward : (outw : List ℕ) (e : GroupElementId) → ReachedIn (14 ∷ 15 ∷ 17 ∷ []) (toOverAnswer (length from) (length table) s outw e)
   unfolding toOverAnswer

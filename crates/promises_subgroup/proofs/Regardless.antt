@@ -40,7 +40,7 @@ use Rattle.build_numbering_laws.proofs.Partial.{ranged-inside, total-answering,
 use Rattle.build_numbering_laws.proofs.Builds.{builtOf, not-refused, renumber-built, renumber-holds, renumber-work, renumber-filled, renumber-maps}
 use Rattle.subgroup_build.specs.declared.Subgroup.{Subgroup}
 use Rattle.subgroup_build.specs.Lent.{mapsRight}
-use Rattle.subgroup_rows.specs.Rows.{productOf}
+use Rattle.subgroup_rows.specs.Rows.{productBy}
 use Rattle.subgroup_build.specs.Generated.{smallEnough}
 use Rattle.subgroup_build.proofs.Admits.{small-elements, maps-lent, maps-inn, maps-outw}
 use Rattle.promises_subgroup.specs.Altered.{stepsRead, Regardless}
@@ -82,7 +82,7 @@ module _ (from : List ℕ) (over : Group) (gens : List ℕ) (k : ℕ) (table : L
     (fits : allFit (length from) (handles over) ≡ true) (few-elements : smallEnough over ≡ true)
     (right : mapsRight (length table) start (length work) (length inn) (length outw) room k (elementsOf (handles over)) ≡ true)
     (few : length gens ≤ k) (most : k ≤ 8) (v : List ℕ) (long : length v ≡ workNeed k room) {c : ℕ} {t w i o : List ℕ}
-    (q : renumberIn (tableNeed k room) v (productOf from (handles over) gens) (length gens) room (elementsOf (handles over)) room 0
+    (q : renumberIn (tableNeed k room) v (productBy from (handles over) gens) (length gens) room (elementsOf (handles over)) room 0
     ≡ renumbering (built (counted.Count c) t w) i o)
   where
     abbrev n : ℕ
@@ -92,7 +92,7 @@ module _ (from : List ℕ) (over : Group) (gens : List ℕ) (k : ℕ) (table : L
     M = elementsOf (handles over)
 
     abbrev source : ℕ → ℕ → Reached
-    source = total (productOf from (handles over) gens) 0
+    source = total (productBy from (handles over) gens) 0
 
     small : elementsOf (handles over) ≤ 4294967295
     small = omega (arith, small-elements over few-elements)
@@ -124,29 +124,29 @@ module _ (from : List ℕ) (over : Group) (gens : List ℕ) (k : ℕ) (table : L
     abbrev src : ℕ → ℕ → ℕ
     src = numberedStep (appearing I .0) (appearing I .1) (stepsRead from over gens)
 
-    answering : Answering n M (stepsRead from over gens) (total (productOf from (handles over) gens) 0)
-    answering = total-answering n M (productOf from (handles over) gens) 0
+    answering : Answering n M (stepsRead from over gens) (total (productBy from (handles over) gens) 0)
+    answering = total-answering n M (productBy from (handles over) gens) 0
 
     rows : room * (2 * length gens + 4) ≤ tableNeed k room
     rows = fewer-rows (length gens) k room few
 
     -- An accepted build is that of the steps, all of which were answered.
-    of-steps : (renumberIn (tableNeed k room) v (total (productOf from (handles over) gens) 0) (length gens) room (elementsOf (handles over)) room 0
+    of-steps : (renumberIn (tableNeed k room) v (total (productBy from (handles over) gens) 0) (length gens) room (elementsOf (handles over)) room 0
         ≡ renumbering (built (counted.Count c) t w) i o)
-        × AllAnswered (productOf from (handles over) gens) 0 (length gens) room (appearing I .0) (appearing I .1)
-    of-steps = go (partial-build (productOf from (handles over) gens) 0 A I small room room lo hi (le-refl room) (tableNeed k room) eight rows v) where
-      go : ((renumberIn (tableNeed k room) v (productOf from (handles over) gens) n room M room 0 ≡ renumberIn (tableNeed k room) v source n room M room 0)
-          × AllAnswered (productOf from (handles over) gens) 0 n room (appearing I .0) (appearing I .1))
-          ⊎ ((r : Refusal) × RefusedAt (productOf from (handles over) gens) 0 n room (appearing I .0) (appearing I .1) r
+        × AllAnswered (productBy from (handles over) gens) 0 (length gens) room (appearing I .0) (appearing I .1)
+    of-steps = go (partial-build (productBy from (handles over) gens) 0 A I small room room lo hi (le-refl room) (tableNeed k room) eight rows v) where
+      go : ((renumberIn (tableNeed k room) v (productBy from (handles over) gens) n room M room 0 ≡ renumberIn (tableNeed k room) v source n room M room 0)
+          × AllAnswered (productBy from (handles over) gens) 0 n room (appearing I .0) (appearing I .1))
+          ⊎ ((r : Refusal) × RefusedAt (productBy from (handles over) gens) 0 n room (appearing I .0) (appearing I .1) r
           × (t : List ℕ) × (i : List ℕ) × (o : List ℕ)
-          × (renumberIn (tableNeed k room) v (productOf from (handles over) gens) n room M room 0
+          × (renumberIn (tableNeed k room) v (productBy from (handles over) gens) n room M room 0
           ≡ renumbering (built (counted.Refused r) (zeroed t) (zeroed v)) (zeroed i) (zeroed o)))
           → (renumberIn (tableNeed k room) v source n room M room 0 ≡ renumbering (built (counted.Count c) t w) i o)
-          × AllAnswered (productOf from (handles over) gens) 0 n room (appearing I .0) (appearing I .1)
+          × AllAnswered (productBy from (handles over) gens) 0 n room (appearing I .0) (appearing I .1)
       go (inl (e, a)) = (sym e ∙ q, a)
       go (inr (r, b, t, i, o, e)) = absurd (not-refused (sym e ∙ q))
 
-    same : renumberIn (tableNeed k room) v (total (productOf from (handles over) gens) 0) (length gens) room (elementsOf (handles over)) room 0
+    same : renumberIn (tableNeed k room) v (total (productBy from (handles over) gens) 0) (length gens) room (elementsOf (handles over)) room 0
         ≡ renumbering (built (counted.Count c) t w) i o
     same = of-steps .0
 
@@ -173,9 +173,9 @@ module _ (from : List ℕ) (over : Group) (gens : List ℕ) (k : ℕ) (table : L
     whole-count : c ≡ appearing I .0
     whole-count = filled-maps .0
 
-    all-answered : AllAnswered (productOf from (handles over) gens) 0 n room (appearing I .0) (appearing I .1)
-        → AnsweredTo (productOf from (handles over) gens) 0 n (appearing I .1) c 0
-    all-answered (whole R a) = subst (λ (m : ℕ). AnsweredTo (productOf from (handles over) gens) 0 n (appearing I .1) m 0) (sym whole-count) a
+    all-answered : AllAnswered (productBy from (handles over) gens) 0 n room (appearing I .0) (appearing I .1)
+        → AnsweredTo (productBy from (handles over) gens) 0 n (appearing I .1) c 0
+    all-answered (whole R a) = subst (λ (m : ℕ). AnsweredTo (productBy from (handles over) gens) 0 n (appearing I .1) m 0) (sym whole-count) a
     all-answered (until stop a) = absurd (readable-not-refused (own .taken .readable) stop)
 
     numbered-so : Holding (numberedStep c (appearing I .1) (stepsRead from over gens)) n room (tableNeed n room) c (take (tableNeed n room) t)

@@ -31,7 +31,7 @@ use Rattle.build_numbering_laws.proofs.Builds.{builtOf, renumber-built, renumbe
 use Rattle.build_numbering_laws.proofs.RoomierMaps.{inward-same, outward-same}
 use Rattle.subgroup_build.specs.declared.Subgroup.{Subgroup}
 use Rattle.subgroup_build.specs.Lent.{Subgrouping, subgrouping, mapsBack}
-use Rattle.subgroup_rows.specs.Rows.{productOf}
+use Rattle.subgroup_rows.specs.Rows.{productBy}
 use Rattle.subgroup_build.specs.Generated.{fromGenerators}
 use Rattle.promises_subgroup.specs.Generates.{Started, RoomierGenerates}
 use Rattle.promises_subgroup.proofs.Called as called
@@ -80,20 +80,20 @@ module _ (from : List ℕ) (over : Group) (gens table : List ℕ) (start : ℕ) 
   M = elementsOf (handles over)
 
   abbrev source : ℕ → ℕ → Reached
-  source = productOf from (handles over) gens
+  source = productBy from (handles over) gens
 
   S : Started from over gens table start work inn outw room
   S = called.accepted-started from over gens table start work inn outw room q
 
   B : called.Backed from over gens table start work inn outw room
-      (renumberIn (tableNeed n room) (take (workNeed n room) work) (productOf from (handles over) gens) n room M room 0) s t w i o
+      (renumberIn (tableNeed n room) (take (workNeed n room) work) (productBy from (handles over) gens) n room M room 0) s t w i o
   B = called.back-accepted from over gens table start work inn outw room _ (sym (called.is-build from over gens table start work inn outw room S) ∙ q)
 
   wider : tableNeed n room ≤ tableNeed n room′
   wider = mul-le-mul more (le-refl (2 * n + 4))
 
   R : (w₂ : List ℕ) × (i′ : List ℕ) × (o′ : List ℕ)
-      × ((renumberIn (tableNeed n room′) (take (workNeed n room′) work′) (productOf from (handles over) gens) n room′ M room′ 0
+      × ((renumberIn (tableNeed n room′) (take (workNeed n room′) work′) (productBy from (handles over) gens) n room′ M room′ 0
       ≡ renumbering (built (Count (B .count)) (longer (tableNeed n room′ - tableNeed n room) (B .table′)) w₂) i′ o′)
       × ((B .inn′ ≡ i′) × ((e : ℕ) → getD (B .outw′) e 0 ≡ getD o′ e 0)))
   R =
@@ -109,10 +109,10 @@ module _ (from : List ℕ) (over : Group) (gens table : List ℕ) (start : ℕ) 
   longest = longer (tableNeed n room′ - tableNeed n room) (B .table′)
 
   first : (length (B .table′) ≡ tableNeed n room) × ((length (B .work′) ≡ length (take (workNeed n room) work)) × ((length (B .inn′) ≡ M) × (length (B .outw′) ≡ room)))
-  first = accepted-lengths (tableNeed n room) (take (workNeed n room) work) (productOf from (handles over) gens) n room M room 0 (B .is)
+  first = accepted-lengths (tableNeed n room) (take (workNeed n room) work) (productBy from (handles over) gens) n room M room 0 (B .is)
 
   second : (length longest ≡ tableNeed n room′) × ((length (R .0) ≡ length (take (workNeed n room′) work′)) × ((length (R .1) ≡ M) × (length (R .2) ≡ room′)))
-  second = accepted-lengths (tableNeed n room′) (take (workNeed n room′) work′) (productOf from (handles over) gens) n room′ M room′ 0 (R .3 .0)
+  second = accepted-lengths (tableNeed n room′) (take (workNeed n room′) work′) (productBy from (handles over) gens) n room′ M room′ 0 (R .3 .0)
 
   same-cell : {k : ℕ} → k < tableNeed n room
       → getD (within table′ start′ (start′ + tableNeed n room′) longest) (start′ + k) 0 ≡ getD t (start + k) 0

@@ -25,7 +25,7 @@ use Rattle.promises_group.specs.Products.{part, parts, AllAccepted, AcceptedPro
 use Rattle.promises_group.proofs.Parts.{all-groups, all-fit, parts-elements}
 use Rattle.promises_group.proofs.Made.{grouped, all-both}
 use Rattle.subgroup_build.specs.declared.Subgroup.{Subgroup}
-use Rattle.subgroup_sides.specs.Sides.{overSide, subSide, sidesLimited, fewFactors, strideOf, overCount, leftOf, rightOf, leftProduct, rightProduct}
+use Rattle.subgroup_sides.specs.Sides.{overSide, subSide, sidesLimited, fewFactors, strideOf, overCount, putLeft, putRight, leftProduct, rightProduct}
 use Rattle.subgroup_sides.proofs.Counts.{elements-append, over-count, sub-count}
 use Rattle.subgroup_sides.proofs.SideLaws.{over-within}
 use Rattle.subgroup.specs.Indices.{overOf}
@@ -170,22 +170,22 @@ joins-so from a b {l} A B e h k =
 
 -- With a further group at the left.
 module _ {from gens : List ℕ} {s : Subgroup} {t i o : List ℕ} (S : Beside from gens s t i o) {g : Group} (A : AcceptedProduct from g) where
-  left-over : overSide (leftOf g s) ≡ handles g ++ overSide s
+  left-over : overSide (putLeft g s) ≡ handles g ++ overSide s
   left-over = ap (λ (l : List Factor). l ++ (handles (s .over) ++ handles (s .above))) (handles-of (handles g ++ handles (s .below)))
       ∙ append-assoc (handles g) (handles (s .below)) (handles (s .over) ++ handles (s .above))
 
-  left-sub : subSide (leftOf g s) ≡ handles g ++ subSide s
+  left-sub : subSide (putLeft g s) ≡ handles g ++ subSide s
   left-sub = ap (λ (l : List Factor). l ++ (s .factor ∷ handles (s .above))) (handles-of (handles g ++ handles (s .below)))
       ∙ append-assoc (handles g) (handles (s .below)) (s .factor ∷ handles (s .above))
 
-  left-stride : strideOf (leftOf g s) ≡ elementsOf (handles g) * strideOf s
+  left-stride : strideOf (putLeft g s) ≡ elementsOf (handles g) * strideOf s
   left-stride = ap elementsOf (handles-of (handles g ++ handles (s .below))) ∙ elements-append (handles g) (handles (s .below))
 
   module _ {r : Subgroup} (q : leftProduct (length from) (length t) g s ≡ record { answer = Fine; subgroup = r }) where
-    left-is : r ≡ leftOf g s
+    left-is : r ≡ putLeft g s
     left-is = left-value (length from) (length t) s g q
 
-    beside-left : Beside from gens (leftOf g s) t i o
+    beside-left : Beside from gens (putLeft g s) t i o
     beside-left = record {
       holds = S .holds;
       over = S .over;
@@ -199,16 +199,16 @@ module _ {from gens : List ℕ} {s : Subgroup} {t i o : List ℕ} (S : Beside fr
 
     left-out : {b e x : ℕ} → b < elementsOf (handles g) → e < elementsOf (subSide s)
         → toOverAnswer (length from) (length t) s o (record { 0 = e }) ≡ reach x
-        → toOverAnswer (length from) (length t) (leftOf g s) o (record { 0 = b + elementsOf (handles g) * e }) ≡ reach (b + elementsOf (handles g) * x)
+        → toOverAnswer (length from) (length t) (putLeft g s) o (record { 0 = b + elementsOf (handles g) * e }) ≡ reach (b + elementsOf (handles g) * x)
     left-out {b} {e} {x} hb he z =
         let y : overOf (strideOf s) (overCount s) (s .factor .elements) (λ k. getD o k 0) e ≡ x = reach-once (sym (maps-answer (S .known) .outward he) ∙ z) in
-        let w : b + elementsOf (handles g) * e < elementsOf (subSide (leftOf g s)) = within-left b e hb he in
+        let w : b + elementsOf (handles g) * e < elementsOf (subSide (putLeft g s)) = within-left b e hb he in
         maps-answer (beside-left .known) .outward w
         ∙ ap reach (ap (λ (k : ℕ). overOf k (overCount s) (s .factor .elements) (λ k. getD o k 0) (b + elementsOf (handles g) * e)) left-stride
         ∙ left-product (strideOf s) (overCount s) (s .factor .elements) (elementsOf (handles (s .above))) (λ k. getD o k 0) e hb (subst (λ (k : ℕ). e < k) (sub-count s) he)
         ∙ ap (λ (k : ℕ). b + elementsOf (handles g) * k) y)
       where
-        within-left : (b e : ℕ) → b < elementsOf (handles g) → e < elementsOf (subSide s) → b + elementsOf (handles g) * e < elementsOf (subSide (leftOf g s))
+        within-left : (b e : ℕ) → b < elementsOf (handles g) → e < elementsOf (subSide s) → b + elementsOf (handles g) * e < elementsOf (subSide (putLeft g s))
         within-left b e hb he =
             subst (λ (k : ℕ). b + elementsOf (handles g) * e < k) (sym (ap elementsOf left-sub ∙ elements-append (handles g) (subSide s))) (joined-small hb e he)
 
@@ -216,29 +216,29 @@ module _ {from gens : List ℕ} {s : Subgroup} {t i o : List ℕ} (S : Beside fr
     left-multiplied = subst (λ (x : Subgroup). MultipliedLeft from t g s x o) (sym left-is) (record {
       value = refl;
       overgroup = joins-so from g (overGroup s) A (over-accepted S) (ap (λ (l : List Factor). handles g ++ l) (handles-of (overSide s)) ∙ sym left-over)
-          (few-over-side (leftOf g s) (beside-left .known .limited)) (over-within (leftOf g s) (beside-left .known .limited));
+          (few-over-side (putLeft g s) (beside-left .known .limited)) (over-within (putLeft g s) (beside-left .known .limited));
       side = left-sub;
       outward = left-out;
     })
 
 -- And at the right.
 module _ {from gens : List ℕ} {s : Subgroup} {t i o : List ℕ} (S : Beside from gens s t i o) {g : Group} (A : AcceptedProduct from g) where
-  right-over : overSide (rightOf s g) ≡ overSide s ++ handles g
+  right-over : overSide (putRight s g) ≡ overSide s ++ handles g
   right-over =
       ap (λ (l : List Factor). handles (s .below) ++ (handles (s .over) ++ l)) (handles-of (handles (s .above) ++ handles g))
       ∙ ap (λ (l : List Factor). handles (s .below) ++ l) (sym (append-assoc (handles (s .over)) (handles (s .above)) (handles g)))
       ∙ sym (append-assoc (handles (s .below)) (handles (s .over) ++ handles (s .above)) (handles g))
 
-  right-sub : subSide (rightOf s g) ≡ subSide s ++ handles g
+  right-sub : subSide (putRight s g) ≡ subSide s ++ handles g
   right-sub =
       ap (λ (l : List Factor). handles (s .below) ++ (s .factor ∷ l)) (handles-of (handles (s .above) ++ handles g))
       ∙ sym (append-assoc (handles (s .below)) (s .factor ∷ handles (s .above)) (handles g))
 
   module _ {r : Subgroup} (q : rightProduct (length from) (length t) s g ≡ record { answer = Fine; subgroup = r }) where
-    right-is : r ≡ rightOf s g
+    right-is : r ≡ putRight s g
     right-is = right-value (length from) (length t) s g q
 
-    beside-right : Beside from gens (rightOf s g) t i o
+    beside-right : Beside from gens (putRight s g) t i o
     beside-right = record {
       holds = S .holds;
       over = S .over;
@@ -252,7 +252,7 @@ module _ {from gens : List ℕ} {s : Subgroup} {t i o : List ℕ} (S : Beside fr
 
     right-out : {e d x : ℕ} → e < elementsOf (subSide s) → d < elementsOf (handles g)
         → toOverAnswer (length from) (length t) s o (record { 0 = e }) ≡ reach x
-        → toOverAnswer (length from) (length t) (rightOf s g) o (record { 0 = e + elementsOf (subSide s) * d }) ≡ reach (x + elementsOf (overSide s) * d)
+        → toOverAnswer (length from) (length t) (putRight s g) o (record { 0 = e + elementsOf (subSide s) * d }) ≡ reach (x + elementsOf (overSide s) * d)
     right-out {e} {d} {x} he hd z =
         let y : overOf (strideOf s) (overCount s) (s .factor .elements) (λ k. getD o k 0) e ≡ x = reach-once (sym (maps-answer (S .known) .outward he) ∙ z) in
         maps-answer (beside-right .known) .outward (within-right e d he hd)
@@ -260,7 +260,7 @@ module _ {from gens : List ℕ} {s : Subgroup} {t i o : List ℕ} (S : Beside fr
         ∙ right-product (strideOf s) (overCount s) (s .factor .elements) (elementsOf (handles (s .above))) (λ k. getD o k 0) e (subst (λ (k : ℕ). e < k) (sub-count s) he) d
         ∙ ap (λ (k : ℕ). outwardOf s o e + k * d) (sym (over-count s)) ∙ ap (λ (k : ℕ). k + elementsOf (overSide s) * d) y)
       where
-        within-right : (e d : ℕ) → e < elementsOf (subSide s) → d < elementsOf (handles g) → e + elementsOf (subSide s) * d < elementsOf (subSide (rightOf s g))
+        within-right : (e d : ℕ) → e < elementsOf (subSide s) → d < elementsOf (handles g) → e + elementsOf (subSide s) * d < elementsOf (subSide (putRight s g))
         within-right e d he hd =
             subst (λ (k : ℕ). e + elementsOf (subSide s) * d < k) (sym (ap elementsOf right-sub ∙ elements-append (subSide s) (handles g))) (joined-small he d hd)
 
@@ -268,7 +268,7 @@ module _ {from gens : List ℕ} {s : Subgroup} {t i o : List ℕ} (S : Beside fr
     right-multiplied = subst (λ (x : Subgroup). MultipliedRight from t s g x o) (sym right-is) (record {
       value = refl;
       overgroup = joins-so from (overGroup s) g (over-accepted S) A (ap (λ (l : List Factor). l ++ handles g) (handles-of (overSide s)) ∙ sym right-over)
-          (few-over-side (rightOf s g) (beside-right .known .limited)) (over-within (rightOf s g) (beside-right .known .limited));
+          (few-over-side (putRight s g) (beside-right .known .limited)) (over-within (putRight s g) (beside-right .known .limited));
       side = right-sub;
       outward = right-out;
     })

@@ -31,7 +31,7 @@ use Rattle.subgroup_build.specs.declared.Subgroup.{Subgroup}
 use Rattle.subgroup_sides.specs.Sides.{overSide, subSide, sidesFit, admitsSides, leftProduct, rightProduct}
 use Rattle.subgroup.specs.Questions.{carriedOver, carriedBack, toOverAnswer, toSubAnswer, generatorAnswer}
 use Rattle.subgroup_sides.specs.Generators.{sideGenerator}
-use Rattle.subgroup_rows.specs.Rows.{productOf}
+use Rattle.subgroup_rows.specs.Rows.{productBy}
 use Rattle.subgroup_build.specs.Generated.{admitsGenerators, generatedInto, fromGenerators}
 use Rattle.subgroup_sides.proofs.SideLaws.{fit-law}
 use Rattle.promises_subgroup.specs.Generates.{SubgroupHolds}
@@ -138,7 +138,7 @@ module _ {from from′ : List ℕ} (over : Group) (fits : allFit (length from) (
       → fromGenerators from′ over gens table start work inn outw room ≡ fromGenerators from over gens table start work inn outw room
   unfolding fromGenerators admitsGenerators generatedInto
   generators-same gens table start work inn outw room =
-      let p : productOf from′ (handles over) gens ≡ productOf from (handles over) gens = fun-ext λ x. fun-ext λ g. composes-same same x (getD gens g 0) in
+      let p : productBy from′ (handles over) gens ≡ productBy from (handles over) gens = fun-ext λ x. fun-ext λ g. composes-same same x (getD gens g 0) in
       rw (fits, fits′, p)
 
 -- Factors that are unaltered, the subgroup's own and those of its overgroup, keep their stretches, and the handles fit.

@@ -33,7 +33,7 @@ use Rattle.subgroup_build.specs.declared.Subgroup.{Subgroup}
 use Rattle.subgroup_build.specs.declared.Subgrouped.{Subgrouped}
 use Rattle.subgroup_build.specs.Lent.{mapsRight, subgroupOf, Subgrouping, subgrouping}
 use Rattle.subgroup_build.specs.Generated.{entriesRight, smallEnough, admitsGenerators, generatedInto, fromGenerators}
-use Rattle.subgroup_sides.specs.Sides.{overSide, subSide, sidesFit, sidesLimited, joinable, multiplied, leftOf, rightOf, leftProduct, rightProduct}
+use Rattle.subgroup_sides.specs.Sides.{overSide, subSide, sidesFit, sidesLimited, joinable, multiplied, putLeft, putRight, leftProduct, rightProduct}
 use Rattle.subgroup_sides.proofs.SideLaws.{over-within, multiplied-no}
 use Rattle.subgroup.specs.Questions.{admitsHandles, overgroupAnswer, generatorCountAnswer}
 use Rattle.subgroup.specs.Trivial.{trivialSubgroup}
@@ -97,13 +97,13 @@ module _ {from : List ℕ} {over : Group} {gens : List ℕ} {s : Subgroup} {t i 
   counted-made = handles-answer (length from) (length t) s (known .fits) (known .limited) .counted ∙ rw generators-alone
 
 -- The factors of both sides with a group multiplied on.
-left-over : (g : Group) (s : Subgroup) → handles g ++ handles (groupOf (overSide s)) ≡ overSide (leftOf g s)
+left-over : (g : Group) (s : Subgroup) → handles g ++ handles (groupOf (overSide s)) ≡ overSide (putLeft g s)
 left-over g s =
     ap (λ (l : List Factor). handles g ++ l) (handles-of (overSide s))
     ∙ sym (ap (λ (l : List Factor). l ++ (handles (s .over) ++ handles (s .above))) (handles-of (handles g ++ handles (s .below)))
     ∙ append-assoc (handles g) (handles (s .below)) (handles (s .over) ++ handles (s .above)))
 
-right-over : (s : Subgroup) (g : Group) → handles (groupOf (overSide s)) ++ handles g ≡ overSide (rightOf s g)
+right-over : (s : Subgroup) (g : Group) → handles (groupOf (overSide s)) ++ handles g ≡ overSide (putRight s g)
 right-over s g =
     ap (λ (l : List Factor). l ++ handles g) (handles-of (overSide s))
     ∙ append-assoc (handles (s .below)) (handles (s .over) ++ handles (s .above)) (handles g)
@@ -111,12 +111,12 @@ right-over s g =
     (append-assoc (handles (s .over)) (handles (s .above)) (handles g)
     ∙ sym (ap (λ (l : List Factor). handles (s .over) ++ l) (handles-of (handles (s .above) ++ handles g))))
 
-left-sub : (g : Group) (s : Subgroup) → subSide (leftOf g s) ≡ handles g ++ subSide s
+left-sub : (g : Group) (s : Subgroup) → subSide (putLeft g s) ≡ handles g ++ subSide s
 left-sub g s =
     ap (λ (l : List Factor). l ++ (s .factor ∷ handles (s .above))) (handles-of (handles g ++ handles (s .below)))
     ∙ append-assoc (handles g) (handles (s .below)) (s .factor ∷ handles (s .above))
 
-right-sub : (s : Subgroup) (g : Group) → subSide (rightOf s g) ≡ subSide s ++ handles g
+right-sub : (s : Subgroup) (g : Group) → subSide (putRight s g) ≡ subSide s ++ handles g
 right-sub s g =
     ap (λ (l : List Factor). handles (s .below) ++ (s .factor ∷ l)) (handles-of (handles (s .above) ++ handles g))
     ∙ sym (append-assoc (handles (s .below)) (s .factor ∷ handles (s .above)) (handles g))
@@ -158,11 +158,11 @@ module _ {from table : ℕ} {s : Subgroup} {inn outw : List ℕ} (K : Askable fr
   hands-back = ap (λ x. x .group) (handles-answer from table s (K .fits) (K .limited) .overgroups)
 
   module _ {t : Subgroup} (q : leftProduct from table g s ≡ record { answer = Fine; subgroup = t }) where
-    left-parts : (t ≡ leftOf g s) × (g .count ≤ 8)
+    left-parts : (t ≡ putLeft g s) × (g .count ≤ 8)
     unfolding leftProduct
     left-parts =
-        let F = fitting-fine (sidesFit from table s && allFit from (handles g)) (multiplied g (s .below) (leftOf g s)) q in
-        (multiplied-fine g (s .below) (leftOf g s) (F .1) .0, first-few g (s .below) (joined-so g (s .below) (leftOf g s) (F .1)))
+        let F = fitting-fine (sidesFit from table s && allFit from (handles g)) (multiplied g (s .below) (putLeft g s)) q in
+        (multiplied-fine g (s .below) (putLeft g s) (F .1) .0, first-few g (s .below) (joined-so g (s .below) (putLeft g s) (F .1)))
 
     pub overgroup-left : overgroupAnswer from table t ≡ joins from g (overgroupAnswer from table s .group)
     overgroup-left =
@@ -175,11 +175,11 @@ module _ {from table : ℕ} {s : Subgroup} {inn outw : List ℕ} (K : Askable fr
         ∙ ap (λ (l : List Factor). Count (generatorsOf l)) (ap subSide (left-parts .0) ∙ left-sub g s)
 
   module _ {t : Subgroup} (q : rightProduct from table s g ≡ record { answer = Fine; subgroup = t }) where
-    right-parts : (t ≡ rightOf s g) × (g .count ≤ 8)
+    right-parts : (t ≡ putRight s g) × (g .count ≤ 8)
     unfolding rightProduct
     right-parts =
-        let F = fitting-fine (sidesFit from table s && allFit from (handles g)) (multiplied (s .above) g (rightOf s g)) q in
-        (multiplied-fine (s .above) g (rightOf s g) (F .1) .0, second-few (s .above) g (joined-so (s .above) g (rightOf s g) (F .1)))
+        let F = fitting-fine (sidesFit from table s && allFit from (handles g)) (multiplied (s .above) g (putRight s g)) q in
+        (multiplied-fine (s .above) g (putRight s g) (F .1) .0, second-few (s .above) g (joined-so (s .above) g (putRight s g) (F .1)))
 
     pub overgroup-right : overgroupAnswer from table t ≡ joins from (overgroupAnswer from table s .group) g
     overgroup-right =

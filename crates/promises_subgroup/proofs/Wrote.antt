@@ -27,7 +27,7 @@ use Rattle.build_numbering.specs.Build.{Renumbering, renumbering, renumberIn}
 use Rattle.subgroup_build.specs.declared.Subgroup.{Subgroup}
 use Rattle.subgroup_build.specs.declared.Subgrouped.{Subgrouped}
 use Rattle.subgroup_build.specs.Lent.{subgrouping, mapsBack}
-use Rattle.subgroup_rows.specs.Rows.{productOf}
+use Rattle.subgroup_rows.specs.Rows.{productBy}
 use Rattle.subgroup_build.specs.Generated.{fromGenerators}
 use Rattle.subgroup_sides.specs.Sides.{sidesFit}
 use Rattle.promises_subgroup.specs.Leaves.{mapsFor, generatorsAfter, AllWrote}
@@ -70,7 +70,7 @@ module _ (from : List ℕ) (over : Group) (gens table : List ℕ) (start : ℕ) 
     by (called.early f z) = the-factor (sym z ∙ h)
     by (called.late S) =
         back-none over table start work inn outw (elementsOf (handles over)) (length gens) (length gens) room
-        (renumberIn (tableNeed (length gens) room) (take (workNeed (length gens) room) work) (productOf from (handles over) gens) (length gens) room
+        (renumberIn (tableNeed (length gens) room) (take (workNeed (length gens) room) work) (productBy from (handles over) gens) (length gens) room
         (elementsOf (handles over)) room 0)
         (sym (called.is-build from over gens table start work inn outw room S) ∙ h)
 

@@ -22,7 +22,7 @@ use Rattle.build_numbering_laws.specs.Source.{outOf, AnsweredTo, AllAnswered, R
 use Rattle.build_numbering_laws.specs.Maps.{MapsFilled}
 use Rattle.subgroup_build.specs.declared.Subgroup.{Subgroup}
 use Rattle.subgroup_build.specs.Lent.{subgroupOf, Subgrouping, subgrouping, mapsBack}
-use Rattle.subgroup_rows.specs.Rows.{productOf}
+use Rattle.subgroup_rows.specs.Rows.{productBy}
 use Rattle.subgroup_build.specs.Generated.{smallEnough}
 use Rattle.promises_subgroup.specs.Carried.{MapsUndo}
 use Rattle.promises_subgroup.specs.Leaves.{mapsFor, AllWrote}
@@ -30,7 +30,7 @@ use Rattle.promises_subgroup.specs.Leaves.{mapsFor, AllWrote}
 -- The steps that are read: what the overgroup's `compose` answers, and a step to 0 where it refuses. What follows says each time that no such step was taken:
 -- every product that was asked for was answered, or the first that was not is the refusal.
 abbrev pub stepsRead : List ℕ → Group → List ℕ → ℕ → ℕ → ℕ
-stepsRead from over gens = outOf 0 (productOf from (handles over) gens)
+stepsRead from over gens = outOf 0 (productBy from (handles over) gens)
 
 -- What the two maps hold after a build in which `count` elements appeared, the e-th of them being elt e of the overgroup. After acceptance the one
 -- has for each element of the overgroup its number, or 4,294,967,295 where it did not appear, the other has elt e at e, and zero beyond (`MapsFilled`).
@@ -44,7 +44,7 @@ pub record BySteps (from : List ℕ) (over : Group) (gens table : List ℕ) (sta
   pub count : ℕ
   pub elt : ℕ → ℕ
   pub appearing : Appearing (length gens) (elementsOf (handles over)) (stepsRead from over gens) 0 count elt
-  pub answered : AllAnswered (productOf from (handles over) gens) 0 (length gens) room count elt
+  pub answered : AllAnswered (productBy from (handles over) gens) 0 (length gens) room count elt
   pub inn′ : List ℕ
   pub outw′ : List ℕ
   pub maps : MapsAfter (elementsOf (handles over)) room count elt inn′ outw′
@@ -62,7 +62,7 @@ pub record Stopped (from : List ℕ) (over : Group) (gens table : List ℕ) (sta
   pub appearing : Appearing (length gens) (elementsOf (handles over)) (stepsRead from over gens) 0 count elt
   pub refusal : Refusal
   pub number : RefusalIn (17 ∷ []) refusal
-  pub asked : RefusedAt (productOf from (handles over) gens) 0 (length gens) room count elt refusal
+  pub asked : RefusedAt (productBy from (handles over) gens) 0 (length gens) room count elt refusal
   pub reached : Orbit (length gens) (stepsRead from over gens) 0 (elt (asked .row))
   pub is : m ≡ subgrouping (subgroupOf over (record { answer = verdict.Refused refusal; factor = noFactor }))
       (within table start (start + tableNeed (length gens) room) (replicate (tableNeed (length gens) room) 0))
@@ -80,7 +80,7 @@ pub record Regardless (from : List ℕ) (over : Group) (gens : List ℕ) (k : �
   pub handle : s .factor ≡ record { start = start; room = room; generators = length gens; elements = s .factor .elements }
   pub elt : ℕ → ℕ
   pub appearing : Appearing (length gens) (elementsOf (handles over)) (stepsRead from over gens) 0 (s .factor .elements) elt
-  pub answered : AnsweredTo (productOf from (handles over) gens) 0 (length gens) elt (s .factor .elements) 0
+  pub answered : AnsweredTo (productBy from (handles over) gens) 0 (length gens) elt (s .factor .elements) 0
   pub taken : Taken (numberedStep (s .factor .elements) elt (stepsRead from over gens)) (length gens) room (s .factor .elements)
   pub accepted : Accepted t (s .factor)
   pub steps : {e g : ℕ} → e < s .factor .elements → g < length gens

@@ -32,8 +32,8 @@ byGenerators from n N gens room =
     (replicate room 0) room)
 
 -- Two elements, of which both lead to the second.
-abbrev pub missing : List ℕ
-missing = other (2 ∷ []) ++ byLetter (2 ∷ []) 0
+abbrev pub noStepBack : List ℕ
+noStepBack = other (2 ∷ []) ++ byLetter (2 ∷ []) 0
 
 -- Two elements, of which both lead to the first.
 abbrev pub fixed : List ℕ
@@ -48,12 +48,12 @@ abbrev pub turning : List ℕ
 turning = other (2 ∷ []) ++ byLetter (1 ∷ []) 0
 
 -- Rows 1 2 / 3 3 / 0 0 / 2 1, where 10 applies; the element 3 has the word of 1.
-abbrev pub twisted : List ℕ
-twisted = other (2 ∷ 3 ∷ []) ++ byLetter (4 ∷ 4 ∷ []) 0 ++ byLetter (1 ∷ 1 ∷ []) 1 ++ byLetter (3 ∷ 2 ∷ []) 0
+abbrev pub crossing : List ℕ
+crossing = other (2 ∷ 3 ∷ []) ++ byLetter (4 ∷ 4 ∷ []) 0 ++ byLetter (1 ∷ 1 ∷ []) 1 ++ byLetter (3 ∷ 2 ∷ []) 0
 
 -- Three elements, of which 1 and 2 have the same word.
-abbrev pub repeated : List ℕ
-repeated = other (2 ∷ []) ++ byLetter (1 ∷ []) 0 ++ byLetter (1 ∷ []) 0
+abbrev pub sameTwice : List ℕ
+sameTwice = other (2 ∷ []) ++ byLetter (1 ∷ []) 0 ++ byLetter (1 ∷ []) 0
 
 -- Rows 1 2 / 0 3 / 4 0 / 2 4 / 3 1: 8 to 11 pass, and no group has these right steps.
 abbrev pub groupless : List ℕ
@@ -63,9 +63,9 @@ groupless =
 -- The cases, each with its answer.
 pub record AlteredCases : Type 0 where
   pub generators-5 : byGenerators turning 1 2 (1 ∷ []) 1 ≡ paper 5 0 0 0
-  pub generators-8 : byGenerators missing 1 2 (1 ∷ []) 2 ≡ paper 8 0 0 0
+  pub generators-8 : byGenerators noStepBack 1 2 (1 ∷ []) 2 ≡ paper 8 0 0 0
   pub generators-9 : byGenerators fixed 1 2 (1 ∷ []) 2 ≡ paper 9 0 0 0
-  pub generators-10 : byGenerators twisted 2 4 (1 ∷ 2 ∷ []) 4 ≡ paper 10 1 2 2
-  pub generators-11 : byGenerators repeated 1 3 (1 ∷ 2 ∷ []) 3 ≡ paper 11 1 0 0
+  pub generators-10 : byGenerators crossing 2 4 (1 ∷ 2 ∷ []) 4 ≡ paper 10 1 2 2
+  pub generators-11 : byGenerators sameTwice 1 3 (1 ∷ 2 ∷ []) 3 ≡ paper 11 1 0 0
   pub generators-12 : byGenerators groupless 2 5 (1 ∷ 2 ∷ []) 5 ≡ paper 12 0 0 0
   pub generators-17 : byGenerators unknown 1 2 (1 ∷ []) 2 ≡ paper 17 0 0 0

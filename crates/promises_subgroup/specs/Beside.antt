@@ -15,7 +15,7 @@ use Rattle.group.specs.Questions as group
 use Rattle.promises_group.specs.Products.{part, parts, direct, AllAccepted, AcceptedProduct}
 use Rattle.build_numbering.specs.Renumber as appear
 use Rattle.subgroup_build.specs.declared.Subgroup.{Subgroup}
-use Rattle.subgroup_sides.specs.Sides.{overSide, subSide, strideOf, overCount, leftOf, rightOf}
+use Rattle.subgroup_sides.specs.Sides.{overSide, subSide, strideOf, overCount, putLeft, putRight}
 use Rattle.subgroup.specs.Indices.{overOf, subOf}
 use Rattle.subgroup.specs.Questions.{withinPaper, toOverAnswer, toSubAnswer, generatorAnswer}
 use Rattle.promises_subgroup.specs.Generates.{SubgroupHolds}
@@ -51,7 +51,7 @@ pub record Beside (from gens : List ℕ) (s : Subgroup) (t i o : List ℕ) : Typ
 -- What `product_left` hands back where it is fine: the value whose overgroup is what `product` makes of g and the overgroup of s, and whose own factors are those of
 -- g and then those of s. The element with b in g and e in the subgroup is carried to the one with b in g and, in the overgroup, what e is carried to.
 pub record MultipliedLeft (from t : List ℕ) (g : Group) (s r : Subgroup) (o : List ℕ) : Type 0 where
-  pub value : r ≡ leftOf g s
+  pub value : r ≡ putLeft g s
   pub overgroup : joins (length from) g (overGroup s) ≡ record { answer = Fine; group = overGroup r }
   pub side : subSide r ≡ handles g ++ subSide s
   pub outward : {b e x : ℕ} → b < elementsOf (handles g) → e < elementsOf (subSide s)
@@ -60,7 +60,7 @@ pub record MultipliedLeft (from t : List ℕ) (g : Group) (s r : Subgroup) (o : 
 
 -- The same of `product_right`: g comes above.
 pub record MultipliedRight (from t : List ℕ) (s : Subgroup) (g : Group) (r : Subgroup) (o : List ℕ) : Type 0 where
-  pub value : r ≡ rightOf s g
+  pub value : r ≡ putRight s g
   pub overgroup : joins (length from) (overGroup s) g ≡ record { answer = Fine; group = overGroup r }
   pub side : subSide r ≡ subSide s ++ handles g
   pub outward : {e d x : ℕ} → e < elementsOf (subSide s) → d < elementsOf (handles g)

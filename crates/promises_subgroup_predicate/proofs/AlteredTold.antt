@@ -29,7 +29,7 @@ use Rattle.build_numbering_laws.proofs.Partial.{total-answering, partial-build}
 use Rattle.build_numbering_laws.proofs.Builds.{builtOf, renumber-built, same-refusal, not-refused}
 use Rattle.subgroup_build.specs.declared.Subgroup.{Subgroup}
 use Rattle.subgroup_build.specs.Lent.{subgrouping}
-use Rattle.subgroup_rows.specs.Rows.{productOf}
+use Rattle.subgroup_rows.specs.Rows.{productBy}
 use Rattle.subgroup_predicate_choices.specs.Choices.{Picked, picked, isNewMember, chooses, againIn}
 use Rattle.subgroup_predicate.specs.Predicate.{predicateIn, fromPredicate}
 use Rattle.subgroup_predicate_choices.specs.Choices as choices
@@ -118,7 +118,7 @@ module _ (from : List ℕ) (over : Group) (members table : List ℕ) (start : �
     few = G .few
 
     abbrev source : ℕ → ℕ → Reached
-    source = productOf from (handles over) gens
+    source = productBy from (handles over) gens
 
     abbrev M : ℕ
     M = elementsOf (handles over)
@@ -142,7 +142,7 @@ module _ (from : List ℕ) (over : Group) (members table : List ℕ) (start : �
     rows = eight-rows (length gens) room (tableNeed 8 room) few (le-refl (tableNeed 8 room))
 
     refused-by : {r : Refusal} {t w i o : List ℕ} → length w₀ ≡ length (take (workNeed 8 room) work)
-        → renumberIn (tableNeed 8 room) w₀ (productOf from (handles over) gens) (length gens) room (elementsOf (handles over)) room 0
+        → renumberIn (tableNeed 8 room) w₀ (productBy from (handles over) gens) (length gens) room (elementsOf (handles over)) room 0
         ≡ renumbering (built (Refused r) t w) i o → ToldStops from over members room r
     refused-by {r} {t} {w} {i} {o} l z = go (partial-build source 0 A I small room room lo hi (le-refl room) (tableNeed 8 room) few rows w₀) where
       go : ((renumberIn size w₀ source (length gens) room M room 0 ≡ renumberIn size w₀ (total source 0) (length gens) room M room 0)
@@ -157,8 +157,8 @@ module _ (from : List ℕ) (over : Group) (members table : List ℕ) (start : �
           ∙ ap builtOf (sym e ∙ z))
       go (inr (f, b, t′, i′, o′, e)) =
           let y : f ≡ r = same-refusal (sym e ∙ z) in
-          let c : RefusedAt (productOf from (handles over) gens) 0 (length gens) room (appearing I .0) (appearing I .1) r =
-          subst (RefusedAt (productOf from (handles over) gens) 0 (length gens) room (appearing I .0) (appearing I .1)) y b in
+          let c : RefusedAt (productBy from (handles over) gens) 0 (length gens) room (appearing I .0) (appearing I .1) r =
+          subst (RefusedAt (productBy from (handles over) gens) 0 (length gens) room (appearing I .0) (appearing I .1)) y b in
           stopped gens (appearing I .0) (appearing I .1) G
           (composes-17 from (handles over) (appearing I .1 (c .row)) (getD gens (c .column) 0) .of r (c .refused)) A c
           (A .reached (omega (arith, row-known (c .before .known), count-within (A .by-rule) (c .before .known))))

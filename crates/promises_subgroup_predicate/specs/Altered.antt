@@ -14,7 +14,7 @@ use Rattle.group_handles.specs.declared.Group.{Group}
 use Rattle.group_handles.specs.Handles.{handles, elementsOf}
 use Rattle.theory.specs.Orbit.{Orbit, numberedStep, Appearing}
 use Rattle.build_numbering_laws.specs.Source.{AllAnswered, RefusedAt}
-use Rattle.subgroup_rows.specs.Rows.{productOf}
+use Rattle.subgroup_rows.specs.Rows.{productBy}
 use Rattle.promises_subgroup.specs.Altered.{stepsRead}
 use Rattle.promises_subgroup_predicate.specs.Predicate.{Gathered}
 
@@ -27,10 +27,10 @@ pub data ToldStops (from : List ℕ) (over : Group) (members : List ℕ) (room :
       → r ≡ numbered 15 0 0 0 → ToldStops from over members room r
   stopped : (gens : List ℕ) (count : ℕ) (elt : ℕ → ℕ) → Gathered (λ y. getD members y 0) (elementsOf (handles over)) gens → RefusalIn (17 ∷ []) r
       → Appearing (length gens) (elementsOf (handles over)) (stepsRead from over gens) 0 count elt
-      → (asked : RefusedAt (productOf from (handles over) gens) 0 (length gens) room count elt r)
+      → (asked : RefusedAt (productBy from (handles over) gens) 0 (length gens) room count elt r)
       → Orbit (length gens) (stepsRead from over gens) 0 (elt (asked .row)) → ToldStops from over members room r
   by-steps : (gens : List ℕ) (count : ℕ) (elt : ℕ → ℕ) (w t w′ : List ℕ) → Gathered (λ y. getD members y 0) (elementsOf (handles over)) gens
       → Appearing (length gens) (elementsOf (handles over)) (stepsRead from over gens) 0 count elt
-      → AllAnswered (productOf from (handles over) gens) 0 (length gens) room count elt
+      → AllAnswered (productBy from (handles over) gens) 0 (length gens) room count elt
       → finishedPlaced (readAll (numberedStep count elt (stepsRead from over gens)) (length gens) room (replicate (tableNeed 8 room) 0)) (length gens) w
       ≡ built (counted.Refused r) t w′ → ToldStops from over members room r

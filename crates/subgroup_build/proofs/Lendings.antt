@@ -19,7 +19,7 @@ use Rattle.build_lending.proofs.Lending.{part-length, part-back, put-front}
 use Rattle.group_handles.specs.declared.Group.{Group}
 use Rattle.group_handles.specs.Handles.{handles, elementsOf}
 use Rattle.build_numbering.specs.Build.{Renumbering, renumbering, renumberIn}
-use Rattle.subgroup_rows.specs.Rows.{productOf}
+use Rattle.subgroup_rows.specs.Rows.{productBy}
 use Rattle.subgroup_build.specs.declared.Subgrouped.{Subgrouped}
 use Rattle.factor_walk.specs.Walked.{shown}
 use Rattle.subgroup_build.specs.Lent.{subgroupOf, Subgrouping, subgrouping, mapsRight, mapsBack}
@@ -75,7 +75,7 @@ module _ (from : List ℕ) (over : Group) (gens table : List ℕ) (start : ℕ) 
         → StretchEnd x start (tableNeed (length gens) room) (length table) → d ≡ workNeed (length gens) room → m ≡ madeOf start room (length gens) c
         → s ≡ subgroupOf over m
         → renumbering (built c t w) i o
-        ≡ renumberIn (length (midOf start (x - start) table)) (take d work) (productOf from (handles over) gens) (length gens) room (length (take M inn))
+        ≡ renumberIn (length (midOf start (x - start) table)) (take d work) (productBy from (handles over) gens) (length gens) room (length (take M inn))
         (length (take room outw)) 0
         → subgrouping s (putMid start (x - start) table t) (w ++ drop d work) (i ++ drop M inn) (o ++ drop room outw)
         ≡ generatedInto from over gens table start work inn outw room
@@ -85,7 +85,7 @@ module _ (from : List ℕ) (over : Group) (gens table : List ℕ) (start : ℕ) 
         let ho : room ≤ length outw = maps-outw (length table) start (length work) (length inn) (length outw) room (length gens) M z in
         rw (le-ltb 8 (length gens) h, ← e, z)
         (maps-back over table start work inn outw M (length gens) (length gens) room ends need made is
-        (lent-lengths over table start work inn outw M (length gens) (length gens) room (productOf from (handles over) gens) (length gens) hi ho ends need q))
+        (lent-lengths over table start work inn outw M (length gens) (length gens) room (productBy from (handles over) gens) (length gens) hi ho ends need q))
 
 module _ {v w : Verdict} (q : v ≡ w) (over : Group) (table work inn outw : List ℕ) (m : Subgrouping) where
   pub subgrouping-refused : {r : Refusal} {x : Subgrouped} → v ≡ Refused r → x ≡ subgroupOf over (record { answer = Refused r; factor = noFactor })

@@ -12,7 +12,7 @@ use Rattle.build_lending.specs.Lending.{tableNeed, workNeed, noFactor, refusedM
 use Rattle.group_handles.specs.declared.Group.{Group}
 use Rattle.group_handles.specs.Handles.{handles, elementsOf, allFit, limited}
 use Rattle.build_numbering.specs.Build.{renumberIn}
-use Rattle.subgroup_rows.specs.Rows.{productOf}
+use Rattle.subgroup_rows.specs.Rows.{productBy}
 use Rattle.factor_walk.specs.Walked.{shown}
 use Rattle.subgroup_build.specs.Lent.{subgroupOf, Subgrouping, subgrouping, mapsRight, mapsBack}
 
@@ -43,7 +43,7 @@ generatedInto from over gens table start work inn outw room =
     pick (ltb 8 (length gens)) (subgrouping (subgroupOf over (refusedMade 1 (shown (length gens)))) table work inn outw)
     (pick (mapsRight (length table) start (length work) (length inn) (length outw) room (length gens) (elementsOf (handles over)))
     (mapsBack over table start work inn outw (elementsOf (handles over)) (length gens) (length gens) room
-    (renumberIn (tableNeed (length gens) room) (take (workNeed (length gens) room) work) (productOf from (handles over) gens) (length gens) room
+    (renumberIn (tableNeed (length gens) room) (take (workNeed (length gens) room) work) (productBy from (handles over) gens) (length gens) room
     (elementsOf (handles over)) room 0))
     (subgrouping (subgroupOf over (refusedMade 4 0)) table work inn outw))
 

@@ -9,7 +9,7 @@ ghost use Rattle.build_lending.specs.Lending.{noFactor};
 ghost use Rattle.group_handles.specs.Handles.{handles, elementsOf, allFit};
 ghost use Rattle.build_numbering.specs.Build.{Renumbering, renumberIn};
 ghost use Rattle.subgroup_build.specs.Lent.{subgroupOf, Subgrouping, mapsRight};
-ghost use Rattle.subgroup_rows.specs.Rows.{productOf};
+ghost use Rattle.subgroup_rows.specs.Rows.{productBy};
 ghost use Rattle.subgroup_build.specs.Generated.{entriesRight, smallEnough, admitsGenerators, generatedInto};
 use super::Subgroup;
 use super::Subgrouped;
@@ -76,7 +76,7 @@ pub fn generated_in(
     room: u32,
 ) -> Counted
     requires { ⌜ (allFit (length (now from)) (handles over) ≡ true) × (elementsOf (handles over) ≤ 4294967295) ⌝ }
-    ensures { λ r. ⌜ Renumbering.renumbering (Built.built r (now (t .exit)) (now (w .exit))) (now (inn .exit)) (now (outw .exit)) ≡ renumberIn (length (now (t .entry))) (now (w .entry)) (productOf (now (from .entry)) (handles over) (now (gens .entry))) n room (length (now (inn .entry))) (length (now (outw .entry))) 0 ⌝ }
+    ensures { λ r. ⌜ Renumbering.renumbering (Built.built r (now (t .exit)) (now (w .exit))) (now (inn .exit)) (now (outw .exit)) ≡ renumberIn (length (now (t .entry))) (now (w .entry)) (productBy (now (from .entry)) (handles over) (now (gens .entry))) n room (length (now (inn .entry))) (length (now (outw .entry))) 0 ⌝ }
 {
     egg::inner::clear(t);
     build_numbering::inner::start(inn, outw, GroupElementId(0));

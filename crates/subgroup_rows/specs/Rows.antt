@@ -8,5 +8,5 @@ use Rattle.group_digits.specs.Digits.{composes}
 
 -- What appears at x by the generator g is the overgroup's `compose` of x with the element that `gens` lists for g. Document 01: "Numbering in order
 -- of first appearance".
-abbrev pub productOf : (from : List ℕ) (hs : List Factor) (gens : List ℕ) (x g : ℕ) → Reached
-productOf from hs gens x g = composes from hs x (getD gens g 0)
+abbrev pub productBy : (from : List ℕ) (hs : List Factor) (gens : List ℕ) (x g : ℕ) → Reached
+productBy from hs gens x g = composes from hs x (getD gens g 0)

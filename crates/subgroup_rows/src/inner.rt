@@ -10,7 +10,7 @@ ghost use Rattle.build_reading.specs.Reading.{Placed};
 ghost use Rattle.group_handles.specs.Handles.{handles, elementsOf, allFit};
 ghost use Rattle.build_numbering.specs.Renumber.{Mapped, mapRow, mapRows};
 ghost use Rattle.subgroup_one_factor.specs.Letters.{Letters};
-ghost use Rattle.subgroup_rows.specs.Rows.{productOf};
+ghost use Rattle.subgroup_rows.specs.Rows.{productBy};
 use egg::Counted;
 use egg::Factor;
 use egg::GeneratorId;
@@ -32,7 +32,7 @@ fn product_row(
     first: u32,
 ) -> Counted
     requires { ⌜ (allFit (length (now from)) (handles over) ≡ true) × (elementsOf (handles over) ≤ 4294967295) ⌝ }
-    ensures { λ r. ⌜ Mapped.mapped (Placed.placed r (now (t .exit))) (now (inn .exit)) (now (outw .exit)) ≡ mapRow n (productOf (now (from .entry)) (handles over) (now (gens .entry))) n room (e .0) 0 first (now (t .entry)) (now (inn .entry)) (now (outw .entry)) ⌝ }
+    ensures { λ r. ⌜ Mapped.mapped (Placed.placed r (now (t .exit))) (now (inn .exit)) (now (outw .exit)) ≡ mapRow n (productBy (now (from .entry)) (handles over) (now (gens .entry))) n room (e .0) 0 first (now (t .entry)) (now (inn .entry)) (now (outw .entry)) ⌝ }
 {
     let row = e.0;
     let mut g: u8 = 0;
@@ -74,7 +74,7 @@ fn product_rows(
     room: u32,
 ) -> Counted
     requires { ⌜ (allFit (length (now from)) (handles over) ≡ true) × (elementsOf (handles over) ≤ 4294967295) ⌝ }
-    ensures { λ r. ⌜ Mapped.mapped (Placed.placed r (now (t .exit))) (now (inn .exit)) (now (outw .exit)) ≡ mapRows room (productOf (now (from .entry)) (handles over) (now (gens .entry))) n room 0 1 (now (t .entry)) (now (inn .entry)) (now (outw .entry)) ⌝ }
+    ensures { λ r. ⌜ Mapped.mapped (Placed.placed r (now (t .exit))) (now (inn .exit)) (now (outw .exit)) ≡ mapRows room (productBy (now (from .entry)) (handles over) (now (gens .entry))) n room 0 1 (now (t .entry)) (now (inn .entry)) (now (outw .entry)) ⌝ }
 {
     let mut e: u32 = 0;
     let mut count: u32 = 1;
@@ -119,7 +119,7 @@ fn factor_row(
     first: u32,
 ) -> Counted
     requires { ⌜ ((fitsIn (length (now from)) f ≡ true) × Letters (stretch (now from) f) (f .generators) (f .elements) (now gens) (now letters)) × (e .0 < first) ⌝ }
-    ensures { λ r. ⌜ Mapped.mapped (Placed.placed r (now (t .exit))) (now (inn .exit)) (now (outw .exit)) ≡ mapRow n (productOf (now (from .entry)) (f ∷ []) (now (gens .entry))) n room (e .0) 0 first (now (t .entry)) (now (inn .entry)) (now (outw .entry)) ⌝ }
+    ensures { λ r. ⌜ Mapped.mapped (Placed.placed r (now (t .exit))) (now (inn .exit)) (now (outw .exit)) ≡ mapRow n (productBy (now (from .entry)) (f ∷ []) (now (gens .entry))) n room (e .0) 0 first (now (t .entry)) (now (inn .entry)) (now (outw .entry)) ⌝ }
 {
     let row = e.0;
     let at = egg::inner::get(&outw[..], row as usize);
@@ -164,7 +164,7 @@ fn lettered_rows(
     room: u32,
 ) -> Counted
     requires { ⌜ (fitsIn (length (now from)) f ≡ true) × Letters (stretch (now from) f) (f .generators) (f .elements) (now gens) (now letters) ⌝ }
-    ensures { λ r. ⌜ Mapped.mapped (Placed.placed r (now (t .exit))) (now (inn .exit)) (now (outw .exit)) ≡ mapRows room (productOf (now (from .entry)) (f ∷ []) (now (gens .entry))) n room 0 1 (now (t .entry)) (now (inn .entry)) (now (outw .entry)) ⌝ }
+    ensures { λ r. ⌜ Mapped.mapped (Placed.placed r (now (t .exit))) (now (inn .exit)) (now (outw .exit)) ≡ mapRows room (productBy (now (from .entry)) (f ∷ []) (now (gens .entry))) n room 0 1 (now (t .entry)) (now (inn .entry)) (now (outw .entry)) ⌝ }
 {
     let mut e: u32 = 0;
     let mut count: u32 = 1;
@@ -207,7 +207,7 @@ fn factor_rows(
     room: u32,
 ) -> Counted
     requires { ⌜ fitsIn (length (now from)) f ≡ true ⌝ }
-    ensures { λ r. ⌜ Mapped.mapped (Placed.placed r (now (t .exit))) (now (inn .exit)) (now (outw .exit)) ≡ mapRows room (productOf (now (from .entry)) (f ∷ []) (now (gens .entry))) n room 0 1 (now (t .entry)) (now (inn .entry)) (now (outw .entry)) ⌝ }
+    ensures { λ r. ⌜ Mapped.mapped (Placed.placed r (now (t .exit))) (now (inn .exit)) (now (outw .exit)) ≡ mapRows room (productBy (now (from .entry)) (f ∷ []) (now (gens .entry))) n room 0 1 (now (t .entry)) (now (inn .entry)) (now (outw .entry)) ⌝ }
 {
     let mut letters = [0; 8];
     subgroup_one_factor::inner::find_letters(
@@ -232,7 +232,7 @@ pub fn rows_of(
     room: u32,
 ) -> Counted
     requires { ⌜ (allFit (length (now from)) (handles over) ≡ true) × (elementsOf (handles over) ≤ 4294967295) ⌝ }
-    ensures { λ r. ⌜ Mapped.mapped (Placed.placed r (now (t .exit))) (now (inn .exit)) (now (outw .exit)) ≡ mapRows room (productOf (now (from .entry)) (handles over) (now (gens .entry))) n room 0 1 (now (t .entry)) (now (inn .entry)) (now (outw .entry)) ⌝ }
+    ensures { λ r. ⌜ Mapped.mapped (Placed.placed r (now (t .exit))) (now (inn .exit)) (now (outw .exit)) ≡ mapRows room (productBy (now (from .entry)) (handles over) (now (gens .entry))) n room 0 1 (now (t .entry)) (now (inn .entry)) (now (outw .entry)) ⌝ }
 {
     if group_handles::inner::listed(over) == 1 {
         let f = group_handles::inner::handle(over, 0);

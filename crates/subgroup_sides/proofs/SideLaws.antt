@@ -20,7 +20,7 @@ use Rattle.group_handles.proofs.Joins.{fit-both}
 use Rattle.group_handles.proofs.Sums.{both-length}
 use Rattle.subgroup_build.specs.declared.Subgroup.{Subgroup}
 use Rattle.subgroup_build.specs.declared.Subgrouped.{Subgrouped}
-use Rattle.subgroup_sides.specs.Sides.{overSide, subSide, sidesFit, fewFactors, limitedBy, sidesLimited, admitsSides, leftOf, rightOf, refusedSubgroup, ifLimited, joinable, multiplied, leftProduct, rightProduct}
+use Rattle.subgroup_sides.specs.Sides.{overSide, subSide, sidesFit, fewFactors, limitedBy, sidesLimited, admitsSides, putLeft, putRight, refusedSubgroup, ifLimited, joinable, multiplied, leftProduct, rightProduct}
 use Rattle.subgroup_sides.proofs.Counts.{around-is, over-elements-is, sub-elements-is}
 
 -- 17 in the handles.
@@ -230,10 +230,10 @@ module _ (from table : ℕ) (g : Group) (s : Subgroup) where
     unfolding rightProduct
     right-group e = rw (f, e)
 
-    pub left-is : allFit from (handles g) ≡ true → multiplied g (s .below) (leftOf g s) ≡ leftProduct from table g s
+    pub left-is : allFit from (handles g) ≡ true → multiplied g (s .below) (putLeft g s) ≡ leftProduct from table g s
     unfolding leftProduct
     left-is e = rw (f, e)
 
-    pub right-is : allFit from (handles g) ≡ true → multiplied (s .above) g (rightOf s g) ≡ rightProduct from table s g
+    pub right-is : allFit from (handles g) ≡ true → multiplied (s .above) g (putRight s g) ≡ rightProduct from table s g
     unfolding rightProduct
     right-is e = rw (f, e)

@@ -67,12 +67,12 @@ admitsSides from table s map need a la =
     (refusedOf 17 0 0 0)
 
 -- The subgroup with a group multiplied on at the left, below all the rest.
-abbrev pub leftOf : Group → Subgroup → Subgroup
-leftOf g s = record { below = groupOf (handles g ++ handles (s .below)); factor = s .factor; over = s .over; above = s .above }
+abbrev pub putLeft : Group → Subgroup → Subgroup
+putLeft g s = record { below = groupOf (handles g ++ handles (s .below)); factor = s .factor; over = s .over; above = s .above }
 
 -- The subgroup with a group multiplied on at the right, above all the rest.
-abbrev pub rightOf : Subgroup → Group → Subgroup
-rightOf s g = record { below = s .below; factor = s .factor; over = s .over; above = groupOf (handles (s .above) ++ handles g) }
+abbrev pub putRight : Subgroup → Group → Subgroup
+putRight s g = record { below = s .below; factor = s .factor; over = s .over; above = groupOf (handles (s .above) ++ handles g) }
 
 -- The value beside a refusal, which is no subgroup: its factor fits no buffer.
 abbrev pub noSubgroup : Subgroup
@@ -97,9 +97,9 @@ multiplied g h t = pick (joinable g h) (ifLimited t) (refusedSubgroup 15)
 -- "The left and right products of the index formulas", at the left: 17 for a handle that does not fit, then 15.
 unfoldable pub leftProduct : ℕ → ℕ → Group → Subgroup → Subgrouped
 leftProduct from table g s =
-    pick (sidesFit from table s && allFit from (handles g)) (multiplied g (s .below) (leftOf g s)) (refusedSubgroup 17)
+    pick (sidesFit from table s && allFit from (handles g)) (multiplied g (s .below) (putLeft g s)) (refusedSubgroup 17)
 
 -- The same at the right.
 unfoldable pub rightProduct : ℕ → ℕ → Subgroup → Group → Subgrouped
 rightProduct from table s g =
-    pick (sidesFit from table s && allFit from (handles g)) (multiplied (s .above) g (rightOf s g)) (refusedSubgroup 17)
+    pick (sidesFit from table s && allFit from (handles g)) (multiplied (s .above) g (putRight s g)) (refusedSubgroup 17)

@@ -5,7 +5,7 @@ ghost use Prim.Native.Nat.{_*_, _<_, _≤_};
 ghost use lib.ListN.{length};
 ghost use Rattle.group_handles.specs.Handles.{handles, elementsOf, generatorsOf, capped};
 ghost use Rattle.egg.specs.declared.GroupElementId.{GroupElementId};
-ghost use Rattle.subgroup_sides.specs.Sides.{subSide, sidesFit, fewFactors, limitedBy, sidesLimited, leftOf, rightOf, joinable, ifLimited, multiplied, refusedSubgroup, fewOf};
+ghost use Rattle.subgroup_sides.specs.Sides.{subSide, sidesFit, fewFactors, limitedBy, sidesLimited, putLeft, putRight, joinable, ifLimited, multiplied, refusedSubgroup, fewOf};
 ghost use Rattle.subgroup_sides.specs.Generators.{scaled, sideGenerator};
 use egg::GeneratorId;
 use egg::GroupElementId;
@@ -161,7 +161,7 @@ fn if_limited(s: Subgroup) -> Subgrouped
 
 // The subgroup with g multiplied on at the left, or 15.
 pub fn left_of(g: Group, s: Subgroup) -> Subgrouped
-    ensures { λ r. ⌜ r ≡ multiplied g (s .below) (leftOf g s) ⌝ }
+    ensures { λ r. ⌜ r ≡ multiplied g (s .below) (putLeft g s) ⌝ }
 {
     let side = s.below;
     if !joinable(g, side) {
@@ -181,7 +181,7 @@ pub fn left_of(g: Group, s: Subgroup) -> Subgrouped
 
 // The subgroup with g multiplied on at the right, or 15.
 pub fn right_of(s: Subgroup, g: Group) -> Subgrouped
-    ensures { λ r. ⌜ r ≡ multiplied (s .above) g (rightOf s g) ⌝ }
+    ensures { λ r. ⌜ r ≡ multiplied (s .above) g (putRight s g) ⌝ }
 {
     let side = s.above;
     if !joinable(side, g) {

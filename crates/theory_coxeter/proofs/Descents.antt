@@ -13,7 +13,7 @@ use Rattle.theory.specs.AnyGroup.{GroupOver, word-product}
 use Rattle.theory.proofs.Least.{Least, least-of}
 use Rattle.theory.proofs.Walking.{word-append}
 use Rattle.theory.proofs.Universal.{product-append}
-use Rattle.theory_coxeter.specs.Coxeter.{turns, times, Presents, ExactOrders, Shortest, Descent}
+use Rattle.theory_coxeter.specs.Coxeter.{turns, times, Presents, ExactOrders, ShortestWords, Descent}
 use Rattle.theory_coxeter.proofs.Algebra.{cancel-left, cancel-right, times-add, involution, round}
 use Rattle.theory_coxeter.proofs.Flipping.{mark-no, flips-none}
 use Rattle.theory_coxeter.proofs.Sides.{mirror, mirror-times, crosses, side, side-append, side-turns}
@@ -31,7 +31,7 @@ mirror-apart G gen {i} {j} T k l lk kM e =
     T .exact {k = k - l} (omega arith) (omega arith) (cancel-right G (times G r (k - l)) (G .unit) (times G r l) (sym s ∙ p ∙ sym (G .left-unit (times G r l))))
 
 module _ {A : Type 0} (G : GroupOver A) (gen : ℕ → A) (alike : (a b : A) → Dec (a ≡ b)) {n : ℕ} {m : ℕ → ℕ → ℕ} (P : Presents G gen n m)
-    {word : A → List ℕ} (S : Shortest G gen n word) where
+    {word : A → List ℕ} (S : ShortestWords G gen n word) where
   abbrev len : A → ℕ
   len a = length (word a)
 

@@ -10,7 +10,7 @@ use Rattle.theory.specs.AnyGroup.{GroupOver, word-product}
 use Rattle.theory.proofs.Walking.{word-append, word-left, word-right}
 use Rattle.theory.proofs.Parity.{equiv-parity}
 use Rattle.theory.proofs.Universal.{product-append}
-use Rattle.theory_coxeter.specs.Coxeter.{Presents, Shortest, Descent, Struck}
+use Rattle.theory_coxeter.specs.Coxeter.{Presents, ShortestWords, Descent, Struck}
 use Rattle.theory_coxeter.proofs.Algebra.{undo, product-one, involution}
 use Rattle.theory_coxeter.proofs.Flipping.{mark, mark-yes, toggle}
 use Rattle.theory_coxeter.proofs.Sides.{side, side-append, equiv-side}
@@ -62,7 +62,7 @@ module _ {A : Type 0} (G : GroupOver A) (gen : ℕ → A) (alike : (a b : A) →
               first : {g : ℕ} {v : List ℕ} → Word n (g ∷ v) → g < n
               first (letter h w) = h
 
-    module _ {word : A → List ℕ} (S : Shortest G gen n word) where
+    module _ {word : A → List ℕ} (S : ShortestWords G gen n word) where
       abbrev len : A → ℕ
       len a = length (word a)
 

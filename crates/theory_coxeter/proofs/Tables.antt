@@ -17,7 +17,7 @@ use Rattle.theory.proofs.Shortest.{recorded-best}
 use Rattle.theory.proofs.AnyCarrier.{elt-zero}
 use Rattle.theory.proofs.Relations.{alternate-word, relator-word}
 use Rattle.theory.proofs.Presented.{presented-some-group}
-use Rattle.theory_coxeter.specs.Coxeter.{turns, Presents, ExactOrders, Shortest, Descent}
+use Rattle.theory_coxeter.specs.Coxeter.{turns, Presents, ExactOrders, ShortestWords, Descent}
 use Rattle.theory_coxeter.specs.Tables.{PresentedTable, ExactWords}
 use Rattle.theory_coxeter.specs.Groups.{PresentedGroup}
 use Rattle.theory_coxeter.proofs.Algebra.{product-alternate}
@@ -71,7 +71,7 @@ module _ {n N : ℕ} {m step : ℕ → ℕ → ℕ} (P : PresentedTable n N m st
   abbrev word : Carrier → List ℕ
   word a = recorded n step (num a)
 
-  shortest : Shortest group gen n word
+  shortest : ShortestWords group gen n word
   shortest = record {
     over = λ a. spelled .over (numbers .num-below a);
     spells = λ a. num-once (walked-zero (spelled .over (numbers .num-below a)) ∙ spelled .spells (numbers .num-below a));

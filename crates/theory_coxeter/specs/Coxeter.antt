@@ -20,7 +20,7 @@ times G a zero = G .unit
 times G a (suc k) = G .op a (times G a k)
 
 -- The group is the one that the orders present: every relator multiplies to the identity, and words that multiply to one element are equal under the relations. That
--- every element is a word's product is said apart, by `Shortest` or `PresentedGroup`.
+-- every element is a word's product is said apart, by `ShortestWords` or `PresentedGroup`.
 pub record Presents {A : Type 0} (G : GroupOver A) (gen : ℕ → A) (n : ℕ) (m : ℕ → ℕ → ℕ) : Type 0 where
   pub holds : {r : List ℕ} → Relator n m r → word-product G gen r ≡ G .unit
   pub faithful : {u v : List ℕ} → Word n u → Word n v → word-product G gen u ≡ word-product G gen v → Equiv n m u v
@@ -31,7 +31,7 @@ pub record ExactOrders {A : Type 0} (G : GroupOver A) (gen : ℕ → A) (n : ℕ
   pub exact : {i j k : ℕ} → i < j → j < n → 0 < k → k < m i j → ¬ (times G (G .op (gen i) (gen j)) k ≡ G .unit)
 
 -- Each element has a word that multiplies to it, and no word that does so is shorter: the length of an element is that of its word.
-pub record Shortest {A : Type 0} (G : GroupOver A) (gen : ℕ → A) (n : ℕ) (word : A → List ℕ) : Type 0 where
+pub record ShortestWords {A : Type 0} (G : GroupOver A) (gen : ℕ → A) (n : ℕ) (word : A → List ℕ) : Type 0 where
   pub over : (a : A) → Word n (word a)
   pub spells : (a : A) → word-product G gen (word a) ≡ a
   pub least : {u : List ℕ} → Word n u → length (word (word-product G gen u)) ≤ length u

@@ -299,7 +299,7 @@ pub fn image_check(image: &[u8], work: &mut [u8]) -> u32 {
 }
 
 /// How many bytes of work a check of the image needs. Refused with 16 or 1 where the head is wrong, and with 16 where it says no generator and more than one
-/// element: such an image is refused whatever work is lent.
+/// element: no work makes the check accept such an image.
 pub fn image_need(image: &[u8]) -> Answer<u32> {
     // SAFETY: the pointer and the length of a slice, as said at the head of this file.
     coded(unsafe { hg_image_need(image.as_ptr(), image.len()) })

@@ -1,7 +1,7 @@
 -- The steps of the build, put together by `renumber-in`.
 use lib.ListN.{length}
 use Rattle.group_handles.specs.Handles.{handles}
-use Rattle.subgroup_rows.specs.Rows.{productOf}
+use Rattle.subgroup_rows.specs.Rows.{productBy}
 use Rattle.build_numbering.proofs.BuildLaws.{renumber-in}
 use borrow.Author.Needs.{needs}
 use Rattle.subgroup_build.proofs.inner.generated_in.Statement.{statement}
@@ -35,7 +35,7 @@ same-length-4 : tie.Need-same-length-4
 same-length-4 c = search needs
 
 returns : tie.Need-returns
-returns c = let a = (c .before .before .before .before .before .before .before .before .before .before .before .before .before .before .before .before .before .before .before .before .before .before .before .before .before .before .before .before .before .before .before .before .before .before .before .before .before .before .before .before .before .args) in renumber-in (length (a .t .now)) (a .w .now) (productOf (a .from .now) (handles (a .over)) (a .gens .now)) (a .n) (a .room) (length (a .inn .now)) (length (a .outw .now)) 0 ((c .before .before .before .before .before .before .before .before .before .before .before .before .before .before .before .before .before .before .before .before .before .before .before .before .before .before .before .before .before .before .before .before .before .clear .ensures)) ((c .before .before .before .before .before .before .before .before .before .before .before .before .before .before .before .before .before .before .before .before .before .before .before .before .before .before .before .before .start .ensures .0)) ((c .before .before .before .before .before .before .before .before .before .before .before .before .before .before .before .before .before .before .before .before .before .before .before .before .before .before .before .before .start .ensures .1)) ((c .before .before .before .before .before .before .before .before .before .before .before .before .before .before .before .before .before .before .before .before .rows-of .ensures)) ((c .before .before .before .before .before .before .before .before .before .before .before .finish .ensures)) ((c .before .before .before .before .settle .ensures .0)) ((c .before .before .before .before .settle .ensures .1 .0)) ((c .before .before .before .before .settle .ensures .1 .1))
+returns c = let a = (c .before .before .before .before .before .before .before .before .before .before .before .before .before .before .before .before .before .before .before .before .before .before .before .before .before .before .before .before .before .before .before .before .before .before .before .before .before .before .before .before .before .args) in renumber-in (length (a .t .now)) (a .w .now) (productBy (a .from .now) (handles (a .over)) (a .gens .now)) (a .n) (a .room) (length (a .inn .now)) (length (a .outw .now)) 0 ((c .before .before .before .before .before .before .before .before .before .before .before .before .before .before .before .before .before .before .before .before .before .before .before .before .before .before .before .before .before .before .before .before .before .clear .ensures)) ((c .before .before .before .before .before .before .before .before .before .before .before .before .before .before .before .before .before .before .before .before .before .before .before .before .before .before .before .before .start .ensures .0)) ((c .before .before .before .before .before .before .before .before .before .before .before .before .before .before .before .before .before .before .before .before .before .before .before .before .before .before .before .before .start .ensures .1)) ((c .before .before .before .before .before .before .before .before .before .before .before .before .before .before .before .before .before .before .before .before .rows-of .ensures)) ((c .before .before .before .before .before .before .before .before .before .before .before .finish .ensures)) ((c .before .before .before .before .settle .ensures .0)) ((c .before .before .before .before .settle .ensures .1 .0)) ((c .before .before .before .before .settle .ensures .1 .1))
 
 pub generated-in-spec : {M : Type 1} → statement M
 generated-in-spec =

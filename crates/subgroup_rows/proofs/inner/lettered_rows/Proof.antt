@@ -5,20 +5,20 @@ use native.Mathlib.Omega.{arith}
 use borrow.Author.Needs.{needs}
 use mathlib.Core.List.{[], _∷_}
 use lib.ListN.{length}
-use Rattle.subgroup_rows.specs.Rows.{productOf}
+use Rattle.subgroup_rows.specs.Rows.{productBy}
 use Rattle.build_numbering.specs.Renumber.{mapRows}
 use Rattle.build_numbering.proofs.PlaceLaws.{map-rows-done, map-rows-next, map-rows-stop, map-rows-end}
 use Rattle.subgroup_rows.proofs.inner.lettered_rows.Statement.{statement}
 use Rattle.subgroup_rows.proofs.inner.lettered_rows.Tie as tie
 
 abbrev Inv-loop : tie.InvT-loop
-Inv-loop t₀ inn₀ outw₀ from f gens letters n room e₀ count₀ t inn outw e count = (length t ≡ length t₀) × (length inn ≡ length inn₀) × (length outw ≡ length outw₀) × (e ≤ room) × (mapRows (room - e) (productOf from (f ∷ []) gens) n room e count t inn outw ≡ mapRows room (productOf from (f ∷ []) gens) n room 0 1 t₀ inn₀ outw₀)
+Inv-loop t₀ inn₀ outw₀ from f gens letters n room e₀ count₀ t inn outw e count = (length t ≡ length t₀) × (length inn ≡ length inn₀) × (length outw ≡ length outw₀) × (e ≤ room) × (mapRows (room - e) (productBy from (f ∷ []) gens) n room e count t inn outw ≡ mapRows room (productBy from (f ∷ []) gens) n room 0 1 t₀ inn₀ outw₀)
 
 abbrev μ-loop : tie.MeasureT-loop
 μ-loop t₀ inn₀ outw₀ from f gens letters n room e₀ count₀ t inn outw e count = room - e
 
 loop-holds : tie.Need-loop-holds Inv-loop μ-loop
-loop-holds c = let a = (c .before .before .before .before .before .before .args) in (refl, refl, refl, search needs, ap (λ (k : ℕ). mapRows k (productOf (a .from .now) (a .f ∷ []) (a .gens .now)) (a .n) (a .room) 0 1 (a .t .now) (a .inn .now) (a .outw .now)) (omega arith))
+loop-holds c = let a = (c .before .before .before .before .before .before .args) in (refl, refl, refl, search needs, ap (λ (k : ℕ). mapRows k (productBy (a .from .now) (a .f ∷ []) (a .gens .now)) (a .n) (a .room) 0 1 (a .t .now) (a .inn .now) (a .outw .now)) (omega arith))
 
 same-length : tie.Need-same-length Inv-loop μ-loop
 same-length c = (c .before .before .loop .inv .0)
@@ -30,7 +30,7 @@ same-length-3 : tie.Need-same-length-3 Inv-loop μ-loop
 same-length-3 c = (c .before .before .loop .inv .2)
 
 returns : tie.Need-returns Inv-loop μ-loop
-returns c = let a = (c .before .before .before .before .before .before .before .before .before .args) in map-rows-done (productOf (a .from .now) (a .f ∷ []) (a .gens .now)) (a .n) (a .room) (c .before .before .loop .e) (c .before .before .loop .count) (c .before .before .loop .t) (c .before .before .loop .inn) (c .before .before .loop .outw) (c .before .loop-test .taken) (c .if1 .taken) ∙ (c .before .before .loop .inv .4)
+returns c = let a = (c .before .before .before .before .before .before .before .before .before .args) in map-rows-done (productBy (a .from .now) (a .f ∷ []) (a .gens .now)) (a .n) (a .room) (c .before .before .loop .e) (c .before .before .loop .count) (c .before .before .loop .t) (c .before .before .loop .inn) (c .before .before .loop .outw) (c .before .loop-test .taken) (c .if1 .taken) ∙ (c .before .before .loop .inv .4)
 
 factor-row-requires : tie.Need-factor-row-requires Inv-loop μ-loop
 factor-row-requires c κs = ((c .before .before .before .before .before .before .before .before .before .before .before .before .pre), (c .before .before .before .if1 .left))
@@ -51,7 +51,7 @@ same-length-6 : tie.Need-same-length-6 Inv-loop μ-loop
 same-length-6 c = (c .before .before .before .before .before .before .before .before .factor-row .kept .1 .1 .0) ∙ (c .before .before .before .before .before .before .before .before .before .before .before .before .before .before .loop .inv .2)
 
 returns-2 : tie.Need-returns-2 Inv-loop μ-loop
-returns-2 c = let a = (c .before .before .before .before .before .before .before .before .before .before .before .before .before .before .before .before .before .before .before .before .before .args) in map-rows-stop (productOf (a .from .now) (a .f ∷ []) (a .gens .now)) (a .n) (a .room) (c .before .before .before .before .before .before .before .before .before .before .before .before .before .before .loop .e) (c .before .before .before .before .before .before .before .before .before .before .before .before .before .before .loop .count) (c .before .before .before .before .before .before .before .before .before .before .before .before .before .before .loop .t) (c .before .before .before .before .before .before .before .before .before .before .before .before .before .before .loop .inn) (c .before .before .before .before .before .before .before .before .before .before .before .before .before .before .loop .outw) (c .before .before .before .before .before .before .before .before .before .before .before .before .before .loop-test .taken) (c .before .before .before .before .before .before .before .before .before .before .before .before .if1 .left) (c .before .before .before .before .before .before .before .before .factor-row .ensures) (c .enum-told .given .1) ∙ (c .before .before .before .before .before .before .before .before .before .before .before .before .before .before .loop .inv .4)
+returns-2 c = let a = (c .before .before .before .before .before .before .before .before .before .before .before .before .before .before .before .before .before .before .before .before .before .args) in map-rows-stop (productBy (a .from .now) (a .f ∷ []) (a .gens .now)) (a .n) (a .room) (c .before .before .before .before .before .before .before .before .before .before .before .before .before .before .loop .e) (c .before .before .before .before .before .before .before .before .before .before .before .before .before .before .loop .count) (c .before .before .before .before .before .before .before .before .before .before .before .before .before .before .loop .t) (c .before .before .before .before .before .before .before .before .before .before .before .before .before .before .loop .inn) (c .before .before .before .before .before .before .before .before .before .before .before .before .before .before .loop .outw) (c .before .before .before .before .before .before .before .before .before .before .before .before .before .loop-test .taken) (c .before .before .before .before .before .before .before .before .before .before .before .before .if1 .left) (c .before .before .before .before .before .before .before .before .factor-row .ensures) (c .enum-told .given .1) ∙ (c .before .before .before .before .before .before .before .before .before .before .before .before .before .before .loop .inv .4)
 
 add-e : tie.Need-add-e Inv-loop μ-loop
 add-e c = let h = (c .before .before .before .before .before .before .before .before .before .before .before .before .before .before .loop-test .taken) in let k = (c .before .before .before .before .before .before .before .before .before .before .before .before .before .before .before .before .before .before .before .before .before .before .fits .room .fits) in omega arith
@@ -60,7 +60,7 @@ loop-less : tie.Need-loop-less Inv-loop μ-loop
 loop-less c = search needs
 
 loop-again : tie.Need-loop-again Inv-loop μ-loop
-loop-again c = let a = (c .before .before .before .before .before .before .before .before .before .before .before .before .before .before .before .before .before .before .before .before .before .before .args) in ((c .before .before .before .before .before .before .before .before .before .factor-row .kept .0) ∙ (c .before .before .before .before .before .before .before .before .before .before .before .before .before .before .before .loop .inv .0), (c .before .before .before .before .before .before .before .before .before .factor-row .kept .1 .0) ∙ (c .before .before .before .before .before .before .before .before .before .before .before .before .before .before .before .loop .inv .1), (c .before .before .before .before .before .before .before .before .before .factor-row .kept .1 .1 .0) ∙ (c .before .before .before .before .before .before .before .before .before .before .before .before .before .before .before .loop .inv .2), search needs, sym (map-rows-next (productOf (a .from .now) (a .f ∷ []) (a .gens .now)) (a .n) (a .room) (c .before .before .before .before .before .before .before .before .before .before .before .before .before .before .before .loop .e) (c .before .before .before .before .before .before .before .before .before .before .before .before .before .before .before .loop .count) (c .before .before .before .before .before .before .before .before .before .before .before .before .before .before .before .loop .t) (c .before .before .before .before .before .before .before .before .before .before .before .before .before .before .before .loop .inn) (c .before .before .before .before .before .before .before .before .before .before .before .before .before .before .before .loop .outw) (c .before .before .before .before .before .before .before .before .before .before .before .before .before .before .loop-test .taken) (c .before .before .before .before .before .before .before .before .before .before .before .before .before .if1 .left) (c .before .before .before .before .before .before .before .before .before .factor-row .ensures) (c .before .c .given .1)) ∙ (c .before .before .before .before .before .before .before .before .before .before .before .before .before .before .before .loop .inv .4))
+loop-again c = let a = (c .before .before .before .before .before .before .before .before .before .before .before .before .before .before .before .before .before .before .before .before .before .before .args) in ((c .before .before .before .before .before .before .before .before .before .factor-row .kept .0) ∙ (c .before .before .before .before .before .before .before .before .before .before .before .before .before .before .before .loop .inv .0), (c .before .before .before .before .before .before .before .before .before .factor-row .kept .1 .0) ∙ (c .before .before .before .before .before .before .before .before .before .before .before .before .before .before .before .loop .inv .1), (c .before .before .before .before .before .before .before .before .before .factor-row .kept .1 .1 .0) ∙ (c .before .before .before .before .before .before .before .before .before .before .before .before .before .before .before .loop .inv .2), search needs, sym (map-rows-next (productBy (a .from .now) (a .f ∷ []) (a .gens .now)) (a .n) (a .room) (c .before .before .before .before .before .before .before .before .before .before .before .before .before .before .before .loop .e) (c .before .before .before .before .before .before .before .before .before .before .before .before .before .before .before .loop .count) (c .before .before .before .before .before .before .before .before .before .before .before .before .before .before .before .loop .t) (c .before .before .before .before .before .before .before .before .before .before .before .before .before .before .before .loop .inn) (c .before .before .before .before .before .before .before .before .before .before .before .before .before .before .before .loop .outw) (c .before .before .before .before .before .before .before .before .before .before .before .before .before .before .loop-test .taken) (c .before .before .before .before .before .before .before .before .before .before .before .before .before .if1 .left) (c .before .before .before .before .before .before .before .before .before .factor-row .ensures) (c .before .c .given .1)) ∙ (c .before .before .before .before .before .before .before .before .before .before .before .before .before .before .before .loop .inv .4))
 
 same-length-7 : tie.Need-same-length-7 Inv-loop μ-loop
 same-length-7 c = (c .before .loop .inv .0)
@@ -72,7 +72,7 @@ same-length-9 : tie.Need-same-length-9 Inv-loop μ-loop
 same-length-9 c = (c .before .loop .inv .2)
 
 returns-3 : tie.Need-returns-3 Inv-loop μ-loop
-returns-3 c = let a = (c .before .before .before .before .before .before .before .before .args) in map-rows-end (productOf (a .from .now) (a .f ∷ []) (a .gens .now)) (a .n) (a .room) (c .before .loop .e) (c .before .loop .count) (c .before .loop .t) (c .before .loop .inn) (c .before .loop .outw) (c .loop-test .left) ∙ (c .before .loop .inv .4)
+returns-3 c = let a = (c .before .before .before .before .before .before .before .before .args) in map-rows-end (productBy (a .from .now) (a .f ∷ []) (a .gens .now)) (a .n) (a .room) (c .before .loop .e) (c .before .loop .count) (c .before .loop .t) (c .before .loop .inn) (c .before .loop .outw) (c .loop-test .left) ∙ (c .before .loop .inv .4)
 
 pub lettered-rows-spec : {M : Type 1} → statement M
 lettered-rows-spec =

@@ -8,18 +8,18 @@ use Rattle.group_handles.specs.Handles.{handles}
 use Rattle.group_digits.specs.Digits.{composes}
 use Rattle.build_numbering.specs.Renumber.{mapRow}
 use Rattle.build_numbering.proofs.PlaceLaws.{map-source-stop, map-row-next, map-row-stop, map-row-end, asked}
-use Rattle.subgroup_rows.specs.Rows.{productOf}
+use Rattle.subgroup_rows.specs.Rows.{productBy}
 use Rattle.subgroup_rows.proofs.inner.product_row.Statement.{statement}
 use Rattle.subgroup_rows.proofs.inner.product_row.Tie as tie
 
 abbrev Inv-loop : tie.InvT-loop
-Inv-loop t₀ inn₀ outw₀ from over gens n room e first row g₀ count₀ t inn outw g count = (length t ≡ length t₀) × (length inn ≡ length inn₀) × (length outw ≡ length outw₀) × (g ≤ n) × (mapRow (n - g) (productOf from (handles over) gens) n room (e .0) g count t inn outw ≡ mapRow n (productOf from (handles over) gens) n room (e .0) 0 first t₀ inn₀ outw₀)
+Inv-loop t₀ inn₀ outw₀ from over gens n room e first row g₀ count₀ t inn outw g count = (length t ≡ length t₀) × (length inn ≡ length inn₀) × (length outw ≡ length outw₀) × (g ≤ n) × (mapRow (n - g) (productBy from (handles over) gens) n room (e .0) g count t inn outw ≡ mapRow n (productBy from (handles over) gens) n room (e .0) 0 first t₀ inn₀ outw₀)
 
 abbrev μ-loop : tie.MeasureT-loop
 μ-loop t₀ inn₀ outw₀ from over gens n room e first row g₀ count₀ t inn outw g count = n - g
 
 loop-holds : tie.Need-loop-holds Inv-loop μ-loop
-loop-holds c = let a = (c .before .before .before .before .before .args) in (refl, refl, refl, search needs, ap (λ (k : ℕ). mapRow k (productOf (a .from .now) (handles (a .over)) (a .gens .now)) (a .n) (a .room) (a .e .0) 0 (a .first) (a .t .now) (a .inn .now) (a .outw .now)) (omega arith))
+loop-holds c = let a = (c .before .before .before .before .before .args) in (refl, refl, refl, search needs, ap (λ (k : ℕ). mapRow k (productBy (a .from .now) (handles (a .over)) (a .gens .now)) (a .n) (a .room) (a .e .0) 0 (a .first) (a .t .now) (a .inn .now) (a .outw .now)) (omega arith))
 
 cast-get : tie.Need-cast-get Inv-loop μ-loop
 cast-get c = search needs
@@ -49,7 +49,7 @@ same-length-3 : tie.Need-same-length-3 Inv-loop μ-loop
 same-length-3 c = (c .before .before .before .before .before .before .before .before .loop .inv .2)
 
 returns : tie.Need-returns Inv-loop μ-loop
-returns c = let a = (c .before .before .before .before .before .before .before .before .before .before .before .before .before .before .args) in map-source-stop (productOf (a .from .now) (handles (a .over)) (a .gens .now)) (a .n) (a .room) (a .e .0) ((c .before .before .before .before .before .before .before .before .loop .g)) ((c .before .before .before .before .before .before .before .before .loop .count)) ((c .before .before .before .before .before .before .before .before .loop .t)) ((c .before .before .before .before .before .before .before .before .loop .inn)) ((c .before .before .before .before .before .before .before .before .loop .outw)) ((c .before .before .before .before .before .before .before .loop-test .taken)) (asked (λ x y. composes (a .from .now) (handles (a .over)) x y) ((c .before .before .before .before .before .get .ensures)) ((c .before .before .before .before .get2 .ensures)) ((c .before .before .before .compose-digits .ensures))) ((c .before .reached .given .1)) ∙ (c .before .before .before .before .before .before .before .before .loop .inv .4)
+returns c = let a = (c .before .before .before .before .before .before .before .before .before .before .before .before .before .before .args) in map-source-stop (productBy (a .from .now) (handles (a .over)) (a .gens .now)) (a .n) (a .room) (a .e .0) ((c .before .before .before .before .before .before .before .before .loop .g)) ((c .before .before .before .before .before .before .before .before .loop .count)) ((c .before .before .before .before .before .before .before .before .loop .t)) ((c .before .before .before .before .before .before .before .before .loop .inn)) ((c .before .before .before .before .before .before .before .before .loop .outw)) ((c .before .before .before .before .before .before .before .loop-test .taken)) (asked (λ x y. composes (a .from .now) (handles (a .over)) x y) ((c .before .before .before .before .before .get .ensures)) ((c .before .before .before .before .get2 .ensures)) ((c .before .before .before .compose-digits .ensures))) ((c .before .reached .given .1)) ∙ (c .before .before .before .before .before .before .before .before .loop .inv .4)
 
 enum-known-reached-2 : tie.Need-enum-known-reached-2 Inv-loop μ-loop
 enum-known-reached-2 c = search needs
@@ -73,7 +73,7 @@ same-length-6 : tie.Need-same-length-6 Inv-loop μ-loop
 same-length-6 c = (c .before .before .before .before .before .before .before .before .place .kept .1 .1 .0) ∙ (c .before .before .before .before .before .before .before .before .before .before .before .before .before .before .before .before .before .before .before .before .loop .inv .2)
 
 returns-2 : tie.Need-returns-2 Inv-loop μ-loop
-returns-2 c = let a = (c .before .before .before .before .before .before .before .before .before .before .before .before .before .before .before .before .before .before .before .before .before .before .before .before .before .before .args) in map-row-stop (productOf (a .from .now) (handles (a .over)) (a .gens .now)) (a .n) (a .room) (a .e .0) ((c .before .before .before .before .before .before .before .before .before .before .before .before .before .before .before .before .before .before .before .before .loop .g)) ((c .before .before .before .before .before .before .before .before .before .before .before .before .before .before .before .before .before .before .before .before .loop .count)) ((c .before .before .before .before .before .before .before .before .before .before .before .before .before .before .before .before .before .before .before .before .loop .t)) ((c .before .before .before .before .before .before .before .before .before .before .before .before .before .before .before .before .before .before .before .before .loop .inn)) ((c .before .before .before .before .before .before .before .before .before .before .before .before .before .before .before .before .before .before .before .before .loop .outw)) ((c .before .before .before .before .before .before .before .before .before .before .before .before .before .before .before .before .before .before .before .loop-test .taken)) (asked (λ x y. composes (a .from .now) (handles (a .over)) x y) ((c .before .before .before .before .before .before .before .before .before .before .before .before .before .before .before .before .before .get .ensures)) ((c .before .before .before .before .before .before .before .before .before .before .before .before .before .before .before .before .get2 .ensures)) ((c .before .before .before .before .before .before .before .before .before .before .before .before .before .before .before .compose-digits .ensures))) ((c .before .before .before .before .before .before .before .before .before .before .before .before .before .reached2 .given .1)) ((c .before .before .before .before .before .before .before .before .place .ensures)) ((c .enum-told .given .1)) ∙ (c .before .before .before .before .before .before .before .before .before .before .before .before .before .before .before .before .before .before .before .before .loop .inv .4)
+returns-2 c = let a = (c .before .before .before .before .before .before .before .before .before .before .before .before .before .before .before .before .before .before .before .before .before .before .before .before .before .before .args) in map-row-stop (productBy (a .from .now) (handles (a .over)) (a .gens .now)) (a .n) (a .room) (a .e .0) ((c .before .before .before .before .before .before .before .before .before .before .before .before .before .before .before .before .before .before .before .before .loop .g)) ((c .before .before .before .before .before .before .before .before .before .before .before .before .before .before .before .before .before .before .before .before .loop .count)) ((c .before .before .before .before .before .before .before .before .before .before .before .before .before .before .before .before .before .before .before .before .loop .t)) ((c .before .before .before .before .before .before .before .before .before .before .before .before .before .before .before .before .before .before .before .before .loop .inn)) ((c .before .before .before .before .before .before .before .before .before .before .before .before .before .before .before .before .before .before .before .before .loop .outw)) ((c .before .before .before .before .before .before .before .before .before .before .before .before .before .before .before .before .before .before .before .loop-test .taken)) (asked (λ x y. composes (a .from .now) (handles (a .over)) x y) ((c .before .before .before .before .before .before .before .before .before .before .before .before .before .before .before .before .before .get .ensures)) ((c .before .before .before .before .before .before .before .before .before .before .before .before .before .before .before .before .get2 .ensures)) ((c .before .before .before .before .before .before .before .before .before .before .before .before .before .before .before .compose-digits .ensures))) ((c .before .before .before .before .before .before .before .before .before .before .before .before .before .reached2 .given .1)) ((c .before .before .before .before .before .before .before .before .place .ensures)) ((c .enum-told .given .1)) ∙ (c .before .before .before .before .before .before .before .before .before .before .before .before .before .before .before .before .before .before .before .before .loop .inv .4)
 
 add-g : tie.Need-add-g Inv-loop μ-loop
 add-g c = let h = (c .before .before .before .before .before .before .before .before .before .before .before .before .before .before .before .before .before .before .before .before .loop-test .taken) in let k = (c .before .before .before .before .before .before .before .before .before .before .before .before .before .before .before .before .before .before .before .before .before .before .before .before .before .before .before .fits .n .fits) in omega arith
@@ -82,7 +82,7 @@ loop-less : tie.Need-loop-less Inv-loop μ-loop
 loop-less c = search needs
 
 loop-again : tie.Need-loop-again Inv-loop μ-loop
-loop-again c = let a = (c .before .before .before .before .before .before .before .before .before .before .before .before .before .before .before .before .before .before .before .before .before .before .before .before .before .before .before .args) in ((c .before .before .before .before .before .before .before .before .before .place .kept .0) ∙ (c .before .before .before .before .before .before .before .before .before .before .before .before .before .before .before .before .before .before .before .before .before .loop .inv .0), (c .before .before .before .before .before .before .before .before .before .place .kept .1 .0) ∙ (c .before .before .before .before .before .before .before .before .before .before .before .before .before .before .before .before .before .before .before .before .before .loop .inv .1), (c .before .before .before .before .before .before .before .before .before .place .kept .1 .1 .0) ∙ (c .before .before .before .before .before .before .before .before .before .before .before .before .before .before .before .before .before .before .before .before .before .loop .inv .2), search needs, sym (map-row-next (productOf (a .from .now) (handles (a .over)) (a .gens .now)) (a .n) (a .room) (a .e .0) ((c .before .before .before .before .before .before .before .before .before .before .before .before .before .before .before .before .before .before .before .before .before .loop .g)) ((c .before .before .before .before .before .before .before .before .before .before .before .before .before .before .before .before .before .before .before .before .before .loop .count)) ((c .before .before .before .before .before .before .before .before .before .before .before .before .before .before .before .before .before .before .before .before .before .loop .t)) ((c .before .before .before .before .before .before .before .before .before .before .before .before .before .before .before .before .before .before .before .before .before .loop .inn)) ((c .before .before .before .before .before .before .before .before .before .before .before .before .before .before .before .before .before .before .before .before .before .loop .outw)) ((c .before .before .before .before .before .before .before .before .before .before .before .before .before .before .before .before .before .before .before .before .loop-test .taken)) (asked (λ x y. composes (a .from .now) (handles (a .over)) x y) ((c .before .before .before .before .before .before .before .before .before .before .before .before .before .before .before .before .before .before .get .ensures)) ((c .before .before .before .before .before .before .before .before .before .before .before .before .before .before .before .before .before .get2 .ensures)) ((c .before .before .before .before .before .before .before .before .before .before .before .before .before .before .before .before .compose-digits .ensures))) ((c .before .before .before .before .before .before .before .before .before .before .before .before .before .before .reached2 .given .1)) ((c .before .before .before .before .before .before .before .before .before .place .ensures)) ((c .before .c .given .1))) ∙ (c .before .before .before .before .before .before .before .before .before .before .before .before .before .before .before .before .before .before .before .before .before .loop .inv .4))
+loop-again c = let a = (c .before .before .before .before .before .before .before .before .before .before .before .before .before .before .before .before .before .before .before .before .before .before .before .before .before .before .before .args) in ((c .before .before .before .before .before .before .before .before .before .place .kept .0) ∙ (c .before .before .before .before .before .before .before .before .before .before .before .before .before .before .before .before .before .before .before .before .before .loop .inv .0), (c .before .before .before .before .before .before .before .before .before .place .kept .1 .0) ∙ (c .before .before .before .before .before .before .before .before .before .before .before .before .before .before .before .before .before .before .before .before .before .loop .inv .1), (c .before .before .before .before .before .before .before .before .before .place .kept .1 .1 .0) ∙ (c .before .before .before .before .before .before .before .before .before .before .before .before .before .before .before .before .before .before .before .before .before .loop .inv .2), search needs, sym (map-row-next (productBy (a .from .now) (handles (a .over)) (a .gens .now)) (a .n) (a .room) (a .e .0) ((c .before .before .before .before .before .before .before .before .before .before .before .before .before .before .before .before .before .before .before .before .before .loop .g)) ((c .before .before .before .before .before .before .before .before .before .before .before .before .before .before .before .before .before .before .before .before .before .loop .count)) ((c .before .before .before .before .before .before .before .before .before .before .before .before .before .before .before .before .before .before .before .before .before .loop .t)) ((c .before .before .before .before .before .before .before .before .before .before .before .before .before .before .before .before .before .before .before .before .before .loop .inn)) ((c .before .before .before .before .before .before .before .before .before .before .before .before .before .before .before .before .before .before .before .before .before .loop .outw)) ((c .before .before .before .before .before .before .before .before .before .before .before .before .before .before .before .before .before .before .before .before .loop-test .taken)) (asked (λ x y. composes (a .from .now) (handles (a .over)) x y) ((c .before .before .before .before .before .before .before .before .before .before .before .before .before .before .before .before .before .before .get .ensures)) ((c .before .before .before .before .before .before .before .before .before .before .before .before .before .before .before .before .before .get2 .ensures)) ((c .before .before .before .before .before .before .before .before .before .before .before .before .before .before .before .before .compose-digits .ensures))) ((c .before .before .before .before .before .before .before .before .before .before .before .before .before .before .reached2 .given .1)) ((c .before .before .before .before .before .before .before .before .before .place .ensures)) ((c .before .c .given .1))) ∙ (c .before .before .before .before .before .before .before .before .before .before .before .before .before .before .before .before .before .before .before .before .before .loop .inv .4))
 
 same-length-7 : tie.Need-same-length-7 Inv-loop μ-loop
 same-length-7 c = (c .before .loop .inv .0)
@@ -94,7 +94,7 @@ same-length-9 : tie.Need-same-length-9 Inv-loop μ-loop
 same-length-9 c = (c .before .loop .inv .2)
 
 returns-3 : tie.Need-returns-3 Inv-loop μ-loop
-returns-3 c = let a = (c .before .before .before .before .before .before .before .args) in map-row-end (productOf (a .from .now) (handles (a .over)) (a .gens .now)) (a .n) (a .room) (a .e .0) ((c .before .loop .g)) ((c .before .loop .count)) ((c .before .loop .t)) ((c .before .loop .inn)) ((c .before .loop .outw)) ((c .loop-test .left)) ∙ (c .before .loop .inv .4)
+returns-3 c = let a = (c .before .before .before .before .before .before .before .args) in map-row-end (productBy (a .from .now) (handles (a .over)) (a .gens .now)) (a .n) (a .room) (a .e .0) ((c .before .loop .g)) ((c .before .loop .count)) ((c .before .loop .t)) ((c .before .loop .inn)) ((c .before .loop .outw)) ((c .loop-test .left)) ∙ (c .before .loop .inv .4)
 
 pub product-row-spec : {M : Type 1} → statement M
 product-row-spec =

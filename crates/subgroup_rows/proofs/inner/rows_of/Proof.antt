@@ -5,7 +5,7 @@ use lib.ListN.{length}
 use Rattle.egg.specs.declared.Factor.{Factor}
 use Rattle.group_handles.specs.Handles.{handles}
 use Rattle.build_numbering.specs.Renumber.{mapRows}
-use Rattle.subgroup_rows.specs.Rows.{productOf}
+use Rattle.subgroup_rows.specs.Rows.{productBy}
 use Rattle.subgroup_rows.proofs.OneFactor.{one-handle, one-fits}
 use borrow.Author.Needs.{needs}
 use Rattle.subgroup_rows.proofs.inner.rows_of.Statement.{statement}
@@ -30,7 +30,7 @@ same-length-3 : tie.Need-same-length-3
 same-length-3 c = search needs
 
 returns : tie.Need-returns
-returns c = let a = (c .before .before .before .before .before .before .before .before .before .before .before .before .before .before .before .before .before .before .args) in (c .before .before .before .before .before .before .factor-rows .ensures) ∙ ap (λ (hs : List Factor). mapRows (a .room) (productOf (a .from .now) hs (a .gens .now)) (a .n) (a .room) 0 1 (a .t .now) (a .inn .now) (a .outw .now)) (sym (one-handle (handles (a .over)) ((c .before .before .before .before .before .before .before .before .before .before .before .before .listed .ensures .0)) ((c .before .before .before .before .before .before .before .before .before .before .before .if1 .taken)) ((c .before .before .before .before .before .before .before .before .before .before .handle .ensures))))
+returns c = let a = (c .before .before .before .before .before .before .before .before .before .before .before .before .before .before .before .before .before .before .args) in (c .before .before .before .before .before .before .factor-rows .ensures) ∙ ap (λ (hs : List Factor). mapRows (a .room) (productBy (a .from .now) hs (a .gens .now)) (a .n) (a .room) 0 1 (a .t .now) (a .inn .now) (a .outw .now)) (sym (one-handle (handles (a .over)) ((c .before .before .before .before .before .before .before .before .before .before .before .before .listed .ensures .0)) ((c .before .before .before .before .before .before .before .before .before .before .before .if1 .taken)) ((c .before .before .before .before .before .before .before .before .before .before .handle .ensures))))
 
 product-rows-requires : tie.Need-product-rows-requires
 product-rows-requires c κs = search needs

@@ -1,7 +1,7 @@
 -- The joined handles stand above.
 use mathlib.Core.Path.{sym, _∙_}
 use borrow.Author.Tests.{not-true, not-false}
-use Rattle.subgroup_sides.specs.Sides.{rightOf}
+use Rattle.subgroup_sides.specs.Sides.{putRight}
 use Rattle.subgroup_sides.proofs.SideLaws.{multiplied-no, multiplied-is, join-fits}
 use borrow.Author.Needs.{needs}
 use Rattle.subgroup_sides.proofs.inner.right_of.Statement.{statement}
@@ -14,7 +14,7 @@ refused-sides-requires : tie.Need-refused-sides-requires
 refused-sides-requires c κs = search needs
 
 returns : tie.Need-returns
-returns c = (c .refused-sides .ensures) ∙ multiplied-no ((c .before .before .before .before .args .s .above)) ((c .before .before .before .before .args .g)) (rightOf ((c .before .before .before .before .args .s)) ((c .before .before .before .before .args .g))) (sym ((c .before .before .joinable .ensures)) ∙ not-true _ ((c .before .if1 .taken)))
+returns c = (c .refused-sides .ensures) ∙ multiplied-no ((c .before .before .before .before .args .s .above)) ((c .before .before .before .before .args .g)) (putRight ((c .before .before .before .before .args .s)) ((c .before .before .before .before .args .g))) (sym ((c .before .before .joinable .ensures)) ∙ not-true _ ((c .before .if1 .taken)))
 
 joined-requires : tie.Need-joined-requires
 joined-requires c κs = join-fits ((c .before .before .before .args .s .above)) ((c .before .before .before .args .g)) (sym ((c .before .joinable .ensures)) ∙ not-false _ ((c .if1 .left)))
@@ -23,7 +23,7 @@ if-limited-requires : tie.Need-if-limited-requires
 if-limited-requires c κs = search needs
 
 returns-2 : tie.Need-returns-2
-returns-2 c = multiplied-is ((c .before .before .before .before .before .before .before .before .args .s .above)) ((c .before .before .before .before .before .before .before .before .args .g)) (rightOf ((c .before .before .before .before .before .before .before .before .args .s)) ((c .before .before .before .before .before .before .before .before .args .g))) (sym ((c .before .before .before .before .before .before .joinable .ensures)) ∙ not-false _ ((c .before .before .before .before .before .if1 .left))) (rw ((c .before .before .before .before .joined .ensures))) ((c .if-limited .ensures))
+returns-2 c = multiplied-is ((c .before .before .before .before .before .before .before .before .args .s .above)) ((c .before .before .before .before .before .before .before .before .args .g)) (putRight ((c .before .before .before .before .before .before .before .before .args .s)) ((c .before .before .before .before .before .before .before .before .args .g))) (sym ((c .before .before .before .before .before .before .joinable .ensures)) ∙ not-false _ ((c .before .before .before .before .before .if1 .left))) (rw ((c .before .before .before .before .joined .ensures))) ((c .if-limited .ensures))
 
 pub right-of-spec : {M : Type 1} → statement M
 right-of-spec =
