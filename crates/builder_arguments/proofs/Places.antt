@@ -16,8 +16,8 @@ use Rattle.egg.specs.declared.Verdict.the-variants as verdict
 use Rattle.egg.specs.Scan.{refusedOf}
 use Rattle.egg.proofs.Scans.{andThen-fine}
 use Rattle.egg.specs.Table.{succAt, lengthOf, Place}
-use Rattle.egg.specs.Factor.{fitsIn, stretch}
-use Rattle.builder_arguments.specs.Places.{placed, placedStep, storedStep, storable, overLong}
+use Rattle.egg.specs.Factor.{fitsIn, stretch, storedStep}
+use Rattle.builder_arguments.specs.Places.{placed, placedStep, storable, overLong}
 
 module _ (len : ℕ) (f : Factor) (e : GroupElementId) (g : GeneratorId) where
   pub place-handle : fitsIn len f ≡ false → refusedOf 17 0 0 0 ≡ placed len f e g
@@ -68,16 +68,16 @@ module _ (t : List ℕ) (f : Factor) (e : GroupElementId) (g : GeneratorId) (r :
     unfolding storable
     store-refused h = rw (← q, h)
 
-    pub store-altered : v ≡ verdict.Fine → f .elements < storedStep t f e g → refusedOf 17 0 0 0 ≡ storable t f e g r
+    pub store-altered : v ≡ verdict.Fine → f .elements < storedStep t f (e .0) (g .0) → refusedOf 17 0 0 0 ≡ storable t f e g r
     unfolding storable
     store-altered h k = rw (← q, h) (simp (lt-ltb _ _ k))
 
-    pub store-fine : v ≡ verdict.Fine → storedStep t f e g ≤ f .elements → verdict.Fine ≡ storable t f e g r
+    pub store-fine : v ≡ verdict.Fine → storedStep t f (e .0) (g .0) ≤ f .elements → verdict.Fine ≡ storable t f e g r
     unfolding storable
     store-fine h k = rw (← q, h) (simp (le-ltb _ _ k))
 
   -- The number that was read is the stored step.
-  pub step-read : {s : List ℕ} {at limit x : ℕ} → s ≡ stretch t f → Place at (succAt (f .generators) e g) limit → x ≡ getD s at 0 → x ≡ storedStep t f e g
+  pub step-read : {s : List ℕ} {at limit x : ℕ} → s ≡ stretch t f → Place at (succAt (f .generators) e g) limit → x ≡ getD s at 0 → x ≡ storedStep t f (e .0) (g .0)
   step-read p a z = rw (z, p, a .at)
 
   -- What is storable has passed 17 in the handle and 14.

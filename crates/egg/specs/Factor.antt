@@ -61,6 +61,10 @@ fitsIn len f = leb 1 (f .elements) && (leb (f .elements) (f .room) && hasRoom le
 unfoldable pub stretch : List ℕ → Factor → List ℕ
 stretch t f = take (f .room * (2 * f .generators + 4)) (drop (f .start) t)
 
+-- What stands for the step from e by g: one more than the element's number, or 0 where none is stored.
+abbrev pub storedStep : List ℕ → Factor → ℕ → ℕ → ℕ
+storedStep t f e g = getD (stretch t f) (startOf (f .generators) e + g) 0
+
 -- The answer for a stored step: 17, "a number read from it is out of range", where it is missing or beyond the element count, else the element.
 unfoldable pub readStep : (s : List ℕ) (n count e g : ℕ) → Reached
 readStep s n count e g =

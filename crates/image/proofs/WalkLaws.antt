@@ -9,7 +9,7 @@ use lib.ListN.{length}
 use Rattle.image_cells.specs.Cells.{halves}
 use Rattle.image_check.proofs.Parts.{rest-lent}
 use Rattle.image.specs.Image.{headGenerators, headElements, headNumber}
-use Rattle.image_walk.specs.Walked.{lettersBelow, follow}
+use Rattle.image_walk.specs.Walked.{lettersBelow, followRows}
 use Rattle.image.specs.Walked.{walkNumber}
 use Rattle.image.proofs.ReadLaws.{whole-image}
 
@@ -35,7 +35,7 @@ module _ (l : List ℕ) (start : ℕ) (word : List ℕ) {h : ℕ} (qh : h ≡ he
           let e′ : lettersBelow (headGenerators l) word ≡ false = rw qn at e in
           simp (eq-eqb _ _ f, lt-leb _ _ k′) (rw e′)
 
-      pub walk-follows : {r : ℕ} → lettersBelow n word ≡ true → r ≡ follow (halves (midOf 8 (length l - 8) l)) n count start word
+      pub walk-follows : {r : ℕ} → lettersBelow n word ≡ true → r ≡ followRows (halves (midOf 8 (length l - 8) l)) n count start word
           → r ≡ walkNumber l start word
       unfolding walkNumber
       walk-follows e q =

@@ -14,6 +14,6 @@ lettersBelow n (g ∷ w) = ltb g n && lettersBelow n w
 
 -- Walks from e along the word, in a list of rows of n numbers. Answers the element reached, or 65,553, which is 65,536 + 17, where a number read is
 -- no element.
-unfoldable pub follow : List ℕ → ℕ → ℕ → ℕ → List ℕ → ℕ
-follow rows n count e [] = e
-follow rows n count e (g ∷ w) = pick (leb count (composedAt rows n e g)) 65553 (follow rows n count (composedAt rows n e g) w)
+unfoldable pub followRows : List ℕ → ℕ → ℕ → ℕ → List ℕ → ℕ
+followRows rows n count e [] = e
+followRows rows n count e (g ∷ w) = pick (leb count (composedAt rows n e g)) 65553 (followRows rows n count (composedAt rows n e g) w)

@@ -2,7 +2,7 @@
 ghost use mathlib.Core.Path.{_≡_};
 ghost use Rattle.build_reading.specs.Reading.{composedAt};
 ghost use Rattle.image_cells.specs.Cells.{halves};
-ghost use Rattle.image_walk.specs.Walked.{lettersBelow, follow};
+ghost use Rattle.image_walk.specs.Walked.{lettersBelow, followRows};
 use egg::GeneratorId;
 use egg::GroupElementId;
 
@@ -31,7 +31,7 @@ fn stored(rows: &[u8], n: u8, e: GroupElementId, g: GeneratorId) -> u32
 
 // Answers the element reached, or 65,536 + 17 where a number read is no element.
 pub fn follow(rows: &[u8], n: u8, count: u32, start: GroupElementId, word: &[u8]) -> u32
-    ensures { λ r. ⌜ r ≡ follow (halves (now (rows .entry))) n count (start .0) (now (word .entry)) ⌝ }
+    ensures { λ r. ⌜ r ≡ followRows (halves (now (rows .entry))) n count (start .0) (now (word .entry)) ⌝ }
 {
     let mut x = start.0;
     let mut i = 0;

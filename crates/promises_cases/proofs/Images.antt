@@ -19,12 +19,12 @@ use Rattle.image_writing.specs.Written.{rowNumbers, rowsOf, spelledBytes, image
 use Rattle.image.specs.Written.{writeCount, writtenImage}
 use Rattle.image_reading.specs.Read.{imageIn}
 use Rattle.image.specs.Read.{readImage}
-use Rattle.image_walk.specs.Walked.{lettersBelow, follow}
+use Rattle.image_walk.specs.Walked.{lettersBelow, followRows}
 use Rattle.image.specs.Walked.{walkNumber}
 use Rattle.promises_cases.specs.Images.{KnownImages}
 
 pub known-images : KnownImages
-unfolding putAt startOf scan hasRoom fitsIn stretch readStep setStep setWord adds readPlace readRow readFrom checks.missingRow checks.missing checks.check8 checks.rangeRow checks.linksOf checks.ranges checks.wrongRow checks.wrong checks.check-table checks.wiped checks.arriveRow checks.arrivals checks.countsRight inverses.invertFrom inverses.fillInverses inverses.inversesRight lefts.identityRow lefts.columnsRow lefts.spelledRow lefts.spelled lefts.check-steps lefts.fillLeft lefts.goesRow lefts.allGo lefts.lefts checks.check-rest checks.check-group hopFrom withHops finished lentRight within composedIn composed halves built headNumber imageNumber rowNumbers rowsOf spelledBytes imageOf knownRow allKnown writeCount writtenImage imageIn readImage lettersBelow follow walkNumber
+unfolding putAt startOf scan hasRoom fitsIn stretch readStep setStep setWord adds readPlace readRow readFrom checks.missingRow checks.missing checks.check8 checks.rangeRow checks.linksOf checks.ranges checks.wrongRow checks.wrong checks.check-table checks.wiped checks.arriveRow checks.arrivals checks.countsRight inverses.invertFrom inverses.fillInverses inverses.inversesRight lefts.identityRow lefts.columnsRow lefts.spelledRow lefts.spelled lefts.check-steps lefts.fillLeft lefts.goesRow lefts.allGo lefts.lefts checks.check-rest checks.check-group hopFrom withHops finished lentRight within composedIn composed halves built headNumber imageNumber rowNumbers rowsOf spelledBytes imageOf knownRow allKnown writeCount writtenImage imageIn readImage lettersBelow followRows walkNumber
 known-images = record {
   work-short = refl;
   eight = refl;

@@ -33,28 +33,28 @@ table =
     tableBy (composed (tableBy (composed (replicate 60 7) 0 (replicate 192 9) s3Rows 2 6)) 48 (replicate 20 9) (1 ∷ 0 ∷ []) 1 2)
 
 -- The handle of S3.
-abbrev pub s3 : Factor
-s3 = record { start = 0; room = 6; generators = 2; elements = 6 }
+abbrev pub s3Handle : Factor
+s3Handle = record { start = 0; room = 6; generators = 2; elements = 6 }
 
 -- The handle of Z2.
-abbrev pub z2 : Factor
-z2 = record { start = 48; room = 2; generators = 1; elements = 2 }
+abbrev pub z2Handle : Factor
+z2Handle = record { start = 48; room = 2; generators = 1; elements = 2 }
 
 -- S3 as a product of one factor.
 abbrev pub S3 : Group
-S3 = groupOf (s3 ∷ [])
+S3 = groupOf (s3Handle ∷ [])
 
 -- The product S3 by Z2.
 abbrev pub S3-Z2 : Group
-S3-Z2 = groupOf (s3 ∷ z2 ∷ [])
+S3-Z2 = groupOf (s3Handle ∷ z2Handle ∷ [])
 
 -- The product Z2 by Z2: one factor may be taken twice.
 abbrev pub Z2-Z2 : Group
-Z2-Z2 = groupOf (z2 ∷ z2 ∷ [])
+Z2-Z2 = groupOf (z2Handle ∷ z2Handle ∷ [])
 
 -- A value that says it has more than 8 factors.
-abbrev pub nine : Group
-nine = record { factors = replicate 8 z2; count = 9 }
+abbrev pub nineFactors : Group
+nineFactors = record { factors = replicate 8 z2Handle; count = 9 }
 
 -- A lent list of three numbers.
 abbrev pub threeNumbers : List ℕ
@@ -62,7 +62,7 @@ threeNumbers = replicate 3 8
 
 -- The cases, each with its answer.
 pub record KnownProducts : Type 0 where
-  pub joined : joins 60 S3 (groupOf (z2 ∷ [])) ≡ record { answer = Fine; group = S3-Z2 }
+  pub joined : joins 60 S3 (groupOf (z2Handle ∷ [])) ≡ record { answer = Fine; group = S3-Z2 }
   pub counted : countAnswer table S3-Z2 ≡ Count 12
   pub generators : generatorsAnswer table S3-Z2 ≡ Count 3
   pub generator-2 : generatorAnswer table S3-Z2 (letter 2) ≡ reach 6
@@ -81,7 +81,7 @@ pub record KnownProducts : Type 0 where
   -- "`flatten` keeps product numbers, so S3 by Z2 is 7 at (0,2) with 6 ..; one factor or none is copied by the same reading, the empty product giving the
   -- one-element table."
   pub flat-both : madeBy (flat table S3-Z2 (replicate 120 7) 0 (replicate 792 7) 12) ≡ record { answer = refusedOf 7 0 2 6; factor = noFactor }
-  pub flat-one : madeBy (flat table S3 (replicate 48 7) 0 (replicate 192 7) 6) ≡ record { answer = Fine; factor = s3 }
+  pub flat-one : madeBy (flat table S3 (replicate 48 7) 0 (replicate 192 7) 6) ≡ record { answer = Fine; factor = s3Handle }
   pub flat-none : madeBy (flat table (groupOf []) (replicate 4 7) 0 [] 1) ≡ record { answer = Fine; factor = record { start = 0; room = 1; generators = 0; elements = 1 } }
   -- Z2 by Z2 follows the numbering rule, and gives the rows of orders [2]: "1 2 / 0 3 / 3 0 / 2 1".
   pub flat-square : madeBy (flat table Z2-Z2 (replicate 32 7) 0 (replicate 128 7) 4)
@@ -91,9 +91,9 @@ pub record KnownProducts : Type 0 where
   pub flat-missing : flat (set table 0 0) S3 (replicate 49 7) 0 (replicate 193 7) 6
       ≡ making (record { answer = refusedOf 17 0 0 0; factor = noFactor }) (replicate 48 0 ++ 7 ∷ []) (replicate 192 0 ++ 7 ∷ [])
   -- In Z2 with a step from 1 to 1 no power of 1 is the identity.
-  pub never-home : periodAnswer (set table 54 2) (groupOf (z2 ∷ [])) (element 1) ≡ Refused (record { number = 17; a = 0; b = 0; c = 0 })
+  pub never-home : periodAnswer (set table 54 2) (groupOf (z2Handle ∷ [])) (element 1) ≡ Refused (record { number = 17; a = 0; b = 0; c = 0 })
   -- Nine generators are refused, with their count, before any buffer is looked at.
-  pub nine-generators : madeBy (flat table (groupOf (s3 ∷ s3 ∷ s3 ∷ s3 ∷ z2 ∷ [])) [] 0 [] 0) .answer ≡ refusedOf 1 9 0 0
+  pub nine-generators : madeBy (flat table (groupOf (s3Handle ∷ s3Handle ∷ s3Handle ∷ s3Handle ∷ z2Handle ∷ [])) [] 0 [] 0) .answer ≡ refusedOf 1 9 0 0
   -- Refusals come in their order.
   pub first-beyond : composeAnswer table S3-Z2 (element 12) (element 12) ≡ refusedReach 14 0
   pub second-beyond : composeAnswer table S3-Z2 (element 11) (element 12) ≡ refusedReach 14 1
@@ -103,7 +103,7 @@ pub record KnownProducts : Type 0 where
   pub digits-short : joinAnswer table S3-Z2 (5 ∷ []) ≡ refusedReach 4 0
   pub list-short : splitAnswer table S3-Z2 (element 9) 1 ≡ Refused (record { number = 4; a = 0; b = 0; c = 0 })
   pub word-short : writeAnswer table S3-Z2 (element 9) 2 ≡ Refused (record { number = 4; a = 0; b = 0; c = 0 })
-  pub nine-beyond : stepAnswer table nine (element 0) (letter 8) ≡ refusedReach 14 1
-  pub nine-factors : stepAnswer table nine (element 0) (letter 7) ≡ refusedReach 15 0
-  pub nine-joined : joins 60 nine S3 ≡ record { answer = refusedOf 15 0 0 0; group = noGroup }
+  pub nine-beyond : stepAnswer table nineFactors (element 0) (letter 8) ≡ refusedReach 14 1
+  pub nine-factors : stepAnswer table nineFactors (element 0) (letter 7) ≡ refusedReach 15 0
+  pub nine-joined : joins 60 nineFactors S3 ≡ record { answer = refusedOf 15 0 0 0; group = noGroup }
   pub handle-first : composeAnswer (replicate 59 0) S3-Z2 (element 12) (element 12) ≡ refusedReach 17 0

@@ -25,7 +25,7 @@ use Rattle.factor_laws.specs.Accepted.{factorStep, reach}
 use Rattle.factor_laws.proofs.Handles.{compose-answer}
 use Rattle.image.specs.Image.{headGenerators, headElements, headNumber}
 use Rattle.image.specs.Read.{readImage}
-use Rattle.image_walk.specs.Walked.{lettersBelow, follow}
+use Rattle.image_walk.specs.Walked.{lettersBelow, followRows}
 use Rattle.image.specs.Walked.{walkNumber}
 use Rattle.promises_image.specs.Images.{Bytes, imageStep, WellFormed, GroupImage}
 use Rattle.promises_image.proofs.Heads.{formed-head}
@@ -43,8 +43,8 @@ letters-from empty = refl
 letters-from (letter h w) = simp (lt-ltb _ _ h) (letters-from w)
 
 follow-walk : (rows : List ℕ) (n N : ℕ) → Table n N (composedAt rows n) → {e : ℕ} {w : List ℕ} → e < N → Word n w
-    → follow rows n N e w ≡ walk (composedAt rows n) e w
-unfolding follow
+    → followRows rows n N e w ≡ walk (composedAt rows n) e w
+unfolding followRows
 follow-walk rows n N T he empty = refl
 follow-walk rows n N T he (letter hg w) = simp (lt-leb _ _ (T .closed he hg)) (follow-walk rows n N T (T .closed he hg) w)
 
@@ -65,7 +65,7 @@ module _ (l : List ℕ) where
   unfolding walkNumber
   walk-letter start word F h none = let z = formed-head l F in simp (eq-eqb _ _ z, lt-leb _ _ h) (by (lettersBelow (headGenerators l) word) refl) where
     by : (b : Bool) → lettersBelow (headGenerators l) word ≡ b
-        → pick b (follow (halves (drop 8 l)) (headGenerators l) (headElements l) start word) 65550 ≡ 65536 + 14
+        → pick b (followRows (halves (drop 8 l)) (headGenerators l) (headElements l) start word) 65550 ≡ 65536 + 14
     by true e = absurd (none (letters-to (headGenerators l) word e))
     by false e = refl
 

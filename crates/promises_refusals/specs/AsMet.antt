@@ -4,19 +4,14 @@ use Prim.Native.Nat.{ℕ, suc, _+_, _<_}
 use mathlib.Core.Path.{_≡_}
 use mathlib.Core.Bool.{true, false}
 use mathlib.Core.List.{List, [], _∷_}
-use lib.ListN.{length, getD}
+use lib.ListN.{length}
 use Rattle.egg.specs.declared.Refusal.{Refusal}
 use Rattle.egg.specs.declared.Factor.{Factor}
-use Rattle.egg.specs.Table.{startOf}
-use Rattle.egg.specs.Factor.{Paper, refusalPaper, fitsIn, stretch}
+use Rattle.egg.specs.Factor.{Paper, refusalPaper, fitsIn, storedStep}
 use Rattle.egg.specs.Answers.{numbered}
 use Rattle.theory.specs.Presentation.{pair-place, order-of, alternate}
 use Rattle.promises_refusals.specs.Papers.{paper}
 use Rattle.promises_refusals.specs.Orders.{OrdersRight, OrdersFault}
-
--- What stands for the step from e by g: one more than the element's number, or 0 where none is stored.
-abbrev pub storedStep : List ℕ → Factor → ℕ → ℕ → ℕ
-storedStep t f e g = getD (stretch t f) (startOf (f .generators) e + g) 0
 
 -- The word leads from e to x, and every number that is read on the way is that of one of the N elements.
 pub data Leads (stored : ℕ → ℕ → ℕ) (N : ℕ) : ℕ → List ℕ → ℕ → Type 0 where

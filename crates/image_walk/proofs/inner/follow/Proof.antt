@@ -4,7 +4,7 @@ use mathlib.Core.Path.{_≡_, refl, _∙_}
 use borrow.Author.Needs.{needs}
 use lib.ListN.{length, drop}
 use Rattle.image_cells.specs.Cells.{halves}
-use Rattle.image_walk.specs.Walked.{follow}
+use Rattle.image_walk.specs.Walked.{followRows}
 use Rattle.image_walk.proofs.WalkLaws.{follow-end, follow-wrong, follow-on}
 use Rattle.image_walk.proofs.inner.follow.Statement.{statement}
 use Rattle.image_walk.proofs.inner.follow.Tie as tie
@@ -13,7 +13,7 @@ use Rattle.image_walk.proofs.inner.follow.Lts as lts
 use Rattle.image_walk.proofs.inner.stored.Reads as stored-reads
 
 abbrev Inv-loop : tie.InvT-loop
-Inv-loop rows n count word x₀ i₀ x i = follow (halves rows) n count x (drop i word) ≡ follow (halves rows) n count x₀ word
+Inv-loop rows n count word x₀ i₀ x i = followRows (halves rows) n count x (drop i word) ≡ followRows (halves rows) n count x₀ word
 
 abbrev μ-loop : tie.MeasureT-loop
 μ-loop rows n count word x₀ i₀ x i = length word - i
