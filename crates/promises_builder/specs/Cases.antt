@@ -10,8 +10,9 @@ use Rattle.egg.specs.Factor.{refusedReach}
 use Rattle.egg.specs.Answers.{numbered}
 use Rattle.builder.specs.declared.Builder.{Builder}
 use Rattle.builder.specs.declared.Stored.the-variants as stored
-use Rattle.build_lending.specs.Lending.{tableNeed, workNeed, Making, making}
+use Rattle.build_lending.specs.Lending.{tableNeed, workNeed}
 use Rattle.builder.specs.Calls.{leaving, builderOf, begins, grows, stores, builds}
+use Rattle.promises_refusals.specs.Parts.{madeBy}
 
 -- A builder, and the table that holds it and nothing else.
 pub record Building : Type 0 where
@@ -35,13 +36,9 @@ setting e g r b = elim (stores (b .table) (b .builder) (record { 0 = e }) (recor
 abbrev pub altering : ℕ → ℕ → Building → Building
 altering i x b = record { table = set (b .table) i x; builder = b .builder }
 
--- The verdict of a build.
-abbrev pub answerMade : Making → Verdict
-answerMade (making m t w) = m .answer
-
--- `build` with a work that is just long enough.
+-- The verdict of `build` with a work that is just long enough.
 abbrev pub buildAnswer : Building → Verdict
-buildAnswer b = answerMade (builds (b .table) (b .builder) (replicate (workNeed (b .builder .0 .generators) (b .builder .0 .room)) 7))
+buildAnswer b = madeBy (builds (b .table) (b .builder) (replicate (workNeed (b .builder .0 .generators) (b .builder .0 .room)) 7)) .answer
 
 -- The builder after all steps of two generators were set, row by row.
 abbrev pub settingRows : List ℕ → ℕ → Building → Building
