@@ -5,7 +5,7 @@ use mathlib.Core.Bool.{true}
 use mathlib.Core.List.{List, [], _∷_, map}
 use native.Mathlib.Nat.{mul-pos}
 use native.Mathlib.Omega.{arith}
-use lib.ListN.{length, getD, take, drop, length-map, List·getD-eq-default}
+use lib.ListN.{length, getD, take, drop, length-map, drop-of-length-le, List·getD-eq-default}
 use lib.Seq.{length-take-le, take-all, drop-cons, getD-take}
 use Rattle.egg.specs.declared.Factor.{Factor}
 use Rattle.egg.specs.Factor.{fitsIn}
@@ -37,10 +37,23 @@ first-listed (x ∷ l) k q c = rw c
 pub is-alone : (g : Group) → length (g .factors) ≡ 8 → g .count ≡ 1 → Alone g
 is-alone g q c = record { counted = c; listed = first-listed (g .factors) (g .count) q c }
 
-take-shorter : (n : ℕ) (l : List Factor) → length (take n l) ≤ n
-take-shorter zero l = omega arith
-take-shorter (suc n) [] = omega arith
-take-shorter (suc n) (x ∷ l) = omega (arith, take-shorter n l)
+-- The front of a list, of any kind, that a loop goes over: the handles that are listed are one, and the names of a product another.
+module _ {A : Type 0} where
+  take-shorter : (n : ℕ) (l : List A) → length (take n l) ≤ n
+  take-shorter zero l = omega arith
+  take-shorter (suc n) [] = omega arith
+  take-shorter (suc n) (x ∷ l) = omega (arith, take-shorter n l)
+
+  pub front-turn : (n : ℕ) (l : List A) (f : ℕ) (x : A) {k : ℕ} → k ≡ length (take n l) → f < k
+      → drop f (take n l) ≡ getD l f x ∷ drop (f + 1) (take n l)
+  front-turn n l f x p h =
+      let d : f < length (take n l) = rw (← p) h in
+      let e : f < n = omega (arith, d, take-shorter n l) in
+      let z : suc f ≡ f + 1 = omega arith in
+      drop-cons (take n l) f x d ∙ rw (getD-take n l f x e, z)
+
+  pub turned-all : (l : List A) (f : ℕ) {k : ℕ} → k ≡ length l → k ≤ f → drop f l ≡ []
+  turned-all l f {k} p h = drop-of-length-le l {i = f} (rw (← p) h)
 
 -- What stands at a place.
 module _ (g : Group) (f : ℕ) where
@@ -68,15 +81,6 @@ size-none hs f h =
     let d : length (sizes hs) ≤ f = rw (sizes-length hs) h in
     sym (List·getD-eq-default (sizes hs) 1 d)
 
-drop-all : (hs : List Factor) (f : ℕ) → length hs ≤ f → drop f hs ≡ []
-drop-all [] zero h = refl
-drop-all [] (suc f) h = refl
-drop-all (x ∷ hs) zero h = absurd (omega arith)
-drop-all (x ∷ hs) (suc f) h = drop-all hs f (omega arith)
-
-pub turned-all : (hs : List Factor) (f : ℕ) {k : ℕ} → k ≡ length hs → k ≤ f → drop f hs ≡ []
-turned-all hs f {k} p l = drop-all hs f (rw (← p) l)
-
 -- Each handle of those that fit.
 pub fits-at : (len : ℕ) (hs : List Factor) (f : ℕ) → allFit len hs ≡ true → f < length hs → fitsIn len (getD hs f noFactor) ≡ true
 fits-at len [] f a h = absurd (omega arith)
@@ -91,10 +95,7 @@ positive len (x ∷ hs) a =
 -- A turn of a loop over the handles of a product, by the place of its handle.
 module _ (g : Group) (f : ℕ) {k : ℕ} (p : k ≡ length (handles g)) (l : f < k) where
   pub turn-at : drop f (handles g) ≡ getD (g .factors) f noFactor ∷ drop (f + 1) (handles g)
-  turn-at =
-      let d : f < length (handles g) = rw (← p) l in
-      let z : suc f ≡ f + 1 = omega arith in
-      drop-cons (handles g) f noFactor d ∙ rw (handle-at g f p l, z)
+  turn-at = front-turn (g .count) (g .factors) f noFactor p l
 
   module _ (len : ℕ) (a : allFit len (handles g) ≡ true) where
     pub fits-there : fitsIn len (getD (g .factors) f noFactor) ≡ true

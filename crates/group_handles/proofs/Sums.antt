@@ -60,38 +60,38 @@ looks-end {len} {hs} {f} {fit} {elements} {generators} w d =
     let r : generators ≡ generatorsOf hs = adds-end (w .adds) d in
     rw (p, q, r)
 
-pub either-left : (xs ys : List Factor) (i : ℕ) → i < length xs → getD xs i noFactor ≡ getD (xs ++ ys) i noFactor
-either-left [] ys i h = absurd (omega arith)
-either-left (x ∷ xs) ys zero h = refl
-either-left (x ∷ xs) ys (suc i) h = either-left xs ys i (omega arith)
+-- What stands at a place of two lists joined, and a list of at most eight by its places. A product's names are joined so too.
+module _ {A : Type 0} (none : A) where
+  pub either-left : (xs ys : List A) (i : ℕ) → i < length xs → getD xs i none ≡ getD (xs ++ ys) i none
+  either-left [] ys i h = absurd (omega arith)
+  either-left (x ∷ xs) ys zero h = refl
+  either-left (x ∷ xs) ys (suc i) h = either-left xs ys i (omega arith)
 
-pub either-right : (xs ys : List Factor) (i j : ℕ) → length xs + j ≡ i → getD ys j noFactor ≡ getD (xs ++ ys) i noFactor
-either-right [] ys i j h = let z : j ≡ i = omega (arith, h) in rw z
-either-right (x ∷ xs) ys zero j h = absurd (omega (arith, h))
-either-right (x ∷ xs) ys (suc i) j h = either-right xs ys i j (omega (arith, h))
+  pub either-right : (xs ys : List A) (i j : ℕ) → length xs + j ≡ i → getD ys j none ≡ getD (xs ++ ys) i none
+  either-right [] ys i j h = let z : j ≡ i = omega (arith, h) in rw z
+  either-right (x ∷ xs) ys zero j h = absurd (omega (arith, h))
+  either-right (x ∷ xs) ys (suc i) j h = either-right xs ys i j (omega (arith, h))
+
+  pub eight : (l : List A) → length l ≤ 8
+      → getD l 0 none ∷ getD l 1 none ∷ getD l 2 none ∷ getD l 3 none ∷ getD l 4 none ∷ getD l 5 none ∷ getD l 6 none ∷ getD l 7 none ∷ []
+      ≡ l ++ replicate (8 - length l) none
+  eight [] h = refl
+  eight (a ∷ []) h = refl
+  eight (a ∷ b ∷ []) h = refl
+  eight (a ∷ b ∷ c ∷ []) h = refl
+  eight (a ∷ b ∷ c ∷ d ∷ []) h = refl
+  eight (a ∷ b ∷ c ∷ d ∷ e ∷ []) h = refl
+  eight (a ∷ b ∷ c ∷ d ∷ e ∷ f ∷ []) h = refl
+  eight (a ∷ b ∷ c ∷ d ∷ e ∷ f ∷ g ∷ []) h = refl
+  eight (a ∷ b ∷ c ∷ d ∷ e ∷ f ∷ g ∷ i ∷ []) h = refl
+  eight (a ∷ b ∷ c ∷ d ∷ e ∷ f ∷ g ∷ i ∷ j ∷ l) h = absurd (omega arith)
 
 pub both-length : (xs ys : List Factor) → length (xs ++ ys) ≡ length xs + length ys
 both-length [] ys = omega arith
 both-length (x ∷ xs) ys = omega (arith, both-length xs ys)
 
--- A list of at most eight, by its places.
-pub eight : (l : List Factor) → length l ≤ 8
-    → getD l 0 noFactor ∷ getD l 1 noFactor ∷ getD l 2 noFactor ∷ getD l 3 noFactor ∷ getD l 4 noFactor ∷ getD l 5 noFactor ∷ getD l 6 noFactor
-    ∷ getD l 7 noFactor ∷ []
-    ≡ l ++ replicate (8 - length l) noFactor
-eight [] h = refl
-eight (a ∷ []) h = refl
-eight (a ∷ b ∷ []) h = refl
-eight (a ∷ b ∷ c ∷ []) h = refl
-eight (a ∷ b ∷ c ∷ d ∷ []) h = refl
-eight (a ∷ b ∷ c ∷ d ∷ e ∷ []) h = refl
-eight (a ∷ b ∷ c ∷ d ∷ e ∷ f ∷ []) h = refl
-eight (a ∷ b ∷ c ∷ d ∷ e ∷ f ∷ g ∷ []) h = refl
-eight (a ∷ b ∷ c ∷ d ∷ e ∷ f ∷ g ∷ i ∷ []) h = refl
-eight (a ∷ b ∷ c ∷ d ∷ e ∷ f ∷ g ∷ i ∷ j ∷ l) h = absurd (omega arith)
-
 pub eight-are : (l : List Factor) {a b c d e f g h : Factor} {k : ℕ} → length l ≤ 8 → a ≡ getD l 0 noFactor → b ≡ getD l 1 noFactor → c ≡ getD l 2 noFactor → d ≡ getD l 3 noFactor
     → e ≡ getD l 4 noFactor → f ≡ getD l 5 noFactor → g ≡ getD l 6 noFactor → h ≡ getD l 7 noFactor → k ≡ length l
     → _≡_ {A = Group} (record { factors = a ∷ b ∷ c ∷ d ∷ e ∷ f ∷ g ∷ h ∷ []; count = k }) (groupOf l)
 eight-are l z p₀ p₁ p₂ p₃ p₄ p₅ p₆ p₇ q =
-    rw (p₀, p₁, p₂, p₃, p₄, p₅, p₆, p₇, q) (ap (λ (x : List Factor). record { factors = x; count = length l }) (eight l z))
+    rw (p₀, p₁, p₂, p₃, p₄, p₅, p₆, p₇, q) (ap (λ (x : List Factor). record { factors = x; count = length l }) (eight noFactor l z))
