@@ -5,6 +5,7 @@ ghost use Rattle.factor.specs.Questions.{lengthAnswer, writeAnswer, written, wo
 ghost use Rattle.capi_values.specs.Bridge.{handle, countedCode, letterOf};
 use capi_values::inner::counted_code;
 use capi_values::inner::factor_of;
+use capi_values::inner::letter_of;
 use egg::GroupElementId;
 
 // Answers how long the word of e is. Refuses in this order: 17 for a handle that does not fit, 14 for an element out of range, 17 for a recorded
@@ -39,17 +40,6 @@ pub extern "C" fn hg_word(
 {
     let f = factor_of(start, room, n, count);
     counted_code(factor::write_word(table, f, GroupElementId(e), out))
-}
-
-// A letter of the part that `word` hands back, or 256 and the length of the part from its end on.
-fn letter_of(part: &[u8], k: usize) -> u64
-    ensures { λ r. ⌜ r ≡ letterOf (now (part .entry)) k ⌝ }
-{
-    if k < part.len() {
-        part[k] as u64
-    } else {
-        256 + (part.len() as u64)
-    }
 }
 
 // Answers the k-th letter of the word of e or, from its end on, 256 and its length. A word that hg_word refuses is empty here: the answer is 256.

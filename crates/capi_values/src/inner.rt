@@ -2,7 +2,7 @@
 ghost use mathlib.Core.Path.{_≡_};
 ghost use Prim.Native.Nat.{_+_, _*_};
 ghost use Rattle.egg.specs.Factor.{verdictPaper};
-ghost use Rattle.capi_values.specs.Bridge.{handle, reachedCode, countedCode, paperInto, madeInto};
+ghost use Rattle.capi_values.specs.Bridge.{handle, reachedCode, countedCode, letterOf, paperInto, madeInto};
 use egg::Counted;
 use egg::Factor;
 use egg::Made;
@@ -85,4 +85,15 @@ pub fn write_made(out: &mut [u32], m: Made) -> u32
     let number = write_verdict(out, v);
     egg::inner::put(out, 4, f.elements as usize);
     number
+}
+
+// A byte of the part of a buffer that a call hands back, or 256 and the length of the part from its end on.
+pub fn letter_of(part: &[u8], k: usize) -> u64
+    ensures { λ r. ⌜ r ≡ letterOf (now (part .entry)) k ⌝ }
+{
+    if k < part.len() {
+        part[k] as u64
+    } else {
+        256 + (part.len() as u64)
+    }
 }

@@ -5,7 +5,7 @@ use Rattle.capi_factor_words.proofs.hg_part.Tie as tie
 use Rattle.capi_factor_words.proofs.hg_part.Reads as reads
 use Rattle.capi_factor_words.proofs.hg_part.Lts as lts
 use Rattle.capi_values.proofs.inner.factor_of.Reads as factor-of-reads
-use Rattle.capi_factor_words.proofs.letter_of.Reads as letter-of-reads
+use Rattle.capi_values.proofs.inner.letter_of.Reads as letter-of-reads
 use Rattle.factor.proofs.word.Reads as word-reads
 
 factor-of-requires : tie.Need-factor-of-requires

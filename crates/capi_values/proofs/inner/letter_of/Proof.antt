@@ -1,12 +1,12 @@
 -- By cases on the test.
 use native.Mathlib.Omega.{arith}
 use borrow.Author.Tests.{lt-ltb, le-ltb}
 use Rattle.capi_values.specs.Bridge.{letterOf}
 use borrow.Author.Needs.{needs}
-use Rattle.capi_factor_words.proofs.letter_of.Statement.{statement}
-use Rattle.capi_factor_words.proofs.letter_of.Tie as tie
-use Rattle.capi_factor_words.proofs.letter_of.Reads as reads
-use Rattle.capi_factor_words.proofs.letter_of.Lts as lts
+use Rattle.capi_values.proofs.inner.letter_of.Statement.{statement}
+use Rattle.capi_values.proofs.inner.letter_of.Tie as tie
+use Rattle.capi_values.proofs.inner.letter_of.Reads as reads
+use Rattle.capi_values.proofs.inner.letter_of.Lts as lts
 
 shared-slice-read-result : tie.Need-shared-slice-read-result
 shared-slice-read-result c = search needs
