@@ -6,7 +6,8 @@
  * or several in one program, and need nothing but memset and memcpy of the C library. No call allocates,
  * keeps a pointer, or has a state: any number of threads may call at once, each on buffers of its own.
  *
- * An example: a group is built from pair orders in lent lists, and a product is asked of it.
+ * An example: a group with a name is built from pair orders in lent lists, and a product is asked of it; then
+ * the name of two of them.
  *
  *     #include "hypergroup.h"
  *     #include <stdio.h>
@@ -17,8 +18,11 @@
  *     int main(void) {
  *         // Two turns, each its own inverse; the one and then the other has order 3.
  *         const uint32_t orders[] = {3};
+ *         const uint8_t called[] = {'S', '3'};
  *         uint32_t out[5];
- *         uint32_t refused = hg_enumerate(table, TABLE, 0, work, WORK, orders, 1, TURNS, ROOM, out, 5);
+ *         hg_name name;
+ *         uint32_t refused = hg_enumerate_named(table, TABLE, 0, work, WORK, orders, 1, TURNS, ROOM, called, 2,
+ *                                               out, 5, (uint8_t *)&name, HG_NAME);
  *         if (refused != HG_ACCEPTED) {
  *             printf("refused: %u, at %u, %u, %u\n", refused, out[1], out[2], out[3]);
  *             return 1;
@@ -27,6 +31,14 @@
  *         uint64_t product = hg_compose(table, TABLE, 0, ROOM, TURNS, out[4], 1, 3);
  *         if (HG_REFUSED(product)) return 1;
  *         printf("%u elements, and 1 * 3 is %u\n", out[4], HG_VALUE(product));
+ *         // No question needs the name, but for the joined one of a list of handles.
+ *         const uint32_t pair[] = {0, 0, ROOM, TURNS, out[4], 0, 0, ROOM, TURNS, out[4]};
+ *         const hg_name names[] = {name, name};
+ *         uint8_t shown[HG_JOINED];
+ *         uint64_t length = hg_joined(table, TABLE, pair, 10, 2, (const uint8_t *)names, sizeof names,
+ *                                     shown, HG_JOINED);
+ *         if (HG_REFUSED(length)) return 1;
+ *         printf("%.*s\n", (int)HG_VALUE(length), (const char *)shown);
  *         return 0;
  *     }
  *
@@ -45,7 +57,8 @@
  * - table: start + R(2n + 4), which is start + HG_TABLE(n, R). A factor may be built into any stretch of
  *   a table, from start on. The table is kept for the questions; work is needed while the call runs.
  * - work: R(6n^2 + 4n), HG_WORK. For an image N(32n^2 + 100) bytes, HG_IMAGE_WORK.
- * - rows, of hg_composed: Rn, element by element; those of elements that are not reached are not read.
+ * - rows, of hg_composed and hg_composed_named: Rn, element by element; those of elements that are not
+ *   reached are not read.
  * - orders: n(n - 1)/2 exactly, for the pairs (0,1),(0,2),(1,2),(0,3),(1,3),(2,3),(0,4)..; each from 2 to
  *   32,767, the order of the one generator and then the other.
  * - For hg_product_flatten n is the generators of all factors together; for hg_image_read R is the N of
@@ -55,7 +68,10 @@
  *   hg_subgroup_predicate 8, whatever comes out.
  * - out of a word: its length in bytes. hg_length tells it, at most 4,096; and hg_product_length, at most
  *   4,096 for each factor, which is 32,768 for eight. Of hg_product_split: as many as there are factors.
- *   Of hg_image_write: 8 + 2nN bytes, HG_IMAGE.
+ *   Of hg_image_write: 8 + 2nN bytes, HG_IMAGE. Of hg_joined: what the names come to, which is at most
+ *   HG_JOINED, eight names of 32 bytes and three between each two.
+ * - name: 0 to 32 bytes, any bytes. record: 33, HG_NAME, which is an hg_name. names: 33 for each factor, as
+ *   record gets them, in the order of the handles.
  * - out of any other call: 4 numbers; 5 of hg_product and of whatever builds; 6 of hg_subgroup and
  *   hg_subgroup_predicate.
  *
@@ -75,9 +91,18 @@
  *   `room`, `n`, `count`.
  * - hg_image_verdict: what hg_image_check returns, with the places in out in the same way. hg_image_need:
  *   how many bytes of work both need, or a refusal as of a question.
+ * - hg_composed_named, hg_enumerate_named and hg_begin_named: as the calls without a name, of a factor with
+ *   one. Accepted, record gets the name as it is kept: its bytes, 0 up to the 32nd, and its length. Refused,
+ *   record is as it was. A record that is too short is 4 as a short out is; a name that is too long is 18
+ *   after the other 1 to 4 and before the build, with every list but out as it was. The factor that hg_build
+ *   makes has the name that its build was begun with. What is built without a name, flattened, read from an
+ *   image or a subgroup's has the empty one, 33 zeros.
+ * - hg_joined: as a question; the names in their order with " x " between each two, an empty one too, at the
+ *   start of out, and its length. A length above 32 in names, or a list that is too short for the factors, is
+ *   17, as a handle that does not fit. hg_joined_part: one byte of it. No other question takes a name.
  * - hg_walk and hg_product_walk: as a question; the start is position 0 and the first turn position 1.
  *   Positions stop at 4,294,967,295: a turn that is further on is told as that one.
- * - What a build leaves: refused before it starts (1 to 4, 14, and 15 to 17 given then), every list but
+ * - What a build leaves: refused before it starts (1 to 4, 14, 18, and 15 to 17 given then), every list but
  *   out as it was; refused later, 0 in all that it needs of table, work and maps; accepted, 0 in the
  *   work, and in table and maps beyond the last element.
  * - The builder: hg_begin and hg_add as a build, the fifth number being how many elements the builder
@@ -123,9 +148,17 @@ enum {
     HG_TOO_LARGE = 15,          /* over 8 factors, 2^32 - 1 elements, or 65,535 in an overgroup; or a
                                    predicate that needs a ninth generator */
     HG_BAD_IMAGE = 16,          /* the image is malformed */
-    HG_BAD_HANDLE = 17          /* the handle does not fit its list, or a number read from it is out of
-                                   range, or no power in a period walk is the identity */
+    HG_BAD_HANDLE = 17,         /* the handle does not fit its list, or a number read from it is out of
+                                   range, or no power in a period walk is the identity; or a
+                                   name's length is above 32, or it is not in its list */
+    HG_NAME_TOO_LONG = 18       /* a name over 32 bytes, or a joined name longer than its buffer */
 };
+
+/* A name as it is kept: its bytes, 0 behind them, and how many they are. */
+typedef struct {
+    uint8_t bytes[32];
+    uint8_t length;
+} hg_name;
 
 /* Of a question's answer: the refusal's number, 0 where it is none; and the element or the count. */
 #define HG_REFUSED(answer) ((uint32_t)((answer) >> 32))
@@ -139,6 +172,10 @@ enum {
 #define HG_WORK(n, room) ((size_t)(room) * (6 * (size_t)(n) * (size_t)(n) + 4 * (size_t)(n)))
 #define HG_IMAGE(n, elements) (8 + 2 * (size_t)(n) * (size_t)(elements))
 #define HG_IMAGE_WORK(n, elements) ((size_t)(elements) * (32 * (size_t)(n) * (size_t)(n) + 100))
+
+/* How many bytes an hg_name has, and the longest joined name. */
+#define HG_NAME 33
+#define HG_JOINED 277
 
 /* The functions. tools/header.py writes them. */
 
@@ -370,6 +407,50 @@ uint64_t hg_image_write(const uint32_t *table, size_t table_len, size_t start, u
  * hg_image_check does, with the places, where 4 is for a short table or work. */
 uint32_t hg_image_read(const uint8_t *bytes, size_t bytes_len, uint32_t *table, size_t table_len,
     size_t start, uint32_t *work, size_t work_len, uint32_t *out, size_t out_len);
+
+/* libcapi_names.a */
+
+/* Builds a factor with a name from composed rows, as hg_composed does. Refuses in this order: 4
+ * for an out shorter than 5 or a record shorter than 33, 1 for more than 8 generators, 4 for a
+ * room out of range or a short buffer, 18 for a name of more than 32 bytes; then as hg_composed
+ * does. Where it refuses, the record stays as it was. */
+uint32_t hg_composed_named(uint32_t *table, size_t table_len, size_t start, uint32_t *work,
+    size_t work_len, const uint32_t *rows, size_t rows_len, uint8_t n, uint32_t room,
+    const uint8_t *name, size_t name_len, uint32_t *out, size_t out_len, uint8_t *record,
+    size_t record_len);
+
+/* Builds the group that the pair orders present, with a name, as hg_enumerate does. Refuses in
+ * this order: 4 for an out shorter than 5 or a record shorter than 33, 1 for more than 8
+ * generators, 2 for a list of the wrong length, 3 for the first order out of range, 4 for a room
+ * out of range or a short buffer, 18 for a name of more than 32 bytes, 5 or 6 while it runs.
+ * Where it refuses, the record stays as it was. */
+uint32_t hg_enumerate_named(uint32_t *table, size_t table_len, size_t start, uint32_t *work,
+    size_t work_len, const uint32_t *orders, size_t orders_len, uint8_t n, uint32_t room,
+    const uint8_t *name, size_t name_len, uint32_t *out, size_t out_len, uint8_t *record,
+    size_t record_len);
+
+/* Begins a build of a factor with a name, as hg_begin does. Refuses in this order: 4 for an out
+ * shorter than 5 or a record shorter than 33, 1 for more than 8 generators, 4 for a room out of
+ * range or a short table, 18 for a name of more than 32 bytes. Where it refuses, the record
+ * stays as it was; else it belongs to the factor that hg_build makes. */
+uint32_t hg_begin_named(uint32_t *table, size_t table_len, size_t start, uint32_t room, uint8_t n,
+    const uint8_t *name, size_t name_len, uint32_t *out, size_t out_len, uint8_t *record,
+    size_t record_len);
+
+/* Writes the joined name of a product, the names of its factors with " x " between each two, to
+ * the start of out and answers its length; names has 33 bytes for each factor, as a record gets
+ * them. Refuses in this order, and writes nothing then: 17 for a handle that does not fit, a
+ * length above 32 or a list of names too short, 15 for a product too large, 18 for an out
+ * shorter than the joined name. */
+uint64_t hg_joined(const uint32_t *table, size_t table_len, const uint32_t *handles,
+    size_t handles_len, uint8_t count, const uint8_t *names, size_t names_len, uint8_t *out,
+    size_t out_len);
+
+/* Answers the k-th byte of the joined name or, from its end on, 256 and its length. A joined
+ * name that hg_joined refuses is empty here: the answer is 256. No joined name is longer than
+ * 277 bytes. */
+uint64_t hg_joined_part(const uint32_t *table, size_t table_len, const uint32_t *handles,
+    size_t handles_len, uint8_t count, const uint8_t *names, size_t names_len, size_t k);
 
 /* libcapi_subgroup.a */
 

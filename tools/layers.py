@@ -20,10 +20,11 @@ MAY_NAME = {
     "group": "theory egg build factor",
     "subgroup": "theory egg build factor group",
     "image": "theory egg build factor",
+    "names": "theory egg build factor enumeration group image",
     "listing": "egg build factor enumeration",
-    "example": "egg build factor enumeration group subgroup",
-    "capi": "theory egg build factor enumeration group subgroup image",
-    "promises": "theory egg build factor enumeration group subgroup image listing capi",
+    "example": "egg build factor enumeration group subgroup image names",
+    "capi": "theory egg build factor enumeration group subgroup image names",
+    "promises": "theory egg build factor enumeration group subgroup image names listing capi",
 }
 # The toolchain's own libraries, which any crate may name.
 KIT = {"io", "libc", "os", "bytes", "check"}

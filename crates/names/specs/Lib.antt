@@ -1,0 +1,4 @@
+pub mod Arguments
+pub mod Making
+pub mod Products
+pub mod Joined

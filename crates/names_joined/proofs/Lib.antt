@@ -1,0 +1,4 @@
+pub mod Example
+pub mod Turns
+pub mod Sums
+pub mod Puts

@@ -1,0 +1,13 @@
+pub mod Making
+pub mod Alike
+pub mod Apart
+pub mod Tests
+pub mod LongNames
+pub mod Eighteen
+pub mod Given
+pub mod Joining
+pub mod Listed
+pub mod Shown
+pub mod Left
+pub mod Cases
+pub mod Unique
