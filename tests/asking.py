@@ -1,7 +1,8 @@
 #!/usr/bin/env python3
-"""What crates/example_calls has to print, by the original Rust: each question goes to the oracle, and where an argument is past
-its range or the product is forged, which the Rust does not refuse, the answer is document 01's. With `--check` the text is
-compared with crates/example_calls/stdout, which `rt check example_calls` holds the program to."""
+"""What crates/example_calls and crates/example_names have to print, by the original Rust: each question goes to the oracle, and
+where an argument is past its range, the product is forged or a name is too long, which the Rust does not refuse, the answer is
+document 01's or order 1's. With `--check` each text is compared with the file `stdout` of its crate, which `rt check` holds the
+program to."""
 
 import pathlib
 import sys
@@ -10,7 +11,7 @@ HERE = pathlib.Path(__file__).resolve().parent
 sys.path.insert(0, str(HERE / "recorded"))
 from replay import ORACLE, cases, run
 
-STDOUT = HERE.parent / "crates" / "example_calls" / "stdout"
+CRATES = HERE.parent / "crates"
 
 # Document 01: 14 is "an element, generator or factor argument out of range", 15 "more than 8 factors".
 RANGE, FACTORS = "refused 14", "refused 15"
@@ -87,32 +88,73 @@ def generators(name, made):
     yield "%s: %d" % (name, len(cases(run([*made, "subgens"]))[-1][1][0].split()) - 1)
 
 
-def text():
-    parts = (
-        group("product", product("2 3", "1")),
-        group("alone", product("2 3")),
-        group("none", product()),
-        forged(),
-        maps("subgroup", SUBGROUP),
-        generators("generators", SUBGROUP),
-        generators("below", BELOW),
-        group("overgroup", [*BELOW, "overgroup"]),
-        ["refused: refused 17 " + FACTORS],  # of a value that does not fit its buffer, and of one with too many factors
-        maps("trivial", ["clear", "subtrivial"]),
-        generators("generators", ["clear", "subtrivial"]),
-        ["overgroup: %s" % cases(run(["clear", "subtrivial", "overgroup"]))[-1][1][0].split()[2]],
-    )
-    return "".join(line + "\n" for part in parts for line in part)
+def calls():
+    yield from group("product", product("2 3", "1"))
+    yield from group("alone", product("2 3"))
+    yield from group("none", product())
+    yield from forged()
+    yield from maps("subgroup", SUBGROUP)
+    yield from generators("generators", SUBGROUP)
+    yield from generators("below", BELOW)
+    yield from group("overgroup", [*BELOW, "overgroup"])
+    yield "refused: refused 17 " + FACTORS  # of a value that does not fit its buffer, and of one with too many factors
+    yield from maps("trivial", ["clear", "subtrivial"])
+    yield from generators("generators", ["clear", "subtrivial"])
+    yield "overgroup: %s" % cases(run(["clear", "subtrivial", "overgroup"]))[-1][1][0].split()[2]
 
+
+S3, Z2, Z3 = ("S3", "enum 2 3"), ("Z2", "table 1 2 1 0"), ("Z3", "table 1 3 1 2 0")
+
+
+def label(*factors):
+    """The label that the Rust gives to the product of these factors, each a name and how it is made."""
+    made = [line for name, how in factors for line in ("name " + (name.encode().hex() or "-"), "factor " + how)]
+    told = cases(run(["clear", *made, "prod", "joined 277"]))[-1][1][0].split()[1]
+    return "" if told == "-" else bytes.fromhex(told).decode()
+
+
+def shown(what, name, size):
+    """How long the name is, what a buffer of dots holds then, and the part that is handed back; 18 where the buffer is shorter."""
+    dots = "." * size
+    if len(name) > size:
+        return "%s refused 18 [%s] []" % (what, dots)
+    return "%s %d [%s] [%s]" % (what, len(name), name + dots[len(name):], name)
+
+
+def names():
+    # 32 bytes, 33, 33 with nine generators, with rows that no group has, and with no room: "18 .. (after 4, before the build)".
+    yield from ("most 0", "long refused 18", "many refused 1", "wrong refused 18", "begun refused 4")
+    for what, factor in (("orders", S3), ("rows", Z2), ("built", Z3)):
+        yield shown(what, label(factor), 8)
+    # "An image read back, a flattened table and a subgroup have the empty name".
+    for what in ("read", "flattened", "subgroup"):
+        yield shown(what, "", 8)
+    for what, size in (("longer", 9), ("right", 7), ("short", 6)):
+        yield shown(what, label(S3, Z2), size)
+    yield shown("none", label(), 0)
+    yield shown("between", label(S3, Z2, ("", Z2[1]), Z3), 16)
+    eight = label(*[Z2] * 8)
+    yield shown("eight", eight, len(eight))
+    # The value beside the refusal of nine fits no buffer; the buffer has what the eight left there.
+    yield "nine " + FACTORS
+    yield "nine refused 17 [%s] []" % eight
+    # Forged lengths: 32 is longer than the buffer, and 33 is no name's.
+    yield shown("thirty-two", "S3".ljust(32), 8)
+    yield "thirty-three refused 17 [........] []"
+
+
+TEXTS = {"example_calls": calls, "example_names": names}
 
 if __name__ == "__main__":
     if not ORACLE.exists():
         sys.exit("the oracle is not built (oracle/build.sh)")
-    if sys.argv[1:] != ["--check"]:
-        sys.stdout.write(text())
-    else:
-        want, have = text().splitlines(), STDOUT.read_text().splitlines()
+    for crate, text in TEXTS.items():
+        want = list(text())
+        if sys.argv[1:] != ["--check"]:
+            print(*want, sep="\n")
+            continue
+        have = (CRATES / crate / "stdout").read_text().splitlines()
         if want != have:
             differ = [(w, h) for w, h in zip(want, have) if w != h] or [("%d lines" % len(want), "%d lines" % len(have))]
-            sys.exit("crates/example_calls/stdout differs from the Rust:\n  expected: %s\n  there:    %s" % differ[0])
-        print("%d lines of answers, as the Rust gives them" % len(have))
+            sys.exit("crates/%s/stdout differs from the Rust:\n  expected: %s\n  there:    %s" % (crate, *differ[0]))
+        print("%s: %d lines of answers, as the Rust gives them" % (crate, len(have)))

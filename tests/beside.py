@@ -5,7 +5,8 @@ First the recorded list is replayed by `ours` alone, also where the oracle is no
 inside the domain of equality its answer must be the recorded one of the Rust, and elsewhere the refusal that
 tests/recorded/model.py, written from document 01, expects. Then fresh builds and questions, from a seed that is printed
 (or the first argument), go to the model, the oracle and `ours`; images go to the model and `ours`, since the Rust has
-none. Altered tables and forged handles: an answer or a refusal that is due, 14 or 17 (of a check against orders 2, 3, 13
+none. What is made has names now and then, of which no answer knows but the joined one: the Rust's label, where they are
+text. Altered tables and forged handles: an answer or a refusal that is due, 14 or 17 (of a check against orders 2, 3, 13
 or 17), never anything else. And the largest factor that there can be, 65,535 elements, beside the Rust.
 """
 
@@ -16,7 +17,7 @@ import sys
 
 HERE = pathlib.Path(__file__).resolve().parent
 sys.path.insert(0, str(HERE / "recorded"))
-from make import FACTORS, abelian, built, cycle, damaged, make_product, one_product, one_subgroup, random_columns, random_group, rows_command
+from make import FACTORS, abelian, built, cycle, damaged, make_product, named, one_product, one_subgroup, random_columns, random_group, rows_command
 from model import Model, Refused
 from replay import ORACLE, cases, run
 
@@ -44,10 +45,10 @@ def replay_recorded():
                 differs(path.name, command, want, got)
             compared += 1
     # All but questions to the oracle alone are answered: fewer would mean that the list or the program lost something.
-    if compared < 11500:
+    if compared < 14000:
         sys.exit("only %d of the recorded cases were compared" % compared)
     # Beside its calls on buffers `ours` asks the safe types of the Rust crate, which give the same answers or it ends.
-    if safe < 800000:
+    if safe < 830000:
         sys.exit("only %d answers of the safe types were compared" % safe)
     print("recorded: %d compared, %d for the oracle alone, %d answers of safe types" % (compared, skipped, safe))
 
@@ -76,8 +77,36 @@ def questions(rng, n, size):
             yield "step %d %d" % (a, rng.randrange(n))
 
 
+def random_name(rng, most=32):
+    """Bytes of a name, mostly text, and mostly short or just as long as may be."""
+    length = rng.choice((0, 0, 1, 2, rng.randint(0, most), most))
+    if rng.random() < 0.1:
+        return bytes(rng.randrange(256) for _ in range(length))
+    return "".join(rng.choice("Sx 3\0\u00d7") for _ in range(length)).encode()[:length].decode(errors="ignore").encode()
+
+
+def name_commands(rng):
+    """Products with names, joined in buffers of every kind of length; and names that are too long, where something else is wrong too."""
+    for _ in range(60):
+        names = [random_name(rng) for _ in range(rng.choice((0, 1, 1, 2, 3, 4, 8)))]
+        yield from ("clear", *(line for name in names for line in (named(name), "factor " + rng.choice(FACTORS[:4]))), "prod")
+        whole = len(b" x ".join(names))
+        yield from ("joined %d" % size for size in (0, max(whole - 1, 0), whole, whole + 1, rng.randrange(300), 277))
+        yield from ("flatname", "gens") if math.prod([6] * len(names)) < 300 else ["gens"]
+    for _ in range(60):
+        yield named(random_name(rng, rng.choice((32, 33, 33, 34, 64, 300))))
+        yield "room %d" % rng.choice((0, 1, 5, 6, 100, 100))
+        n = rng.choice((0, 1, 2, 2, 2, 3, 9))
+        yield " ".join(map(str, ["enum", n, *(rng.choice((0, 1, 2, 3, 32768)) for _ in range(n * (n - 1) // 2 + (rng.random() < 0.1)))]))
+        rows = random_group(rng)
+        yield rows_command(len(rows[0]), len(rows), rng.choice((rows, *damaged(rng, rows))))
+        yield "builder %d" % n
+    yield from ("room 65535", "name -")
+
+
 def fresh_commands(rng):
     for _ in range(150):
+        yield named(random_name(rng))
         rows = random_group(rng)
         yield rows_command(len(rows[0]), len(rows), rows)
         yield "room %d" % (len(rows) - rng.randint(0, 1))
@@ -89,6 +118,7 @@ def fresh_commands(rng):
         yield rows_command(len(other[0]), len(other), other)
     for _ in range(200):
         n = rng.randint(0, 8)
+        yield named(random_name(rng))
         yield "room %d" % rng.choice((1, 2, 3, 8, 24, 48, 120, 200, 384, 1000))
         yield enumeration(n, random_orders(rng, n))
     # Rooms around the size; then what was built is asked, and checked against its own orders and others.
@@ -101,7 +131,11 @@ def fresh_commands(rng):
             yield "against %s | %s" % (rows_command(n, size, rows), " ".join(map(str, checked)))
     yield "room 130"
     for _ in range(12):
-        yield from built(rng, 130)
+        name = random_name(rng)
+        yield from ("clear", named(name), *built(rng, 130))
+        yield from ("name -", "joined %d" % len(name), "joined 32")
+    yield from name_commands(rng)
+    yield named(random_name(rng))
     yield from product_commands(rng)
     # Both sides of the edges of arguments, buffers and words.
     for line in ("room 65535", "table 9 1", "room 0", "enum 2 3", "room 65536", "enum 2 3", "room 65535", "enum 2 1", "enum 2 32768",
@@ -142,7 +176,7 @@ def product_commands(rng):
 def fresh(seed):
     commands = list(fresh_commands(random.Random(seed)))
     model, answers, compared = Model(), cases(run(commands, OURS)), 0
-    oracle = cases(run(commands))
+    oracle, apart = cases(run(commands)), False
     for (command, got), (_, rust) in zip(answers, oracle, strict=True):
         # Where the Rust keeps a word or a predecessor that the successors do not give, it may answer anything.
         stale = command == "build" and model.builder and model.builder.stale()
@@ -152,10 +186,15 @@ def fresh(seed):
             want = [str(refused)]
         if want is None:  # document 01 has nothing to say: the product or the subgroup was refused
             continue
-        if want and not want[0].startswith("refused") and not stale and rust != want:
+        # The Rust has no name that is not text, and names what is flattened, or a subgroup, as we do not; and its current product is another after a build that
+        # it alone takes.
+        other = rust == ["unsupported"] or command in ("flatname", "subname") or apart and command.startswith("joined")
+        if want and not want[0].startswith("refused") and not stale and not other and rust != want:
             differs("model and oracle", command, want, rust)
         if got != want:
             differs("fresh, seed %s" % seed, command, want, got)
+        if command in ("build", "clear", "prod"):
+            apart = command == "build" and rust != want
         compared += bool(want)
     print("fresh: %d compared, seed %s" % (compared, seed))
 
@@ -213,13 +252,15 @@ def short_buffers():
     ways = [["short " + what, line] for what, line in short] + [["subpred 1 1"], ["shortword 5"], ["join"]]
     ways += [["builder 1", "add 0 0", "set 1 0 0", "short work", "build"]]
     ways += [["clear", "factor enum 2 3", "factor enum 1", "prod", "shortsplit 9"], ["join 3"]]
+    ways += [["short names", "joined 300"], ["name 5333", "factor enum 2 3", "prod", "short names", "joined 0"]]
     commands, asked = ["factor enum 2 3", "prod"], []
     for way in ways:
         commands += way
         asked.append(len(commands) - 1)
     answers = cases(run(commands, OURS))
     for command, lines in (answers[i] for i in asked):
-        want = ["4"] if command.startswith("imgcheck") else ["refused 4 0 0 0"]
+        # A factor without a name counts as one whose handle does not fit.
+        want = ["4"] if command.startswith("imgcheck") else ["refused 17 0 0 0"] if command.startswith("joined") else ["refused 4 0 0 0"]
         if lines != want:
             differs("short buffers", command, want, lines)
     print("short: %d compared" % len(asked))
@@ -281,6 +322,7 @@ DUE = {
     "sub": (1, 4, 5, 6, 8, 9, 10, 11, 12, 14, 15, 17),
     "subpred": (4, 5, 6, 8, 9, 10, 11, 12, 15, 17),
     "join": (4, 14, 15, 17),
+    "joined": (15, 17, 18),
     "image": (4, 17),
 }
 
@@ -301,6 +343,7 @@ def garbage_commands(rng):
             yield " ".join(map(str, ["walk", rng.choice((0, 1, 5, number())), *(rng.choice((0, 0, 1, 1, 2, rng.randrange(9))) for _ in range(length))]))
         yield from ("inverse %d" % number(), "inverse 3", "gens", "count", "length %d" % number(), "split %d" % number())
         yield from ("powi %d %d" % (rng.choice((1, 3, number())), rng.randint(-(2**31), 2**31 - 1)), "period %d" % rng.choice((1, 3, number())))
+        yield "joined %d" % rng.choice((0, 1, 12, 277, 300))
         yield from ("project %d %d" % (rng.randrange(3), number()), "inject %d %d" % (rng.randrange(3), number()), "join %d %d %d" % (number(), number(), number()))
 
     def members(count):
@@ -311,7 +354,9 @@ def garbage_commands(rng):
     factors = {"factor enum 2 3": 6, "factor enum 3 3 2 3": 24, "factor table 1 3 1 2 0": 3}
     for _ in range(250):
         chosen = [rng.choice(list(factors)) for _ in range(rng.choice((1, 1, 1, 2, 3)))]
-        yield from ("clear", "room 200", *chosen, "prod")
+        yield from ("clear", "room 200", named(random_name(rng)), *chosen, "prod")
+        if rng.random() < 0.4:
+            yield "forgename %d %d" % (rng.randrange(3), rng.choice((0, 1, 32, 33, 255)))
         for _ in range(rng.randint(1, 8)):
             yield "alter %d %d" % (rng.randrange(400), number())
         if rng.random() < 0.4:
@@ -329,7 +374,9 @@ def garbage_commands(rng):
             yield rng.choice(("add %d %d" % (e, g), "set %d %d %d" % (e, g, r), "alter %d %d" % (rng.randrange(100), number())))
         if rng.random() < 0.3:
             yield "forge " + handle()
-        yield from ("add 0 0", "set 0 0 0", "build")
+        if rng.random() < 0.3:
+            yield "forgename 0 %d" % rng.choice((0, 32, 33, 255))
+        yield from ("add 0 0", "set 0 0 0", "build", "joined 32")
     for _ in range(100):
         yield from ("clear", "room 200", "factor enum 3 3 2 3", "factor enum 1", "prod", "sub %d %d" % (rng.randrange(1, 48), rng.randrange(1, 48)))
         for _ in range(rng.randint(1, 4)):
@@ -341,7 +388,7 @@ def garbage(seed):
     commands, asked, word = list(garbage_commands(random.Random(seed))), 0, None
     for command, lines in cases(run(commands, OURS)):
         name = command.split()[0]
-        if name in ("clear", "room", "factor", "prod", "alter", "forge", "forgecount", "altermap", "altersub", "builder") or lines in (["unsupported"], ["no builder"], ["no subgroup"]):
+        if name in ("clear", "room", "name", "factor", "prod", "alter", "forge", "forgecount", "forgename", "altermap", "altersub", "builder") or lines in (["unsupported"], ["no builder"], ["no subgroup"]):
             continue
         words = lines[0].split()
         due = DUE.get(name, (14, 15, 17))

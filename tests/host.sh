@@ -11,6 +11,7 @@ whole() {
     cargo test --offline --quiet --package hypergroup
     cargo test --offline --quiet --release --package hypergroup
     out=$(cargo run --offline --quiet --release --package hypergroup --example stream)
+    says '^on the screen: cube$'
     says '^both viewers are at state 14$'
     says 'refused (12): no group has these right steps'
     says 'refused (16): the image is malformed'

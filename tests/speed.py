@@ -11,8 +11,8 @@ Our archives are for x86-64. Elsewhere they would run under an emulator, and no 
 proved modules are compiled for the machine's own processor (host/build.sh makes target/here/ours), which is not what is
 shipped.
 
-Arguments choose the tables (enumerations, questions, products, walks, ones, subgroups, maps, images); without any, all are
-measured."""
+Arguments choose the tables (enumerations, questions, products, walks, ones, names, subgroups, maps, images); without any,
+all are measured."""
 
 import pathlib
 import platform
@@ -165,6 +165,16 @@ def walks():
             print("| %s, %d turns | %.1f | %.1f | %.1f | %.2f | %.2f |" % (name, turns, whole, calls, rust, rust / whole, calls / whole), flush=True)
 
 
+def names():
+    """The joined name of a product, in a buffer that is there; the Rust's label is a text that it allocates."""
+    table("product, names", "ours, ns", "Rust, ns", "times as fast")
+    turns = 100000
+    for name, count in (("S3", 1), ("two S3", 2), ("eight S3", 8)):
+        for label in ("S3", "a name that has thirty-two bytes"):
+            setup = ["clear", "name " + label.encode().hex(), *["factor enum " + S3] * count, "prod"]
+            row("%s, %d bytes each" % (name, len(label)), [*setup, "bench joined %d" % turns], 1e9 / turns, "%.0f")
+
+
 def maps():
     """One place of a subgroup's maps, and one digit of a product."""
     table("question", "ours, ns", "Rust, ns", "times as fast")
@@ -210,7 +220,7 @@ if __name__ == "__main__":
         OURS = (HERE.parent / "target" / "here" / "ours", "--echo")
         if not OURS[0].exists():
             sys.exit("%s is not there: host/build.sh makes it" % OURS[0].relative_to(HERE.parent))
-    tables = {f.__name__: f for f in (enumerations, questions, products, walks, ones, subgroups, maps, images)}
+    tables = {f.__name__: f for f in (enumerations, questions, products, walks, ones, names, subgroups, maps, images)}
     for name in sys.argv[1:] or tables:
         print("\n%s\n" % name.capitalize())
         tables[name]()

@@ -14,7 +14,8 @@ lines of the oracle's answer:
 
 The expectations come from model.py, written from document 01. Wherever the
 model and the oracle both speak they are compared, and nothing is written if
-they disagree in a way that docs/DIFFERENCES.md does not list.
+they disagree in a way that docs/DIFFERENCES.md does not list. Where the oracle
+says `unsupported`, the Rust has nothing of the kind, and the model speaks alone.
 
 Run it after oracle/build.sh. The same oracle gives the same bytes each time.
 """
@@ -539,6 +540,81 @@ def subgroups():
     yield from ["clear", "factor " + Z2_8, cycle(257), "prod", "sub 1"]
 
 
+# ----------------------------------------------------------------------- names
+
+
+def named(name):
+    return spaced("name", name.hex() or "-")
+
+
+def joins(lengths):
+    """The joined name in buffers on both sides of its length, and in the longest."""
+    whole = sum(lengths) + 3 * max(len(lengths) - 1, 0)
+    return [spaced("joined", size) for size in sorted({max(whole - 1, 0), whole, whole + 1, 0, 277, 300})]
+
+
+def text(k, length):
+    """Text of so many bytes, another for each k."""
+    return bytes(33 + (7 * k + i) % 94 for i in range(length))
+
+
+def labelled(names):
+    """A product of so many factors with these names, and its joined name."""
+    yield "clear"
+    for k, name in enumerate(names):
+        yield from [named(name), "factor " + (Z2, S3, "table 1 3 1 2 0")[k % 3]]
+    yield from ["prod", *joins([len(name) for name in names])]
+
+
+def names():
+    yield "quiet 1"
+    yield "# Both sides of 32 bytes, by each call that makes a factor. A builder has the name that it was begun with."
+    for length in (0, 1, 2, 31, 32, 33, 34, 64, 255, 256, 257, 288):
+        yield from ["clear", named(text(0, length)), S3, "table 1 3 1 2 0", "builder 1"]
+        if length <= 32:
+            yield from ["add 0 0", named(b"other"), "set 1 0 0", "build", *joins([length])]
+            for made in (S3, "table 1 3 1 2 0"):
+                yield from ["clear", named(text(1, length)), "factor " + made, named(b"other"), "prod", *joins([length])]
+    yield "# 0 to 8 factors, and each joined length on both sides."
+    for count in range(9):
+        for lengths in ([0] * count, [32] * count, [1] * count, range(count), range(32, 32 - count, -1)):
+            yield from labelled([text(k, length) for k, length in enumerate(lengths)])
+    rng = random.Random(6)
+    for _ in range(60):
+        yield from labelled([text(k, rng.choice((0, 0, 1, 2, 5, 31, 32))) for k in range(rng.randint(1, 8))])
+    yield "# Nine are too many, whatever their names are."
+    yield from ["clear", named(b"Z2"), *["factor " + Z2] * 9, "prod"]
+    yield "# Bytes that are like what stands between names, in other scripts, and no text at all."
+    for name in (b" x ", b"x", b" ", b"\0", b"a\0b", "\u2124\u2082 \u00d7 \u2124\u2083".encode(), "\U0001f9e9".encode() * 8):
+        yield from labelled([name, b"", name])
+    for name in (b"\xff", b"\x80" * 32, "\u2124".encode()[:2], bytes(range(224, 256))):
+        yield from labelled([name, b"text"])
+    yield "# A name over 32 bytes is after 1 to 4, and before 5 to 12; one of 32 changes nothing."
+    for length in (32, 33):
+        yield from ["clear", named(text(2, length))]
+        yield from ["enum 9 " + spaced(*[2] * 36), "table 9 1", "builder 9", "enum 2", "enum 2 3 3", "enum 2 1", "enum 3 2 2 40000"]
+        yield from ["room 0", "enum 2 1", S3, "table 1 2 1 0", "builder 1", "room 65536", S3, "builder 1", "room 65535", "table 1 2 1"]
+        for line in ("table 1 1 1", "table 1 3 2 1 0", "table 1 2 1 1", "table 1 1 0", "table 2 4 1 2 3 3 0 0 2 1", "table 2 2 1 1 0 0", FIVE, CROSSED):
+            yield from [line, "factor " + line]
+        yield from ["room 5", S3, "factor " + S3, "room 65535"]
+    yield rows_command(1, 4098, [[(e + 1) % 4098] for e in range(4098)])
+    yield "# A length that was altered, and a count: 17, then 15, then 18. What stands behind a name is zero."
+    for count in (1, 2, 8):
+        for k in {0, count // 2, count - 1}:
+            for length in (0, 1, 3, 31, 32, 33, 64, 128, 255):
+                yield from [line for line in labelled([b"S3"] * count) if not line.startswith("joined")]
+                yield from [spaced("forgename", k, length), "joined 277", "joined 0", spaced("joined", max(5 * count + length - 6, 0))]
+                yield from ["forgecount 9", "joined 277", "joined 0", "forgecount %d" % k, "joined 277"]
+    for count in (0, 1, 7, 8):
+        for forged in (0, 1, 2, 8, 9, 255):
+            yield from [line for line in labelled([b"S3"] * count) if not line.startswith("joined")]
+            yield from ["forgecount %d" % forged, "joined 277", "joined 1"]
+    yield "# What is made with names answers as it does without."
+    yield from ["clear", "quiet 0", named(b"S3"), "factor " + S3, named(b"Z2"), "factor " + Z2, "prod", "joined 7", "gens", "split 9"]
+    yield from ["word 9", "compose 9 7", "inverse 9", "conjugate 1 2", "powi 9 -2", "period 9", "step 9 2", "flatten", "sub 3 6", "subgens"]
+    yield from ["subleft " + Z2, "subgens", "s2o 3", "o2s 9", S3, "against table 1 3 1 2 0 |"]
+
+
 # ------------------------------------------------------------------ differences
 
 
@@ -649,6 +725,16 @@ def differences():
             ["quiet 1", "factor " + nine_shifts(8), "factor " + Z2, "prod", "flatten"],
         ),
         ("Rooms of 0 and above 65,535", ["room 0", "enum 0", "room 65536", "enum 0"]),
+        ("A name over 32 bytes", [named(b"n" * 33), Z2, "factor " + Z2, "prod", "joined 277", "name -"]),
+        (
+            "A joined name longer than its buffer",
+            [named(b"S3"), "factor " + S3, named(b"Z2"), "factor " + Z2, "prod", "joined 7", "joined 6", "name -"],
+        ),
+        (
+            "The name of a flattened product",
+            [named(b"Z2"), "factor " + Z2, "prod", "flatname", "factor " + Z2, "prod", "flatname", "name -"],
+        ),
+        ("The name of a subgroup", [named(b"S3"), "factor " + S3, "prod", "sub 1", "subname", "name -"]),
     ):
         yield "# " + title
         yield from ["clear", "room 65535", "quiet 0"] + lines
@@ -663,6 +749,7 @@ FILES = {
     "builder": builders,
     "product": products,
     "subgroup": subgroups,
+    "names": names,
     "differences": differences,
 }
 
@@ -674,7 +761,7 @@ def allowed(command, refused, answer):
     """Whether the oracle's answer goes with a refusal by document 01."""
     k, (a, b, c), said = refused.number, refused.places, answer[0]
     read = spaced("last-read", a, b)
-    if k in (1, 4, 6, 14, 15):
+    if k in (1, 4, 6, 14, 15, 18):
         return True  # limits of document 01 that the Rust does not have
     if command in ("add", "set") or command == "build" and (refused.stale or k in (7, 8, 17)):
         return True  # the Rust looks at no order of numbers, nor from where an element is reached
@@ -728,7 +815,7 @@ def commands(lines):
             stale = line == "build" and model.builder and model.builder.stale()
             try:
                 answer = model.answer(line)
-                if stale:
+                if stale or line in ("flatname", "subname"):
                     yield line, answer, None
                 else:
                     yield line, "oracle" if answer is None else "ok", answer
@@ -742,7 +829,7 @@ def commands(lines):
 def agree(line, expect, said, answer):
     """Whether the model and the oracle agree, so far as both speak."""
     words = line.split()
-    if isinstance(expect, list):
+    if isinstance(expect, list) or answer == ["unsupported"]:
         return True
     if isinstance(expect, Refused):
         return allowed(words[words[0] == "factor"], expect, answer)
@@ -770,6 +857,8 @@ def record(name, theme):
             sys.exit(
                 "%s: %s\n  document 01: %s %s\n  oracle: %s" % (name, line, expect, said, answer)
             )
+        if answer == ["unsupported"] and expect == "ok":
+            expect = said
         text.append("> " + line)
         if answer:
             lines = expect if isinstance(expect, list) else [expect]

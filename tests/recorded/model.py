@@ -1,6 +1,6 @@
 """What document 01 says of each command that the oracle answers.
 
-Written from document 01 alone, for clearness and not for speed. `Model.answer`
+Written from document 01, and for names from order 1 of document 02, alone, for clearness and not for speed. `Model.answer`
 takes a command of the oracle (oracle/README.md) and gives what is expected of
 a program that follows document 01: the lines of the answer, or the refusal.
 """
@@ -12,6 +12,7 @@ MOST_GENERATORS = 8
 MOST_ELEMENTS = 65535
 MOST_FACTORS = 8
 MOST_PRODUCT = 2**32 - 1
+MOST_NAME = 32
 NOT_A_MEMBER = 2**32 - 1
 
 
@@ -27,11 +28,16 @@ class Refused(Exception):
 
 
 class Factor:
-    """An accepted table: rows of successors, recorded words, inverses."""
+    """An accepted table: rows of successors, recorded words, inverses; and a
+    name, the empty one unless it is told."""
 
     def __init__(self, n, rows, words, inverses):
         self.n, self.rows, self.words, self.inverses = n, rows, words, inverses
-        self.count = len(rows)
+        self.count, self.name = len(rows), b""
+
+    def named(self, name):
+        self.name = name
+        return self
 
     def parents(self):
         number = {word: e for e, word in enumerate(self.words)}
@@ -58,6 +64,12 @@ def check_room(n, room, entries=None):
         raise Refused(4)
     if entries is not None and entries < room * n:
         raise Refused(4)
+
+
+def check_name(name):
+    """Refusal 18, "name over 32 bytes (after 4, before the build)"."""
+    if len(name) > MOST_NAME:
+        raise Refused(18)
 
 
 def new_element(words, e, g, room):
@@ -145,10 +157,11 @@ def is_group(f):
     return True
 
 
-def table(n, room, numbers):
+def table(n, room, numbers, name=b""):
     """A composed table with `room`, from a lent list."""
     check_room(n, room, len(numbers))
-    return read(n, room, lambda e, g: numbers[e * n + g])
+    check_name(name)
+    return read(n, room, lambda e, g: numbers[e * n + g]).named(name)
 
 
 # ------------------------------------------------------------------- builder
@@ -159,9 +172,10 @@ class Builder:
     ended: its handle then fits no buffer. `made` has the place where each
     element was added, and `overwritten` says whether a step was set anew."""
 
-    def __init__(self, n, room):
+    def __init__(self, n, room, name=b""):
         check_room(n, room)
-        self.n, self.room = n, room
+        check_name(name)
+        self.n, self.room, self.name = n, room, name
         self.rows, self.lengths, self.made = [[None] * n], [0], [None]
         self.overwritten = False
 
@@ -205,7 +219,7 @@ class Builder:
         """What its successors say, read in order."""
         self.place()
         rows, self.lengths = self.rows, None
-        return read(self.n, self.room, lambda e, g: rows[e][g], len(rows))
+        return read(self.n, self.room, lambda e, g: rows[e][g], len(rows)).named(self.name)
 
 
 # ----------------------------------------------------------------- the image
@@ -273,7 +287,7 @@ def pairs(n):
     return [(i, j) for j in range(n) for i in range(j)]
 
 
-def enumerate_orders(n, orders, room):
+def enumerate_orders(n, orders, room, name=b""):
     """The enumeration of 000, as module 4 of document 01 sets it out."""
     if n > MOST_GENERATORS:
         raise Refused(1, n)
@@ -283,6 +297,7 @@ def enumerate_orders(n, orders, room):
         if not 2 <= m <= 32767:
             raise Refused(3, i)
     check_room(n, room)
+    check_name(name)
 
     rows, words = [[None] * n], [()]
     back = [[None] * n]
@@ -344,7 +359,7 @@ def enumerate_orders(n, orders, room):
         e += 1
     factor = build(n, rows, words)
     against(factor, orders)
-    return factor
+    return factor.named(name)
 
 
 def against(f, orders):
@@ -427,6 +442,29 @@ class Product:
     def flatten(self, room):
         check_room(self.n, room)
         return read(self.n, room, self.step)
+
+
+class Names:
+    """What stands beside the handles of a product: of each factor 32 bytes, the
+    name and zeros, and a length; and how many factors there are to be."""
+
+    def __init__(self, factors):
+        self.records = [[f.name.ljust(MOST_NAME, b"\0"), len(f.name)] for f in factors]
+        self.count = len(factors)
+
+    def joined(self, size):
+        """The joined name in a buffer of `size` bytes. 17 for a factor that is
+        not there or a recorded length over 32, among those that a product can
+        have; then 15; then 18, "joined name longer than the buffer"."""
+        listed = self.records[: min(self.count, MOST_FACTORS)]
+        if len(listed) < min(self.count, MOST_FACTORS) or any(length > MOST_NAME for _, length in listed):
+            raise Refused(17)
+        if self.count > MOST_FACTORS:
+            raise Refused(15)
+        name = b" x ".join(record[:length] for record, length in listed)
+        if size < len(name):
+            raise Refused(18)
+        return name
 
 
 class Subgroup:
@@ -535,14 +573,18 @@ class Model:
     that was refused."""
 
     def __init__(self):
-        self.room, self.quiet = MOST_ELEMENTS, False
+        self.room, self.quiet, self.name = MOST_ELEMENTS, False, b""
         self.clear()
 
         self.builder = None
 
     def clear(self):
-        self.factors, self.product, self.sub = [], Product([]), None
+        self.factors, self.sub = [], None
+        self.take(Product([]))
         self.refused = False  # a factor or the product was
+
+    def take(self, product):
+        self.product, self.names = product, Names(product.factors)
 
     def answer(self, line):
         name, *rest = line.split()
@@ -556,6 +598,9 @@ class Model:
             return []
         if name == "clear":
             self.clear()
+            return []
+        if name == "name":
+            self.name = bytes.fromhex(rest[0].replace("-", ""))
             return []
         if name in ("enum", "table"):
             return self.show(self.make([name] + rest))
@@ -575,13 +620,16 @@ class Model:
             return [str(walk_image(data, int(rest[1]), [int(g) for g in rest[2:]]))]
         if name == "builder":
             self.builder = None
-            self.builder = Builder(int(rest[0]), self.room)
+            self.builder = Builder(int(rest[0]), self.room, self.name)
             return ["ok"]
         if name in ("add", "set", "build"):
             if self.builder is None:
                 return None
             made = getattr(self.builder, name)(*(int(x) for x in rest))
-            return self.show(made) if name == "build" else [str(made)]
+            if name != "build":
+                return [str(made)]
+            self.take(Product([made]))
+            return self.show(made)
         if name == "against":
             bar = rest.index("|")
             against(self.make(rest[:bar]), [int(x) for x in rest[bar + 1 :]])
@@ -597,7 +645,7 @@ class Model:
             return None
         if name == "prod":
             try:
-                self.product = Product(self.factors)
+                self.take(Product(self.factors))
             except Refused:
                 self.refused = True
                 raise
@@ -607,6 +655,8 @@ class Model:
         if name == "flatten":
             return self.show(self.product.flatten(self.room))
         numbers = [int(x) for x in rest]
+        if name in ("joined", "forgename", "forgecount", "flatname", "subname"):
+            return self.ask_names(name, numbers)
         if name in ("s2o", "o2s", "subgens"):
             return self.ask_subgroup(name, numbers)
         return self.ask_product(name, numbers)
@@ -617,9 +667,9 @@ class Model:
         kind, *numbers = words
         numbers = [int(x) for x in numbers]
         if kind == "enum":
-            return enumerate_orders(numbers[0], numbers[1:], self.room)
+            return enumerate_orders(numbers[0], numbers[1:], self.room, self.name)
         n, count, *rows = numbers
-        return table(n, min(self.room, count), rows)
+        return table(n, min(self.room, count), rows, self.name)
 
     def show(self, f):
         if self.quiet:
@@ -666,6 +716,23 @@ class Model:
             return [spaced("ok", *(s.s2o(x) for x in s.generator_elements()))]
         check_arguments([(numbers[0], inside if name == "s2o" else outside)])
         return [str(getattr(s, name)(numbers[0]))]
+
+    def ask_names(self, name, numbers):
+        if name == "forgename":
+            self.names.records[numbers[0]][1] = numbers[1]
+            return []
+        if name == "forgecount":
+            self.names.count = numbers[0]
+            return []
+        if name == "joined":
+            told = self.names.joined(numbers[0])
+        elif name == "flatname":
+            told = self.product.flatten(self.room).name
+        elif self.sub is None:
+            return None
+        else:
+            told = self.sub.factor.name
+        return [spaced("ok", told.hex() or "-")]
 
     def ask_product(self, name, numbers):
         p = self.product

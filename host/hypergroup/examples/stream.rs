@@ -63,8 +63,9 @@ fn stream(sent: &[u8], turns: &[Generator], delay: usize) -> Result<(), Refusal>
 }
 
 fn main() -> Result<(), Refusal> {
-    // The rotations and reflections of a cube: three turns, with these orders of their products.
-    let puzzle = Factor::from_orders(3, &[4, 2, 3], 1000)?;
+    // The rotations and reflections of a cube: three turns, with these orders of their products; and its name for the screen.
+    let puzzle = Factor::named("cube").from_orders(3, &[4, 2, 3], 1000)?;
+    println!("on the screen: {}", String::from_utf8_lossy(puzzle.name()));
     let sent = puzzle.to_image()?;
     let turns = [0, 1, 2, 1, 0, 2, 1, 0, 1, 2, 0].map(Generator);
     stream(&sent, &turns, 4)?;

@@ -1,6 +1,6 @@
-use crate::raw::{self, Handle};
+use crate::raw::{self, Handle, Name};
 use crate::refusal::Said;
-use crate::{Element, Factor, Generator, Refusal};
+use crate::{Element, Factor, Generator, Naming, Refusal};
 use alloc::{vec, vec::Vec};
 
 /// Whether a stored step was new.
@@ -30,18 +30,28 @@ pub enum Stored {
 pub struct Builder {
     table: Vec<u32>,
     handle: Handle,
+    name: Name,
 }
 
 impl Builder {
-    /// Begins with the identity alone, and room for so many elements, 1 to 65,535.
+    /// Begins with the identity alone, and room for so many elements, 1 to 65,535. [`Factor::named`] gives what is built a name.
     ///
     /// # Errors
     ///
     /// 1 for more than 8 generators, 4 for a room outside 1 to 65,535.
     pub fn new(generators: u8, room: u32) -> Result<Self, Refusal> {
-        let mut table = raw::lent_table(generators, room);
-        let handle = raw::begin(&mut table, 0, room, generators).map_err(|no| no.said(4, Said::Room))?;
-        Ok(Builder { table, handle })
+        Naming::NONE.builder(generators, room)
+    }
+
+    /// A builder that was just begun in this table.
+    pub(crate) fn begun(table: Vec<u32>, handle: Handle, name: Name) -> Self {
+        Builder { table, handle, name }
+    }
+
+    /// The name that the factor is to have.
+    #[must_use]
+    pub fn name(&self) -> &[u8] {
+        self.name.as_bytes()
     }
 
     /// How many elements there are so far; 0 once a refusal with 5 or 6 has ended the build.
@@ -89,7 +99,7 @@ impl Builder {
     pub fn build(mut self) -> Result<Factor, Refusal> {
         let mut work = vec![0; raw::work_need(self.handle.generators, self.handle.room)];
         let handle = raw::build(&mut self.table, self.handle, &mut work).map_err(ended)?;
-        Ok(Factor::new(&self.table, handle))
+        Ok(Factor::new(&self.table, handle, self.name))
     }
 }
 

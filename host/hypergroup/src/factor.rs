@@ -1,7 +1,7 @@
 use crate::ffi::letters;
-use crate::raw::{self, Handle};
+use crate::raw::{self, Handle, Name};
 use crate::refusal::Said;
-use crate::{Element, Generator, Image, Refusal};
+use crate::{Element, Generator, Image, Naming, Refusal};
 use alloc::sync::Arc;
 use alloc::{vec, vec::Vec};
 
@@ -11,6 +11,8 @@ use alloc::{vec, vec::Vec};
 /// 1 to n. A factor owns its table, so that nothing can alter it; the table has the rows of its elements and no more, however much room
 /// it was built in. Its clones share that table, and so do products of it alone. A product with other factors has a table of its own
 /// with a copy of each distinct factor, and the factors that it hands out share that one.
+///
+/// A factor has a name of 0 to 32 bytes, any bytes, which [`Factor::named`] gives it when it is made. No question looks at it.
 ///
 /// ```
 /// use hypergroup::{Element, Factor, Generator};
@@ -29,9 +31,25 @@ use alloc::{vec, vec::Vec};
 pub struct Factor {
     table: Arc<[u32]>,
     handle: Handle,
+    name: Name,
 }
 
 impl Factor {
+    /// What a factor with this name is made by: [`from_orders`](Naming::from_orders), [`from_rows`](Naming::from_rows),
+    /// [`from_compose_fn`](Naming::from_compose_fn) and [`builder`](Naming::builder), as below; what is made without has the empty name.
+    ///
+    /// ```
+    /// use hypergroup::Factor;
+    /// let s3 = Factor::named("S3").from_orders(2, &[3], 6)?;
+    /// assert_eq!(s3.name(), b"S3");
+    /// // It is the group that it would be without a name.
+    /// assert_eq!(s3, Factor::from_orders(2, &[3], 6)?);
+    /// # Ok::<(), hypergroup::Refusal>(())
+    /// ```
+    pub fn named(name: &(impl AsRef<[u8]> + ?Sized)) -> Naming<'_> {
+        Naming::new(name.as_ref())
+    }
+
     /// The group with `generators` generators, each its own inverse, in which the product of each pair of them has the order listed.
     ///
     /// `orders` has one number for each pair, in the order (0,1), (0,2), (1,2), (0,3) and so on. An enumeration takes at most `room`
@@ -51,9 +69,7 @@ impl Factor {
     /// # Ok::<(), hypergroup::Refusal>(())
     /// ```
     pub fn from_orders(generators: u8, orders: &[u32], room: u32) -> Result<Self, Refusal> {
-        let (mut table, mut work) = raw::lent(generators, room);
-        let made = raw::enumerate(&mut table, 0, &mut work, orders, generators, room);
-        Ok(Factor::new(&table, made.map_err(|no| no.said(4, Said::Room))?))
+        Naming::NONE.from_orders(generators, orders, room)
     }
 
     /// The group whose right steps are listed: the number that each element, composed with each generator, comes to, by element and
@@ -76,12 +92,7 @@ impl Factor {
     /// # Ok::<(), hypergroup::Refusal>(())
     /// ```
     pub fn from_rows(generators: u8, rows: &[u32]) -> Result<Self, Refusal> {
-        let n = usize::from(generators);
-        let (room, part) = (rows.len().checked_div(n).unwrap_or(1), rows.len().checked_rem(n).unwrap_or(0));
-        // A list that ends within a row is lent as none, so that the library refuses it as too short.
-        let (lent, said) = if part == 0 { (rows, Said::Rows) } else { (&[][..], Said::PartOfRow) };
-        let beyond = if room > 65_535 { Said::Most } else { Said::Rows };
-        Self::composed(generators, lent, room.min(65_535) as u32).map_err(|no| no.said(4, said).said(5, beyond))
+        Naming::NONE.from_rows(generators, rows)
     }
 
     /// The group whose right steps a function tells: the element that an element, composed with a generator, comes to.
@@ -114,16 +125,7 @@ impl Factor {
     /// # Ok::<(), hypergroup::Refusal>(())
     /// ```
     pub fn from_compose_fn(generators: u8, compose: impl FnMut(Element, Generator) -> Element, room: u32) -> Result<Self, Refusal> {
-        // Arguments that are to be refused have nothing asked.
-        let right = generators <= 8 && (1..=65_535).contains(&room);
-        let (rows, needed) = if right { asked(generators, compose, room) } else { (vec![], room) };
-        Self::composed(generators, &rows, needed).map_err(|no| no.said(4, Said::Room))
-    }
-
-    fn composed(generators: u8, rows: &[u32], room: u32) -> Result<Self, Refusal> {
-        let (mut table, mut work) = raw::lent(generators, room);
-        let handle = raw::composed(&mut table, 0, &mut work, rows, generators, room)?;
-        Ok(Factor::new(&table, handle))
+        Naming::NONE.from_compose_fn(generators, compose, room)
     }
 
     /// Keeps of a table that was just built the rows of its elements, with as much room.
@@ -132,15 +134,27 @@ impl Factor {
     /// as it has elements (`fitsIn` and `stretch`, crates/egg/specs/Factor.antt); what an accepted factor is speaks of the rows of its
     /// elements alone (`Accepted`, crates/factor_laws/specs/Accepted.antt). And it is what the same call gives with that room: "more
     /// room never changes an accepted table" (`composed-roomier`, `enumeration-roomier` and so on, docs/promises).
-    pub(crate) fn new(table: &[u32], handle: Handle) -> Self {
+    pub(crate) fn new(table: &[u32], handle: Handle, name: Name) -> Self {
         let rows = raw::table_need(handle.generators, handle.elements);
         let table = table[handle.start..handle.start + rows].into();
-        Factor { table, handle: Handle { start: 0, room: handle.elements, ..handle } }
+        Factor { table, handle: Handle { start: 0, room: handle.elements, ..handle }, name }
     }
 
-    /// A factor that stands in a table buffer with others. Its handle has come from an accepted one.
-    pub(crate) fn within(table: Arc<[u32]>, handle: Handle) -> Self {
-        Factor { table, handle }
+    /// The same with no name.
+    pub(crate) fn unnamed(table: &[u32], handle: Handle) -> Self {
+        Self::new(table, handle, Name::default())
+    }
+
+    /// A factor that stands in a table buffer with others. Its handle and its name have come from an accepted one.
+    pub(crate) fn within(table: Arc<[u32]>, handle: Handle, name: Name) -> Self {
+        Factor { table, handle, name }
+    }
+
+    /// Its name: the bytes that it was made with, none where it was made without, read from an image, or is a flattened product or a
+    /// subgroup's.
+    #[must_use]
+    pub fn name(&self) -> &[u8] {
+        self.name.as_bytes()
     }
 
     /// How many elements the group has.
@@ -344,7 +358,7 @@ impl Factor {
         let (n, count) = Image::head(bytes);
         let (mut table, mut work) = raw::lent(n, count);
         let handle = raw::image_read(bytes, &mut table, 0, &mut work).map_err(|no| no.said(5, Said::Image))?;
-        Ok(Factor::new(&table, handle))
+        Ok(Factor::unnamed(&table, handle))
     }
 
     /// The table buffer that this factor stands in.
@@ -357,6 +371,11 @@ impl Factor {
         self.handle
     }
 
+    /// Its name as it is kept.
+    pub(crate) fn kept_name(&self) -> Name {
+        self.name
+    }
+
     /// The rows of its elements.
     fn rows(&self) -> &[u32] {
         let start = self.handle.start;
@@ -364,34 +383,8 @@ impl Factor {
     }
 }
 
-/// The rows that a function tells, asked in order, with how much room they need: zeros where there was no need to ask.
-///
-/// It is asked no more where the library will refuse: at a number that skips ahead, beyond the room, and at a word of more than 4,096.
-fn asked(generators: u8, mut compose: impl FnMut(Element, Generator) -> Element, room: u32) -> (Vec<u32>, u32) {
-    let n = usize::from(generators);
-    let (mut rows, mut lengths) = (vec![], vec![0]);
-    let mut e = 0;
-    while e < lengths.len() {
-        for g in 0..generators {
-            let to = compose(Element(e as u32), Generator(g)).0;
-            rows.push(to);
-            let count = lengths.len() as u32;
-            if to > count || to == count && (count == room || lengths[e] == 4096) {
-                // With one row more, where there may be one, the refusal is the one that comes with all of the room.
-                let needed = room.min(count + 1);
-                rows.resize(needed as usize * n, 0);
-                return (rows, needed);
-            }
-            if to == count {
-                lengths.push(lengths[e] + 1);
-            }
-        }
-        e += 1;
-    }
-    (rows, lengths.len() as u32)
-}
-
-/// Two factors are equal where their rows are: as many generators and elements, the same steps, and so the same words and inverses.
+/// Two factors are equal where their rows are: as many generators and elements, the same steps, and so the same words and inverses. Their
+/// names are not looked at: two factors that differ in name alone are one group, and answer every question alike.
 impl PartialEq for Factor {
     fn eq(&self, other: &Self) -> bool {
         let (a, b) = (self.handle, other.handle);

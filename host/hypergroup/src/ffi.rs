@@ -70,6 +70,30 @@ impl FromIterator<Handle> for Handles {
     }
 }
 
+/// The name of a factor as it is kept beside its handle: 32 bytes and how many of them are the name, which may be anything. As the library
+/// writes it, the bytes behind the name are 0.
+///
+/// Every question but [`joined`] is asked by handles alone, so that none can look at a name.
+#[derive(Clone, Copy, Debug, Default, PartialEq, Eq, Hash)]
+#[repr(C)]
+pub struct Name {
+    /// The bytes of the name, and those behind it.
+    pub bytes: [u8; 32],
+    /// How many are the name; more than 32 is refused.
+    pub length: u8,
+}
+
+/// It is handed over as its bytes, of which there are none but those of its fields.
+const _: () = assert!(size_of::<Name>() == 33);
+
+impl Name {
+    /// The bytes that are the name: at most 32, whatever the length says.
+    #[must_use]
+    pub fn as_bytes(&self) -> &[u8] {
+        &self.bytes[..usize::from(self.length).min(32)]
+    }
+}
+
 /// A subgroup: the handle of its factor, and the factors of the overgroup in which it is (`over`), those multiplied on below them
 /// (`below`), which are the faster digits, and those above.
 #[derive(Clone, Debug, Default, PartialEq, Eq)]
@@ -172,6 +196,15 @@ unsafe extern "C" {
 
 #[rustfmt::skip]
 unsafe extern "C" {
+    fn hg_composed_named(t: Out, tn: usize, start: usize, w: Out, wn: usize, r: In, rn: usize, n: u8, room: u32, m: *const u8, mn: usize, o: Out, on: usize, k: *mut u8, kn: usize) -> u32;
+    fn hg_enumerate_named(t: Out, tn: usize, start: usize, w: Out, wn: usize, p: In, pn: usize, n: u8, room: u32, m: *const u8, mn: usize, o: Out, on: usize, k: *mut u8, kn: usize) -> u32;
+    fn hg_begin_named(t: Out, tn: usize, start: usize, room: u32, n: u8, m: *const u8, mn: usize, o: Out, on: usize, k: *mut u8, kn: usize) -> u32;
+    fn hg_joined(t: In, tn: usize, h: In, hn: usize, count: u8, m: *const u8, mn: usize, o: *mut u8, on: usize) -> u64;
+    fn hg_joined_part(t: In, tn: usize, h: In, hn: usize, count: u8, m: *const u8, mn: usize, k: usize) -> u64;
+}
+
+#[rustfmt::skip]
+unsafe extern "C" {
     fn hg_subgroup(f: In, fl: usize, h: In, hn: usize, count: u8, g: In, gn: usize, t: Out, tn: usize, start: usize, w: Out, wn: usize, i: Out, il: usize, b: Out, bl: usize, room: u32, o: Out, on: usize) -> u32;
     fn hg_subgroup_predicate(f: In, fl: usize, h: In, hn: usize, count: u8, m: *const u8, mn: usize, t: Out, tn: usize, start: usize, w: Out, wn: usize, i: Out, il: usize, b: Out, bl: usize, room: u32, o: Out, on: usize) -> u32;
     fn hg_subgroup_over(f: In, fl: usize, t: In, tn: usize, s: In, sn: usize, b: In, bl: usize, e: u32) -> u64;
@@ -248,6 +281,44 @@ pub fn begin(t: &mut [u32], start: usize, room: u32, n: u8) -> Answer<Handle> {
     // SAFETY: pointers and lengths of slices, as said at the head of this file.
     let number = unsafe { hg_begin(t.as_mut_ptr(), t.len(), start, room, n, out.as_mut_ptr(), 5) };
     made(number, out, start, room, n)
+}
+
+/// What a call with a name comes to, which is lent five numbers and the 33 bytes of a name that it writes.
+fn made_named(start: usize, room: u32, generators: u8, call: impl FnOnce(Out, *mut u8) -> u32) -> Answer<(Handle, Name)> {
+    let (mut out, mut name) = ([0; 5], Name::default());
+    let number = call(out.as_mut_ptr(), (&raw mut name).cast());
+    made(number, out, start, room, generators).map(|handle| (handle, name))
+}
+
+/// As [`composed`], of a factor with a name of at most 32 bytes; a longer one is 18, after 1 and 4 and before the build.
+pub fn composed_named(t: &mut [u32], start: usize, w: &mut [u32], rows: &[u32], n: u8, room: u32, name: &[u8]) -> Answer<(Handle, Name)> {
+    let (t, tn, w, wn, r, rn) = (t.as_mut_ptr(), t.len(), w.as_mut_ptr(), w.len(), rows.as_ptr(), rows.len());
+    let (m, mn) = (name.as_ptr(), name.len());
+    // SAFETY: pointers and lengths of slices, as said at the head of this file, and of what `made_named` lends.
+    made_named(start, room, n, |out, kept| unsafe { hg_composed_named(t, tn, start, w, wn, r, rn, n, room, m, mn, out, 5, kept, 33) })
+}
+
+/// As [`enumerate`], of a factor with a name of at most 32 bytes; a longer one is 18, after 1 to 4 and before the build.
+pub fn enumerate_named(
+    t: &mut [u32],
+    start: usize,
+    w: &mut [u32],
+    orders: &[u32],
+    n: u8,
+    room: u32,
+    name: &[u8],
+) -> Answer<(Handle, Name)> {
+    let (t, tn, w, wn, p, pn) = (t.as_mut_ptr(), t.len(), w.as_mut_ptr(), w.len(), orders.as_ptr(), orders.len());
+    let (m, mn) = (name.as_ptr(), name.len());
+    // SAFETY: as in `composed_named`.
+    made_named(start, room, n, |out, kept| unsafe { hg_enumerate_named(t, tn, start, w, wn, p, pn, n, room, m, mn, out, 5, kept, 33) })
+}
+
+/// As [`begin`], of a factor with a name of at most 32 bytes, which is kept beside the builder; a longer one is 18, after 1 and 4.
+pub fn begin_named(t: &mut [u32], start: usize, room: u32, n: u8, name: &[u8]) -> Answer<(Handle, Name)> {
+    let (t, tn, m, mn) = (t.as_mut_ptr(), t.len(), name.as_ptr(), name.len());
+    // SAFETY: as in `composed_named`.
+    made_named(start, room, n, |out, kept| unsafe { hg_begin_named(t, tn, start, room, n, m, mn, out, 5, kept, 33) })
 }
 
 /// A new element, reached from `e` by `g`.
@@ -517,6 +588,29 @@ pub fn product_join(t: &[u32], p: &Handles, digits: &[u32]) -> Answer<u32> {
 #[inline]
 pub fn product_word(t: &[u32], p: &Handles, e: u32, out: &mut [u8]) -> Answer<u32> {
     coded(ask_product!(hg_product_word, t, p, e, out.as_mut_ptr(), out.len()))
+}
+
+/// Writes the joined name of a product, the names of its factors in order with " x " between each two, to the start of a buffer; its length.
+/// What a handle that does not fit is refused with, 17, is a name whose length is above 32 too, and a list of names that does not have one
+/// for each factor; then 15; then 18 for a buffer that is shorter than the joined name.
+#[inline]
+pub fn joined(t: &[u32], p: &Handles, names: &[Name], out: &mut [u8]) -> Answer<u32> {
+    let (m, mn) = bytes_of(names);
+    coded(ask_product!(hg_joined, t, p, m, mn, out.as_mut_ptr(), out.len()))
+}
+
+/// The same joined name by the call that hands back the filled part of a buffer, which is as long as any; empty where `joined` refuses
+/// with 17 or 15.
+#[must_use]
+pub fn joined_part(t: &[u32], p: &Handles, names: &[Name]) -> Vec<u8> {
+    let (m, mn) = bytes_of(names);
+    let byte = |k: usize| u8::try_from(ask_product!(hg_joined_part, t, p, m, mn, k)).ok();
+    (0..).map_while(byte).collect()
+}
+
+/// Names as the bytes that they are: 33 for each.
+fn bytes_of(names: &[Name]) -> (*const u8, usize) {
+    (names.as_ptr().cast(), size_of_val(names))
 }
 
 /// One factor that is the product, with its numbers. It has as many generators as `generators` says the product has.

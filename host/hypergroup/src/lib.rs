@@ -9,7 +9,8 @@
 //! | | |
 //! |---|---|
 //! | [`Factor`] | a group from pair orders, from composed rows or a function that tells them, from an image, or step by step by a [`Builder`] |
-//! | [`Product`] | the direct product of up to eight factors, also of products |
+//! | [`Naming`] | the same with a name, for captions; no question looks at it |
+//! | [`Product`] | the direct product of up to eight factors, also of products; its name is theirs, joined |
 //! | [`Subgroup`] | a subgroup of a product, with its maps |
 //! | [`Image`], [`OwnedImage`] | a stored table: checked, walked, read back; over lent bytes, or its own |
 //! | [`Checker`] | checks images from anyone, for a server: with a limit, in one buffer |
@@ -29,6 +30,18 @@
 //! let live = image.walk(Element(2), &turns)?;
 //! let missed = image.walk(Element::IDENTITY, &turns)?;
 //! assert_eq!(live, image.read()?.compose(Element(2), missed)?);
+//! # Ok::<(), hypergroup::Refusal>(())
+//! ```
+//!
+//! A factor may be given a name, of at most 32 bytes, when it is made, and a product has the names of its factors, joined:
+//!
+//! ```
+//! use hypergroup::{Factor, Product};
+//!
+//! let cube = Factor::named("cube").from_orders(3, &[4, 2, 3], 48)?;
+//! let triangle = Factor::named("triangle").from_orders(2, &[3], 6)?;
+//! let both = Product::new([&cube, &triangle])?;
+//! assert_eq!(both.name(), b"cube x triangle");
 //! # Ok::<(), hypergroup::Refusal>(())
 //! ```
 //!
@@ -60,6 +73,7 @@ mod factor;
 #[allow(clippy::missing_errors_doc)]
 mod ffi;
 mod image;
+mod naming;
 mod number;
 mod owned_image;
 mod product;
@@ -71,6 +85,7 @@ pub use builder::{Builder, Stored};
 pub use checker::{Checker, Unchecked};
 pub use factor::Factor;
 pub use image::Image;
+pub use naming::Naming;
 pub use number::{Element, Generator};
 pub use owned_image::OwnedImage;
 pub use product::Product;

@@ -1,5 +1,5 @@
 use crate::ffi::letters;
-use crate::raw::{self, Handle, Handles};
+use crate::raw::{self, Handle, Handles, Name};
 use crate::refusal::Said;
 use crate::{Element, Factor, Generator, Refusal};
 use alloc::sync::Arc;
@@ -9,6 +9,7 @@ use core::ops::Mul;
 /// The direct product of up to eight factors.
 ///
 /// An element is a number with a digit for each factor, the first factor's the fastest; generators are the factors' one after the other.
+/// Its name is the factors' names, joined.
 ///
 /// ```
 /// use hypergroup::{Element, Factor, Generator, Product};
@@ -33,6 +34,8 @@ pub struct Product {
     table: Arc<[u32]>,
     factors: Vec<Handle>,
     handles: Handles,
+    /// Beside the handles, by which everything but the joined name is asked.
+    names: Vec<Name>,
     elements: u32,
     generators: u8,
 }
@@ -48,8 +51,7 @@ impl Product {
     /// 15 for more than 8 factors, or more than 4,294,967,295 elements.
     pub fn new<'a>(factors: impl IntoIterator<Item = &'a Factor>) -> Result<Self, Refusal> {
         // Nine are as many too many as any more.
-        let (table, factors) = gathered(factors.into_iter().take(9).map(|f| (f.table(), f.handle())));
-        Self::of(table, factors)
+        Self::of(Gathered::new(factors.into_iter().take(9).map(|f| (f.table(), f.handle(), f.kept_name()))))
     }
 
     /// The product of these products: of all their factors, one after the other.
@@ -67,17 +69,16 @@ impl Product {
     /// ```
     #[allow(clippy::self_named_constructors)] // It is the original's name.
     pub fn product<'a>(products: impl IntoIterator<Item = &'a Product>) -> Result<Self, Refusal> {
-        let (table, factors) = gathered(products.into_iter().flat_map(Self::parts).take(9));
-        Self::of(table, factors)
+        Self::of(Gathered::new(products.into_iter().flat_map(Self::parts).take(9)))
     }
 
     /// The product of factors that stand in one table buffer.
-    pub(crate) fn of(table: Arc<[u32]>, factors: Vec<Handle>) -> Result<Self, Refusal> {
+    pub(crate) fn of(Gathered { table, factors, names }: Gathered) -> Result<Self, Refusal> {
         let handles: Handles = factors.iter().copied().collect();
         let said = if factors.len() > 8 { Said::Factors } else { Said::Elements };
         let elements = raw::product_count(&table, &handles).map_err(|no| no.said(15, said))?;
         let generators = raw::product_generators(&table, &handles)? as u8;
-        Ok(Product { table, factors, handles, elements, generators })
+        Ok(Product { table, factors, handles, names, elements, generators })
     }
 
     /// The table buffer, and the list of the factors in it.
@@ -85,9 +86,9 @@ impl Product {
         (&self.table, &self.handles)
     }
 
-    /// The handles of the factors, each with the table buffer.
-    pub(crate) fn parts(&self) -> impl ExactSizeIterator<Item = (&Arc<[u32]>, Handle)> + Clone {
-        self.factors.iter().map(|&h| (&self.table, h))
+    /// The handles of the factors, each with the table buffer and the name.
+    pub(crate) fn parts(&self) -> impl Iterator<Item = (&Arc<[u32]>, Handle, Name)> + Clone {
+        self.factors.iter().zip(&self.names).map(|(&h, &name)| (&self.table, h, name))
     }
 
     /// Its factors, the fastest digit first. They share its table.
@@ -101,7 +102,45 @@ impl Product {
     /// ```
     #[must_use]
     pub fn factors(&self) -> impl ExactSizeIterator<Item = Factor> + DoubleEndedIterator {
-        self.factors.iter().map(|&h| Factor::within(self.table.clone(), h))
+        self.factors.iter().zip(&self.names).map(|(&h, &name)| Factor::within(self.table.clone(), h, name))
+    }
+
+    /// The names of its factors in their order, with " x " between each two, an empty one too; of no factors, no byte.
+    ///
+    /// ```
+    /// use hypergroup::{Factor, Product};
+    /// let s3 = Factor::named("S3").from_orders(2, &[3], 6)?;
+    /// let plain = Factor::from_orders(1, &[], 2)?;
+    /// assert_eq!(Product::new([&s3, &plain, &s3])?.name(), b"S3 x  x S3");
+    /// assert_eq!(Product::default().name(), b"");
+    /// # Ok::<(), hypergroup::Refusal>(())
+    /// ```
+    #[must_use]
+    pub fn name(&self) -> Vec<u8> {
+        let between = 3 * self.names.len().saturating_sub(1);
+        let mut out = vec![0; between + self.names.iter().map(|name| name.as_bytes().len()).sum::<usize>()];
+        self.write_name(&mut out).expect("a buffer that is as long as the joined name has room for it");
+        out
+    }
+
+    /// Writes the same to the start of a buffer; how many bytes it is. What is behind it stays.
+    ///
+    /// # Errors
+    ///
+    /// 18 where the buffer is shorter than the joined name, of which it has then no byte.
+    ///
+    /// ```
+    /// use hypergroup::{Factor, Product, Refusal};
+    /// let z2 = Factor::named("Z2").from_orders(1, &[], 2)?;
+    /// let mut caption = *b"........";
+    /// assert_eq!((&z2 * &z2)?.write_name(&mut caption), Ok(7));
+    /// assert_eq!(&caption, b"Z2 x Z2.");
+    /// assert_eq!((&z2 * &z2)?.write_name(&mut caption[..6]).unwrap_err().number, Refusal::NAME_TOO_LONG);
+    /// # Ok::<(), hypergroup::Refusal>(())
+    /// ```
+    pub fn write_name(&self, out: &mut [u8]) -> Result<usize, Refusal> {
+        let length = raw::joined(&self.table, &self.handles, &self.names, out).map_err(|no| no.said(18, Said::Joined))?;
+        Ok(length as usize)
     }
 
     /// How many elements the product has.
@@ -297,7 +336,7 @@ impl Product {
         Ok(letters.into_iter().map(Generator).collect())
     }
 
-    /// One factor that is this product, with the same numbers, where these follow the numbering rule.
+    /// One factor that is this product, with the same numbers, where these follow the numbering rule. It has no name.
     ///
     /// # Errors
     ///
@@ -323,37 +362,45 @@ impl Product {
     pub fn flatten_with_room(&self, room: u32) -> Result<Factor, Refusal> {
         let (mut table, mut work) = raw::lent(self.generators, room);
         let made = raw::product_flatten(&self.table, &self.handles, self.generators, &mut table, 0, &mut work, room);
-        Ok(Factor::new(&table, made.map_err(|no| no.said(4, Said::Room))?))
+        Ok(Factor::unnamed(&table, made.map_err(|no| no.said(4, Said::Room))?))
     }
 }
 
-/// One table buffer with all these factors in it, and their handles there.
+/// One table buffer with factors in it, their handles there, and their names.
 ///
 /// The library reads the factors of a product in one buffer. Where they stand in one already it is shared; else each is copied once. A
 /// stretch holds no address, so that it is the same factor wherever it stands.
-pub(crate) fn gathered<'a>(parts: impl Iterator<Item = (&'a Arc<[u32]>, Handle)>) -> (Arc<[u32]>, Vec<Handle>) {
-    let parts: Vec<_> = parts.collect();
-    let handles = parts.iter().map(|&(_, handle)| handle);
-    match parts.first() {
-        Some((shared, _)) if parts.iter().all(|(table, _)| Arc::ptr_eq(table, shared)) => return (Arc::clone(shared), handles.collect()),
-        _ => {}
-    }
-    let (mut all, mut moved) = (vec![], Vec::<Handle>::new());
-    for (k, &(table, handle)) in parts.iter().enumerate() {
-        let earlier = parts[..k].iter().position(|&(t, h)| Arc::ptr_eq(t, table) && h == handle);
-        moved.push(earlier.map_or(handle.at(all.len()), |i| moved[i]));
-        if earlier.is_none() {
-            let rows = raw::table_need(handle.generators, handle.room);
-            all.extend_from_slice(&table[handle.start..handle.start + rows]);
+pub(crate) struct Gathered {
+    pub(crate) table: Arc<[u32]>,
+    pub(crate) factors: Vec<Handle>,
+    pub(crate) names: Vec<Name>,
+}
+
+impl Gathered {
+    pub(crate) fn new<'a>(parts: impl Iterator<Item = (&'a Arc<[u32]>, Handle, Name)>) -> Self {
+        let parts: Vec<_> = parts.collect();
+        let names = parts.iter().map(|&(_, _, name)| name).collect();
+        if let Some((shared, ..)) = parts.first().filter(|(shared, ..)| parts.iter().all(|(table, ..)| Arc::ptr_eq(table, shared))) {
+            let factors = parts.iter().map(|&(_, handle, _)| handle).collect();
+            return Gathered { table: Arc::clone(shared), factors, names };
         }
+        let (mut all, mut moved) = (vec![], Vec::<Handle>::new());
+        for (k, &(table, handle, _)) in parts.iter().enumerate() {
+            let earlier = parts[..k].iter().position(|&(t, h, _)| Arc::ptr_eq(t, table) && h == handle);
+            moved.push(earlier.map_or(handle.at(all.len()), |i| moved[i]));
+            if earlier.is_none() {
+                let rows = raw::table_need(handle.generators, handle.room);
+                all.extend_from_slice(&table[handle.start..handle.start + rows]);
+            }
+        }
+        Gathered { table: all.into(), factors: moved, names }
     }
-    (all.into(), moved)
 }
 
 /// The group of one element: the product of no factors.
 impl Default for Product {
     fn default() -> Self {
-        Product { table: Arc::from([]), factors: vec![], handles: Handles::default(), elements: 1, generators: 0 }
+        Product { table: Arc::from([]), factors: vec![], handles: Handles::default(), names: vec![], elements: 1, generators: 0 }
     }
 }
 

@@ -1,7 +1,7 @@
 use core::fmt;
 use core::hash::{Hash, Hasher};
 
-/// Why a call was refused: one of the scope document's numbers, 1 to 17, and its three places.
+/// Why a call was refused: one of the scope document's numbers, 1 to 17, or 18, which came with names; and its three places.
 ///
 /// A place that the number does not use is 0. Each number has a constant here; there may be more of them one day, so that a `match`
 /// ends with `_`. Two refusals are equal where their numbers and places are, whichever calls gave them.
@@ -56,6 +56,10 @@ pub(crate) enum Said {
     Ninth,
     /// 17: the build has ended.
     Ended,
+    /// 18: the name is too long.
+    Name,
+    /// 18: the buffer is too short.
+    Joined,
 }
 
 impl Refusal {
@@ -96,6 +100,8 @@ impl Refusal {
     /// The handle does not fit its buffer, or a number read from it is out of range; from the safe types only of a
     /// [`Builder`](crate::Builder) whose build has ended.
     pub const BAD_HANDLE: u32 = 17;
+    /// A name of more than 32 bytes, or a joined name that is longer than its buffer.
+    pub const NAME_TOO_LONG: u32 = 18;
 
     #[inline]
     pub(crate) const fn new(number: u32, places: [u32; 3]) -> Self {
@@ -165,6 +171,9 @@ impl fmt::Display for Refusal {
             (16, _) => write!(f, "the image is malformed"),
             (17, Said::Ended) => write!(f, "an earlier refusal has ended this build"),
             (17, _) => write!(f, "the handle does not fit its buffer, or a number read from it is out of range"),
+            (18, Said::Name) => write!(f, "the name has more than 32 bytes"),
+            (18, Said::Joined) => write!(f, "the joined name is longer than the buffer"),
+            (18, _) => write!(f, "a name of more than 32 bytes, or a joined name that is longer than its buffer"),
             _ => write!(f, "places {a}, {b}, {c}"),
         }
     }

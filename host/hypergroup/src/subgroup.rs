@@ -1,4 +1,4 @@
-use crate::product::gathered;
+use crate::product::Gathered;
 use crate::raw::{self, Handle, Handles, Sides, SubgroupBuffers};
 use crate::refusal::Said;
 use crate::{Element, Factor, Generator, Product, Refusal};
@@ -108,11 +108,11 @@ impl Subgroup {
         let handle = call(from, handles, lent).map_err(|no| no.said(4, Said::Room).said(15, said))?;
         // As the factor is cut to its elements, so is the map from it, which has a place for each of its room.
         let outward = &outward[..handle.elements as usize];
-        Self::of(over.clone(), 0..over.factor_count(), Factor::new(&table, handle), inward.into(), outward.into())
+        Self::of(over.clone(), 0..over.factor_count(), Factor::unnamed(&table, handle), inward.into(), outward.into())
     }
 
     fn of(whole: Product, within: Range<usize>, factor: Factor, inward: Arc<[u32]>, outward: Arc<[u32]>) -> Result<Self, Refusal> {
-        let handles: Vec<Handle> = whole.parts().map(|(_, handle)| handle).collect();
+        let handles: Vec<Handle> = whole.parts().map(|(_, handle, _)| handle).collect();
         let sides = sides(&factor, &handles, &within);
         let generators = raw::subgroup_generators(whole.asked().0, factor.table(), &sides)? as u8;
         let beside = handles[..within.start].iter().chain(&handles[within.end..]);
@@ -120,7 +120,7 @@ impl Subgroup {
         Ok(Subgroup { whole, within, factor, inward, outward, sides, elements, generators })
     }
 
-    /// The factor that the generators made, with its own numbers. What is multiplied on is no part of it.
+    /// The factor that the generators made, with its own numbers and no name. What is multiplied on is no part of it.
     #[must_use]
     pub fn factor(&self) -> &Factor {
         &self.factor
@@ -154,7 +154,7 @@ impl Subgroup {
         (0..self.generators).map(Generator)
     }
 
-    /// The group that this is a subgroup of, with what is multiplied on.
+    /// The group that this is a subgroup of, with what is multiplied on; its factors have their names.
     #[must_use]
     pub fn overgroup(&self) -> &Product {
         &self.whole
@@ -197,12 +197,12 @@ impl Subgroup {
     ///
     /// 15 for more than 8 factors, or more than 4,294,967,295 elements.
     pub fn multiplied_left(&self, factors: &Product) -> Result<Self, Refusal> {
-        let (from, handles) = gathered(factors.parts().chain(self.whole.parts()));
-        let sides = sides(&self.factor, &handles[factors.factor_count()..], &self.within);
-        let more = handles[..factors.factor_count()].iter().copied().collect();
-        raw::subgroup_left(&from, self.factor.table(), &more, &sides).map_err(|no| too_large(no, &handles))?;
+        let all = Gathered::new(factors.parts().chain(self.whole.parts()));
+        let sides = sides(&self.factor, &all.factors[factors.factor_count()..], &self.within);
+        let more = all.factors[..factors.factor_count()].iter().copied().collect();
+        raw::subgroup_left(&all.table, self.factor.table(), &more, &sides).map_err(|no| too_large(no, &all.factors))?;
         let within = self.within.start + factors.factor_count()..self.within.end + factors.factor_count();
-        self.between(from, handles, within)
+        self.between(all, within)
     }
 
     /// The same with the slower digits.
@@ -211,11 +211,11 @@ impl Subgroup {
     ///
     /// 15 for more than 8 factors, or more than 4,294,967,295 elements.
     pub fn multiplied_right(&self, factors: &Product) -> Result<Self, Refusal> {
-        let (from, handles) = gathered(self.whole.parts().chain(factors.parts()));
-        let sides = sides(&self.factor, &handles[..self.whole.factor_count()], &self.within);
-        let more = handles[self.whole.factor_count()..].iter().copied().collect();
-        raw::subgroup_right(&from, self.factor.table(), &sides, &more).map_err(|no| too_large(no, &handles))?;
-        self.between(from, handles, self.within.clone())
+        let all = Gathered::new(self.whole.parts().chain(factors.parts()));
+        let sides = sides(&self.factor, &all.factors[..self.whole.factor_count()], &self.within);
+        let more = all.factors[self.whole.factor_count()..].iter().copied().collect();
+        raw::subgroup_right(&all.table, self.factor.table(), &sides, &more).map_err(|no| too_large(no, &all.factors))?;
+        self.between(all, self.within.clone())
     }
 
     /// The table buffer of the overgroup.
@@ -224,8 +224,8 @@ impl Subgroup {
         self.whole.asked().0
     }
 
-    fn between(&self, from: Arc<[u32]>, whole: Vec<Handle>, within: Range<usize>) -> Result<Self, Refusal> {
-        Self::of(Product::of(from, whole)?, within, self.factor.clone(), self.inward.clone(), self.outward.clone())
+    fn between(&self, whole: Gathered, within: Range<usize>) -> Result<Self, Refusal> {
+        Self::of(Product::of(whole)?, within, self.factor.clone(), self.inward.clone(), self.outward.clone())
     }
 }
 

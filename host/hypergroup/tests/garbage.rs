@@ -1,6 +1,6 @@
 //! Every call of `raw` on random buffers, handles and arguments: it answers or refuses, and a refused question writes nothing.
 use hypergroup::Refusal;
-use hypergroup::raw::{self, Answer, Handle, Handles, Sides, SubgroupBuffers};
+use hypergroup::raw::{self, Answer, Handle, Handles, Name, Sides, SubgroupBuffers};
 use std::ops::Range;
 
 struct Random(u64);
@@ -22,6 +22,14 @@ impl Random {
     }
     fn list(&mut self, longest: u64) -> Vec<u32> {
         (0..self.below(longest)).map(|_| self.number()).collect()
+    }
+    /// Bytes, more than a name has now and then.
+    fn bytes(&mut self) -> Vec<u8> {
+        (0..self.below(40)).map(|_| self.byte()).collect()
+    }
+    /// A record that holds anything.
+    fn name(&mut self) -> Name {
+        Name { bytes: [(); 32].map(|()| self.byte()), length: [self.below(33) as u8, self.below(256) as u8][self.below(9) as usize / 8] }
     }
     fn handle(&mut self) -> Handle {
         let start = [self.below(20) as usize, usize::MAX, usize::MAX / 4][self.below(12).saturating_sub(9) as usize];
@@ -305,10 +313,67 @@ fn questions_of_products() {
     }
 }
 
+/// The joined name of what is no product, with names that are none: 17, 15 or 18, and no byte; or the names' bytes, as many as their lengths say.
+#[test]
+fn joined_names() {
+    let mut r = Random(8);
+    let (table, handle) = s3();
+    let mut met = [0; 19];
+    for _ in 0..20_000 {
+        let mut p: Handles = (0..r.below(10)).map(|_| if r.below(20) == 0 { r.handle() } else { handle }).collect();
+        if r.below(8) == 0 {
+            p.count = r.byte();
+            p.numbers.truncate(r.below(50) as usize);
+        }
+        let names: Vec<Name> = (0..(u64::from(p.count) + 2).saturating_sub(r.below(4))).map(|_| r.name()).collect();
+        let counted = &names[..names.len().min(p.count.min(8).into())];
+        let whole = counted.iter().map(Name::as_bytes).collect::<Vec<_>>().join(&b" x "[..]);
+        let mut out = vec![165; [r.below(300) as usize, whole.len(), whole.len().saturating_sub(1)][r.below(3) as usize]];
+        let answer = raw::joined(&table, &p, &names, &mut out);
+        let number = answer.err().map_or(0, |no| no.number);
+        let product = raw::product_count(&table, &p).err().map_or(0, |no| no.number);
+        let forged = counted.len() < p.count.min(8).into() || counted.iter().any(|name| name.length > 32);
+        let due = if product == 17 || forged { 17 } else { product };
+        assert_eq!(number, if due == 0 && out.len() < whole.len() { 18 } else { due });
+        let len = answer.unwrap_or(0) as usize;
+        assert!(out[len..].iter().all(|&x| x == 165));
+        if number == 0 {
+            assert_eq!(out[..len], whole);
+        }
+        assert_eq!(raw::joined_part(&table, &p, &names), if due == 0 { whole } else { vec![] });
+        met[number as usize] += 1;
+    }
+    assert!([0, 15, 17, 18].iter().all(|&k| met[k] > 100), "{met:?}");
+}
+
+/// A build with a name, beside the same without: it makes the same of the same buffers, and its name is kept. A name that is too long is 18 where the build without
+/// gets past 1 to 4, and touches nothing.
+fn named_as<T: Copy + PartialEq + std::fmt::Debug>(
+    plain: (Answer<T>, &[u32], &[u32]),
+    before: (&[u32], &[u32]),
+    name: &[u8],
+    call: impl FnOnce(&mut [u32], &mut [u32]) -> Answer<(T, Name)>,
+) {
+    let (mut t, mut w) = (before.0.to_vec(), before.1.to_vec());
+    let answer = call(&mut t, &mut w);
+    if name.len() <= 32 {
+        assert_eq!((answer.map(|(made, _)| made), &t[..], &w[..]), plain);
+        if let Ok((_, kept)) = answer {
+            assert!(kept.as_bytes() == name && kept.bytes[name.len()..].iter().all(|&x| x == 0));
+        }
+        return;
+    }
+    match plain.0 {
+        Err(no @ Refusal { number: 1..=4, .. }) => assert_eq!(answer.unwrap_err(), no),
+        _ => assert_eq!(answer.map(|_| ()).map_err(|no| (no.number, no.places)), Err((18, [0; 3]))),
+    }
+    assert!(t == before.0 && w == before.1);
+}
+
 /// Arguments that are refused touch no buffer; a refusal once a build has started leaves zeros, and the excess stays.
 #[test]
 fn builds() {
-    let mut r = Random(3);
+    let (mut r, mut names) = (Random(3), Random(10));
     let mut met = [[0; 18]; 4];
     for _ in 0..20_000 {
         let (n, room, start) = (r.below(4) as u8, r.below(6) as u32, r.below(30) as usize);
@@ -329,6 +394,13 @@ fn builds() {
                 raw::product_flatten(&table, &p, n, &mut t, start, &mut w, room)
             }
         };
+        let name = names.bytes();
+        let (plain, before) = ((answer, &t[..], &w[..]), (&table[..], &work[..]));
+        match kind {
+            0 => named_as(plain, before, &name, |t, w| raw::composed_named(t, start, w, &rows, n, room, &name)),
+            1 => named_as(plain, before, &name, |t, w| raw::enumerate_named(t, start, w, &rows[..rows.len().min(3)], n, room, &name)),
+            _ => {}
+        }
         let (end, need) = (start + raw::table_need(n, room), raw::work_need(n, room));
         let untouched = t == table && w == work;
         let zero = || cleared(&table, &t, start..end) && cleared(&work, &w, 0..need);
@@ -388,13 +460,15 @@ fn enumerations_into_anything() {
 /// Builds element by element, by the builder that is handed back or a forged one, in a table that is altered now and then.
 #[test]
 fn builders() {
-    let mut r = Random(7);
+    let (mut r, mut names) = (Random(7), Random(11));
     let mut met = [0; 18];
     for _ in 0..20_000 {
         let (n, room, start) = (r.below(11).saturating_sub(1) as u8, r.below(6) as u32, r.below(9) as usize);
         let before = r.list(150);
         let mut t = before.clone();
         let begun = raw::begin(&mut t, start, room, n);
+        let name = names.bytes();
+        named_as((begun, &t, &[]), (&before, &[]), &name, |t, _| raw::begin_named(t, start, room, n, &name));
         match begun {
             Ok(b) => assert!(b == Handle::new(start, room, n, 1) && cleared(&before, &t, stretch(b))),
             Err(x) => assert!([1, 4].contains(&x.number) && t == before, "{x:?}"),
@@ -621,4 +695,7 @@ fn empty_lists() {
     assert_eq!(raw::image_need(&[]).unwrap_err().number, 16);
     assert_eq!(raw::image_walk(&[], 0, &[]), 65_552);
     assert_eq!(raw::composed(&mut [], 0, &mut [], &[], 0, 1).unwrap_err().number, 4);
+    assert_eq!(raw::composed_named(&mut [], 0, &mut [], &[], 0, 1, &[]).unwrap_err().number, 4);
+    assert_eq!(raw::begin_named(&mut [], 0, 1, 0, &[0; 33]).unwrap_err().number, 4);
+    assert_eq!(raw::joined(&[], &Handles::default(), &[], &mut []), Ok(0));
 }

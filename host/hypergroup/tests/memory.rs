@@ -71,6 +71,12 @@ fn factors_are_cut_to_their_elements_and_shared() {
     let (_all, bytes) = kept(|| products.clone());
     assert!(bytes < 20 * 1000, "{bytes}");
 
+    // A name is by value: beside the table nothing is kept.
+    let (named, bytes) = kept(|| Factor::named(&[b'n'; 32]).from_orders(2, &[3], 65_535).unwrap());
+    assert!((rows..rows + 64).contains(&bytes), "{bytes}");
+    let (caption, bytes) = kept(|| Product::new([&named, &s3, &named]).unwrap().name());
+    assert_eq!((caption.len(), bytes), (70, 70));
+
     // Of other factors each is copied once, and what is made of the product again is not copied.
     let (dihedral, bytes) = kept(|| Factor::from_orders(2, &[4096], 65_535).unwrap());
     let table = 8192 * 8 * 4;

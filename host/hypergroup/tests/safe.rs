@@ -1,5 +1,5 @@
 //! The safe types: what is shared, what is refused and in which words, and both sides of each edge.
-use hypergroup::{Builder, Checker, Element, Factor, Generator, Image, OwnedImage, Product, Refusal, Stored, Subgroup, Unchecked};
+use hypergroup::{Builder, Checker, Element, Factor, Generator, Image, Naming, OwnedImage, Product, Refusal, Stored, Subgroup, Unchecked};
 use std::collections::HashSet;
 use std::sync::Arc;
 
@@ -29,6 +29,7 @@ fn everything_can_be_sent_and_shared() {
     shared::<Product>();
     shared::<Subgroup>();
     shared::<Builder>();
+    shared::<Naming<'static>>();
     shared::<OwnedImage>();
     shared::<Image<'static>>();
     shared::<Refusal>();
@@ -364,6 +365,9 @@ fn refusals_in_words() {
         assert_eq!(no.to_string(), "refused (17): an earlier refusal has ended this build");
     }
     assert_eq!(says(builder.build()), "refused (17): an earlier refusal has ended this build");
+    assert_eq!(says(Factor::named(&[0; 33]).from_orders(2, &[3], 6)), "refused (18): the name has more than 32 bytes");
+    let name = Product::from(&Factor::named("Z2").from_rows(1, &[1, 0]).unwrap());
+    assert_eq!(says(name.write_name(&mut [0; 1])), "refused (18): the joined name is longer than the buffer");
     // Equal refusals of two calls are equal, and hash as one, in whatever words.
     let two = [Factor::from_rows(1, &[]).unwrap_err(), over.join(&[]).unwrap_err()];
     assert_eq!(two[0], two[1]);
@@ -397,6 +401,7 @@ fn refusals_by_name() {
     let mut ended = Builder::new(1, 1).unwrap();
     ended.add(Element(0), Generator(0)).unwrap_err();
     assert_eq!(number(ended.build()), Refusal::BAD_HANDLE);
+    assert_eq!(number(Factor::named(&[0; 33]).from_rows(1, &[1, 0])), Refusal::NAME_TOO_LONG);
     // The order of refusals in a list of digits: 14 at its place, then 4.
     let no = (&z2 * &z2).unwrap().join(&[Element(2)]).unwrap_err();
     assert_eq!((no.number, no.places), (Refusal::OUT_OF_RANGE, [0, 0, 0]));
@@ -409,6 +414,13 @@ fn what_is_printed_is_short() {
     let checked = Image::check(&image).unwrap();
     assert_eq!(format!("{f:?}"), "Factor { generators: 3, elements: 120 }");
     assert_eq!(format!("{:?}", Product::new([&f, &f]).unwrap()), "Product { factors: 2, generators: 6, elements: 14400 }");
+    let z2 = Factor::named(b"Z2\"\xff").from_orders(1, &[], 2).unwrap();
+    assert_eq!(format!("{z2:?}"), r#"Factor { name: "Z2\"\xff", generators: 1, elements: 2 }"#);
+    assert_eq!(
+        format!("{:?}", Product::new([&z2, &f]).unwrap()),
+        r#"Product { name: "Z2\"\xff x ", factors: 2, generators: 4, elements: 240 }"#
+    );
+    assert_eq!(format!("{:?}", Factor::named("Z").builder(2, 99).unwrap()), r#"Builder { name: "Z", generators: 2, elements: 1 }"#);
     let sub = Subgroup::new(&over, &[Element(3)]).unwrap();
     assert_eq!(format!("{sub:?}"), "Subgroup { generators: 1, elements: 3, overgroup_elements: 6 }");
     assert_eq!(format!("{:?}", Builder::new(2, 99).unwrap()), "Builder { generators: 2, elements: 1 }");

@@ -13,6 +13,11 @@ unsafe extern "C" {
     fn hg_check(t: In, tn: usize, start: usize, room: u32, n: u8, count: u32, m: In, mn: usize, o: Out, on: usize) -> u32;
     fn hg_composed(t: Out, tn: usize, start: usize, w: Out, wn: usize, r: In, rn: usize, n: u8, room: u32, o: Out, on: usize) -> u32;
     fn hg_enumerate(t: Out, tn: usize, start: usize, w: Out, wn: usize, m: In, mn: usize, n: u8, room: u32, o: Out, on: usize) -> u32;
+    fn hg_composed_named(t: Out, tn: usize, start: usize, w: Out, wn: usize, r: In, rn: usize, n: u8, room: u32, m: *const u8, mn: usize, o: Out, on: usize, k: *mut u8, kn: usize) -> u32;
+    fn hg_enumerate_named(t: Out, tn: usize, start: usize, w: Out, wn: usize, p: In, pn: usize, n: u8, room: u32, m: *const u8, mn: usize, o: Out, on: usize, k: *mut u8, kn: usize) -> u32;
+    fn hg_begin_named(t: Out, tn: usize, start: usize, room: u32, n: u8, m: *const u8, mn: usize, o: Out, on: usize, k: *mut u8, kn: usize) -> u32;
+    fn hg_joined(t: In, tn: usize, h: In, hn: usize, count: u8, m: *const u8, mn: usize, o: *mut u8, on: usize) -> u64;
+    fn hg_joined_part(t: In, tn: usize, h: In, hn: usize, count: u8, m: *const u8, mn: usize, k: usize) -> u64;
     fn hg_product(t: In, tn: usize, a: In, an: usize, ac: u8, b: In, bn: usize, bc: u8, o: Out, on: usize) -> u32;
     fn hg_product_flatten(f: In, fl: usize, h: In, hn: usize, count: u8, t: Out, tn: usize, start: usize, w: Out, wn: usize, room: u32, o: Out, on: usize) -> u32;
     fn hg_image_read(i: *const u8, len: usize, t: Out, tn: usize, start: usize, w: Out, wn: usize, o: Out, on: usize) -> u32;
@@ -48,6 +53,32 @@ fn edge(what: &str, lists: &[Vec<u32>], whole: &[u32], call: impl Fn(&mut [Vec<u
         let (number, left, out) = run(size);
         assert_eq!(number, 4, "{what} with {size} numbers");
         assert!(left == lists && out.iter().all(|&x| x == OLD), "{what} with {size} numbers writes nothing");
+    }
+}
+
+/// A call with a name, which has a record of 33 bytes beside `out`: the name as it is kept, where it is accepted, and what was there where it is refused. A record that
+/// is longer keeps the rest, and a shorter one is refused as a short `out` is.
+fn edge_named(what: &str, sizes: &[usize], whole: &[u32], name: &[u8], call: impl Fn(&mut [Vec<u32>], &mut [u32], &mut [u8]) -> u32) {
+    let lists = lent(sizes);
+    let run = |size: usize, bytes: usize| {
+        let (mut lists, mut out, mut record) = (lists.clone(), vec![OLD; size], vec![OLD as u8; bytes]);
+        (call(&mut lists, &mut out, &mut record), lists, out, record)
+    };
+    let mut kept = vec![OLD as u8; 40];
+    if whole[0] == 0 {
+        kept[..33].fill(0);
+        kept[..name.len()].copy_from_slice(name);
+        kept[32] = name.len() as u8;
+    }
+    let (number, left, out, record) = run(5, 33);
+    assert_eq!((number, &out[..], &record[..]), (whole[0], whole, &kept[..33]), "{what}, as long as it has to be");
+    let (number, beside, out, record) = run(8, 40);
+    assert_eq!((number, &out[..], &record, beside), (whole[0], &[whole, &[OLD; 3]].concat()[..], &kept, left), "{what}, longer");
+    for (size, bytes) in (0..5).map(|size| (size, 33)).chain((0..33).map(|bytes| (5, bytes))).chain([(4, 32), (0, 0), (4, 40), (8, 32)]) {
+        let (number, left, out, record) = run(size, bytes);
+        assert_eq!(number, 4, "{what} with {size} numbers and {bytes} bytes");
+        let untouched = left == lists && out.iter().all(|&x| x == OLD) && record.iter().all(|&x| x == OLD as u8);
+        assert!(untouched, "{what} with {size} numbers and {bytes} bytes writes nothing");
     }
 }
 
@@ -117,6 +148,74 @@ fn a_builder() {
     raw::set(&mut table, b, 1, 0, 0).unwrap();
     edge("build", &[table.clone(), vec![OLD; 20]], &[0, 0, 0, 0, 2], built);
     edge("build, 4", &[table.clone(), vec![OLD; 19]], &[4, 0, 0, 0, 0], built);
+}
+
+#[test]
+fn a_name() {
+    let long = [b'n'; 33];
+    for name in [&b"S3"[..], b"", &long[..32], &long] {
+        // For a name that is too long 18 stands where there would be anything behind 4.
+        let due = |whole: [u32; 5]| if name.len() > 32 && !(1..=4).contains(&whole[0]) { [18, 0, 0, 0, 0] } else { whole };
+        let (m, mn) = (name.as_ptr(), name.len());
+        let composed = |sizes: &[usize], rows: &[u32], n: u8, room: u32, whole| {
+            edge_named("composed", sizes, &due(whole), name, |l, o, k| unsafe {
+                let [t, w] = l else { unreachable!() };
+                let (t, tn, w, wn, r, rn) = (t.as_mut_ptr(), t.len(), w.as_mut_ptr(), w.len(), rows.as_ptr(), rows.len());
+                hg_composed_named(t, tn, 1, w, wn, r, rn, n, room, m, mn, o.as_mut_ptr(), o.len(), k.as_mut_ptr(), k.len())
+            });
+        };
+        composed(&[49, 192], &S3, 2, 6, [0, 0, 0, 0, 6]);
+        composed(&[33, 128], &[1, 2, 3, 3, 0, 0, 2, 1], 2, 4, [10, 1, 2, 2, 0]);
+        composed(&[0, 0], &[], 9, 1, [1, 9, 0, 0, 0]);
+        composed(&[49, 192], &S3[..11], 2, 6, [4, 0, 0, 0, 0]);
+        let enumerated = |sizes: &[usize], orders: &[u32], room: u32, whole| {
+            edge_named("enumerate", sizes, &due(whole), name, |l, o, k| unsafe {
+                let [t, w] = l else { unreachable!() };
+                let (t, tn, w, wn, p, pn) = (t.as_mut_ptr(), t.len(), w.as_mut_ptr(), w.len(), orders.as_ptr(), orders.len());
+                hg_enumerate_named(t, tn, 1, w, wn, p, pn, 2, room, m, mn, o.as_mut_ptr(), o.len(), k.as_mut_ptr(), k.len())
+            });
+        };
+        enumerated(&[49, 192], &[3], 6, [0, 0, 0, 0, 6]);
+        enumerated(&[49, 192], &[], 6, [2, 0, 0, 0, 0]);
+        enumerated(&[49, 192], &[1], 6, [3, 0, 0, 0, 0]);
+        enumerated(&[49, 191], &[3], 6, [4, 0, 0, 0, 0]);
+        enumerated(&[41, 160], &[3], 5, [5, 3, 0, 0, 0]);
+        let begun = |size: usize, n: u8, whole| {
+            edge_named("begin", &[size], &due(whole), name, |l, o, k| unsafe {
+                let (t, tn) = (l[0].as_mut_ptr(), l[0].len());
+                hg_begin_named(t, tn, 1, 2, n, m, mn, o.as_mut_ptr(), o.len(), k.as_mut_ptr(), k.len())
+            });
+        };
+        begun(13, 1, [0, 0, 0, 0, 1]);
+        begun(13, 9, [1, 9, 0, 0, 0]);
+        begun(12, 1, [4, 0, 0, 0, 0]);
+    }
+}
+
+/// The list of names at both sides of each factor's 33 bytes: one that ends a byte before is 17, whatever stands in it, and what is behind the last is not looked at.
+#[test]
+fn a_list_of_names() {
+    let (table, h) = s3();
+    let listed: Vec<u8> = (0..9).flat_map(|k| [&[b'a' + k; 32][..], &[2]].concat()).collect();
+    for count in 0..=9 {
+        let handles = times(h, count.into());
+        let (t, tn, list, len) = (table.as_ptr(), table.len(), handles.numbers.as_ptr(), handles.numbers.len());
+        let counted = count.min(8);
+        let whole = (0..counted).map(|k| [b'a' + k; 2]).collect::<Vec<_>>().join(&b" x "[..]);
+        for bytes in 0..=listed.len() {
+            let mut out = [OLD as u8; 64];
+            let answer = unsafe { hg_joined(t, tn, list, len, count, listed.as_ptr(), bytes, out.as_mut_ptr(), whole.len()) };
+            let part = |k| unsafe { hg_joined_part(t, tn, list, len, count, listed.as_ptr(), bytes, k) };
+            let refused = if bytes < 33 * usize::from(counted) { 17 } else { u64::from(count > 8) * 15 };
+            let told = if refused == 0 { whole.len() } else { 0 };
+            assert_eq!(answer, if refused == 0 { told as u64 } else { refused << 32 }, "{count} factors, {bytes} bytes");
+            assert!(out[..told] == whole[..told] && out[told..].iter().all(|&x| x == OLD as u8), "{count} factors, {bytes} bytes");
+            for k in 0..told + 2 {
+                assert_eq!(part(k), whole.get(k).filter(|_| k < told).map_or(256 + told as u64, |&x| x.into()));
+            }
+            assert_eq!(part(usize::MAX), 256 + told as u64);
+        }
+    }
 }
 
 #[test]

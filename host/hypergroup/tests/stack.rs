@@ -103,13 +103,21 @@ fn questions() {
 fn raw_questions() {
     let long = long();
     let (mut table, mut work) = (vec![0; raw::table_need(3, 24_564)], vec![0; raw::work_need(3, 24_564)]);
-    let h = in_thread(|| raw::composed(&mut table, 0, &mut work, &long.rows, 3, 24_564)).unwrap();
+    let (h, name) = in_thread(|| raw::composed_named(&mut table, 0, &mut work, &long.rows, 3, 24_564, &[b'n'; 32])).unwrap();
+    assert_eq!(in_thread(|| raw::composed(&mut table, 0, &mut work, &long.rows, 3, 24_564)), Ok(h));
     assert_eq!(in_thread(|| raw::count(&table, h)), Ok(24_564));
     let part = in_thread(|| raw::part(&table, h, long.last.0));
     assert_eq!(part, long.factor.word(long.last).unwrap().iter().map(|g| g.0).collect::<Vec<_>>());
     assert_eq!(part.len(), 4096);
     let one: Handles = [h].into_iter().collect();
     assert_eq!(in_thread(|| raw::product(&table, &one, &one)).unwrap(), 2);
+    // The calls that have no name are not those of the safe types.
+    let (mut other, mut begun) = (table.clone(), table.clone());
+    assert_eq!(in_thread(|| raw::enumerate(&mut other, 0, &mut work, &[4096], 2, 8192)).unwrap().elements, 8192);
+    assert_eq!(in_thread(|| raw::begin(&mut begun, 0, 24_564, 3)).unwrap().elements, 1);
+    let eight: Handles = [h; 8].into_iter().collect();
+    assert_eq!(in_thread(|| raw::joined(&table, &eight, &[name; 8], &mut [0; 277])).unwrap_err().number, 15);
+    assert_eq!(in_thread(|| raw::joined(&table, &one, &[name], &mut [0; 32])), Ok(32));
 }
 
 #[test]
@@ -146,6 +154,19 @@ fn products() {
         assert_eq!(in_thread(|| p.generator(g)), in_thread(|| p.step(Element(0), g)));
     }
     assert_eq!(in_thread(|| one.flatten()).as_ref(), Ok(f));
+}
+
+#[test]
+fn names() {
+    let longest = [b'n'; 32];
+    let factor = in_thread(|| Factor::named(&longest).from_orders(1, &[], 2)).unwrap();
+    let eight = in_thread(|| Product::new([&factor; 8])).unwrap();
+    assert_eq!(in_thread(|| eight.name()).len(), 277);
+    assert_eq!(in_thread(|| eight.write_name(&mut [0; 276])).unwrap_err().number, 18);
+    let (mut table, mut work) = (vec![0; raw::table_need(1, 2)], vec![0; raw::work_need(1, 2)]);
+    let (h, name) = in_thread(|| raw::composed_named(&mut table, 0, &mut work, &[1, 0], 1, 2, &longest)).unwrap();
+    let all: Handles = [h; 8].into_iter().collect();
+    assert_eq!(in_thread(|| raw::joined_part(&table, &all, &[name; 8])), eight.name());
 }
 
 #[test]

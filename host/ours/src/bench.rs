@@ -82,7 +82,7 @@ impl Product {
     /// The factors one after another, each by its own calls: what the same answers cost with no product.
     fn ask_alone<'p>(&self, name: &str, parts: &'p [Part]) -> Result<u32, No> {
         let (t, hs) = (&self.table, &self.factors);
-        let ones: Vec<Product> = hs.iter().map(|&h| Product::of(Vec::new(), vec![h])).collect();
+        let ones: Vec<Handles> = hs.iter().map(|&h| [h].into_iter().collect()).collect();
         let mut word = vec![0; if name == "word" { 4096 } else { 0 }];
         let mut spelled = |h: Handle, e: u32, before: u32| {
             raw::word(t, h, e, &mut word).map(|k| word[..k as usize].iter().map(|&g| u32::from(g) + before + 1).sum())
@@ -94,7 +94,7 @@ impl Product {
             "conjugate" => Box::new(plain(&refused, |p: &Part| raw::conjugate(t, hs[p.factor], p.a, p.b))),
             "inverse" => Box::new(plain(&refused, |p: &Part| raw::inverse(t, hs[p.factor], p.a))),
             "word" => Box::new(plain(&refused, |p: &Part| spelled(hs[p.factor], p.a, p.b))),
-            "powi" => Box::new(plain(&refused, |p: &Part| raw::product_powi(t, &ones[p.factor].handles, p.a, p.b as i32))),
+            "powi" => Box::new(plain(&refused, |p: &Part| raw::product_powi(t, &ones[p.factor], p.a, p.b as i32))),
             _ => return unsupported(),
         };
         let sum = parts.iter().fold(0u32, |sum, p| sum.wrapping_add(p.rest.wrapping_add(p.stride.wrapping_mul(ask(p)))));
@@ -111,6 +111,7 @@ impl Product {
         let g = |x: u32| (x % n) as u8;
         let f = |x: u32| (x % factors) as u8;
         let mut word = vec![0; if name == "word" { 8 * 4096 } else { 0 }];
+        let mut caption = [0; 277];
         let letters = |word: &[u8]| word.iter().map(|&g| u32::from(g) + 1).sum();
         match (name, single) {
             ("step", Some(h)) => summed(asked, |a, b| raw::step(t, h, e(a), g(b))),
@@ -125,6 +126,7 @@ impl Product {
             ("word", None) => summed(asked, |a, _| raw::product_word(t, p, e(a), &mut word).map(|k| letters(&word[..k as usize]))),
             ("powi", _) => summed(asked, |a, b| raw::product_powi(t, p, e(a), b as i32)),
             ("period", _) => summed(asked, |a, _| raw::product_period(t, p, e(a))),
+            ("joined", _) => summed(asked, |_, _| raw::joined(t, p, &self.names, &mut caption)),
             ("project", _) => summed(asked, |a, b| raw::product_project(t, p, f(b), e(a))),
             _ => unsupported(),
         }

@@ -3,23 +3,24 @@ use super::*;
 use std::ops::Range;
 
 /// The buffers of one build: which part of each is needed.
-struct Lent {
-    table: Vec<u32>,
-    stretch: Range<usize>,
-    work: Vec<u32>,
+#[derive(Clone)]
+pub(crate) struct Lent {
+    pub(crate) table: Vec<u32>,
+    pub(crate) stretch: Range<usize>,
+    pub(crate) work: Vec<u32>,
     needed: usize,
 }
 
-/// What a build gives: its table buffer, the verdict, and the same by a safe type.
+/// What a build gives: its table buffer, the verdict with the name beside it, and the same by a safe type.
 pub(crate) struct Made {
     pub(crate) table: Vec<u32>,
-    pub(crate) answer: Answer<Handle>,
+    pub(crate) answer: Answer<(Handle, Name)>,
     pub(crate) safe: Option<safe::Factor>,
 }
 
 impl Ours {
     /// Adds a stretch with a margin on both sides to a table buffer, and lends work with a margin.
-    fn lend(&mut self, mut table: Vec<u32>, n: usize, room: u32) -> Lent {
+    pub(crate) fn lend(&mut self, mut table: Vec<u32>, n: usize, room: u32) -> Lent {
         let sized = if n <= 8 && room <= 65_535 { room } else { 1 };
         let (tn, wn) = (raw::table_need(n.min(8) as u8, sized), raw::work_need(n.min(8) as u8, sized));
         let Short { table: short_table, work: short_work, .. } = self.short;
@@ -33,7 +34,11 @@ impl Ours {
     }
 
     /// Calls on lent buffers, and holds what they are left with to document 01, whatever the answer.
-    fn call(&mut self, mut lent: Lent, call: impl FnOnce(&mut [u32], usize, &mut [u32]) -> Answer<Handle>) -> (Lent, Answer<Handle>) {
+    pub(crate) fn call(
+        &self,
+        mut lent: Lent,
+        call: impl FnOnce(&mut [u32], usize, &mut [u32]) -> Answer<Handle>,
+    ) -> (Lent, Answer<Handle>) {
         let (table, work) = (lent.table.clone(), lent.work.clone());
         let answer = call(&mut lent.table, lent.stretch.start, &mut lent.work);
         let (t, w, s) = (&lent.table, &lent.work, lent.stretch.clone());
@@ -48,7 +53,7 @@ impl Ours {
                 assert!(inside[rows..].iter().all(|&x| x == 0), "a row beyond the last element is not zero");
                 assert!(used.iter().all(|&x| x == 0), "the work is not zero");
             }
-            Err(Refusal { number: 1..=4 | 14, .. }) => assert!(untouched, "refused arguments changed a buffer"),
+            Err(Refusal { number: 1..=4 | 14 | 18, .. }) => assert!(untouched, "refused arguments changed a buffer"),
             // Before a build starts these change nothing, and once it has started they leave zeros.
             Err(Refusal { number: 15..=17, .. }) => assert!(untouched || zero, "a refusal left something"),
             Err(_) => assert!(zero, "a refused build left something"),
@@ -83,8 +88,8 @@ impl Ours {
     ) -> Result<Built<safe::Factor>, No> {
         let whole = self.short == Short::default();
         let (table, answer) = self.build_after(vec![], n, room, call);
-        let safe = if whole { other(&answer) } else { None };
-        Ok(Built { table, handle: answer?, safe })
+        let safe = safe::with_name(b"", if whole { other(&answer) } else { None });
+        Ok(Built { table, handle: answer?, name: Name::default(), safe })
     }
 
     /// `enum n orders..` or `table n N rows..`, after a table buffer.
@@ -99,14 +104,20 @@ impl Ours {
                 if self.short.rows > 0 {
                     rows.truncate((room as usize * n).saturating_sub(1));
                 }
-                let (table, answer) = self.build_after(base, n, room, |t, start, work| raw::composed(t, start, work, &rows, k, room));
-                let safe = if whole { safe::composed(&answer, k, &rows, room) } else { None };
+                let plain = |t: &mut [u32], start, work: &mut [u32]| raw::composed(t, start, work, &rows, k, room);
+                let named = |t: &mut [u32], start, work: &mut [u32], name: &[u8]| raw::composed_named(t, start, work, &rows, k, room, name);
+                let (table, answer) = self.build_named(base, n, room, plain, named);
+                let safe = if whole { safe::composed(&answer, k, &rows, room, &self.name) } else { None };
                 Ok(Made { table, answer, safe })
             }
             "enum" => {
                 let (orders, room) = (numbers(&w[2..])?, self.room);
-                let (table, answer) = self.build_after(base, n, room, |t, start, work| raw::enumerate(t, start, work, &orders, k, room));
-                let safe = if whole { safe::made(&answer, safe::Factor::from_orders(k, &orders, room)) } else { None };
+                let plain = |t: &mut [u32], start, work: &mut [u32]| raw::enumerate(t, start, work, &orders, k, room);
+                let named =
+                    |t: &mut [u32], start, work: &mut [u32], name: &[u8]| raw::enumerate_named(t, start, work, &orders, k, room, name);
+                let (table, answer) = self.build_named(base, n, room, plain, named);
+                let other = || safe::Factor::named(&self.name).from_orders(k, &orders, room);
+                let safe = if whole { safe::made_named(&answer, other()) } else { None };
                 Ok(Made { table, answer, safe })
             }
             _ => unsupported(),
@@ -115,14 +126,17 @@ impl Ours {
 
     pub(crate) fn build(&mut self, w: &[&str]) -> Result<Built<safe::Factor>, No> {
         let Made { table, answer, safe } = self.made(vec![], w)?;
-        Ok(Built { table, handle: answer?, safe })
+        let (handle, name) = answer?;
+        Ok(Built { table, handle, name, safe })
     }
 
     /// A factor more, behind the others in their buffer.
     pub(crate) fn add_factor(&mut self, w: &[&str]) -> Result<(), No> {
         let Made { table, answer, safe } = self.made(self.space.clone(), w)?;
         self.space = table;
-        self.factors.push(answer?);
+        let (handle, name) = answer?;
+        self.factors.push(handle);
+        self.names.push(name);
         self.safe.push(safe);
         self.say(format!("ok {}", self.factors.len()));
         Ok(())
@@ -134,8 +148,11 @@ impl Ours {
         let whole = self.short == Short::default();
         let mut lent = self.lend(vec![], n, room);
         let (before, s) = (lent.table.clone(), lent.stretch);
-        let answer = raw::begin(&mut lent.table, s.start, room, n.min(255) as u8);
+        let mut plain = before.clone();
+        let unnamed = raw::begin(&mut plain, s.start, room, n.min(255) as u8);
+        let answer = raw::begin_named(&mut lent.table, s.start, room, n.min(255) as u8, &self.name);
         let t = &lent.table;
+        names::held(&self.name, &answer, (&unnamed, &plain, &[]), (t, &[]));
         match answer {
             Ok(_) => {
                 assert!(t[s.clone()].iter().all(|&x| x == 0), "a build does not begin with zeros");
@@ -143,9 +160,11 @@ impl Ours {
             }
             Err(_) => assert!(*t == before, "refused arguments changed a buffer"),
         }
-        let safe = whole.then(|| safe::Builder::new(n.min(255) as u8, room));
-        safe::same(answer.map(|h| h.elements), safe.as_ref().map(|made| made.as_ref().map(|b| b.element_count()).map_err(|no| *no)))?;
-        self.builder = Some(Built { handle: answer?, table: lent.table, safe: safe.and_then(Result::ok) });
+        let safe = whole.then(|| safe::Factor::named(&self.name).builder(n.min(255) as u8, room));
+        let counted = safe.as_ref().map(|made| made.as_ref().map(|b| (b.element_count(), b.name())).map_err(|no| *no));
+        safe::same(answer.as_ref().map(|(h, name)| (h.elements, name.as_bytes())).map_err(|no| *no), counted)?;
+        let (handle, name) = answer?;
+        self.builder = Some(Built { handle, name, table: lent.table, safe: safe.and_then(Result::ok) });
         self.say("ok");
         Ok(())
     }
@@ -192,11 +211,12 @@ impl Ours {
         let work = vec![FILL; (needed + margin).saturating_sub(std::mem::take(&mut self.short).work)];
         let lent = Lent { table: b.table, stretch, needed: needed.min(work.len()), work };
         let (lent, answer) = self.call(lent, |t, _, w| raw::build(t, h, w));
-        let safe = safe.and_then(|built| safe::made(&answer, built));
-        let b = Built { table: lent.table, handle: answer?, safe };
+        let answer = answer.map(|h| (h, b.name));
+        let safe = safe.and_then(|built| safe::made_named(&answer, built));
+        let b = Built { table: lent.table, handle: answer?.0, name: b.name, safe };
         self.say_factor(&b)?;
         let safe = b.safe.as_ref().map(safe::Product::from);
-        self.product = Product { safe, ..Product::of(b.table, vec![b.handle]) };
+        self.product = Product { safe, ..Product::of(b.table, vec![b.handle], vec![b.name]) };
         Ok(())
     }
 }

@@ -34,7 +34,7 @@ impl Ours {
         assert!(out[len..].iter().all(|&x| x == BYTE), "an image wrote past its end");
         let safe = safe.filter(|_| short == 0).map(|f| f.to_image());
         safe::same(answer.map(|_| out[..len].to_vec()), safe)?;
-        self.say(format!("ok {}", out[..len].iter().map(|x| format!("{x:02x}")).collect::<String>()));
+        self.say(format!("ok {}", say::hex(&out[..len])));
         Ok(())
     }
 

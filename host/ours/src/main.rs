@@ -6,7 +6,8 @@
 //!   `short image` the next `image`, and `short inward` and `short outward` one map of the next `sub` or `subpred`.
 //! - `alter I V` stores V at the I-th number of the table buffer of the current builder, or else of the current product. `forge START
 //!   ROOM N COUNT` puts another handle in the place of the builder's, or of the product's first factor; with five numbers the first
-//!   says which factor. `forgecount K` says how many factors the product has.
+//!   says which factor. `forgecount K` says how many factors the product has. `forgename K LEN` puts another length beside the name of
+//!   the builder, whatever K is, or of the product's K-th factor; `short names` lends the next `joined` one name less.
 //! - `altermap I V` and `altersub I V` do as `alter` does, in both maps and in the table of the current subgroup.
 //! - `checked ORDERS..` checks the one factor of the current product, as it stands, against pair orders.
 //! - `bench turns K` does what `bench walk K` does by a call for each turn.
@@ -22,29 +23,34 @@
 //!   `unimage HEX` prints as `table` does; `imgcheck HEX` and `imgwalk HEX START G..` print the number that comes back, `imgverdict HEX`
 //!   prints `ok` or the refusal with its places, and `imgneed HEX` the bytes of work that a check needs. `-` is no byte.
 //!
+//! A name is a setting, as the room is, and stays through `clear`. One that is too long is refused where a factor is to be made.
+//!
 //! What this program cannot answer yet it says with `unsupported`. Whatever a call leaves in the buffers is held to document 01 after
-//! every build, a product of one factor to the factor itself, both ways to make a product to each other, and the calls on buffers to the
-//! crate's safe types, which are asked the same wherever they can be (src/safe.rs); a fault ends the program.
+//! every build, a build with a name to the same without (src/names.rs), a product of one factor to the factor itself, both ways to make a
+//! product to each other, and the calls on buffers to the crate's safe types, which are asked the same wherever they can be
+//! (src/safe.rs); a fault ends the program.
 mod bench;
 mod build;
 mod image;
+mod names;
 mod questions;
 mod safe;
 mod say;
 mod subgroups;
 
 use hypergroup::Refusal;
-use hypergroup::raw::{self, Answer, Handle, Handles};
+use hypergroup::raw::{self, Answer, Handle, Handles, Name};
 use std::io::{BufRead, BufWriter, Write};
 
 /// What stands in a buffer before it is lent, and must stand in its excess afterwards.
 const FILL: u32 = 0xa5a5_a5a5;
 const MARGIN: usize = 7;
 
-/// A table buffer with a factor in it, or a builder; and the same made by a safe type.
+/// A table buffer with a factor in it, or a builder, and its name; and the same made by a safe type.
 struct Built<S> {
     table: Vec<u32>,
     handle: Handle,
+    name: Name,
     safe: Option<S>,
 }
 
@@ -54,21 +60,22 @@ struct Product {
     handles: Handles,
     /// The same, for the calls on one factor.
     factors: Vec<Handle>,
+    names: Vec<Name>,
     /// The same product by the safe types; none where this one is altered.
     safe: Option<safe::Product>,
 }
 
 impl Default for Product {
     fn default() -> Self {
-        Product { safe: Some(safe::Product::default()), ..Product::of(vec![], vec![]) }
+        Product { safe: Some(safe::Product::default()), ..Product::of(vec![], vec![], vec![]) }
     }
 }
 
 impl Product {
-    fn of(table: Vec<u32>, factors: Vec<Handle>) -> Self {
+    fn of(table: Vec<u32>, factors: Vec<Handle>, names: Vec<Name>) -> Self {
         let mut handles = Handles::default();
         factors.iter().for_each(|&h| handles.push(h));
-        Product { table, handles, factors, safe: None }
+        Product { table, handles, factors, names, safe: None }
     }
 
     /// The one factor, where there is one.
@@ -115,6 +122,7 @@ struct Short {
     image: usize,
     inward: usize,
     outward: usize,
+    names: usize,
 }
 
 struct Ours {
@@ -122,8 +130,11 @@ struct Ours {
     room: u32,
     quiet: bool,
     short: Short,
-    /// The factors that were made, in one table buffer.
+    /// The name of every factor that is made.
+    name: Vec<u8>,
+    /// The factors that were made, in one table buffer, and their names.
     factors: Vec<Handle>,
+    names: Vec<Name>,
     space: Vec<u32>,
     /// The same by the safe type.
     safe: Vec<Option<safe::Factor>>,
@@ -162,19 +173,19 @@ impl Ours {
             (b.handle, b.safe) = (h, None);
         } else if let Some(place) = self.product.factors.get_mut(k) {
             *place = h;
-            let count = self.product.handles.count;
-            self.product = Product::of(std::mem::take(&mut self.product.table), std::mem::take(&mut self.product.factors));
-            self.product.handles.count = count;
+            let Product { table, handles, factors, names, .. } = std::mem::take(&mut self.product);
+            self.product = Product::of(table, factors, names);
+            self.product.handles.count = handles.count;
         }
         Ok(())
     }
 
     /// The product of the factors, whose number of generators and elements is printed. As in the oracle a refused one leaves the last.
     fn prod(&mut self) -> Result<(), No> {
-        let mut p = Product::of(self.space.clone(), self.factors.clone());
+        let mut p = Product::of(self.space.clone(), self.factors.clone(), self.names.clone());
         let counted = raw::product_count(&p.table, &p.handles);
         let (first, rest) = p.factors.split_at(p.factors.len() / 2);
-        let half = |part: &[Handle]| Product::of(vec![], part.to_vec()).handles;
+        let half = |part: &[Handle]| part.iter().copied().collect::<Handles>();
         let joined = raw::product(&p.table, &half(first), &half(rest));
         assert_eq!(joined, counted.map(|_| p.handles.count.into()), "two ways to a product differ");
         let counts = raw::product_generators(&p.table, &p.handles).and_then(|n| Ok((n, counted?)));
@@ -196,15 +207,20 @@ impl Ours {
                 Some(&"image") => self.short.image = 1,
                 Some(&"inward") => self.short.inward = 1,
                 Some(&"outward") => self.short.outward = 1,
+                Some(&"names") => self.short.names = 1,
                 _ => self.short.rows = 1,
             },
+            "name" => self.name = image::bytes(w, 1)?,
+            "joined" => self.joined(number(w, 1)?)?,
+            "flatname" | "subname" => self.name_of(w[0])?,
             "alter" => self.alter(number(w, 1)?, number(w, 2)?),
             "forge" => self.forge(&w[1..])?,
             "forgecount" => (self.product.handles.count, self.product.safe) = (number(w, 1)?, None),
+            "forgename" => self.forge_name(number(w, 1)?, number(w, 2)?),
             "bench" => self.bench(&w[1..])?,
             "safe" => self.say(safe::compared()),
             "clear" => {
-                (self.factors, self.space, self.safe) = (vec![], vec![], vec![]);
+                (self.factors, self.names, self.space, self.safe) = (vec![], vec![], vec![], vec![]);
                 (self.builder, self.product, self.sub) = (None, Product::default(), None);
             }
             "enum" | "table" => {
@@ -247,7 +263,9 @@ fn main() {
         room: 65_535,
         quiet: false,
         short: Short::default(),
+        name: vec![],
         factors: vec![],
+        names: vec![],
         space: vec![],
         safe: vec![],
         builder: None,

@@ -11,11 +11,12 @@ pub(crate) fn word(t: &[u32], h: Handle, e: u32) -> Answer<Vec<u8>> {
     written(4100, |out| raw::word(t, h, e, out))
 }
 
-fn written(size: usize, call: impl FnOnce(&mut [u8]) -> Answer<u32>) -> Answer<Vec<u8>> {
-    let mut out = vec![BYTE; size];
-    let answer = call(&mut out);
+/// What a call writes into a buffer of so many bytes, whose rest must stay, and what is behind it.
+pub(crate) fn written(size: usize, call: impl FnOnce(&mut [u8]) -> Answer<u32>) -> Answer<Vec<u8>> {
+    let mut out = vec![BYTE; size + MARGIN];
+    let answer = call(&mut out[..size]);
     let len = answer.unwrap_or(0) as usize;
-    assert!(out[len..].iter().all(|&x| x == BYTE), "a word wrote past its end");
+    assert!(len <= size && out[len..].iter().all(|&x| x == BYTE), "a word or a name wrote past its end");
     answer?;
     out.truncate(len);
     Ok(out)

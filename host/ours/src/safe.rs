@@ -42,14 +42,28 @@ pub(crate) fn made(answer: &Answer<Handle>, other: Answer<Factor>) -> Option<Fac
     other.ok()
 }
 
+/// The same with a name, which both have.
+pub(crate) fn made_named(answer: &Answer<(Handle, Name)>, other: Answer<Factor>) -> Option<Factor> {
+    let factor = made(&answer.map(|(handle, _)| handle), other);
+    with_name(answer.as_ref().map_or(b"", |(_, name)| name.as_bytes()), factor)
+}
+
+/// A factor that must have this name.
+pub(crate) fn with_name(name: &[u8], factor: Option<Factor>) -> Option<Factor> {
+    if let Some(f) = &factor {
+        hold(&name, &f.name());
+    }
+    factor
+}
+
 /// Composed rows, by a function that tells them, and as a list where its length says the room.
-pub(crate) fn composed(answer: &Answer<Handle>, n: u8, rows: &[u32], room: u32) -> Option<Factor> {
+pub(crate) fn composed(answer: &Answer<(Handle, Name)>, n: u8, rows: &[u32], room: u32, name: &[u8]) -> Option<Factor> {
     let needed = room as usize * usize::from(n);
     if rows.len() < needed {
         return None;
     }
     let mut next = 0;
-    let told = Factor::from_compose_fn(
+    let told = Factor::named(name).from_compose_fn(
         n,
         |e, g| {
             // Each place once, in order.
@@ -60,9 +74,9 @@ pub(crate) fn composed(answer: &Answer<Handle>, n: u8, rows: &[u32], room: u32) 
         },
         room,
     );
-    let factor = made(answer, told);
+    let factor = made_named(answer, told);
     if n > 0 && (1..=65_535).contains(&room) {
-        let listed = made(answer, Factor::from_rows(n, &rows[..needed]));
+        let listed = made_named(answer, Factor::named(name).from_rows(n, &rows[..needed]));
         assert_eq!(listed, factor, "rows told and rows listed make two factors");
     }
     factor

@@ -24,6 +24,11 @@ pub(crate) fn listed<T: std::fmt::Display>(list: &[T]) -> String {
     format!("ok{}", list.iter().map(|x| format!(" {x}")).collect::<String>())
 }
 
+/// Bytes in hex; `-` for none.
+pub(crate) fn hex(bytes: &[u8]) -> String {
+    if bytes.is_empty() { "-".into() } else { bytes.iter().map(|x| format!("{x:02x}")).collect() }
+}
+
 impl Ours {
     /// A list that grows with the group: its digest when quiet.
     pub(crate) fn say_long(&mut self, head: &str, list: &[u32]) {

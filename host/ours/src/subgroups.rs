@@ -17,7 +17,7 @@ pub(crate) struct Sub {
     /// How many elements the part of the overgroup has that the maps speak of.
     mapped: u32,
     /// The same subgroup by the safe type; none where this one is altered.
-    safe: Option<safe::Subgroup>,
+    pub(crate) safe: Option<safe::Subgroup>,
 }
 
 impl Sub {
@@ -94,7 +94,7 @@ fn made_safe(
     other: impl Fn(&safe::Product, Option<u32>) -> Option<Answer<safe::Subgroup>>,
 ) -> Option<safe::Subgroup> {
     let held = |made: Answer<safe::Subgroup>| {
-        safe::made(answer, made.as_ref().map(|s| s.factor().clone()).map_err(|no| *no));
+        safe::with_name(b"", safe::made(answer, made.as_ref().map(|s| s.factor().clone()).map_err(|no| *no)));
         made.ok()
     };
     if room == over.element_count() {
@@ -159,7 +159,7 @@ impl Ours {
         let sub = Sub { from, below: vec![], over, above: vec![], table, factor: answer?, inward, outward, mapped, safe };
         self.say_subgroup(&sub)?;
         let factor = sub.safe.as_ref().map(|s| s.factor().clone());
-        self.say_factor(&Built { table: sub.table.clone(), handle: sub.factor, safe: factor })?;
+        self.say_factor(&Built { table: sub.table.clone(), handle: sub.factor, name: Name::default(), safe: factor })?;
         self.sub = Some(sub);
         Ok(())
     }
@@ -169,7 +169,7 @@ impl Ours {
         let mut sub = self.sub.clone().ok_or_else(|| "no subgroup".to_string())?;
         let sides = sub.sides();
         let made = self.made(std::mem::take(&mut sub.from), &w[1..])?;
-        let factor = made.answer?;
+        let (factor, _) = made.answer?;
         sub.from = made.table;
         let (more, left) = ([factor].into_iter().collect(), w[0] == "subleft");
         let answer = match left {

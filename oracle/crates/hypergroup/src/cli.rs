@@ -65,13 +65,13 @@ fn matrix(n: usize, orders: &[u16]) -> Answer<CoxeterMatrix> {
     }
     guard(|| CoxeterMatrix::from_pair_orders(n as u8, orders))
 }
-fn from_orders(n: usize, orders: &[u16]) -> Answer<AbstractGroupLut> {
+fn from_orders(label: &str, n: usize, orders: &[u16]) -> Answer<AbstractGroupLut> {
     let m = matrix(n, orders)?;
-    guard(|| todd_coxeter::construct_group("", &m))
+    guard(|| todd_coxeter::construct_group(label.to_string(), &m))
 }
 /// Reads `table` as rows of n numbers. The room is not more than the rows
 /// given, so that no number is asked for that is not there.
-fn from_rows(n: usize, rows: usize, table: &[u32]) -> Answer<AbstractGroupLut> {
+fn from_rows(label: &str, n: usize, rows: usize, table: &[u32]) -> Answer<AbstractGroupLut> {
     if table.len() < n * rows {
         return Err("bad table length".into());
     }
@@ -79,7 +79,7 @@ fn from_rows(n: usize, rows: usize, table: &[u32]) -> Answer<AbstractGroupLut> {
     trace::reset();
     let lut = with_room(rows.min(ROOM.load(Ordering::Relaxed)), || {
         guard(|| {
-            AbstractGroupLut::from_compose_fn("", n, |e, g| {
+            AbstractGroupLut::from_compose_fn(label.to_string(), n, |e, g| {
                 trace::read(e.0, g.0);
                 Ok(GroupElementId(at(e.0, g.0)))
             })
@@ -92,13 +92,21 @@ fn from_rows(n: usize, rows: usize, table: &[u32]) -> Answer<AbstractGroupLut> {
     })
 }
 /// `enum n orders..` or `table n N rows..`
-fn factor(words: &[&str]) -> Answer<AbstractGroupLut> {
+fn factor(label: &str, words: &[&str]) -> Answer<AbstractGroupLut> {
     let n = number(words, 1)?;
     match words[0] {
-        "enum" => from_orders(n, &numbers(&words[2..])?),
-        "table" => from_rows(n, number(words, 2)?, &numbers(&words[3..])?),
+        "enum" => from_orders(label, n, &numbers(&words[2..])?),
+        "table" => from_rows(label, n, number(words, 2)?, &numbers(&words[3..])?),
         x => Err(format!("bad factor kind {x}")),
     }
+}
+/// Bytes in hex; `-` for none.
+fn bytes(words: &[&str], i: usize) -> Answer<Vec<u8>> {
+    let text = words.get(i).ok_or("missing argument")?;
+    let text = if *text == "-" { "" } else { text };
+    let pair = |k| text.get(k..k + 2).and_then(|x| u8::from_str_radix(x, 16).ok());
+    let all = (0..text.len()).step_by(2).map(pair).collect::<Option<_>>();
+    all.ok_or(format!("bad bytes {text}"))
 }
 /// The group as an action on no points, for subgroup_action.rs.
 /// What a subgroup is told by: its generators, or a number for each element.
@@ -152,6 +160,11 @@ impl Digest {
 struct Oracle {
     out: BufWriter<Stdout>,
     quiet: bool,
+    /// The label of every factor that is made; none for bytes that are no text,
+    /// which no label can be.
+    label: Option<String>,
+    /// Whether every factor since the last `clear` has its label.
+    labelled: bool,
     factors: Vec<Group>,
     group: Group,
     sub: Option<SubgroupAction<NoPoint>>,
@@ -231,6 +244,20 @@ impl Oracle {
             self.say_factor(f);
         }
     }
+    /// A factor with the current label.
+    fn factor(&mut self, words: &[&str]) -> Answer<AbstractGroupLut> {
+        self.labelled &= self.label.is_some();
+        factor(self.label.as_deref().unwrap_or_default(), words)
+    }
+    /// A label, in hex, where all labels are those that were asked for.
+    fn say_label(&mut self, label: String) -> Answer<()> {
+        if !self.labelled {
+            return Err("unsupported".into());
+        }
+        let hex: String = label.bytes().map(|x| format!("{x:02x}")).collect();
+        self.say(format!("ok {}", if hex.is_empty() { "-" } else { &hex }));
+        Ok(())
+    }
     fn subgroup(&self) -> Answer<&SubgroupAction<NoPoint>> {
         self.sub.as_ref().ok_or("no subgroup".into())
     }
@@ -243,9 +270,20 @@ impl Oracle {
                 self.factors.clear();
                 self.group = Group::trivial();
                 self.sub = None;
+                self.labelled = true;
+            }
+            "name" => self.label = String::from_utf8(bytes(w, 1)?).ok(),
+            // There is no buffer that a label has to fit.
+            "joined" => self.say_label(self.group.label())?,
+            "flatname" => self.say_label(guard(|| self.group.flatten())?.label())?,
+            "subname" => self.say_label(self.subgroup()?.subgroup_action.group().label())?,
+            // Altered records, of which the Rust has none.
+            "forgename" | "forgecount" => {
+                self.labelled = false;
+                return Err("unsupported".into());
             }
             "enum" | "table" => {
-                let g = factor(w)?;
+                let g = self.factor(w)?;
                 self.say_factor(&g);
             }
             "bench" => self.bench(&w[1..])?,
@@ -253,7 +291,7 @@ impl Oracle {
             "check" => self.check(&w[1..])?,
             "against" => self.against(&w[1..])?,
             "factor" => {
-                let g = factor(&w[1..])?;
+                let g = self.factor(&w[1..])?;
                 self.factors.push(guard(|| Group::try_from(g))?);
                 self.say(format!("ok {}", self.factors.len()));
             }
@@ -264,7 +302,9 @@ impl Oracle {
             }
             "builder" => {
                 let n = number(w, 1)?;
-                self.builder = Some(guard(|| AbstractGroupLutBuilder::new("", n))?);
+                self.labelled &= self.label.is_some();
+                let label = self.label.clone().unwrap_or_default();
+                self.builder = Some(guard(|| AbstractGroupLutBuilder::new(label, n))?);
                 self.say("ok");
             }
             "add" | "set" => self.grow(w)?,
@@ -272,6 +312,7 @@ impl Oracle {
                 let b = self.builder.take().ok_or("no builder")?;
                 let g = guard(|| b.build())?;
                 self.say_factor(&g);
+                self.group = guard(|| Group::try_from(g))?;
             }
             "flatten" => {
                 let flat = guard(|| self.group.flatten())?;
@@ -297,7 +338,7 @@ impl Oracle {
             }
             "subleft" | "subright" => {
                 let s = self.subgroup()?.clone();
-                let g = factor(&w[1..])?;
+                let g = self.factor(&w[1..])?;
                 let act = guard(|| action_of(&Group::try_from(g)?))?;
                 let s = guard(|| match w[0] {
                     "subleft" => SubgroupAction::direct_product_left(&act, s),
@@ -362,7 +403,7 @@ impl Oracle {
         for _ in 0..3 {
             let start = std::time::Instant::now();
             given = match w[0] {
-                "enum" | "table" => factor(w)?.element_count() as u32,
+                "enum" | "table" => factor("", w)?.element_count() as u32,
                 "sub" | "subpred" => {
                     let (told, act) = made.as_ref().expect("made above");
                     told.subgroup(act)?.subgroup_action.group().element_count() as u32
@@ -394,6 +435,7 @@ impl Oracle {
             "inverse" => sum(&|a, _| g.inverse(e(a)).0),
             "powi" => sum(&|a, b| g.powi(e(a), b as i32).0),
             "period" => sum(&|a, _| g.period(e(a)) as u32),
+            "joined" => sum(&|_, _| g.label().len() as u32),
             "word" => sum(&|a, _| g.factorization(e(a)).map(|k| k.0 as u32 + 1).sum()),
             "project" => {
                 let factors = self.factors.len().max(1) as u32;
@@ -520,7 +562,7 @@ impl Oracle {
     }
 
     fn check(&mut self, w: &[&str]) -> Answer<()> {
-        let (n, count, s) = rows(&factor(w)?);
+        let (n, count, s) = rows(&factor("", w)?);
         let mut line = format!(
             "ok {n} {count} group {} numbered {}",
             is_group(n, count, &s),
@@ -542,7 +584,7 @@ impl Oracle {
     /// `against table n N rows.. | orders..`
     fn against(&mut self, w: &[&str]) -> Answer<()> {
         let bar = w.iter().position(|x| *x == "|").ok_or("missing argument")?;
-        let (n, count, s) = rows(&factor(&w[..bar])?);
+        let (n, count, s) = rows(&factor("", &w[..bar])?);
         let orders: Vec<u16> = numbers(&w[bar + 1..])?;
         if orders.len() != n * n.saturating_sub(1) / 2 {
             return Err("bad order list length".into());
@@ -586,6 +628,8 @@ pub fn main() {
     let mut oracle = Oracle {
         out: BufWriter::new(std::io::stdout()),
         quiet: false,
+        label: Some(String::new()),
+        labelled: true,
         factors: vec![],
         group: Group::trivial(),
         sub: None,
