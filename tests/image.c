@@ -1,35 +1,6 @@
 /* The image's C functions as a C program calls them: document 01's images, each refusal's number, exact and short work,
  * margins, lists that end where the memory ends, and NULL with length 0. Last line 'N passed, M failed'. */
-#define _DEFAULT_SOURCE
-#include "../host/hypergroup.h"
-
-#include <stdio.h>
-#include <stdlib.h>
-#include <string.h>
-#include <sys/mman.h>
-
-static unsigned passed, failed;
-
-static void expect(uint64_t got, uint64_t wanted, const char *what) {
-    if (got == wanted) {
-        passed++;
-    } else {
-        failed++;
-        printf("%s: %lu, not %lu\n", what, (unsigned long)got, (unsigned long)wanted);
-    }
-}
-
-/* Memory that ends at `end`, with a page after it that must not be touched. */
-enum { AREA = 1 << 20, PAGE = 1 << 16 };
-
-static uint8_t *guarded(void) {
-    uint8_t *at = mmap(NULL, AREA + PAGE, PROT_READ | PROT_WRITE, MAP_PRIVATE | MAP_ANONYMOUS, -1, 0);
-    if (at == MAP_FAILED || mprotect(at + AREA, PAGE, PROT_NONE) != 0) {
-        puts("no memory");
-        exit(1);
-    }
-    return at + AREA;
-}
+#include "guarded.h"
 
 typedef struct {
     uint8_t bytes[4096];
@@ -62,13 +33,6 @@ static const uint8_t *lend(const Image *image) {
 static size_t need(const Image *image) {
     size_t n = image->bytes[5], count = 256 * (size_t)image->bytes[6] + image->bytes[7];
     return count * (32 * n * n + 100);
-}
-
-static bool all(const uint8_t *bytes, size_t length, uint8_t is) {
-    size_t i;
-    for (i = 0; i < length; i++)
-        if (bytes[i] != is) return false;
-    return true;
 }
 
 /* The number with exactly the work needed, with a margin before and after it, and with one byte less. */
@@ -232,6 +196,5 @@ int main(void) {
     nothing_lent();
     verdicts();
     beside_a_factor();
-    printf("%u passed, %u failed\n", passed, failed);
-    return failed != 0;
+    return told();
 }

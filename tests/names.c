@@ -1,42 +1,6 @@
 /* Names as a C host has them: a record beside each handle, lists that end where the memory ends, the joined name of 0 to 8
  * factors on both sides of its length, and each refusal with what it leaves. Last line 'N passed, M failed'. */
-#define _DEFAULT_SOURCE
-#include "../host/hypergroup.h"
-
-#include <stdio.h>
-#include <stdlib.h>
-#include <string.h>
-#include <sys/mman.h>
-
-static unsigned passed, failed;
-
-static void expect(uint64_t got, uint64_t wanted, const char *what) {
-    if (got == wanted) {
-        passed++;
-    } else {
-        failed++;
-        printf("%s: %lu, not %lu\n", what, (unsigned long)got, (unsigned long)wanted);
-    }
-}
-
-/* Memory that ends at `end`, with a page after it that must not be touched. */
-enum { AREA = 1 << 16, PAGE = 1 << 16 };
-
-static uint8_t *guarded(void) {
-    uint8_t *at = mmap(NULL, AREA + PAGE, PROT_READ | PROT_WRITE, MAP_PRIVATE | MAP_ANONYMOUS, -1, 0);
-    if (at == MAP_FAILED || mprotect(at + AREA, PAGE, PROT_NONE) != 0) {
-        puts("no memory");
-        exit(1);
-    }
-    return at + AREA;
-}
-
-static bool all(const uint8_t *bytes, size_t length, uint8_t is) {
-    size_t i;
-    for (i = 0; i < length; i++)
-        if (bytes[i] != is) return false;
-    return true;
-}
+#include "guarded.h"
 
 static uint8_t *name_end, *names_end, *out_end;
 
@@ -177,6 +141,5 @@ int main(void) {
     records();
     built();
     joined();
-    printf("%u passed, %u failed\n", passed, failed);
-    return failed != 0;
+    return told();
 }
