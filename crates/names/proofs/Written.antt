@@ -15,18 +15,13 @@ use Rattle.egg.specs.declared.Counted.the-variants.{Count, Refused}
 use Rattle.egg.specs.Table.{pick}
 use Rattle.egg.specs.Answers.{numbered, ifCount}
 use Rattle.factor.proofs.Questions.{counted-by}
+use Rattle.factor_words.proofs.Words.{never-both, same-count}
 use Rattle.group_handles.specs.Handles.{admits}
 use Rattle.group_handles.specs.Counts.{onCounted}
 use Rattle.names_values.specs.declared.Name.{Name}
 use Rattle.names_values.specs.declared.NamedGroup.{NamedGroup}
 use Rattle.names_joined.specs.Joined.{listedNames, namesFit, joinedName, joinedLength, atStart}
 use Rattle.names.specs.Joined.{roomFor, joinedAnswer, joinedBy, joinedLeaves}
-
-pub never-counted : {r : Refusal} {k : ℕ} → Refused r ≡ Count k → ⊥
-never-counted h = let z : _≡_ {A = ℕ} 0 1 = cc in omega arith
-
-pub same-count : {j k : ℕ} → Count j ≡ Count k → j ≡ k
-same-count h = cc
 
 -- What a length that was measured says.
 pub record KnownLength (ms : List Name) (k : ℕ) : Type 0 where
@@ -38,7 +33,7 @@ unfolding joinedLength
 was-measured ms q e = by (namesFit ms) refl (sym q ∙ e) where
   by : (b : Bool) → namesFit ms ≡ b → {k : ℕ} → pick b (Count (length (joinedName ms))) (Refused (numbered 17 0 0 0)) ≡ Count k → KnownLength ms k
   by true p h = record { fit = p; long = sym (same-count h) }
-  by false p h = absurd (never-counted h)
+  by false p h = absurd (never-both refl h)
 
 module _ (t : List ℕ) (g : NamedGroup) (out : List ℕ) where
   leaves-by : {r : Counted} → r ≡ joinedAnswer t g (length out) → joinedBy r (joinedName (listedNames g)) out ≡ joinedLeaves t g out
@@ -73,7 +68,7 @@ module _ (t : List ℕ) (g : NamedGroup) (out : List ℕ) where
 room-fits : (size n : ℕ) {k : ℕ} → roomFor size n ≡ Count k → k ≤ size
 room-fits size n = by (ltb size n) refl where
   by : (b : Bool) → ltb size n ≡ b → {k : ℕ} → pick b (Refused (numbered 18 0 0 0)) (Count n) ≡ Count k → k ≤ size
-  by true q h = absurd (never-counted h)
+  by true q h = absurd (never-both refl h)
   by false q h = omega (arith, ltb-false size n q, same-count h)
 
 pub joined-fits : (t : List ℕ) (g : NamedGroup) (size : ℕ) {r : Counted} {k : ℕ} → r ≡ joinedAnswer t g size → r ≡ Count k → k ≤ size
@@ -81,4 +76,4 @@ unfolding joinedAnswer
 joined-fits t g size q e = by (joinedLength (listedNames g)) (sym q ∙ e) where
   by : (c : Counted) {k : ℕ} → onCounted c (λ n. ifCount (admits (length t) (g .group) 0 1 0 1) (roomFor size n)) ≡ Count k → k ≤ size
   by (Count n) h = room-fits size n (counted-by (admits (length t) (g .group) 0 1 0 1) h)
-  by (Refused r) h = absurd (never-counted h)
+  by (Refused r) h = absurd (never-both refl h)

@@ -5,17 +5,12 @@ use mathlib.Core.List.{List}
 use mathlib.Core.Bool.{_&&_}
 use lib.Dec.{ltb, leb}
 use Rattle.egg.specs.declared.Verdict.{Verdict}
-use Rattle.egg.specs.declared.Verdict.the-variants.{Fine, Refused}
+use Rattle.egg.specs.declared.Verdict.the-variants.{Fine}
 use Rattle.egg.specs.Table.{pick}
-use Rattle.egg.specs.Scan.{refusedOf}
+use Rattle.egg.specs.Scan.{refusedOf, andThen}
 use Rattle.egg.specs.Pairs.{ordersRight}
 use Rattle.egg.specs.Factor.{hasRoom}
 use Rattle.build_lending.specs.Lending.{lentRight}
-
--- The refusal of the first test where it has one, else what the second answers.
-abbrev pub thenRight : Verdict → Verdict → Verdict
-thenRight Fine v = v
-thenRight (Refused r) v = Refused r
 
 -- Of `from_composed`, by the lengths of its lists: 1, then 4.
 unfoldable pub composedRight : (table start work rows n room : ℕ) → Verdict
@@ -27,7 +22,7 @@ composedRight table start work rows n room =
 unfoldable pub enumerateRight : (table start work : ℕ) (orders : List ℕ) (n room : ℕ) → Verdict
 enumerateRight table start work orders n room =
     pick (ltb 8 n) (refusedOf 1 n 0 0)
-    (thenRight (ordersRight orders n)
+    (andThen (ordersRight orders n)
     (pick (lentRight table start work room n) Fine (refusedOf 4 0 0 0)))
 
 -- Of `begin`: 1, then 4.

@@ -8,7 +8,7 @@ use Rattle.egg.specs.declared.Verdict.{Verdict}
 use Rattle.egg.specs.declared.Verdict.the-variants.{Fine, Refused}
 use Rattle.egg.specs.declared.Made.{Made}
 use Rattle.egg.specs.Table.{pick}
-use Rattle.egg.specs.Scan.{refusedOf}
+use Rattle.egg.specs.Scan.{refusedOf, andThen}
 use Rattle.build_lending.specs.Lending.{noFactor, Making, making}
 use Rattle.builder.specs.declared.Begun.{Begun}
 use Rattle.builder.specs.Calls.{Leaving, leaving, noBuilder, begins, builds}
@@ -22,7 +22,7 @@ use Rattle.names_values.specs.declared.NamedBuilder.{NamedBuilder}
 use Rattle.names_values.specs.declared.NamedBegun.{NamedBegun}
 use Rattle.names_values.specs.declared.NamedGroup.{NamedGroup}
 use Rattle.names_values.specs.Names.{nameOf, noName, unnamedOf}
-use Rattle.names.specs.Arguments.{thenRight, composedRight, enumerateRight, beginRight}
+use Rattle.names.specs.Arguments.{composedRight, enumerateRight, beginRight}
 
 -- What a call that makes a factor answers, and what table and work hold then.
 pub data NamedMaking : Type 0 where
@@ -43,7 +43,7 @@ withName m (making x t w) = namedMaking (madeNamed x m) t w
 
 -- 18, after what the other arguments are refused with.
 abbrev pub tooLong : Verdict → Verdict
-tooLong right = thenRight right (refusedOf 18 0 0 0)
+tooLong right = andThen right (refusedOf 18 0 0 0)
 
 -- What a call comes to that is given its factor's name in bytes: what it makes without one; or, for a name over 32 bytes, a refusal that touches
 -- nothing.

@@ -23,7 +23,7 @@ use Rattle.names_values.specs.declared.Name.{Name}
 use Rattle.names_values.specs.declared.NamedGroup.{NamedGroup}
 use Rattle.names_joined.specs.Joined.{listedNames, namesFit, joinedName, joinedLength}
 use Rattle.names.specs.Joined.{roomFor, joinedAnswer}
-use Rattle.names.proofs.Written.{never-counted, same-count}
+use Rattle.factor_words.proofs.Words.{never-both, same-count}
 use Rattle.promises_names.specs.Shown.{NamesShort, none, more, RecordsFit, JoinedCase, no-fit, large, short, whole}
 
 -- What is tested says what it is to say.
@@ -112,9 +112,9 @@ module _ (t : List ℕ) (g : NamedGroup) (size : ℕ) where
 
   -- The count is the length of the joined name, and the buffer has room for it.
   counted-name : {c : Counted} → JoinedCase t g size c → {k : ℕ} → c ≡ Count k → (k ≡ length name) × (length name ≤ size)
-  counted-name (no-fit w) q = absurd (never-counted q)
-  counted-name (large F w) q = absurd (never-counted q)
-  counted-name (short F L h) q = absurd (never-counted q)
+  counted-name (no-fit w) q = absurd (never-both refl q)
+  counted-name (large F w) q = absurd (never-both refl q)
+  counted-name (short F L h) q = absurd (never-both refl q)
   counted-name (whole F L h) q = (sym (same-count q), h)
 
   pub shown-name : {k : ℕ} → joinedAnswer t g size ≡ Count k → (k ≡ length name) × (length name ≤ size)
