@@ -86,6 +86,9 @@ pub struct Name {
 /// It is handed over as its bytes, of which there are none but those of its fields.
 const _: () = assert!(size_of::<Name>() == 33);
 
+/// How long a joined name can be: eight names of 32 bytes, and three between each two (`joined-most`, crates/promises_names/proofs/Left.antt).
+pub const LONGEST_JOINED: usize = 277;
+
 impl Name {
     /// The bytes that are the name: at most 32, whatever the length says.
     #[must_use]

@@ -117,10 +117,9 @@ impl Product {
     /// ```
     #[must_use]
     pub fn name(&self) -> Vec<u8> {
-        let between = 3 * self.names.len().saturating_sub(1);
-        let mut out = vec![0; between + self.names.iter().map(|name| name.as_bytes().len()).sum::<usize>()];
-        self.write_name(&mut out).expect("a buffer that is as long as the joined name has room for it");
-        out
+        let mut out = [0; raw::LONGEST_JOINED];
+        let length = self.write_name(&mut out).expect("the longest joined name has room in this buffer");
+        out[..length].to_vec()
     }
 
     /// Writes the same to the start of a buffer; how many bytes it is. What is behind it stays.

@@ -111,7 +111,7 @@ impl Product {
         let g = |x: u32| (x % n) as u8;
         let f = |x: u32| (x % factors) as u8;
         let mut word = vec![0; if name == "word" { 8 * 4096 } else { 0 }];
-        let mut caption = [0; 277];
+        let mut caption = [0; raw::LONGEST_JOINED];
         let letters = |word: &[u8]| word.iter().map(|&g| u32::from(g) + 1).sum();
         match (name, single) {
             ("step", Some(h)) => summed(asked, |a, b| raw::step(t, h, e(a), g(b))),

@@ -68,8 +68,7 @@ impl Ours {
         let p = &self.product;
         let names = &p.names[..p.names.len().saturating_sub(short)];
         let into = |size: usize| written(size, |out| raw::joined(&p.table, &p.handles, names, out));
-        // As long as any: eight names of 32 bytes, and three between each two.
-        let longest = into(277);
+        let longest = into(raw::LONGEST_JOINED);
         let part = raw::joined_part(&p.table, &p.handles, names);
         assert_eq!(part, *longest.as_deref().unwrap_or_default(), "the part that is handed back is not the joined name");
         let safe = p.safe.as_ref().filter(|_| short == 0);
