@@ -43,7 +43,7 @@
  *     }
  *
  * What a caller owes
- * - A list is a pointer and a length: in bytes for uint8_t, in numbers for uint32_t. All of it is
+ * - A list is a pointer and a length: in bytes for uint8_t, in numbers for uint32_t and int32_t. All of it is
  *   readable (and writable where the pointer is not const), holds values, is aligned as its type
  *   asks, and stays so until the call returns. A length of 0 takes any pointer, NULL too.
  * - A list that a call writes overlaps no other list of that call. An image and its work are apart.
@@ -72,6 +72,8 @@
  *   HG_JOINED, eight names of 32 bytes and three between each two.
  * - name: 0 to 32 bytes, any bytes. record: 33, HG_NAME, which is an hg_name. names: 33 for each factor, as
  *   record gets them, in the order of the handles.
+ * - a, b, exponents and out of hg_compose_each and the others that end in _each: one length, of at most
+ *   4,096, HG_PLACES. told: 5, HG_TOLD.
  * - out of any other call: 4 numbers; 5 of hg_product and of whatever builds; 6 of hg_subgroup and
  *   hg_subgroup_predicate.
  *
@@ -102,6 +104,13 @@
  *   17, as a handle that does not fit. hg_joined_part: one byte of it. No other question takes a name.
  * - hg_walk and hg_product_walk: as a question; the start is position 0 and the first turn position 1.
  *   Positions stop at 4,294,967,295: a turn that is further on is told as that one.
+ * - hg_compose_each, hg_inverse_each, hg_powi_each and the same of a product: one call for all places of the
+ *   lists. Each returns the refusal's number, 0 for accepted; out has then at each place what the single call
+ *   answers there. told gets that number and its three places, as out of a build, and as the fifth the place
+ *   of the lists that was refused, from 0 (0 where there is none). 4 is for the lists, before anything else,
+ *   a bad handle too, and no single call gives it; then the first place that the single call refuses, with
+ *   its refusal. out is as it was after every refusal. Empty lists are fine whatever the handle. A told too
+ *   short is 4 before that, and no list is touched; in a longer one the rest is as it was.
  * - What a build leaves: refused before it starts (1 to 4, 14, 18, and 15 to 17 given then), every list but
  *   out as it was; refused later, 0 in all that it needs of table, work and maps; accepted, 0 in the
  *   work, and in table and maps beyond the last element.
@@ -133,7 +142,8 @@ enum {
     HG_TOO_MANY_GENERATORS = 1, /* more than 8 generators (how many) */
     HG_ORDER_COUNT = 2,         /* the list of orders is not n(n - 1)/2 long */
     HG_BAD_ORDER = 3,           /* an order outside 2 to 32,767 (its index in the list) */
-    HG_BAD_ROOM = 4,            /* a room of 0 or above 65,535, or a lent list too short */
+    HG_BAD_ROOM = 4,            /* a room of 0 or above 65,535, or a lent list too short; or lists of places
+                                   that differ in length or pass 4,096 */
     HG_BEYOND_ROOM = 5,         /* an element is needed beyond the room (element, generator) */
     HG_WORD_TOO_LONG = 6,       /* its word would pass 4,096 generators (element, generator) */
     HG_SKIPS_AHEAD = 7,         /* a composed number skips ahead (element, generator, number) */
@@ -176,6 +186,10 @@ typedef struct {
 /* How many bytes an hg_name has, and the longest joined name. */
 #define HG_NAME 33
 #define HG_JOINED 277
+
+/* How many places the lists of one call may have, and how many numbers tell its verdict. */
+#define HG_PLACES 4096
+#define HG_TOLD 5
 
 /* The functions. tools/header.py writes them. */
 
@@ -407,6 +421,50 @@ uint64_t hg_image_write(const uint32_t *table, size_t table_len, size_t start, u
  * hg_image_check does, with the places, where 4 is for a short table or work. */
 uint32_t hg_image_read(const uint8_t *bytes, size_t bytes_len, uint32_t *table, size_t table_len,
     size_t start, uint32_t *work, size_t work_len, uint32_t *out, size_t out_len);
+
+/* libcapi_lists.a */
+
+/* Writes to each place of out the inverse of the element of a there. Refuses as hg_compose_each
+ * does, the places as hg_inverse. */
+uint32_t hg_inverse_each(const uint32_t *table, size_t table_len, size_t start, uint32_t room,
+    uint8_t n, uint32_t count, const uint32_t *a, size_t a_len, uint32_t *out, size_t out_len,
+    uint32_t *told, size_t told_len);
+
+/* Writes to each place of out the power of the element of a there by the exponent there, the
+ * inverse's power where that is negative. Refuses as hg_compose_each does, the places as
+ * hg_inverse. */
+uint32_t hg_powi_each(const uint32_t *table, size_t table_len, size_t start, uint32_t room,
+    uint8_t n, uint32_t count, const uint32_t *a, size_t a_len, const int32_t *exponents,
+    size_t exponents_len, uint32_t *out, size_t out_len, uint32_t *told, size_t told_len);
+
+/* Writes to each place of out the product a * b of the elements there. Refuses as
+ * hg_compose_each does, the places as hg_product_compose. */
+uint32_t hg_product_compose_each(const uint32_t *table, size_t table_len, const uint32_t *handles,
+    size_t handles_len, uint8_t count, const uint32_t *a, size_t a_len, const uint32_t *b,
+    size_t b_len, uint32_t *out, size_t out_len, uint32_t *told, size_t told_len);
+
+/* Writes to each place of out the inverse of the element of a there. Refuses as hg_compose_each
+ * does, the places as hg_product_inverse. */
+uint32_t hg_product_inverse_each(const uint32_t *table, size_t table_len, const uint32_t *handles,
+    size_t handles_len, uint8_t count, const uint32_t *a, size_t a_len, uint32_t *out,
+    size_t out_len, uint32_t *told, size_t told_len);
+
+/* Writes to each place of out the power of the element of a there by the exponent there, the
+ * inverse's power where that is negative. Refuses as hg_compose_each does, the places as
+ * hg_product_powi. */
+uint32_t hg_product_powi_each(const uint32_t *table, size_t table_len, const uint32_t *handles,
+    size_t handles_len, uint8_t count, const uint32_t *a, size_t a_len, const int32_t *exponents,
+    size_t exponents_len, uint32_t *out, size_t out_len, uint32_t *told, size_t told_len);
+
+/* libcapi_lists_compose.a */
+
+/* Writes to each place of out the product a * b of the elements there. Refuses in this order,
+ * and leaves out as it was then: 4 for a told shorter than 5, which stays as it was too; 4 for
+ * lists of different lengths or of more than 4,096 places; then the first place that hg_compose
+ * refuses, as it does. */
+uint32_t hg_compose_each(const uint32_t *table, size_t table_len, size_t start, uint32_t room,
+    uint8_t n, uint32_t count, const uint32_t *a, size_t a_len, const uint32_t *b, size_t b_len,
+    uint32_t *out, size_t out_len, uint32_t *told, size_t told_len);
 
 /* libcapi_names.a */
 

@@ -1,7 +1,7 @@
 #!/usr/bin/env python3
-"""What crates/example_calls and crates/example_names have to print, by the original Rust: each question goes to the oracle, and
-where an argument is past its range, the product is forged or a name is too long, which the Rust does not refuse, the answer is
-document 01's or order 1's. With `--check` each text is compared with the file `stdout` of its crate, which `rt check` holds the
+"""What crates/example_calls, crates/example_names and crates/example_lists have to print, by the original Rust: each question
+goes to the oracle, one for each place of a list, and where an argument is past its range, the product is forged or a name is too
+long, which the Rust does not refuse, the answer is document 01's or that of order 1 or 2. With `--check` each text is compared with the file `stdout` of its crate, which `rt check` holds the
 program to."""
 
 import pathlib
@@ -143,7 +143,35 @@ def names():
     yield "thirty-three refused 17 [........] []"
 
 
-TEXTS = {"example_calls": calls, "example_names": names}
+def listed(what, made, elements, fits, lists, command):
+    """The single questions at each place, into an output of four sevens: 4 where the lengths differ, then the first refused place."""
+    out = ["7"] * 4 if lists[0] else []
+    if any(len(one) != len(out) for one in lists):
+        return "%s refused 4 0 0 0: %s" % (what, " ".join(out))
+    # An exponent may be any; an element is in its range.
+    past = lambda place: [i for i, x in enumerate(place) if (i == 0 or command == "compose") and x >= elements]
+    for i, place in enumerate(zip(*lists)):
+        if past(place) or not fits:
+            return "%s at %d %s 0 0: %s" % (what, i, "refused 17 0" if not fits else "refused 14 %d" % past(place)[0], " ".join(out))
+    asked = [command + "".join(" %d" % x for x in place) for place in zip(*lists)]
+    answers = [lines[0] for _, lines in cases(run([*made, *asked]))[len(made):]]
+    return "%s fine:%s" % (what, "".join(" " + x for x in answers))
+
+
+def over_lists():
+    one, two = product("2 3"), product("2 3", "2 3")
+    exponents = [-1, 0, 2, -(2**31)]
+    asked = [("", one, 6, [1, 3, 0, 5], [3, 1, 5, 5]), ("", one, 6, [1, 3, 6, 7], [3, 8, 5, 5]), ("", one, 6, [1, 3, 9], [3, 1, 5, 5])]
+    first, second = [3, 17, 5, 35], [3, 38, 5, 35]
+    asked += [("product ", two, 36, a, b) for a, b in (([1, 33, 0, 35], first), ([1, 33, 36, 37], second), ([1, 33, 99], first))]
+    for fits in (True, False):
+        for what, made, elements, a, b in asked + [("", one, 6, [], []), ("product ", two, 36, [], [])]:
+            yield listed(what + "compose", made, elements, fits, [a, b], "compose")
+            yield listed(what + "inverse", made, elements, fits, [a], "inverse")
+            yield listed(what + "power", made, elements, fits, [a, exponents if a else []], "powi")
+
+
+TEXTS = {"example_calls": calls, "example_names": names, "example_lists": over_lists}
 
 if __name__ == "__main__":
     if not ORACLE.exists():

@@ -6,8 +6,11 @@ inside the domain of equality its answer must be the recorded one of the Rust, a
 tests/recorded/model.py, written from document 01, expects. Then fresh builds and questions, from a seed that is printed
 (or the first argument), go to the model, the oracle and `ours`; images go to the model and `ours`, since the Rust has
 none. What is made has names now and then, of which no answer knows but the joined one: the Rust's label, where they are
-text. Altered tables and forged handles: an answer or a refusal that is due, 14 or 17 (of a check against orders 2, 3, 13
-or 17), never anything else. And the largest factor that there can be, 65,535 elements, beside the Rust.
+text. A question over lists is answered as the single calls are at its places, by the model and by the Rust, which has no
+lists: of up to 4,096 places, in small groups and in large ones, and with numbers out of range in the tables. Altered tables
+and forged handles: an answer or a refusal that is due, 14 or 17 (of a check against orders 2, 3, 13 or 17), never anything
+else, and over lists what the single calls just said. And the largest factor that there can be, 65,535 elements, beside the
+Rust.
 """
 
 import math
@@ -17,9 +20,10 @@ import sys
 
 HERE = pathlib.Path(__file__).resolve().parent
 sys.path.insert(0, str(HERE / "recorded"))
-from make import FACTORS, abelian, built, cycle, damaged, make_product, named, one_product, one_subgroup, random_columns, random_group, rows_command
-from model import Model, Refused
-from replay import ORACLE, cases, run
+from make import FACTORS, H3, KINDS, NEAR, S3, Z2, abelian, built, cycle, damaged, make_product, more_factors, named, one_product, one_subgroup
+from make import filled, over, over_lists, random_columns, random_group, rotations, rows_command, spoilt_lists, wrong_lengths
+from model import LISTS, Model, Product, Refused, RefusedAt, check_arguments, single_calls
+from replay import ORACLE, cases, listed, run, rust
 
 OURS = (HERE.parent / "target" / "ours", "--echo")
 
@@ -45,10 +49,10 @@ def replay_recorded():
                 differs(path.name, command, want, got)
             compared += 1
     # All but questions to the oracle alone are answered: fewer would mean that the list or the program lost something.
-    if compared < 14000:
+    if compared < 15300:
         sys.exit("only %d of the recorded cases were compared" % compared)
     # Beside its calls on buffers `ours` asks the safe types of the Rust crate, which give the same answers or it ends.
-    if safe < 830000:
+    if safe < 833000:
         sys.exit("only %d answers of the safe types were compared" % safe)
     print("recorded: %d compared, %d for the oracle alone, %d answers of safe types" % (compared, skipped, safe))
 
@@ -137,6 +141,7 @@ def fresh_commands(rng):
     yield from name_commands(rng)
     yield named(random_name(rng))
     yield from product_commands(rng)
+    yield from list_commands(rng)
     # Both sides of the edges of arguments, buffers and words.
     for line in ("room 65535", "table 9 1", "room 0", "enum 2 3", "room 65536", "enum 2 3", "room 65535", "enum 2 1", "enum 2 32768",
                  "table 1 3 1 2 0", "room 2", "table 1 3 1 2 0", "room 3", "table 1 3 1 2 0"):
@@ -173,11 +178,22 @@ def product_commands(rng):
     yield "quiet 0"
 
 
+def list_commands(rng):
+    """Questions over lists in random products: filled in each way, with elements that are none, and of wrong lengths."""
+    for most in (1, 2, 4, 8) * 6:
+        lines, _, total = make_product(rng, FACTORS, most, 2**32 - 1)
+        yield from lines
+        for kind in KINDS:
+            yield from over_lists(rng, kind, total, rng.choice((0, 1, 2, 3, 4, 5, 6, 7, 8, 63, 64, 65, 66, 67, 68, rng.randrange(200))))
+        yield from spoilt_lists(rng, total, rng.choice((1, 2, 5, 64, 65, 130)), 6)
+        yield from wrong_lengths(rng, total, rng.choice((1, 2, 64, 65)), 3)
+
+
 def fresh(seed):
     commands = list(fresh_commands(random.Random(seed)))
-    model, answers, compared = Model(), cases(run(commands, OURS)), 0
-    oracle, apart = cases(run(commands)), False
-    for (command, got), (_, rust) in zip(answers, oracle, strict=True):
+    model, answers, compared, lists = Model(), cases(run(commands, OURS)), 0, 0
+    oracle, apart = rust(commands), False
+    for (command, got), (_, rust_gave) in zip(answers, oracle, strict=True):
         # Where the Rust keeps a word or a predecessor that the successors do not give, it may answer anything.
         stale = command == "build" and model.builder and model.builder.stale()
         try:
@@ -188,15 +204,19 @@ def fresh(seed):
             continue
         # The Rust has no name that is not text, and names what is flattened, or a subgroup, as we do not; and its current product is another after a build that
         # it alone takes.
-        other = rust == ["unsupported"] or command in ("flatname", "subname") or apart and command.startswith("joined")
-        if want and not want[0].startswith("refused") and not stale and not other and rust != want:
-            differs("model and oracle", command, want, rust)
+        other = rust_gave == ["unsupported"] or command in ("flatname", "subname") or apart and command.startswith("joined")
+        answered = want and "refused" not in want[0]
+        if answered and not stale and not other and rust_gave != want:
+            differs("model and oracle", command, want, rust_gave)
         if got != want:
             differs("fresh, seed %s" % seed, command, want, got)
         if command in ("build", "clear", "prod"):
-            apart = command == "build" and rust != want
+            apart = command == "build" and rust_gave != want
         compared += bool(want)
-    print("fresh: %d compared, seed %s" % (compared, seed))
+        lists += command.split()[0] in LISTS
+    if lists < 500:
+        sys.exit("only %d questions over lists were compared" % lists)
+    print("fresh: %d compared, %d of them over lists, seed %s" % (compared, lists, seed))
 
 
 def damaged_images(rng, image):
@@ -312,6 +332,152 @@ def walks(seed):
     print("walks: %d compared, %d turns, seed %s" % (sum(want is not None for _, want in asked), sum(want is not None for _, want in steps), seed))
 
 
+def refusal_over_lists(command, total):
+    """Order 2's: 4; or 14 at the first place that has an element that is none."""
+    try:
+        for place, call in enumerate(single_calls(command)):
+            single, *numbers = call.split()
+            try:
+                check_arguments((int(x), total) for x in (numbers[:1] if single == "powi" else numbers))
+            except Refused as refused:
+                raise RefusedAt(place, refused) from None
+    except Refused as refused:
+        return [str(refused)]
+
+
+def long_lists(seed):
+    """Lists of up to 4,096 places, in groups that are too large for the model: beside the Rust's single calls."""
+    rng, asked, places = random.Random(seed), [], 0
+    h4, e6, order, turn = "enum 4 5 2 3 2 2 3", "enum 6 2 2 3 3 2 3 2 2 2 3 2 2 2 2 3", "enum 2 4096", abelian([4097])
+    quaternions = next(more_factors())
+    groups = [[], ["enum 0"], [S3], [abelian([3])], [abelian([5])], [abelian([7, 8, 9])], [quaternions], [rotations()], [H3], [h4], [e6], [order], [turn]]
+    groups += [["enum 0"] * 8, [H3] * 2, [h4, e6], [S3] * 8, [rotations(), quaternions, abelian([2, 9])], [abelian([k]) for k in NEAR]]
+    for factors in groups:
+        setup = ["clear", *("factor " + line for line in factors), "prod"]
+        total = int(cases(run(setup))[-1][1][0].split()[2])
+        right = [line for length in (0, 1, 2, 3, 4, 5, 63, 64, 65, 129) for kind in KINDS for line in over_lists(rng, kind, total, length)]
+        many = [rng.choice(list(over_lists(rng, rng.choice(KINDS[:3]), total, 4095))), *over_lists(rng, rng.choice(KINDS[:3]), total, 4096)]
+        # A power where words have thousands of letters takes too long.
+        right += [line for line in many if not (line.startswith("powers") and factors in ([order], [turn]))]
+        wrong = [*spoilt_lists(rng, total, 129, 3), *spoilt_lists(rng, total, 4096, 3), *wrong_lengths(rng, total, 4096, 2), over("inverses", [0] * 4097)]
+        answers = rust([*setup, *right])
+        asked += answers + [(command, refusal_over_lists(command, total)) for command in wrong]
+        places += sum(len(lines[0].split()) - 1 for _, lines in answers[len(setup) :])
+    for (command, want), (_, got) in zip(asked, cases(run([command for command, _ in asked], OURS)), strict=True):
+        if got != want:
+            differs("long lists, seed %s" % seed, command[:200], [line[:200] for line in want or []], [line[:200] for line in got])
+    if places < 350000:
+        sys.exit("only %d places of long lists were compared" % places)
+    print("long lists: %d compared, %d places, seed %s" % (len(asked), places, seed))
+
+
+class Altered(Product):
+    """Of tables with numbers out of range, which are None here: 17 where one is read, and it is read as document 01 says. "`compose`
+    walks the word of the second from the first", which holds where that has at most five letters; a power halves its exponent at
+    each call, and one by a negative exponent is the inverse's."""
+
+    def compose(self, a, b):
+        digits = []
+        for f, x, y in zip(self.factors, self.split(a), self.split(b)):
+            for g in f.words[y]:
+                x = self.read(f.rows[x][g])
+            digits.append(x)
+        return self.join(digits)
+
+    def inverse(self, a):
+        return self.join([self.read(f.inverses[x]) for f, x in zip(self.factors, self.split(a))])
+
+    def powi(self, a, i):
+        if i < 0:
+            return self.powi(self.inverse(a), -i)
+        if i == 0:
+            return 0
+        x = self.powi(a, i // 2)
+        x = self.compose(x, x)
+        return self.compose(x, a) if i % 2 else x
+
+    @staticmethod
+    def read(number):
+        if number is None:
+            raise Refused(17)
+        return number
+
+
+def altered_lists(seed):
+    """One number of a table out of range: the places that read it are refused by 17, if none is refused before."""
+    rng, asked, met = random.Random(seed), [], {4: 0, 14: 0, 17: 0, "ok": 0}
+    small = [Z2, S3, "enum 2 4", "enum 2 5", "enum 3 2 2 2", abelian([3]), abelian([5]), abelian([2, 3]), next(more_factors())]
+    for turn in range(120):
+        chosen = [rng.choice(small) for _ in range(rng.choice((1, 1, 2, 3)))]
+        model, starts, end = Model(), [], 0
+        asked += [(line, model.answer(line)) for line in ("clear", "room 10", *("factor " + line for line in chosen), "prod")]
+        for f, line in zip(model.product.factors, chosen):
+            # `ours` leaves seven numbers free on both sides of a stretch; rows that are given have no more room than they need.
+            starts.append(end + 7)
+            end += 14 + (2 * f.n + 4) * (f.count if line.startswith("table") else 10)
+        k = rng.randrange(len(chosen))
+        f, total = model.product.factors[k], model.product.count
+        e, g = rng.randrange(f.count), rng.randrange(f.n)
+        row = starts[k] + e * (2 * f.n + 4)
+        if rng.random() < 0.5:
+            f.rows[e][g], cell, number = None, row + g, rng.choice((0, f.count + 1, 2**32 - 1))
+        else:
+            f.inverses[e], cell, number = None, row + 2 * f.n + 3, rng.choice((f.count, 2**31, 2**32 - 1))
+        model.product = Altered(model.product.factors)
+        asked.append(("alter %d %d" % (cell, number), []))
+        lines = ["inverse %d" % rng.randrange(total), "compose %d %d" % (rng.randrange(total), rng.randrange(total))]
+        for length in (1, 2, 3, 4, 5, rng.choice((63, 64, 65, 129)), 4096 if turn % 10 == 0 else 9):
+            lines += over_lists(rng, rng.choice(KINDS[:3]), total, length)
+            # Where few places read it, it is met late.
+            lines.append(over("inverses", filled(rng, "rare", total, length)))
+            lines += spoilt_lists(rng, total, length, 2)
+        lines += wrong_lengths(rng, total, 3, 2)
+        for line in lines:
+            try:
+                want = model.answer(line)
+            except Refused as refused:
+                want = [str(refused)]
+            asked.append((line, want))
+            if line.split()[0] in LISTS:
+                met["ok" if want[0].startswith("ok") else int(want[0].split()[-4])] += 1
+    for (command, want), (_, got) in zip(asked, cases(run([command for command, _ in asked], OURS)), strict=True):
+        if got != want:
+            differs("altered lists, seed %s" % seed, command[:200], [line[:200] for line in want], [line[:200] for line in got])
+    # Each kind is met some hundred times: fewer would mean that nothing was altered, or not what is read.
+    if min(met.values()) < 200:
+        sys.exit("altered lists: too few of a kind: %s" % met)
+    print("altered lists: %s, seed %s" % (", ".join("%s %d times" % kind for kind in met.items()), seed))
+
+
+def forged_lists():
+    """Handles that do not fit and products of too many factors: 4 for the lengths comes before them, and empty lists are fine
+    whatever they are. "Calls on handles check 17 in the handle, then 14, then 15"."""
+    fits_not, too_many = "at 0 refused 17 0 0 0", "at 0 refused 15 0 0 0"
+    handles = ("0 0 2 6", "7 5 2 6", "7 6 9 6", "7 6 2 0", "100000000 6 2 6", "7 65535 8 6")
+    ways = [(["clear", "room 6", "factor enum 2 3", *more, "prod", "forge " + handle], 6, fits_not) for handle in handles for more in ([], ["factor enum 1"])]
+    ways += [(["clear", "room 6", "factor enum 2 3", "prod", "forgecount 2"], 6, fits_not)]
+    ways += [(["clear", "room 6", *["factor enum 2 3"] * 8, "prod", "forgecount 9"], 6**8, too_many)]
+    commands, asked = [], {}
+    for setup, total, refused in ways:
+        commands += setup
+        first = "at 0 refused 14 0 0 0" if refused == too_many else refused
+        for line, want in (
+            *((line, refused) for line in ("composes 1 1", "inverses 1", "powers 1 -1", "composes 1,2,3 3,2,1", "inverses 0,0", "powers 0,0 0,0")),
+            *((over(*lists), first) for lists in (("composes", [total], [1]), ("inverses", [total, 1]), ("powers", [total], [0]))),
+            *((line, "refused 4 0 0 0") for line in ("composes 1,1 1", "composes 1 -", "inverses 1 +1", "powers 1 -", "powers 1 1 -1")),
+            (over("inverses", [total] * 4097), "refused 4 0 0 0"),
+            *((line, "ok") for line in ("composes - -", "inverses -", "powers - -")),
+        ):
+            asked[len(commands)] = want
+            commands.append(line)
+    answers = cases(run(commands, OURS))
+    for place, want in asked.items():
+        command, got = answers[place]
+        if got != [want]:
+            differs("forged lists", command[:200], [want], got)
+    print("forged lists: %d compared" % len(asked))
+
+
 # The refusals that are due of each question, whatever stands in the buffers and the handles.
 DUE = {
     "checked": (2, 3, 13, 17),
@@ -325,6 +491,11 @@ DUE = {
     "joined": (15, 17, 18),
     "image": (4, 17),
 }
+
+
+def asked_both_ways(lines):
+    """Questions over lists, each after the single calls at its places."""
+    return (call for line in lines for call in (*single_calls(line), line))
 
 
 def garbage_commands(rng):
@@ -344,6 +515,9 @@ def garbage_commands(rng):
         yield from ("inverse %d" % number(), "inverse 3", "gens", "count", "length %d" % number(), "split %d" % number())
         yield from ("powi %d %d" % (rng.choice((1, 3, number())), rng.randint(-(2**31), 2**31 - 1)), "period %d" % rng.choice((1, 3, number())))
         yield "joined %d" % rng.choice((0, 1, 12, 277, 300))
+        for length in (0, 1, 3, 7, rng.choice((4, 64, 65, 130))):
+            yield from asked_both_ways(over_lists(rng, "any", rng.choice((2, 3, 6, 6, 7, 24)), length))
+        yield from ("composes 1,2 1", "inverses 1 +1", "powers 1,2 3,4 -1")
         yield from ("project %d %d" % (rng.randrange(3), number()), "inject %d %d" % (rng.randrange(3), number()), "join %d %d %d" % (number(), number(), number()))
 
     def members(count):
@@ -367,6 +541,15 @@ def garbage_commands(rng):
         yield from ("checked", "checked %d" % rng.choice((3, 2, number())), "checked 3 2 3", "checked 3 %d 3" % rng.choice((2, 7)))
         yield from ("flatten", "image", "sub %d %d" % (rng.choice((1, 2, number())), rng.choice((1, 3))))
         yield "subpred " + members(math.prod(factors[line] for line in chosen))
+    # Long words, and lists of many places.
+    long = (H3, "enum 2 31", "enum 4 3 2 3 2 2 3", abelian([40]), rotations())
+    for _ in range(60):
+        chosen = [rng.choice(long) for _ in range(rng.choice((1, 1, 2)))]
+        yield from ("clear", "room 120", *("factor " + line for line in chosen), "prod")
+        for _ in range(rng.randint(1, 6)):
+            yield "alter %d %d" % (rng.randrange(1300), rng.choice((rng.randrange(40), number())))
+        for kind in KINDS[:3]:
+            yield from asked_both_ways(over_lists(rng, kind, rng.choice((30, 40, 41)), rng.choice((5, 16, 64, 65, 130, 200))))
     for _ in range(150):
         yield from ("clear", "room %d" % rng.choice((3, 8)), "builder %d" % rng.choice((1, 2, 3)))
         for _ in range(rng.randint(1, 12)):
@@ -386,11 +569,25 @@ def garbage_commands(rng):
 
 def garbage(seed):
     commands, asked, word = list(garbage_commands(random.Random(seed))), 0, None
-    for command, lines in cases(run(commands, OURS)):
+    answers, lists = cases(run(commands, OURS)), {}
+    for place, (command, lines) in enumerate(answers):
         name = command.split()[0]
         if name in ("clear", "room", "name", "factor", "prod", "alter", "forge", "forgecount", "forgename", "altermap", "altersub", "builder") or lines in (["unsupported"], ["no builder"], ["no subgroup"]):
             continue
         words = lines[0].split()
+        if name in LISTS:
+            # The single calls were asked just before, in order, unless the lengths are wrong, which comes before all else.
+            try:
+                before = answers[place - len(single_calls(command)) : place]
+                want = listed([lines[0] for _, lines in before])
+            except Refused as refused:
+                want = str(refused)
+            if lines != [want]:
+                differs("altered, seed %s" % seed, command, [want], lines)
+            kind = words[0] if words[0] != "at" else "at " + words[3]
+            lists[kind] = lists.get(kind, 0) + 1
+            asked += 1
+            continue
         due = DUE.get(name, (14, 15, 17))
         fine = words[0] in ("ok", "new", "known") or words[0].isdigit() or words[0] == "refused" and int(words[1]) in due
         if not fine:
@@ -400,7 +597,9 @@ def garbage(seed):
             differs("altered, seed %s" % seed, command, word, lines)
         word = lines
         asked += 1
-    print("altered: %d questions, seed %s" % (asked, seed))
+    if min(lists.get(kind, 0) for kind in ("ok", "at 14", "at 17", "refused")) < 100:
+        sys.exit("altered: too few questions over lists: %s" % lists)
+    print("altered: %d questions, %d of them over lists, seed %s" % (asked, sum(lists.values()), seed))
 
 
 def largest():
@@ -438,9 +637,12 @@ if __name__ == "__main__":
     other_calls()
     images(seed)
     walks(seed)
+    forged_lists()
+    altered_lists(seed)
     garbage(seed)
     if ORACLE.exists():
         largest()
+        long_lists(seed)
         fresh(seed)
     else:
         print("fresh: not compared, since the oracle is not built (oracle/build.sh)")

@@ -13,6 +13,7 @@ whole() {
     out=$(cargo run --offline --quiet --release --package hypergroup --example stream)
     says '^on the screen: cube$'
     says '^both viewers are at state 14$'
+    says '^all 6 tiles of the wall are at state 14$'
     says 'refused (12): no group has these right steps'
     says 'refused (16): the image is malformed'
 }

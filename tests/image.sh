@@ -1,7 +1,7 @@
 #!/bin/sh
-# After host/build.sh, which makes the archives. The C header, the image's C functions and those that have names: the header is what the crates export, and C and C++
-# compilers take it with warnings as errors; the example in its head runs; libhypergroup.a has every function; tests/image.c and tests/names.c run over it and over the
-# small archives, linked in either order. Last line 'N passed, M failed'.
+# After host/build.sh, which makes the archives. The C header, the image's C functions, those that have names and those over lists: the header is what the crates export, and
+# C and C++ compilers take it with warnings as errors; the example in its head runs; libhypergroup.a has every function; tests/image.c, tests/names.c and tests/lists.c run
+# over it and over the small archives, linked in either order. Last line 'N passed, M failed'.
 set -eu
 cd "$(dirname "$0")/.."
 . tools/machine.sh
@@ -35,6 +35,10 @@ $compile -O0 -o target/every target/every.c -Ltarget/staticlib -lhypergroup
 for archives in -lhypergroup '-lcapi_names -lcapi_builder -lcapi_factor_compose' '-lcapi_factor_compose -lcapi_builder -lcapi_names'; do
     $compile -O1 -o target/names_test tests/names.c -Ltarget/staticlib $archives
     $emulator target/names_test
+done
+for archives in -lhypergroup '-lcapi_lists -lcapi_lists_compose -lcapi_group -lcapi_factor -lcapi_factor_compose -lcapi_factor_build' '-lcapi_factor_build -lcapi_factor_compose -lcapi_factor -lcapi_group -lcapi_lists_compose -lcapi_lists'; do
+    $compile -O1 -o target/lists_test tests/lists.c -Ltarget/staticlib $archives
+    $emulator target/lists_test
 done
 for archives in -lhypergroup '-lcapi_image -lcapi_factor_compose -lcapi_factor_build' '-lcapi_factor_build -lcapi_factor_compose -lcapi_image'; do
     $compile -O1 -o target/image_test tests/image.c -Ltarget/staticlib $archives

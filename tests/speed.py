@@ -11,8 +11,12 @@ Our archives are for x86-64. Elsewhere they would run under an emulator, and no 
 proved modules are compiled for the machine's own processor (host/build.sh makes target/here/ours), which is not what is
 shipped.
 
-Arguments choose the tables (enumerations, questions, products, walks, ones, names, subgroups, maps, images); without any,
-all are measured."""
+A question over lists is asked in lists of 1 to 4,096 places, each beside our single call and beside the Rust's, which has no
+lists; all of these are asked the same arguments, as many in all, and take turns in one run. The lists are filled while the
+clock runs, as the single calls reckon their arguments then.
+
+Arguments choose the tables (enumerations, questions, products, lists, walks, ones, names, subgroups, maps, images); without
+any, all are measured."""
 
 import pathlib
 import platform
@@ -28,6 +32,7 @@ from replay import cases, run
 
 S3, H3, H4 = "2 3", "3 5 2 3", "4 5 2 3 2 2 3"
 E6, B6 = "6 2 2 3 3 2 3 2 2 2 3 2 2 2 2 3", "6 4 2 3 2 2 3 2 2 2 3 2 2 2 2 3"
+B4, F4, A5 = "4 4 2 3 2 2 3", "4 3 2 4 2 2 3", "5 3 2 3 2 2 3 2 2 2 3"
 LONG = "5 4092 2 2 2 2 2 2 2 2 2"
 
 
@@ -165,6 +170,24 @@ def walks():
             print("| %s, %d turns | %.1f | %.1f | %.1f | %.2f | %.2f |" % (name, turns, whole, calls, rust, rust / whole, calls / whole), flush=True)
 
 
+def lists():
+    """Places of lists: of one call for the list, of a call a place, and of the Rust's single calls. Between H3 and H4 stand groups
+    of 384, 720 and 1,152 elements, by whose size it shows from where on products are worth working out side by side."""
+    table("question, places a list", "ours, ns a place", "a call a place, ns", "Rust, ns", "times as fast as the Rust", "as a call a place")
+    all_sizes, both_ends = (1, 16, 256, 4096), (1, 4096)
+    asked = [("compose", "composes", all_sizes, 40960), ("inverse", "inverses", both_ends, 409600), ("powi", "powers", both_ends, 4096)]
+    for name, factors in (("S3", [S3]), ("H3", [H3]), ("B4", [B4]), ("A5", [A5]), ("F4", [F4]), ("H4", [H4]), ("E6", [E6]), ("order 4096", ["2 4096"]),
+                          ("H3 by H3", [H3] * 2), ("eight S3", [S3] * 8), ("H4 by E6", [H4, E6])):
+        setup = ["clear", *("factor enum " + orders for orders in factors), "prod"]
+        for single, question, sizes, turns in asked[:1] if factors[0] in (B4, A5, F4) else asked:
+            turns = min(turns, 4096) if name == "order 4096" and single == "compose" else turns
+            each = [*setup, "bench %s %d" % (single, turns)]
+            runs = [([*setup, "bench %s %d %d" % (question, places, turns)], (OURS,)) for places in sizes]
+            *over, one, rust = (s * 1e9 / turns for s in least(*runs, (each, (OURS,)), (each, ())))
+            for places, took in zip(sizes, over):
+                print("| %s, %s, %d | %.1f | %.1f | %.1f | %.2f | %.2f |" % (name, single, places, took, one, rust, rust / took, one / took), flush=True)
+
+
 def names():
     """The joined name of a product, in a buffer that is there; the Rust's label is a text that it allocates."""
     table("product, names", "ours, ns", "Rust, ns", "times as fast")
@@ -220,7 +243,7 @@ if __name__ == "__main__":
         OURS = (HERE.parent / "target" / "here" / "ours", "--echo")
         if not OURS[0].exists():
             sys.exit("%s is not there: host/build.sh makes it" % OURS[0].relative_to(HERE.parent))
-    tables = {f.__name__: f for f in (enumerations, questions, products, walks, ones, names, subgroups, maps, images)}
+    tables = {f.__name__: f for f in (enumerations, questions, products, lists, walks, ones, names, subgroups, maps, images)}
     for name in sys.argv[1:] or tables:
         print("\n%s\n" % name.capitalize())
         tables[name]()

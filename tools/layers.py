@@ -21,10 +21,11 @@ MAY_NAME = {
     "subgroup": "theory egg build factor group",
     "image": "theory egg build factor",
     "names": "theory egg build factor enumeration group image",
+    "lists": "theory egg build factor group",
     "listing": "egg build factor enumeration",
-    "example": "egg build factor enumeration group subgroup image names",
-    "capi": "theory egg build factor enumeration group subgroup image names",
-    "promises": "theory egg build factor enumeration group subgroup image names listing capi",
+    "example": "egg build factor enumeration group subgroup image names lists",
+    "capi": "theory egg build factor enumeration group subgroup image names lists",
+    "promises": "theory egg build factor enumeration group subgroup image names lists listing capi",
 }
 # The toolchain's own libraries, which any crate may name.
 KIT = {"io", "libc", "os", "bytes", "check"}

@@ -8,7 +8,7 @@ sees that each title in differences.txt has its heading in docs/DIFFERENCES.md.
 
 import sys
 
-from replay import HERE, ORACLE, cases, run
+from replay import HERE, ORACLE, cases, rust
 
 
 def check_headings():
@@ -24,7 +24,7 @@ def main():
     total = 0
     for path in sorted(HERE.glob("*.txt")):
         recorded = cases(path.read_text().splitlines())
-        answers = cases(run([command for command, _ in recorded]))
+        answers = rust([command for command, _ in recorded])
         count = 0
         for i, (command, lines) in enumerate(recorded):
             want = [line for line in lines if not line.startswith("= ")]

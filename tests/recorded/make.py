@@ -17,7 +17,11 @@ model and the oracle both speak they are compared, and nothing is written if
 they disagree in a way that docs/DIFFERENCES.md does not list. Where the oracle
 says `unsupported`, the Rust has nothing of the kind, and the model speaks alone.
 
+A question over lists, of which the Rust has none, is put to the oracle place by
+place by its single calls, and its answer is what replay.py makes of theirs.
+
 Run it after oracle/build.sh. The same oracle gives the same bytes each time.
+Arguments choose the themes; without any, all are made.
 """
 
 import itertools
@@ -26,7 +30,7 @@ import random
 import sys
 
 from model import Model, Refused, enumerate_orders, spaced
-from replay import HERE, cases, run
+from replay import HERE, rust
 
 
 def rows_command(n, count, rows):
@@ -615,6 +619,138 @@ def names():
     yield from ["subleft " + Z2, "subgens", "s2o 3", "o2s 9", S3, "against table 1 3 1 2 0 |"]
 
 
+# ----------------------------------------------------------------------- lists
+
+# Ways to fill a list. Words get longer as the numbers of elements grow, so that low and high numbers are short and long words.
+KINDS = ("any", "in turn", "rare", "identity", "longest")
+
+
+def filled(rng, kind, total, length):
+    first = rng.randrange(2)
+
+    def element(place):
+        if kind == "any":
+            return rng.randrange(total)
+        if kind in ("identity", "longest"):
+            return 0 if kind == "identity" else total - 1
+        low = rng.randrange(min(4, total))
+        high = place % 2 == first if kind == "in turn" else rng.random() < 0.1
+        return total - 1 - low if high else low
+
+    return [element(place) for place in range(length)]
+
+
+def exponents(rng, length):
+    def one():
+        return rng.choice((0, 1, -1, 2, -2, 3, 2**31 - 1, -(2**31), rng.randint(-50, 50), rng.randint(-(2**31), 2**31 - 1)))
+
+    return [one() for _ in range(length)]
+
+
+def over(name, *lists):
+    """A question over these lists; `-` is one with no place. A word for the output list is taken as it is."""
+    return spaced(name, *(x if isinstance(x, str) else ",".join(map(str, x)) or "-" for x in lists))
+
+
+def over_lists(rng, kind, total, length):
+    """Each question over lists of so many places, filled in one way."""
+    yield over("composes", filled(rng, kind, total, length), filled(rng, kind, total, length))
+    yield over("inverses", filled(rng, kind, total, length))
+    yield over("powers", filled(rng, kind, total, length), exponents(rng, length))
+
+
+def some(rng, ways, few):
+    """A few of these ways to ask, or all."""
+    return [over(*way) for way in (ways if few is None else rng.sample(ways, few))]
+
+
+def spoilt_lists(rng, total, length, few=None):
+    """Elements that are none in the first list, in the second and in both: at its first place, at its last, and at any few. The
+    first place counts, and there the first list. An exponent is never out of range."""
+    a, b, powers = filled(rng, "any", total, length), filled(rng, "any", total, length), exponents(rng, length)
+
+    def any_few():
+        return rng.sample(range(length), min(length, rng.randint(1, 3)))
+
+    def spoilt(numbers, at):
+        return [total + rng.randrange(3) if place in at else x for place, x in enumerate(numbers)]
+
+    ways = []
+    for at in ([0], [length - 1], any_few(), any_few()):
+        for first, second in ((at, []), ([], at), (any_few(), at), (at, at)):
+            ways.append(("composes", spoilt(a, first), spoilt(b, second)))
+        ways += [("inverses", spoilt(a, at)), ("powers", spoilt(a, at), powers)]
+    return some(rng, ways, few)
+
+
+def wrong_lengths(rng, total, length, few=None):
+    """Lists that differ in length, by one place and by all of them, and an output list of one place more or less: 4, before an
+    element that is none."""
+    right, powers = filled(rng, "any", total, length + 1), exponents(rng, length + 1)
+    ways = [("composes", "-", "-", "+1"), ("inverses", "-", "+1"), ("powers", "-", "-", "+1")]
+    for a in (right, [*right[: length - 1], total, total]):
+        for k, m in ((length, length + 1), (length + 1, length), (0, length), (length, 0)):
+            ways += [("composes", a[:k], a[:m]), ("powers", a[:k], powers[:m])]
+        for out in ("+1", "-1"):
+            whole = a[:length]
+            ways += [("composes", whole, whole, out), ("inverses", whole, out), ("powers", whole, powers[:length], out)]
+    return some(rng, ways, few)
+
+
+H3 = "enum 3 5 2 3"
+
+
+def rotations():
+    """The table of a subgroup: the rotations of H3, by two that are no involutions."""
+    model = Model()
+    for line in ("factor " + H3, "prod"):
+        model.answer(line)
+    p = model.product
+    model.answer(spaced("sub", p.compose(1, 2), p.compose(2, 3)))
+    return rows_command(2, 60, model.sub.factor.rows)
+
+
+# Within four of the most elements that a product can have.
+NEAR = [331, 151, 341, 63, 4]
+
+
+def lists():
+    rng = random.Random(7)
+    z3, z5, quaternions = abelian([3]), abelian([5]), next(more_factors())
+    groups = [[], ["enum 0"], [Z2], [S3], [z3], [z5], [quaternions], [abelian([3, 4, 5])], [rotations()], [H3]]
+    groups += [["enum 0"] * 8, [S3, Z2], [z3, S3, quaternions], [S3] * 8, [H3, H3]]
+    groups += [[abelian([k]) for k in NEAR]]
+    for factors in groups:
+        yield from ["clear", *("factor " + line for line in factors), "prod"]
+        total = math.prod(Model().make(line.split()).count for line in factors)
+        for length in (0, 1, 2, 3, 4, 5):
+            yield from over_lists(rng, rng.choice(KINDS), total, length)
+        for length in (1, 2, 5):
+            yield from spoilt_lists(rng, total, length, 3 * length)
+        yield from wrong_lengths(rng, total, 3)
+    yield "# All products and inverses of S3, and all powers by the exponents at the edges."
+    yield from ["clear", "factor " + S3, "prod", "inverses 0,1,2,3,4,5"]
+    yield over("composes", [a for a in range(6) for _ in range(6)], [*range(6)] * 6)
+    edges = (0, 1, -1, 2, -2, 2**31 - 1, -(2**31), 1 - 2**31)
+    yield over("powers", [a for a in range(6) for _ in edges], edges * 6)
+    for factors in ([H3], [quaternions, H3]):
+        yield "# About 64 places and twice that; 65 are filled in every way."
+        yield from ["clear", *("factor " + line for line in factors), "prod"]
+        total = math.prod(Model().make(line.split()).count for line in factors)
+        for length in (63, 64, 65, 129):
+            for kind in KINDS if length == 65 else rng.sample(KINDS, 2):
+                yield from over_lists(rng, kind, total, length)
+            yield from spoilt_lists(rng, total, length, 4)
+            yield from wrong_lengths(rng, total, length, 2)
+    yield "# As many places as there may be, and one more."
+    yield from ["clear", "factor " + H3, "prod"]
+    yield over("composes", filled(rng, "any", 120, 4096), filled(rng, "any", 120, 4096))
+    yield over("inverses", filled(rng, "any", 120, 4096))
+    yield over("powers", filled(rng, "rare", 120, 4096), [rng.randint(-3, 6) for _ in range(4096)])
+    for name, few in (("composes", 2), ("inverses", 1), ("powers", 2)):
+        yield over(name, *[[0] * 4097] * few)
+
+
 # ------------------------------------------------------------------ differences
 
 
@@ -750,6 +886,7 @@ FILES = {
     "product": products,
     "subgroup": subgroups,
     "names": names,
+    "lists": lists,
     "differences": differences,
 }
 
@@ -842,8 +979,7 @@ def agree(line, expect, said, answer):
 
 def record(name, theme):
     plan = list(commands(theme()))
-    asked = run([line for line, _, _ in plan if not line.startswith("#")])
-    answers = [answer for _, answer in cases(asked)]
+    answers = [answer for _, answer in rust([line for line, _, _ in plan if not line.startswith("#")])]
     text, done = [], 0
     for line, expect, said in plan:
         if line.startswith("#"):
@@ -868,5 +1004,5 @@ def record(name, theme):
 
 
 if __name__ == "__main__":
-    for file, commands_of in FILES.items():
-        record(file, commands_of)
+    for file in sys.argv[1:] or FILES:
+        record(file, FILES[file])

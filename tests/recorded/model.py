@@ -1,6 +1,6 @@
 """What document 01 says of each command that the oracle answers.
 
-Written from document 01, and for names from order 1 of document 02, alone, for clearness and not for speed. `Model.answer`
+Written from document 01, and for names and lists from orders 1 and 2 of document 02, alone, for clearness and not for speed. `Model.answer`
 takes a command of the oracle (oracle/README.md) and gives what is expected of
 a program that follows document 01: the lines of the answer, or the refusal.
 """
@@ -13,6 +13,7 @@ MOST_ELEMENTS = 65535
 MOST_FACTORS = 8
 MOST_PRODUCT = 2**32 - 1
 MOST_NAME = 32
+MOST_PLACES = 4096
 NOT_A_MEMBER = 2**32 - 1
 
 
@@ -25,6 +26,17 @@ class Refused(Exception):
 
     def __str__(self):
         return "refused %d %d %d %d" % (self.number, *self.places)
+
+
+class RefusedAt(Refused):
+    """What the single call says at a place of lists, the first that is refused."""
+
+    def __init__(self, place, refused):
+        super().__init__(refused.number, *refused.places)
+        self.place = place
+
+    def __str__(self):
+        return "at %d %s" % (self.place, super().__str__())
 
 
 class Factor:
@@ -47,6 +59,13 @@ class Factor:
         for g in self.words[b]:
             a = self.rows[a][g]
         return a
+
+    def powi(self, a, i):
+        powers, x = [0], a
+        while x != 0:
+            powers.append(x)
+            x = self.compose(x, a)
+        return powers[i % len(powers)]
 
 
 def places(count, n):
@@ -427,10 +446,7 @@ class Product:
         return k
 
     def powi(self, a, i):
-        x = 0
-        for _ in range(i % self.period(a)):
-            x = self.compose(x, a)
-        return x
+        return self.join(f.powi(x, i) for f, x in zip(self.factors, self.split(a)))
 
     def word(self, a):
         word, offset = [], 0
@@ -552,6 +568,26 @@ def check_arguments(arguments):
             raise Refused(14, i)
 
 
+# ---------------------------------------------------------------------- lists
+
+# Each question over lists: the single call, and how many lists it takes.
+LISTS = {"composes": ("compose", 2), "inverses": ("inverse", 1), "powers": ("powi", 2)}
+
+
+def single_calls(line):
+    """The single calls of a question over lists, place by place. Refusal 4,
+    "when the lists' lengths differ or pass 4,096, before anything else"; the
+    output list is as long as the first, or by the last word one longer or shorter."""
+    name, *rest = line.split()
+    single, count = LISTS[name]
+    lists = [[] if word == "-" else word.split(",") for word in rest[:count]]
+    lengths = [len(numbers) for numbers in lists]
+    out = lengths[0] + sum(int(more) for more in rest[count:])
+    if {*lengths, out} != {out} or out > MOST_PLACES:
+        raise Refused(4)
+    return [spaced(single, *place) for place in zip(*lists)]
+
+
 # ------------------------------------------------------------------- commands
 
 
@@ -654,6 +690,8 @@ class Model:
             return self.make_subgroup(name, rest)
         if name == "flatten":
             return self.show(self.product.flatten(self.room))
+        if name in LISTS:
+            return self.ask_lists(line)
         numbers = [int(x) for x in rest]
         if name in ("joined", "forgename", "forgecount", "flatname", "subname"):
             return self.ask_names(name, numbers)
@@ -733,6 +771,18 @@ class Model:
         else:
             told = self.sub.factor.name
         return [spaced("ok", told.hex() or "-")]
+
+    def ask_lists(self, line):
+        """Order 2: "The result at each place equals the single call at that place.
+        If any place would be refused, the first such place and its refusal come
+        back"."""
+        results = []
+        for place, call in enumerate(single_calls(line)):
+            try:
+                results += self.answer(call)
+            except Refused as refused:
+                raise RefusedAt(place, refused) from None
+        return [spaced("ok", *results)]
 
     def ask_product(self, name, numbers):
         p = self.product

@@ -2,25 +2,84 @@
 // where every number that is looked at is in range, nothing stands above a word's first letter and, for a second element
 // whose word has more than five letters, its inverse has no longer word; else as `factor_questions` defines them.
 ghost use mathlib.Core.Path.{_≡_};
-ghost use mathlib.Core.Bool.{true};
+ghost use mathlib.Core.Bool.{true, false};
 ghost use Prim.Native.Nat.{_+_, _*_, _<_, _≤_};
 ghost use lib.ListN.{length};
+ghost use Rattle.egg.specs.Table.{lengthOf};
 ghost use Rattle.factor_questions.specs.Walks.{composeIn, conjugateIn};
+ghost use Rattle.factor_compose.specs.Routes.{Routed};
 use egg::GroupElementId;
 use egg::Reached;
 
 // Answers whether the rows of all elements stand in the stretch.
-fn rows_within(s: &[u32], n: u8, count: u32) -> bool
+pub fn rows_within(s: &[u32], n: u8, count: u32) -> bool
     ensures { λ r. ⌜ (r ≡ true → count * (2 * n + 4) ≤ length (now (s .entry))) ⌝ }
 {
     (count as usize) * egg::inner::width(n) <= s.len()
 }
 
+// The way to a product whose second word has more than five letters: back along `letters` letters of the word of `word`, from the
+// element `from`, to the product or, where `inverted`, to its inverse. It is `found` where every number that was looked at is in
+// range and the inverse of the second has no longer word.
+pub struct Way {
+    pub found: bool,
+    pub inverted: bool,
+    pub letters: u32,
+    pub from: u32,
+    pub word: u32,
+}
+
+fn no_way() -> Way
+    ensures { λ r. ⌜ r .found ≡ false ⌝ }
+{
+    Way {
+        found: false,
+        inverted: false,
+        letters: 0,
+        from: 0,
+        word: 0,
+    }
+}
+
+// Chooses the way to a·b, where b's word has `len` letters; five and fewer stand in its own row, and need none. Both ways are worked out, so that they join without a branch, which a
+// processor would guess wrong every other time.
+pub fn route(s: &[u32], n: u8, count: u32, a: u32, b: u32, len: u32) -> Way
+    requires { ⌜ (count * (2 * n + 4) ≤ length (now s)) × ((a < count) × ((b < count) × (len ≡ lengthOf (now s) n b))) ⌝ }
+    ensures { λ r. ⌜ (r .found ≡ true → Routed (now (s .entry)) n count a b (r .inverted) (r .letters) (r .from) (r .word)) ⌝ }
+{
+    if len < 6 {
+        return no_way();
+    }
+    if 4096 < len {
+        return no_way();
+    }
+    let i = factor_quick_walks::inner::recorded(s, n, count, GroupElementId(b), 3);
+    if count <= i {
+        return no_way();
+    }
+    let own = factor_quick_walks::inner::recorded(s, n, count, GroupElementId(a), 2);
+    if 4096 < own {
+        return no_way();
+    }
+    let other = factor_quick_walks::inner::recorded(s, n, count, GroupElementId(i), 2);
+    if len < other {
+        return no_way();
+    }
+    let inverted = factor_quick_walks::inner::fewer(own, len);
+    Way {
+        found: true,
+        inverted,
+        letters: egg::inner::chosen(inverted, own, other),
+        from: egg::inner::chosen(inverted, i, a),
+        word: egg::inner::chosen(inverted, a, i),
+    }
+}
+
 // The number of a·b, where the quick walks find it; else the count, and then `compose_with_care` has the answer. A word
-// of at most five letters stands in its own row, and no other is waited for. A longer one is walked back in one of two
-// ways, and both read an inverse at the end, so that they join without a branch, which a processor would guess wrong
-// every other time. (`&s[..]` is passed on to the walk back, and not `s`: that call is not put in line, and a slice that
-// is itself passed on would be copied at the start, for which short words too would wait, up to twice their time.)
+// of at most five letters stands in its own row, and no other is waited for. A longer one is walked back by its route, and
+// an inverse is read at the end of both ways, so that they join without a branch. (`&s[..]` is passed on to the walk back,
+// and not `s`: that call is not put in line, and a slice that is itself passed on would be copied at the start, for which
+// short words too would wait, up to twice their time.)
 fn product_number(s: &[u32], n: u8, count: u32, a: GroupElementId, b: GroupElementId) -> u32
     ensures { λ r. ⌜ (r < count → composeIn (now (s .entry)) n count (a .0) (b .0) ≡ Reached.Element (record { 0 = r })) ⌝ }
 {
@@ -40,32 +99,18 @@ fn product_number(s: &[u32], n: u8, count: u32, a: GroupElementId, b: GroupEleme
         let c = factor_quick_walks::inner::recorded(s, n, count, GroupElementId(second), 1);
         return factor_quick_walks::inner::advance(s, n, count, GroupElementId(first), c, len);
     }
-    if 4096 < len {
+    let way = route(s, n, count, first, second, len);
+    if !way.found {
         return count;
     }
-    let i = factor_quick_walks::inner::recorded(s, n, count, GroupElementId(second), 3);
-    if count <= i {
-        return count;
-    }
-    let own = factor_quick_walks::inner::recorded(s, n, count, GroupElementId(first), 2);
-    if 4096 < own {
-        return count;
-    }
-    let other = factor_quick_walks::inner::recorded(s, n, count, GroupElementId(i), 2);
-    if len < other {
-        return count;
-    }
-    let inverted = factor_quick_walks::inner::fewer(own, len);
-    let letters = egg::inner::chosen(inverted, own, other);
-    let from = egg::inner::chosen(inverted, i, first);
-    let word = egg::inner::chosen(inverted, first, i);
+    let inverted = way.inverted;
     let x = factor_quick_walks::inner::retrace(
         &s[..],
         n,
         count,
-        GroupElementId(from),
-        GroupElementId(word),
-        letters,
+        GroupElementId(way.from),
+        GroupElementId(way.word),
+        way.letters,
     );
     if count <= x {
         return count;

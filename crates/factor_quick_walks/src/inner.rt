@@ -26,7 +26,7 @@ pub fn recorded(s: &[u32], n: u8, count: u32, e: GroupElementId, k: usize) -> u3
 // The step from the element that is stored as y, which is one more than its number; with n for `shift` the step back.
 // The row is found from y itself, so that it need not wait for the 1 to be taken off. What the letter takes off is
 // reckoned in 32 bits, so that the compiler leaves it whole and nothing but one sum waits for the row.
-fn stored_step(s: &[u32], n: u8, count: u32, shift: u8, y: u32, letter: u32) -> u32
+pub fn stored_step(s: &[u32], n: u8, count: u32, shift: u8, y: u32, letter: u32) -> u32
     requires { ⌜ (count * (2 * n + 4) ≤ length (now s)) × ((0 < y) × ((y ≤ count) × ((letter < n) × (shift ≤ n)))) ⌝ }
     ensures { λ r. ⌜ r ≡ getD (now (s .entry)) (startOf n (y - 1) + shift + letter) 0 ⌝ }
 {
@@ -118,7 +118,7 @@ pub fn advance(s: &[u32], n: u8, count: u32, from: GroupElementId, cell: u32, le
 
 // From the element that is stored as `from` back along the letters lowest in a cell: what is stored for the element that they
 // lead to, or 0 where a number is out of range. What stands above the letters has to be below `limit`.
-fn retrace_letters(
+pub fn retrace_letters(
     s: &[u32],
     n: u8,
     count: u32,

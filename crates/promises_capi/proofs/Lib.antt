@@ -5,4 +5,5 @@ pub mod Names
 pub mod NamesAside
 pub mod Records
 pub mod Subgroups
+pub mod Lists
 pub mod Listing

@@ -99,24 +99,24 @@ walk-admits-in len g e w =
     (verdict-pick (limited g) _ _ verdict-fine (verdict-refused _ refl))))
     (verdict-refused _ refl)
 
--- Powers.
-module _ (op : ℕ → ℕ → Reached) (is : (x y : ℕ) → ReachedIn (14 ∷ 15 ∷ 17 ∷ []) (op x y)) where
-  odd-in : (a x r : ℕ) → ReachedIn (14 ∷ 15 ∷ 17 ∷ []) (oddToo op a x r)
+-- Powers, by whichever numbers composing and inverting may be refused.
+module _ {l : List ℕ} (op : ℕ → ℕ → Reached) (is : (x y : ℕ) → ReachedIn l (op x y)) where
+  odd-in : (a x r : ℕ) → ReachedIn l (oddToo op a x r)
   odd-in a x zero = reached-element _
   odd-in a x (suc r) = is x a
 
-  halves-in : (fuel a k : ℕ) → ReachedIn (14 ∷ 15 ∷ 17 ∷ []) (byHalving fuel op a k)
+  halves-in : (fuel a k : ℕ) → ReachedIn l (byHalving fuel op a k)
   unfolding byHalving
   halves-in zero a k = reached-element _
   halves-in (suc fuel) a zero = reached-element _
   halves-in (suc fuel) a (suc k) =
       reached-on (byHalving fuel op a (suc k / 2)) _ (halves-in fuel a (suc k / 2)) (λ x. reached-on (op x x) _ (is x x) (λ y. odd-in a y (suc k % 2)))
 
-  negated-in : (b : Bool) (half i k : ℕ) → ReachedIn (14 ∷ 15 ∷ 17 ∷ []) (negated b half op i k)
+  negated-in : (b : Bool) (half i k : ℕ) → ReachedIn l (negated b half op i k)
   negated-in true half i k = reached-on (byHalving half op i half) _ (halves-in half i half) (λ x. is x x)
   negated-in false half i k = halves-in k i k
 
-  powers-in : (half : ℕ) (inv : ℕ → Reached) → ((x : ℕ) → ReachedIn (14 ∷ 15 ∷ 17 ∷ []) (inv x)) → (a : ℕ) (z : ℤ) → ReachedIn (14 ∷ 15 ∷ 17 ∷ []) (powers half op inv a z)
+  pub powers-in : (half : ℕ) (inv : ℕ → Reached) → ((x : ℕ) → ReachedIn l (inv x)) → (a : ℕ) (z : ℤ) → ReachedIn l (powers half op inv a z)
   unfolding powers
   powers-in half inv q a (pos k) = halves-in k a k
   powers-in half inv q a (negsuc k) = reached-on (inv a) _ (q a) (λ i. negated-in (eqb (suc k) (half + half)) half i (suc k))

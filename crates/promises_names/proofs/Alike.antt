@@ -32,6 +32,9 @@ factor-alike {f} {g} e = rw e (record {
   checks = λ t o. refl;
   images = λ t s. refl;
   image-leaves = λ t o. refl;
+  composes-each = λ t a b o. refl;
+  inverts-each = λ t a o. refl;
+  powers-each = λ t a i o. refl;
 })
 
 pub product-alike : {g h : Group} → g ≡ h → ProductAlike g h
@@ -62,6 +65,9 @@ product-alike {g} {h} e = rw e (record {
   chosen = λ from members table start work inn outw room. refl;
   lefts = λ from table s. refl;
   rights = λ from table s. refl;
+  composes-each = λ t a b o. refl;
+  inverts-each = λ t a o. refl;
+  powers-each = λ t a i o. refl;
 })
 
 pub builder-alike : {b c : Builder} → b ≡ c → BuilderAlike b c

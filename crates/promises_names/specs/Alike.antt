@@ -21,6 +21,8 @@ use Rattle.subgroup_build.specs.Generated.{fromGenerators}
 use Rattle.subgroup_build.specs.declared.Subgroup.{Subgroup}
 use Rattle.subgroup_predicate.specs.Predicate.{fromPredicate}
 use Rattle.subgroup_sides.specs.Sides.{leftProduct, rightProduct}
+use Rattle.lists_factor.specs.Each as factor-lists
+use Rattle.lists_group.specs.Each as product-lists
 
 -- The four numbers of a handle are the same. That nothing else is in a handle, and so no name, is what makes two such handles one.
 pub record SameNumbers (f g : Factor) : Type 0 where
@@ -46,6 +48,10 @@ pub record FactorAlike (f g : Factor) : Type 0 where
   pub checks : (t orders : List ℕ) → checkAnswer t f orders ≡ checkAnswer t g orders
   pub images : (t : List ℕ) (size : ℕ) → writeCount t f size ≡ writeCount t g size
   pub image-leaves : (t out : List ℕ) → writtenImage t f out ≡ writtenImage t g out
+  -- Order 2's calls over lists, with what they leave in the output list.
+  pub composes-each : (t a b out : List ℕ) → factor-lists.composeEach t f a b out ≡ factor-lists.composeEach t g a b out
+  pub inverts-each : (t a out : List ℕ) → factor-lists.inverseEach t f a out ≡ factor-lists.inverseEach t g a out
+  pub powers-each : (t a : List ℕ) (exponents : List ℤ) (out : List ℕ) → factor-lists.powiEach t f a exponents out ≡ factor-lists.powiEach t g a exponents out
 
 -- Every public call that is given a product, those that make a subgroup in one included.
 pub record ProductAlike (g h : Group) : Type 0 where
@@ -77,6 +83,9 @@ pub record ProductAlike (g h : Group) : Type 0 where
       → fromPredicate from g members table start work inn outw room ≡ fromPredicate from h members table start work inn outw room
   pub lefts : (from table : ℕ) (s : Subgroup) → leftProduct from table g s ≡ leftProduct from table h s
   pub rights : (from table : ℕ) (s : Subgroup) → rightProduct from table s g ≡ rightProduct from table s h
+  pub composes-each : (t a b out : List ℕ) → product-lists.composeEach t g a b out ≡ product-lists.composeEach t h a b out
+  pub inverts-each : (t a out : List ℕ) → product-lists.inverseEach t g a out ≡ product-lists.inverseEach t h a out
+  pub powers-each : (t a : List ℕ) (exponents : List ℤ) (out : List ℕ) → product-lists.powiEach t g a exponents out ≡ product-lists.powiEach t h a exponents out
 
 -- Every public call that is given a build under way.
 pub record BuilderAlike (b c : Builder) : Type 0 where

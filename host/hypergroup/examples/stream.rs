@@ -29,6 +29,14 @@ impl DelayedViewer {
     }
 }
 
+/// A page of tiles, each with a lag of its own: what each shows and what it has missed are two lists, and one call brings all of them to where the match is.
+fn wall(puzzle: &Factor, turns: &[Generator], lags: &[usize]) -> Result<Vec<Element>, Refusal> {
+    let walked = |turns: &[Generator]| puzzle.walk(Element::IDENTITY, turns);
+    let shown: Vec<Element> = lags.iter().map(|lag| walked(&turns[..turns.len() - lag])).collect::<Result<_, _>>()?;
+    let missed: Vec<Element> = lags.iter().map(|lag| walked(&turns[turns.len() - lag..])).collect::<Result<_, _>>()?;
+    Ok(puzzle.compose_each(&shown, &missed)?)
+}
+
 /// The move table that once went out with two steps crossed: single turns drew one state, and the catch-up product another.
 const CROSSED: [u32; 64] = [
     1, 2, 3, 4, 0, 5, 6, 7, 5, 0, 8, 9, 6, 8, 0, 10, 7, 9, 10, 0, 2, 1, 11, 12, 3, 12, 1, 13, 4, 11, 13, 1, 11, 3, 2, 14, 12, 4, 14, 2, 13,
@@ -69,6 +77,10 @@ fn main() -> Result<(), Refusal> {
     let sent = puzzle.to_image()?;
     let turns = [0, 1, 2, 1, 0, 2, 1, 0, 1, 2, 0].map(Generator);
     stream(&sent, &turns, 4)?;
+
+    let tiles = wall(&puzzle, &turns, &[0, 1, 2, 5, 7, 11])?;
+    assert!(tiles.iter().all(|&tile| tile == tiles[0]));
+    println!("all {} tiles of the wall are at state {}", tiles.len(), tiles[0]);
 
     println!("\nthe crossed table is not sent:");
     println!("  {}", Factor::from_rows(4, &CROSSED).expect_err("no group has this table"));

@@ -1,7 +1,8 @@
-use crate::ffi::letters;
+use crate::ffi::{letters, numbers, numbers_mut};
+use crate::lists::gathered;
 use crate::raw::{self, Handle, Name};
 use crate::refusal::Said;
-use crate::{Element, Generator, Image, Naming, Refusal};
+use crate::{Element, Generator, Image, ListRefusal, Naming, Refusal};
 use alloc::sync::Arc;
 use alloc::{vec, vec::Vec};
 
@@ -287,6 +288,94 @@ impl Factor {
     #[inline]
     pub fn period(&self, a: Element) -> Result<u32, Refusal> {
         raw::period(&self.table, self.handle, a.0)
+    }
+
+    /// a·b at each place of two lists, as [`compose`](Factor::compose) has it there: one call for all viewers of a page.
+    ///
+    /// # Errors
+    ///
+    /// 4, with no place, where the lists differ in length or have more than 4,096 places; then 14 at the first place where there is no such
+    /// element, with the position 0 for `a` and 1 for `b`.
+    ///
+    /// ```
+    /// use hypergroup::{Element, Factor};
+    /// let s3 = Factor::from_orders(2, &[3], 6)?;
+    /// let (a, b) = ([1, 3, 0].map(Element), [3, 1, 5].map(Element));
+    /// assert_eq!(s3.compose_each(&a, &b)?, [2, 5, 5].map(Element));
+    /// // Longer lists are asked for in parts.
+    /// let (shown, missed) = (vec![Element(3); 10_000], vec![Element(1); 10_000]);
+    /// let mut wall = vec![Element::IDENTITY; 10_000];
+    /// for ((a, b), out) in shown.chunks(4096).zip(missed.chunks(4096)).zip(wall.chunks_mut(4096)) {
+    ///     s3.compose_each_into(a, b, out)?;
+    /// }
+    /// assert_eq!(wall, vec![Element(5); 10_000]);
+    /// # Ok::<(), hypergroup::Refusal>(())
+    /// ```
+    pub fn compose_each(&self, a: &[Element], b: &[Element]) -> Result<Vec<Element>, ListRefusal> {
+        gathered(a.len(), |out| self.compose_each_into(a, b, out))
+    }
+
+    /// The same into a lent list, which is as long as the others. Where it is refused the list is as it was.
+    ///
+    /// # Errors
+    ///
+    /// As [`compose_each`](Factor::compose_each).
+    #[inline]
+    pub fn compose_each_into(&self, a: &[Element], b: &[Element], out: &mut [Element]) -> Result<(), ListRefusal> {
+        raw::compose_each(&self.table, self.handle, numbers(a), numbers(b), numbers_mut(out))
+    }
+
+    /// The inverse of the element at each place.
+    ///
+    /// # Errors
+    ///
+    /// 4, with no place, where the list has more than 4,096 places; then 14 at the first place where there is no such element.
+    ///
+    /// ```
+    /// use hypergroup::{Element, Factor};
+    /// let s3 = Factor::from_orders(2, &[3], 6)?;
+    /// assert_eq!(s3.inverse_each(&[0, 3, 4, 5].map(Element))?, [0, 4, 3, 5].map(Element));
+    /// # Ok::<(), hypergroup::Refusal>(())
+    /// ```
+    pub fn inverse_each(&self, a: &[Element]) -> Result<Vec<Element>, ListRefusal> {
+        gathered(a.len(), |out| self.inverse_each_into(a, out))
+    }
+
+    /// The same into a lent list, which is as long. Where it is refused the list is as it was.
+    ///
+    /// # Errors
+    ///
+    /// As [`inverse_each`](Factor::inverse_each), with 4 also where the lists differ in length.
+    #[inline]
+    pub fn inverse_each_into(&self, a: &[Element], out: &mut [Element]) -> Result<(), ListRefusal> {
+        raw::inverse_each(&self.table, self.handle, numbers(a), numbers_mut(out))
+    }
+
+    /// The power of the element at each place by the exponent there, for any exponents.
+    ///
+    /// # Errors
+    ///
+    /// 4, with no place, where the lists differ in length or have more than 4,096 places; then 14 at the first place where there is no such
+    /// element.
+    ///
+    /// ```
+    /// use hypergroup::{Element, Factor};
+    /// let s3 = Factor::from_orders(2, &[3], 6)?;
+    /// assert_eq!(s3.powi_each(&[Element(3); 4], &[-1, 0, 2, i32::MIN])?, [4, 0, 4, 3].map(Element));
+    /// # Ok::<(), hypergroup::Refusal>(())
+    /// ```
+    pub fn powi_each(&self, a: &[Element], exponents: &[i32]) -> Result<Vec<Element>, ListRefusal> {
+        gathered(a.len(), |out| self.powi_each_into(a, exponents, out))
+    }
+
+    /// The same into a lent list, which is as long as the others. Where it is refused the list is as it was.
+    ///
+    /// # Errors
+    ///
+    /// As [`powi_each`](Factor::powi_each).
+    #[inline]
+    pub fn powi_each_into(&self, a: &[Element], exponents: &[i32], out: &mut [Element]) -> Result<(), ListRefusal> {
+        raw::powi_each(&self.table, self.handle, numbers(a), exponents, numbers_mut(out))
     }
 
     /// How long the recorded word of an element is.

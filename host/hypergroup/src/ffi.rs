@@ -3,7 +3,7 @@
 //! Why the calls are sound, whatever is passed: a list is handed over as the pointer and the length of a Rust slice, so all of it
 //! may be read, and written where it is `&mut`; lists that are written overlap no other, since `&mut` does not; an empty slice has a
 //! pointer that is not null. Every other argument is a number, and the library, which is proved, answers or refuses any.
-use crate::{Generator, Refusal};
+use crate::{Element, Generator, ListRefusal, Refusal};
 use alloc::vec::Vec;
 
 /// The answer of a call.
@@ -88,6 +88,9 @@ const _: () = assert!(size_of::<Name>() == 33);
 
 /// How long a joined name can be: eight names of 32 bytes, and three between each two (`joined-most`, crates/promises_names/proofs/Left.antt).
 pub const LONGEST_JOINED: usize = 277;
+
+/// How many places the lists of one question may have.
+pub const MOST_PLACES: usize = 4096;
 
 impl Name {
     /// The bytes that are the name: at most 32, whatever the length says.
@@ -204,6 +207,16 @@ unsafe extern "C" {
     fn hg_begin_named(t: Out, tn: usize, start: usize, room: u32, n: u8, m: *const u8, mn: usize, o: Out, on: usize, k: *mut u8, kn: usize) -> u32;
     fn hg_joined(t: In, tn: usize, h: In, hn: usize, count: u8, m: *const u8, mn: usize, o: *mut u8, on: usize) -> u64;
     fn hg_joined_part(t: In, tn: usize, h: In, hn: usize, count: u8, m: *const u8, mn: usize, k: usize) -> u64;
+}
+
+#[rustfmt::skip]
+unsafe extern "C" {
+    fn hg_compose_each(t: In, tn: usize, start: usize, room: u32, n: u8, count: u32, a: In, an: usize, b: In, bn: usize, o: Out, on: usize, told: Out, len: usize) -> u32;
+    fn hg_inverse_each(t: In, tn: usize, start: usize, room: u32, n: u8, count: u32, a: In, an: usize, o: Out, on: usize, told: Out, len: usize) -> u32;
+    fn hg_powi_each(t: In, tn: usize, start: usize, room: u32, n: u8, count: u32, a: In, an: usize, i: *const i32, il: usize, o: Out, on: usize, told: Out, len: usize) -> u32;
+    fn hg_product_compose_each(t: In, tn: usize, h: In, hn: usize, count: u8, a: In, an: usize, b: In, bn: usize, o: Out, on: usize, told: Out, len: usize) -> u32;
+    fn hg_product_inverse_each(t: In, tn: usize, h: In, hn: usize, count: u8, a: In, an: usize, o: Out, on: usize, told: Out, len: usize) -> u32;
+    fn hg_product_powi_each(t: In, tn: usize, h: In, hn: usize, count: u8, a: In, an: usize, i: *const i32, il: usize, o: Out, on: usize, told: Out, len: usize) -> u32;
 }
 
 #[rustfmt::skip]
@@ -482,6 +495,57 @@ pub fn period(t: &[u32], h: Handle, a: u32) -> Answer<u32> {
     coded(ask_product!(hg_product_period, t, one, a))
 }
 
+/// What a question over lists answers, which is lent the five numbers of its verdict.
+#[inline]
+fn listed(call: impl FnOnce(Out) -> u32) -> Result<(), ListRefusal> {
+    let mut told = [0; 5];
+    let number = call(told.as_mut_ptr());
+    if number == 0 { Ok(()) } else { Err(ListRefusal::told(told)) }
+}
+
+/// Writes the product of the elements of `a` and `b` at each place to that of `out`. The three lists are of one length, of at most
+/// [`MOST_PLACES`]: else 4, before anything else is looked at. Then the first place that [`compose`] refuses is told, and `out` is as it was.
+#[inline]
+pub fn compose_each(t: &[u32], h: Handle, a: &[u32], b: &[u32], out: &mut [u32]) -> Result<(), ListRefusal> {
+    let (a, an, b, bn, o, on) = (a.as_ptr(), a.len(), b.as_ptr(), b.len(), out.as_mut_ptr(), out.len());
+    listed(|told| ask!(hg_compose_each, t, h, a, an, b, bn, o, on, told, 5))
+}
+
+/// The inverse of the element at each place, in the same way.
+#[inline]
+pub fn inverse_each(t: &[u32], h: Handle, a: &[u32], out: &mut [u32]) -> Result<(), ListRefusal> {
+    let (a, an, o, on) = (a.as_ptr(), a.len(), out.as_mut_ptr(), out.len());
+    listed(|told| ask!(hg_inverse_each, t, h, a, an, o, on, told, 5))
+}
+
+/// The power of the element at each place by the exponent there, in the same way.
+#[inline]
+pub fn powi_each(t: &[u32], h: Handle, a: &[u32], exponents: &[i32], out: &mut [u32]) -> Result<(), ListRefusal> {
+    let (a, an, i, il, o, on) = (a.as_ptr(), a.len(), exponents.as_ptr(), exponents.len(), out.as_mut_ptr(), out.len());
+    listed(|told| ask!(hg_powi_each, t, h, a, an, i, il, o, on, told, 5))
+}
+
+/// As [`compose_each`], in a product.
+#[inline]
+pub fn product_compose_each(t: &[u32], p: &Handles, a: &[u32], b: &[u32], out: &mut [u32]) -> Result<(), ListRefusal> {
+    let (a, an, b, bn, o, on) = (a.as_ptr(), a.len(), b.as_ptr(), b.len(), out.as_mut_ptr(), out.len());
+    listed(|told| ask_product!(hg_product_compose_each, t, p, a, an, b, bn, o, on, told, 5))
+}
+
+/// As [`inverse_each`], in a product.
+#[inline]
+pub fn product_inverse_each(t: &[u32], p: &Handles, a: &[u32], out: &mut [u32]) -> Result<(), ListRefusal> {
+    let (a, an, o, on) = (a.as_ptr(), a.len(), out.as_mut_ptr(), out.len());
+    listed(|told| ask_product!(hg_product_inverse_each, t, p, a, an, o, on, told, 5))
+}
+
+/// As [`powi_each`], in a product.
+#[inline]
+pub fn product_powi_each(t: &[u32], p: &Handles, a: &[u32], exponents: &[i32], out: &mut [u32]) -> Result<(), ListRefusal> {
+    let (a, an, i, il, o, on) = (a.as_ptr(), a.len(), exponents.as_ptr(), exponents.len(), out.as_mut_ptr(), out.len());
+    listed(|told| ask_product!(hg_product_powi_each, t, p, a, an, i, il, o, on, told, 5))
+}
+
 /// Checks a factor against pair orders.
 pub fn check(t: &[u32], h: Handle, orders: &[u32]) -> Answer<()> {
     let mut out = [0; 4];
@@ -707,6 +771,20 @@ pub fn subgroup_right(from: &[u32], table: &[u32], s: &Sides, g: &Handles) -> An
     let (h, hn) = (g.numbers.as_ptr(), g.numbers.len());
     let number = ask_subgroup!(hg_subgroup_right, from, table, s, h, hn, g.count, out.as_mut_ptr(), 4);
     verdict(number, &out).map(drop)
+}
+
+/// Elements as the numbers that a question over lists takes.
+#[inline]
+pub(crate) fn numbers(list: &[Element]) -> &[u32] {
+    // SAFETY: `Element` is `repr(transparent)` over `u32`, so the same memory is as many numbers.
+    unsafe { core::slice::from_raw_parts(list.as_ptr().cast(), list.len()) }
+}
+
+/// The same of a list that is written.
+#[inline]
+pub(crate) fn numbers_mut(list: &mut [Element]) -> &mut [u32] {
+    // SAFETY: as in `numbers`, and every number is an `Element`.
+    unsafe { core::slice::from_raw_parts_mut(list.as_mut_ptr().cast(), list.len()) }
 }
 
 /// Generators as the bytes that a walk takes.

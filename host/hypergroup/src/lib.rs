@@ -14,6 +14,7 @@
 //! | [`Subgroup`] | a subgroup of a product, with its maps |
 //! | [`Image`], [`OwnedImage`] | a stored table: checked, walked, read back; over lent bytes, or its own |
 //! | [`Checker`] | checks images from anyone, for a server: with a limit, in one buffer |
+//! | [`ListRefusal`] | at which place of its lists a question over lists is refused, and why |
 //! | [`raw`] | the library's calls on lent buffers and plain numbers |
 //!
 //! ```
@@ -45,6 +46,25 @@
 //! # Ok::<(), hypergroup::Refusal>(())
 //! ```
 //!
+//! A page with many viewers asks for all of them in one call, with a list for each argument, of up to 4,096 places: `compose_each`,
+//! `inverse_each` and `powi_each` of a factor and of a product, and with `_into` the same into a lent list.
+//!
+//! ```
+//! use hypergroup::{Element, Factor};
+//!
+//! let puzzle = Factor::from_orders(3, &[4, 2, 3], 48)?;
+//! // What each tile of the wall shows, and what its viewer has missed.
+//! let shown = [Element(3), Element(0), Element(3)];
+//! let missed = [Element(7), Element(11), Element(0)];
+//! let mut wall = [Element::IDENTITY; 3];
+//! puzzle.compose_each_into(&shown, &missed, &mut wall)?;
+//! assert_eq!(wall[0], puzzle.compose(shown[0], missed[0])?);
+//! // An element that the puzzle does not have: its place is told, and the wall stays as it was.
+//! let no = puzzle.compose_each_into(&shown, &[Element(7), Element(48), Element(99)], &mut wall).unwrap_err();
+//! assert_eq!((no.place, no.refusal.number), (Some(1), 14));
+//! # Ok::<(), hypergroup::Refusal>(())
+//! ```
+//!
 //! Whatever is refused says so by a [`Refusal`]; the numbers that a call can have stand in its documentation under "Errors". Clones of
 //! every type share their tables, but for a [`Builder`]'s, and every type is `Send` and `Sync`. The crate needs no `std`, only `alloc`.
 //!
@@ -73,6 +93,7 @@ mod factor;
 #[allow(clippy::missing_errors_doc)]
 mod ffi;
 mod image;
+mod lists;
 mod naming;
 mod number;
 mod owned_image;
@@ -85,6 +106,7 @@ pub use builder::{Builder, Stored};
 pub use checker::{Checker, Unchecked};
 pub use factor::Factor;
 pub use image::Image;
+pub use lists::ListRefusal;
 pub use naming::Naming;
 pub use number::{Element, Generator};
 pub use owned_image::OwnedImage;

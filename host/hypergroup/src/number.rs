@@ -2,6 +2,7 @@ use core::fmt;
 
 /// An element of a group: its number in the numbering of its table. The identity is 0.
 #[derive(Clone, Copy, Debug, Default, PartialEq, Eq, PartialOrd, Ord, Hash)]
+#[repr(transparent)]
 pub struct Element(pub u32);
 
 impl Element {

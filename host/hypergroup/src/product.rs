@@ -1,7 +1,8 @@
-use crate::ffi::letters;
+use crate::ffi::{letters, numbers, numbers_mut};
+use crate::lists::gathered;
 use crate::raw::{self, Handle, Handles, Name};
 use crate::refusal::Said;
-use crate::{Element, Factor, Generator, Refusal};
+use crate::{Element, Factor, Generator, ListRefusal, Refusal};
 use alloc::sync::Arc;
 use alloc::{vec, vec::Vec};
 use core::ops::Mul;
@@ -271,6 +272,93 @@ impl Product {
     #[inline]
     pub fn period(&self, a: Element) -> Result<u32, Refusal> {
         raw::product_period(&self.table, &self.handles, a.0)
+    }
+
+    /// a·b at each place of two lists, as [`compose`](Product::compose) has it there: one call for all viewers of a page.
+    ///
+    /// # Errors
+    ///
+    /// 4, with no place, where the lists differ in length or have more than 4,096 places; then 14 at the first place where there is no such
+    /// element, with the position 0 for `a` and 1 for `b`.
+    ///
+    /// ```
+    /// use hypergroup::{Element, Factor, Product};
+    /// let s3 = Factor::from_orders(2, &[3], 6)?;
+    /// let pair = Product::new([&s3, &s3])?;
+    /// let (shown, missed) = ([7, 35, 0].map(Element), [3, 20, 6].map(Element));
+    /// let wall = pair.compose_each(&shown, &missed)?;
+    /// for i in 0..3 {
+    ///     assert_eq!(wall[i], pair.compose(shown[i], missed[i])?);
+    /// }
+    /// # Ok::<(), hypergroup::Refusal>(())
+    /// ```
+    pub fn compose_each(&self, a: &[Element], b: &[Element]) -> Result<Vec<Element>, ListRefusal> {
+        gathered(a.len(), |out| self.compose_each_into(a, b, out))
+    }
+
+    /// The same into a lent list, which is as long as the others. Where it is refused the list is as it was.
+    ///
+    /// # Errors
+    ///
+    /// As [`compose_each`](Product::compose_each).
+    #[inline]
+    pub fn compose_each_into(&self, a: &[Element], b: &[Element], out: &mut [Element]) -> Result<(), ListRefusal> {
+        raw::product_compose_each(&self.table, &self.handles, numbers(a), numbers(b), numbers_mut(out))
+    }
+
+    /// The inverse of the element at each place.
+    ///
+    /// # Errors
+    ///
+    /// 4, with no place, where the list has more than 4,096 places; then 14 at the first place where there is no such element.
+    ///
+    /// ```
+    /// use hypergroup::{Element, Factor, Product};
+    /// let s3 = Factor::from_orders(2, &[3], 6)?;
+    /// let pair = Product::new([&s3, &s3])?;
+    /// assert_eq!(pair.inverse_each(&[3, 18].map(Element))?, [4, 24].map(Element));
+    /// # Ok::<(), hypergroup::Refusal>(())
+    /// ```
+    pub fn inverse_each(&self, a: &[Element]) -> Result<Vec<Element>, ListRefusal> {
+        gathered(a.len(), |out| self.inverse_each_into(a, out))
+    }
+
+    /// The same into a lent list, which is as long. Where it is refused the list is as it was.
+    ///
+    /// # Errors
+    ///
+    /// As [`inverse_each`](Product::inverse_each), with 4 also where the lists differ in length.
+    #[inline]
+    pub fn inverse_each_into(&self, a: &[Element], out: &mut [Element]) -> Result<(), ListRefusal> {
+        raw::product_inverse_each(&self.table, &self.handles, numbers(a), numbers_mut(out))
+    }
+
+    /// The power of the element at each place by the exponent there, for any exponents.
+    ///
+    /// # Errors
+    ///
+    /// 4, with no place, where the lists differ in length or have more than 4,096 places; then 14 at the first place where there is no such
+    /// element.
+    ///
+    /// ```
+    /// use hypergroup::{Element, Factor, Product};
+    /// let s3 = Factor::from_orders(2, &[3], 6)?;
+    /// let pair = Product::new([&s3, &s3])?;
+    /// assert_eq!(pair.powi_each(&[3, 21, 21].map(Element), &[-1, 2, i32::MAX])?, [4, 28, 21].map(Element));
+    /// # Ok::<(), hypergroup::Refusal>(())
+    /// ```
+    pub fn powi_each(&self, a: &[Element], exponents: &[i32]) -> Result<Vec<Element>, ListRefusal> {
+        gathered(a.len(), |out| self.powi_each_into(a, exponents, out))
+    }
+
+    /// The same into a lent list, which is as long as the others. Where it is refused the list is as it was.
+    ///
+    /// # Errors
+    ///
+    /// As [`powi_each`](Product::powi_each).
+    #[inline]
+    pub fn powi_each_into(&self, a: &[Element], exponents: &[i32], out: &mut [Element]) -> Result<(), ListRefusal> {
+        raw::product_powi_each(&self.table, &self.handles, numbers(a), exponents, numbers_mut(out))
     }
 
     /// The element of each factor that `e` is made of.

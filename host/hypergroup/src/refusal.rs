@@ -46,6 +46,8 @@ pub(crate) enum Said {
     PartOfRow,
     /// 4: the list of digits is short.
     Digits,
+    /// 4: lists of different lengths, or too long.
+    Lists,
     /// 15: there are more than 8 factors.
     Factors,
     /// 5 and 15: there are too many elements.
@@ -69,7 +71,8 @@ impl Refusal {
     pub const ORDER_COUNT: u32 = 2;
     /// A pair order outside 2 to 32,767; the place is its index in the list.
     pub const BAD_ORDER: u32 = 3;
-    /// A room of 0 or above 65,535, or a list that is too short.
+    /// A room of 0 or above 65,535, or a list that is too short; of a question over lists, that they differ in length or have more than
+    /// 4,096 places.
     pub const BAD_ROOM: u32 = 4;
     /// An element is needed beyond the room, the rows, or the elements that an image has; the places are the element and the generator
     /// that lead to it.
@@ -146,6 +149,7 @@ impl fmt::Display for Refusal {
             (4, Said::Rows) => write!(f, "there are no rows"),
             (4, Said::PartOfRow) => write!(f, "the last row does not have a number for each generator"),
             (4, Said::Digits) => write!(f, "there are fewer digits than factors"),
+            (4, Said::Lists) => write!(f, "the lists differ in length or have more than 4,096 places"),
             (4, _) => write!(f, "the room is 0 or above 65,535, or a lent buffer is short"),
             (5, Said::Rows) => write!(f, "there is no row for the element that element {a}, generator {b} leads to"),
             (5, Said::Most) => write!(f, "element {a}, generator {b} leads to one element more than the 65,535 that there may be"),

@@ -1,6 +1,6 @@
 //! Every call of `raw` on random buffers, handles and arguments: it answers or refuses, and a refused question writes nothing.
-use hypergroup::Refusal;
 use hypergroup::raw::{self, Answer, Handle, Handles, Name, Sides, SubgroupBuffers};
+use hypergroup::{ListRefusal, Refusal};
 use std::ops::Range;
 
 struct Random(u64);
@@ -107,6 +107,69 @@ fn questions() {
         let checked = raw::check(&table, h, &r.list(4)).err().map_or(0, |x| x.number);
         assert!([0, 2, 3, 13, 17].contains(&checked), "{checked}");
     }
+}
+
+/// A question over lists of these lengths, the output's last: what the single calls say place by place, and what is left in the output. Which number came.
+fn listed(
+    [first, second, long]: [usize; 3],
+    single: impl Fn(usize) -> Answer<u32>,
+    call: impl FnOnce(&mut [u32]) -> Result<(), ListRefusal>,
+) -> usize {
+    let mut out = vec![165; long];
+    let answer = call(&mut out).map_err(|no| (no.place, no.refusal.number, no.refusal.places));
+    if first != second || first != long {
+        assert_eq!((answer, out), (Err((None, 4, [0; 3])), vec![165; long]));
+        return 4;
+    }
+    let singly: Vec<Answer<u32>> = (0..first).map(single).collect();
+    match singly.iter().zip(0..).find_map(|(one, place)| Some((place, one.err()?))) {
+        None => assert_eq!((answer, out), (Ok(()), singly.into_iter().map(Result::unwrap).collect())),
+        Some((place, no)) => assert_eq!((answer, out), (Err((Some(place), no.number, no.places)), vec![165; long])),
+    }
+    answer.err().map_or(0, |(_, number, _)| number as usize)
+}
+
+/// Forged handles and altered tables over lists: each place is what the single call says of the same table.
+#[test]
+fn questions_over_lists() {
+    let mut r = Random(9);
+    let s3 = s3();
+    let mut met = [[0; 18]; 2];
+    for _ in 0..20_000 {
+        let (mut table, mut h) = (r.list(200), r.handle());
+        if r.below(3) > 0 {
+            (table, h) = s3.clone();
+            let at = r.below(48) as usize;
+            table[at] = [table[at], r.number()][r.below(2) as usize];
+        }
+        // One to three factors, or nine of the same.
+        let mut p: Handles = [h].into_iter().chain((0..r.below(3)).map(|_| if r.below(4) > 0 { h } else { r.handle() })).collect();
+        match r.below(9) {
+            0 => p.count = r.byte(),
+            1 => p = [h; 9].into_iter().collect(),
+            _ => {}
+        }
+        // Mostly as many places, a few or so many that the longer list is taken for the results.
+        let k = [r.below(5), 60 + r.below(9)][r.below(12) as usize / 11] as usize;
+        let mut lengths = [k; 3];
+        if r.below(6) == 0 {
+            lengths[r.below(3) as usize] = r.below(6) as usize;
+        }
+        // Mostly elements that are there, so that many places are reached.
+        let limit = if r.below(2) == 0 { 6 } else { 7 };
+        let mut element = || if r.below(30) == 0 { r.number() } else { r.below(limit) as u32 };
+        let a: Vec<u32> = (0..lengths[0]).map(|_| element()).collect();
+        let b: Vec<u32> = (0..lengths[1]).map(|_| element()).collect();
+        let i: Vec<i32> = b.iter().map(|&b| [b as i32, -(b as i32 % 99), i32::MIN][b as usize % 3]).collect();
+        let (t, one) = (&table, [lengths[0], lengths[0], lengths[2]]);
+        met[0][listed(lengths, |k| raw::compose(t, h, a[k], b[k]), |out| raw::compose_each(t, h, &a, &b, out))] += 1;
+        met[0][listed(one, |k| raw::inverse(t, h, a[k]), |out| raw::inverse_each(t, h, &a, out))] += 1;
+        met[0][listed(lengths, |k| raw::powi(t, h, a[k], i[k]), |out| raw::powi_each(t, h, &a, &i, out))] += 1;
+        met[1][listed(lengths, |k| raw::product_compose(t, &p, a[k], b[k]), |out| raw::product_compose_each(t, &p, &a, &b, out))] += 1;
+        met[1][listed(one, |k| raw::product_inverse(t, &p, a[k]), |out| raw::product_inverse_each(t, &p, &a, out))] += 1;
+        met[1][listed(lengths, |k| raw::product_powi(t, &p, a[k], i[k]), |out| raw::product_powi_each(t, &p, &a, &i, out))] += 1;
+    }
+    assert!(met.iter().all(|met| [0, 4, 14, 17].iter().all(|&k| met[k] > 500)) && met[1][15] > 20, "{met:?}");
 }
 
 /// The table of a group of pair orders, and its handle.
@@ -698,4 +761,12 @@ fn empty_lists() {
     assert_eq!(raw::composed_named(&mut [], 0, &mut [], &[], 0, 1, &[]).unwrap_err().number, 4);
     assert_eq!(raw::begin_named(&mut [], 0, 1, 0, &[0; 33]).unwrap_err().number, 4);
     assert_eq!(raw::joined(&[], &Handles::default(), &[], &mut []), Ok(0));
+    // Lists with no place are fine whatever the handle.
+    let bad: Handles = [h; 9].into_iter().collect();
+    assert_eq!(raw::compose_each(&[], h, &[], &[], &mut []), Ok(()));
+    assert_eq!(raw::inverse_each(&[], h, &[], &mut []), Ok(()));
+    assert_eq!(raw::powi_each(&[], h, &[], &[], &mut []), Ok(()));
+    assert_eq!(raw::product_compose_each(&[], &bad, &[], &[], &mut []), Ok(()));
+    assert_eq!(raw::product_inverse_each(&[], &bad, &[], &mut []), Ok(()));
+    assert_eq!(raw::product_powi_each(&[], &bad, &[], &[], &mut []), Ok(()));
 }

@@ -96,6 +96,32 @@ fn factors_are_cut_to_their_elements_and_shared() {
 }
 
 #[test]
+fn lists_are_lent_and_not_copied() {
+    let s3 = Factor::from_orders(2, &[3], 6).unwrap();
+    let pair = Product::new([&s3, &s3]).unwrap();
+    let (list, exponents) = (vec![Element(3); 4096], vec![-7; 4096]);
+    let mut out = vec![Element(0); 4096];
+    let ((), bytes) = asked(|| {
+        s3.compose_each_into(&list, &list, &mut out).unwrap();
+        s3.inverse_each_into(&list, &mut out).unwrap();
+        s3.powi_each_into(&list, &exponents, &mut out).unwrap();
+        pair.compose_each_into(&list, &list, &mut out).unwrap();
+        pair.inverse_each_into(&list, &mut out).unwrap();
+        pair.powi_each_into(&list, &exponents, &mut out).unwrap();
+        s3.inverse_each_into(&[Element(6)], &mut out[..1]).unwrap_err();
+    });
+    assert_eq!(bytes, 0);
+    // A list of their own is as long as the lists and no longer; what is refused for its length gets none of that length.
+    for places in [0, 1, 4096] {
+        assert_eq!(asked(|| s3.compose_each(&list[..places], &list[..places]).unwrap()).1, 4 * places);
+        assert_eq!(asked(|| pair.powi_each(&list[..places], &exponents[..places]).unwrap()).1, 4 * places);
+    }
+    let many = vec![Element(0); 1_000_000];
+    let (answer, bytes) = asked(|| s3.inverse_each(&many));
+    assert_eq!((answer.unwrap_err().refusal.number, bytes), (4, 4 * 4097));
+}
+
+#[test]
 fn what_the_head_excludes_allocates_nothing() {
     // No generator and 65,535 elements; nine generators; a length that is wrong; no elements.
     let heads: [&[u8]; 5] = [

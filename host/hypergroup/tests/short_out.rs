@@ -22,6 +22,12 @@ unsafe extern "C" {
     fn hg_product_flatten(f: In, fl: usize, h: In, hn: usize, count: u8, t: Out, tn: usize, start: usize, w: Out, wn: usize, room: u32, o: Out, on: usize) -> u32;
     fn hg_image_read(i: *const u8, len: usize, t: Out, tn: usize, start: usize, w: Out, wn: usize, o: Out, on: usize) -> u32;
     fn hg_image_verdict(i: *const u8, len: usize, w: *mut u8, wn: usize, o: Out, on: usize) -> u32;
+    fn hg_compose_each(t: In, tn: usize, start: usize, room: u32, n: u8, count: u32, a: In, an: usize, b: In, bn: usize, o: Out, on: usize, told: Out, len: usize) -> u32;
+    fn hg_inverse_each(t: In, tn: usize, start: usize, room: u32, n: u8, count: u32, a: In, an: usize, o: Out, on: usize, told: Out, len: usize) -> u32;
+    fn hg_powi_each(t: In, tn: usize, start: usize, room: u32, n: u8, count: u32, a: In, an: usize, i: *const i32, il: usize, o: Out, on: usize, told: Out, len: usize) -> u32;
+    fn hg_product_compose_each(t: In, tn: usize, h: In, hn: usize, count: u8, a: In, an: usize, b: In, bn: usize, o: Out, on: usize, told: Out, len: usize) -> u32;
+    fn hg_product_inverse_each(t: In, tn: usize, h: In, hn: usize, count: u8, a: In, an: usize, o: Out, on: usize, told: Out, len: usize) -> u32;
+    fn hg_product_powi_each(t: In, tn: usize, h: In, hn: usize, count: u8, a: In, an: usize, i: *const i32, il: usize, o: Out, on: usize, told: Out, len: usize) -> u32;
     fn hg_subgroup(f: In, fl: usize, h: In, hn: usize, count: u8, g: In, gn: usize, t: Out, tn: usize, start: usize, w: Out, wn: usize, i: Out, il: usize, b: Out, bl: usize, room: u32, o: Out, on: usize) -> u32;
     fn hg_subgroup_predicate(f: In, fl: usize, h: In, hn: usize, count: u8, m: *const u8, mn: usize, t: Out, tn: usize, start: usize, w: Out, wn: usize, i: Out, il: usize, b: Out, bl: usize, room: u32, o: Out, on: usize) -> u32;
     fn hg_subgroup_left(f: In, fl: usize, t: In, tn: usize, h: In, hn: usize, count: u8, s: In, sn: usize, o: Out, on: usize) -> u32;
@@ -285,6 +291,50 @@ fn a_product() {
     edge("flatten", &lent(&[49, 192]), &[0, 0, 0, 0, 6], flattened(times(h, 1), 6));
     edge("flatten, 7", &lent(&[433, 4032]), &[7, 0, 2, 6, 0], flattened(times(h, 2), 36));
     edge("flatten, 4", &lent(&[49, 191]), &[4, 0, 0, 0, 0], flattened(times(h, 1), 6));
+}
+
+/// The questions over lists, whose verdict is in a list of five numbers of its own, beside the output.
+#[test]
+fn lists() {
+    let (table, h) = s3();
+    // By their number: compose, inverse and powi of the factor, and of the product of two of it.
+    let each = |which: usize, a: Vec<u32>, b: Vec<u32>| {
+        let (table, p) = (table.clone(), times(h, 2));
+        let i: Vec<i32> = b.iter().map(|&b| -(b as i32)).collect();
+        move |l: &mut [Vec<u32>], told: &mut [u32]| unsafe {
+            let [o] = l else { unreachable!() };
+            let (t, tn, list, len, count) = (table.as_ptr(), table.len(), p.numbers.as_ptr(), p.numbers.len(), p.count);
+            let (start, room, n, elements) = (h.start, h.room, h.generators, h.elements);
+            let (a, an, b, bn, i, il) = (a.as_ptr(), a.len(), b.as_ptr(), b.len(), i.as_ptr(), i.len());
+            let (o, on, told, five) = (o.as_mut_ptr(), o.len(), told.as_mut_ptr(), told.len());
+            match which {
+                0 => hg_compose_each(t, tn, start, room, n, elements, a, an, b, bn, o, on, told, five),
+                1 => hg_inverse_each(t, tn, start, room, n, elements, a, an, o, on, told, five),
+                2 => hg_powi_each(t, tn, start, room, n, elements, a, an, i, il, o, on, told, five),
+                3 => hg_product_compose_each(t, tn, list, len, count, a, an, b, bn, o, on, told, five),
+                4 => hg_product_inverse_each(t, tn, list, len, count, a, an, o, on, told, five),
+                _ => hg_product_powi_each(t, tn, list, len, count, a, an, i, il, o, on, told, five),
+            }
+        }
+    };
+    for which in 0..6 {
+        edge("lists", &lent(&[3]), &[0, 0, 0, 0, 0], each(which, vec![3, 1, 5], vec![1, 2, 3]));
+        edge("no lists", &lent(&[0]), &[0, 0, 0, 0, 0], each(which, vec![], vec![]));
+        edge("lists, 14", &lent(&[3]), &[14, 0, 0, 0, 2], each(which, vec![3, 1, 36], vec![1, 2, 3]));
+        edge("lists, 4", &lent(&[4]), &[4, 0, 0, 0, 0], each(which, vec![3, 1, 36], vec![1, 2, 3]));
+        let mut lists = lent(&[3]);
+        let (a, b): (Vec<u32>, Vec<u32>) = (vec![3, 1, 5], vec![1, 2, 3]);
+        assert_eq!(each(which, a.clone(), b.clone())(&mut lists, &mut [OLD; 5]), 0);
+        let due = (0..3).map(|k| match which % 3 {
+            0 => raw::compose(&table, h, a[k], b[k]),
+            1 => raw::inverse(&table, h, a[k]),
+            _ => raw::powi(&table, h, a[k], -(b[k] as i32)),
+        });
+        // The product's elements below 6 are the first factor's.
+        assert_eq!(lists[0], due.map(Result::unwrap).collect::<Vec<_>>());
+    }
+    edge("lists, 14 of the second", &lent(&[2]), &[14, 1, 0, 0, 1], each(0, vec![1, 1], vec![1, 6]));
+    edge("lists, 4", &lent(&[2]), &[4, 0, 0, 0, 0], each(3, vec![1, 1], vec![1]));
 }
 
 #[test]

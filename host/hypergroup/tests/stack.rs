@@ -156,6 +156,34 @@ fn products() {
     assert_eq!(in_thread(|| one.flatten()).as_ref(), Ok(f));
 }
 
+/// The lists with the most places, in a factor and in a product of it, with the longest words at the last places.
+#[test]
+fn lists() {
+    let long = long();
+    let (f, last) = (&long.factor, long.last);
+    let a: Vec<Element> = (0..4094).map(|i| Element(i * 6)).chain([last, f.inverse(last).unwrap()]).collect();
+    let b: Vec<Element> = a.iter().rev().copied().collect();
+    let exponents: Vec<i32> = (0..4096).map(|i| if i < 4090 { i % 7 - 3 } else { [i32::MIN, i32::MAX, -1][i as usize % 3] }).collect();
+    let p = Product::new([f, f]).unwrap();
+    // Both digits alike: what the factor answers is each digit of the product's.
+    let twice = |list: &[Element]| list.iter().map(|&e| p.join(&[e, e]).unwrap()).collect::<Vec<_>>();
+    let (aa, bb) = (twice(&a), twice(&b));
+    let composed: Vec<Element> = a.iter().zip(&b).map(|(&a, &b)| long.times(a, b)).collect();
+    assert_eq!(in_thread(|| f.compose_each(&a, &b)).unwrap(), composed);
+    assert_eq!(in_thread(|| p.compose_each(&aa, &bb)).unwrap(), twice(&composed));
+    let inverses = in_thread(|| f.inverse_each(&a)).unwrap();
+    assert_eq!(in_thread(|| f.compose_each(&a, &inverses)).unwrap(), vec![Element(0); 4096]);
+    assert_eq!(in_thread(|| p.inverse_each(&aa)).unwrap(), twice(&inverses));
+    let powers = in_thread(|| f.powi_each(&a, &exponents)).unwrap();
+    for i in [0, 1, 2, 5, 4089, 4090, 4091, 4092, 4095] {
+        assert_eq!(in_thread(|| f.powi(a[i], exponents[i])), Ok(powers[i]));
+    }
+    assert_eq!(in_thread(|| p.powi_each(&aa, &exponents)).unwrap(), twice(&powers));
+    let mut out = vec![Element(7); 4096];
+    let no = in_thread(|| f.compose_each_into(&a, &[&b[..4095], &[Element(24_564)]].concat(), &mut out)).unwrap_err();
+    assert_eq!((no.place, no.refusal.number, out), (Some(4095), 14, vec![Element(7); 4096]));
+}
+
 #[test]
 fn names() {
     let longest = [b'n'; 32];

@@ -207,6 +207,14 @@ impl Ours {
                 let parts = self.product.parts(w[1], &pairs(number(w, 2)?))?;
                 self.least(|p| p.ask_alone(w[1], &parts))
             }
+            "composes" | "inverses" | "powers" => {
+                let (places, asked) = (number(w, 1)?, pairs(number(w, 2)?));
+                self.least(|p| p.ask_lists(w[0], p.single(), places, &asked))
+            }
+            "product" if matches!(w[1], "composes" | "inverses" | "powers") => {
+                let (places, asked) = (number(w, 2)?, pairs(number(w, 3)?));
+                self.least(|p| p.ask_lists(w[1], None, places, &asked))
+            }
             "product" => {
                 let asked = pairs(number(w, 2)?);
                 self.least(|p| p.ask_often(w[1], None, &asked))

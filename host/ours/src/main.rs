@@ -16,6 +16,10 @@
 //! - `builder n` begins a build with the current room, `add e g` prints the new element, `set e g r` prints `new` or `known`, `build`
 //!   prints as `table` does and makes the factor the current product.
 //! - `walk e g..` walks the turns one after another, in one call.
+//! - `composes A,A,.. B,B,..`, `inverses A,A,..` and `powers A,A,.. I,I,..` ask over lists, `-` being an empty one, into an output that is as long as the
+//!   first, or by `+1` or `-1` at the end of the line one longer or shorter. They print `ok` and the numbers, `refused 4 0 0 0` for the lists, or
+//!   `at PLACE refused NUMBER A B C`. `bench composes K TURNS`, `bench inverses K TURNS` and `bench powers K TURNS` ask what `bench compose TURNS` and so
+//!   on ask in lists of K places.
 //! - `count`, `length e`; `shortword e` writes a word into one byte less than it has, `shortsplit e` the digits into one place less;
 //!   `part e` is the word by the call that hands back the filled part of its buffer, nothing where it is refused.
 //! - `safe` prints how many answers of the safe types were compared so far.
@@ -32,14 +36,15 @@
 mod bench;
 mod build;
 mod image;
+mod lists;
 mod names;
 mod questions;
 mod safe;
 mod say;
 mod subgroups;
 
-use hypergroup::Refusal;
 use hypergroup::raw::{self, Answer, Handle, Handles, Name};
+use hypergroup::{ListRefusal, Refusal};
 use std::io::{BufRead, BufWriter, Write};
 
 /// What stands in a buffer before it is lent, and must stand in its excess afterwards.
@@ -97,10 +102,21 @@ impl From<Refusal> for No {
         No::Refused(r)
     }
 }
+impl From<ListRefusal> for No {
+    fn from(no: ListRefusal) -> Self {
+        match no.place {
+            Some(place) => No::Says(format!("at {place} {}", refused(no.refusal))),
+            None => No::Refused(no.refusal),
+        }
+    }
+}
 impl From<String> for No {
     fn from(s: String) -> Self {
         No::Says(s)
     }
+}
+fn refused(Refusal { number, places: [a, b, c], .. }: Refusal) -> String {
+    format!("refused {number} {a} {b} {c}")
 }
 fn unsupported<T>() -> Result<T, No> {
     Err(No::Says("unsupported".into()))
@@ -283,7 +299,7 @@ fn main() {
         }
         match ours.answer(&words) {
             Ok(()) => {}
-            Err(No::Refused(Refusal { number, places: [a, b, c], .. })) => ours.say(format!("refused {number} {a} {b} {c}")),
+            Err(No::Refused(no)) => ours.say(refused(no)),
             Err(No::Says(s)) => ours.say(s),
         }
         ours.out.flush().unwrap();

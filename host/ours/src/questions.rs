@@ -23,7 +23,7 @@ pub(crate) fn written(size: usize, call: impl FnOnce(&mut [u8]) -> Answer<u32>) 
 }
 
 /// The answer of the product, and of its one factor if it has one.
-fn both<T: PartialEq + std::fmt::Debug>(whole: Answer<T>, single: Option<Answer<T>>) -> Answer<T> {
+pub(crate) fn both<A: PartialEq + std::fmt::Debug>(whole: A, single: Option<A>) -> A {
     if let Some(single) = single {
         assert_eq!(whole, single, "a product of one factor differs from the factor");
     }
@@ -101,6 +101,7 @@ impl Ours {
                 }
                 None => return unsupported(),
             },
+            "composes" | "inverses" | "powers" => say::listed(&p.over_lists(w)?),
             "shortword" | "join" | "project" | "inject" => p.product_asked(w)?.to_string(),
             _ => p.number_asked(w)?.to_string(),
         };

@@ -18,7 +18,7 @@ fn hold<T: PartialEq + std::fmt::Debug>(answer: &T, other: &T) {
 }
 
 /// The answer of the calls, which a safe type must have given too where one was asked.
-pub(crate) fn same<T: PartialEq + std::fmt::Debug>(answer: Answer<T>, other: Option<Answer<T>>) -> Answer<T> {
+pub(crate) fn same<A: PartialEq + std::fmt::Debug>(answer: A, other: Option<A>) -> A {
     if let Some(other) = other {
         hold(&answer, &other);
     }
@@ -112,12 +112,12 @@ impl super::Product {
     }
 
     /// An answer that the safe product must have given too, and its factor where it has one alone.
-    pub(crate) fn agreed<T: PartialEq + std::fmt::Debug>(
+    pub(crate) fn agreed<A: PartialEq + std::fmt::Debug>(
         &self,
-        answer: Answer<T>,
-        whole: impl FnOnce(&Product) -> Answer<T>,
-        one: impl FnOnce(&Factor) -> Answer<T>,
-    ) -> Answer<T> {
+        answer: A,
+        whole: impl FnOnce(&Product) -> A,
+        one: impl FnOnce(&Factor) -> A,
+    ) -> A {
         let answer = same(answer, self.safe.as_ref().map(whole));
         same(answer, self.one().as_ref().map(one))
     }

@@ -1,0 +1,4 @@
+pub mod Exponents
+pub mod Passes
+pub mod Turns
+pub mod Chunks

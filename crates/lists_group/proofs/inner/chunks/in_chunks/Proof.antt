@@ -1,0 +1,120 @@
+-- The invariant: the places before this chunk are right.
+use borrow.Rule.Slice.PartMut.{mid-len, same-len-mid}
+use Rattle.lists_group.proofs.Chunks.{next-chunk, none-yet, all-places}
+use Rattle.lists_group.specs.Each.{composeAt}
+use Rattle.lists.specs.Worked.{AllRight}
+use Rattle.egg.proofs.Rooms.{false-true}
+use borrow.Author.Tests.{not-false}
+use borrow.Author.Needs.{needs}
+use mathlib.Core.Path.{_≡_, refl, sym, _∙_}
+use native.Mathlib.Omega.{arith}
+use lib.ListN.{length}
+use Prim.Native.Nat.{_-_, _≤_}
+use Rattle.lists_group.proofs.inner.chunks.in_chunks.Statement.{statement}
+use Rattle.lists_group.proofs.inner.chunks.in_chunks.Tie as tie
+
+abbrev Inv-loop : tie.InvT-loop
+Inv-loop table g elements a b results₀ at₀ results at = AllRight at (composeAt table g a b) results × ((at ≤ length a) × (length results ≡ length results₀))
+
+abbrev μ-loop : tie.MeasureT-loop
+μ-loop table g elements a b results₀ at₀ results at = length a - at
+
+loop-holds : tie.Need-loop-holds Inv-loop μ-loop
+loop-holds c = (none-yet, (omega arith, refl))
+
+chunk-end-requires : tie.Need-chunk-end-requires Inv-loop μ-loop
+chunk-end-requires c κs = omega arith
+
+mul-compose-chunk : tie.Need-mul-compose-chunk Inv-loop μ-loop
+mul-compose-chunk c = search needs
+
+sub-compose-chunk : tie.Need-sub-compose-chunk Inv-loop μ-loop
+sub-compose-chunk c = search needs
+
+part-compose-chunk-start : tie.Need-part-compose-chunk-start Inv-loop μ-loop
+part-compose-chunk-start c = omega (arith, (c .chunk-end .ensures .0), (c .chunk-end .ensures .1 .0))
+
+part-compose-chunk-end : tie.Need-part-compose-chunk-end Inv-loop μ-loop
+part-compose-chunk-end c = omega (arith, (c .chunk-end .ensures .0), (c .chunk-end .ensures .1 .0))
+
+mul-compose-chunk-2 : tie.Need-mul-compose-chunk-2 Inv-loop μ-loop
+mul-compose-chunk-2 c = search needs
+
+sub-compose-chunk-2 : tie.Need-sub-compose-chunk-2 Inv-loop μ-loop
+sub-compose-chunk-2 c = search needs
+
+part-compose-chunk-start-2 : tie.Need-part-compose-chunk-start-2 Inv-loop μ-loop
+part-compose-chunk-start-2 c = omega (arith, (c .before .chunk-end .ensures .0), (c .before .chunk-end .ensures .1 .0), (c .before .before .before .before .before .before .before .before .pre .1 .0))
+
+part-compose-chunk-end-2 : tie.Need-part-compose-chunk-end-2 Inv-loop μ-loop
+part-compose-chunk-end-2 c = omega (arith, (c .before .chunk-end .ensures .0), (c .before .chunk-end .ensures .1 .0), (c .before .before .before .before .before .before .before .before .pre .1 .0))
+
+mul-compose-chunk-3 : tie.Need-mul-compose-chunk-3 Inv-loop μ-loop
+mul-compose-chunk-3 c = search needs
+
+sub-compose-chunk-3 : tie.Need-sub-compose-chunk-3 Inv-loop μ-loop
+sub-compose-chunk-3 c = search needs
+
+part-compose-chunk-start-3 : tie.Need-part-compose-chunk-start-3 Inv-loop μ-loop
+part-compose-chunk-start-3 c = omega (arith, (c .before .before .chunk-end .ensures .0), (c .before .before .chunk-end .ensures .1 .0), (c .before .before .before .before .before .before .before .before .before .pre .1 .1), (c .before .before .before .before .loop .inv .1 .1))
+
+part-compose-chunk-end-3 : tie.Need-part-compose-chunk-end-3 Inv-loop μ-loop
+part-compose-chunk-end-3 c = omega (arith, (c .before .before .chunk-end .ensures .0), (c .before .before .chunk-end .ensures .1 .0), (c .before .before .before .before .before .before .before .before .before .pre .1 .1), (c .before .before .before .before .loop .inv .1 .1))
+
+compose-chunk-requires : tie.Need-compose-chunk-requires Inv-loop μ-loop
+compose-chunk-requires c κs = let x = mid-len ((c .before .before .before .before .before .loop .at)) ((c .before .before .before .chunk-end .result)) ((c .before .before .before .before .before .before .before .before .before .before .args .a .now)) ((c .before .before .before .chunk-end .ensures .1 .0)) in
+    let y = mid-len ((c .before .before .before .before .before .loop .at)) ((c .before .before .before .chunk-end .result)) ((c .before .before .before .before .before .before .before .before .before .before .args .b .now)) (omega (arith, (c .before .before .before .chunk-end .ensures .1 .0), (c .before .before .before .before .before .before .before .before .before .before .pre .1 .0))) in
+    let z = mid-len ((c .before .before .before .before .before .loop .at)) ((c .before .before .before .chunk-end .result)) ((c .before .before .before .before .before .loop .results)) (omega (arith, (c .before .before .before .chunk-end .ensures .1 .0), (c .before .before .before .before .before .before .before .before .before .before .pre .1 .1), (c .before .before .before .before .before .loop .inv .1 .1))) in
+    ((c .before .before .before .before .before .before .before .before .before .before .pre .0), (y ∙ sym x, (z ∙ sym x, omega (arith, x, (c .before .before .before .chunk-end .ensures .1 .1)))))
+
+same-length : tie.Need-same-length Inv-loop μ-loop
+same-length c = same-len-mid ((c .before .before .before .before .before .before .before .before .before .loop .at)) ((c .before .before .before .before .before .before .before .chunk-end .result) - (c .before .before .before .before .before .before .before .before .before .loop .at)) ((c .before .before .before .before .before .before .before .before .before .loop .results)) ((c .before .before .before .compose-chunk .last .1 .1 .1 .1 .1 .0)) ((c .before .before .before .compose-chunk .kept .1 .1 .1 .1 .1 .0)) ∙ (c .before .before .before .before .before .before .before .before .before .loop .inv .1 .1)
+
+returns : tie.Need-returns Inv-loop μ-loop
+returns c = λ h. absurd (false-true h)
+
+loop-less : tie.Need-loop-less Inv-loop μ-loop
+loop-less c = omega (arith, (c .before .before .before .before .before .before .before .chunk-end .ensures .0), (c .before .before .before .before .before .before .before .chunk-end .ensures .1 .0))
+
+loop-again : tie.Need-loop-again Inv-loop μ-loop
+loop-again c = let x = mid-len ((c .before .before .before .before .before .before .before .before .before .loop .at)) ((c .before .before .before .before .before .before .before .chunk-end .result)) ((c .before .before .before .before .before .before .before .before .before .before .before .before .before .before .args .a .now)) ((c .before .before .before .before .before .before .before .chunk-end .ensures .1 .0)) in
+    let z = mid-len ((c .before .before .before .before .before .before .before .before .before .loop .at)) ((c .before .before .before .before .before .before .before .chunk-end .result)) ((c .before .before .before .before .before .before .before .before .before .loop .results)) (omega (arith, (c .before .before .before .before .before .before .before .chunk-end .ensures .1 .0), (c .before .before .before .before .before .before .before .before .before .before .before .before .before .before .pre .1 .1), (c .before .before .before .before .before .before .before .before .before .loop .inv .1 .1))) in (
+      next-chunk ((c .before .before .before .before .before .before .before .before .before .loop .at)) ((c .before .before .before .before .before .before .before .chunk-end .result)) ((c .before .before .before .before .before .before .before .before .before .loop .results)) ((c .before .before .before .compose-chunk .last .1 .1 .1 .1 .1 .0)) (omega (arith, (c .before .before .before .before .before .before .before .chunk-end .ensures .0)))
+          (omega (arith, (c .before .before .before .before .before .before .before .chunk-end .ensures .1 .0), (c .before .before .before .before .before .before .before .before .before .before .before .before .before .before .pre .1 .1), (c .before .before .before .before .before .before .before .before .before .loop .inv .1 .1))) ((c .before .before .before .before .before .before .before .before .before .before .before .before .before .before .args .table .now)) ((c .before .before .before .before .before .before .before .before .before .before .before .before .before .before .args .g)) ((c .before .before .before .before .before .before .before .before .before .before .before .before .before .before .args .a .now)) ((c .before .before .before .before .before .before .before .before .before .before .before .before .before .before .args .b .now)) x ((c .before .before .before .compose-chunk .kept .1 .1 .1 .1 .1 .0) ∙ z)
+          ((c .before .before .before .before .before .before .before .before .before .loop .inv .0)) ((c .before .before .before .compose-chunk .ensures) (not-false _ ((c .if1 .left)))),
+      ((c .before .before .before .before .before .before .before .chunk-end .ensures .1 .0), same-len-mid ((c .before .before .before .before .before .before .before .before .before .loop .at)) ((c .before .before .before .before .before .before .before .chunk-end .result) - (c .before .before .before .before .before .before .before .before .before .loop .at)) ((c .before .before .before .before .before .before .before .before .before .loop .results)) ((c .before .before .before .compose-chunk .last .1 .1 .1 .1 .1 .0)) ((c .before .before .before .compose-chunk .kept .1 .1 .1 .1 .1 .0)) ∙ (c .before .before .before .before .before .before .before .before .before .loop .inv .1 .1)),
+    )
+
+same-length-2 : tie.Need-same-length-2 Inv-loop μ-loop
+same-length-2 c = (c .before .loop .inv .1 .1)
+
+returns-2 : tie.Need-returns-2 Inv-loop μ-loop
+returns-2 c = λ h. all-places ((c .before .loop .inv .0)) (search needs)
+
+pub in-chunks-spec : {M : Type 1} → statement M
+in-chunks-spec =
+    tie.close
+    (tie.spec
+    Inv-loop
+    μ-loop
+    loop-holds
+    chunk-end-requires
+    mul-compose-chunk
+    sub-compose-chunk
+    part-compose-chunk-start
+    part-compose-chunk-end
+    mul-compose-chunk-2
+    sub-compose-chunk-2
+    part-compose-chunk-start-2
+    part-compose-chunk-end-2
+    mul-compose-chunk-3
+    sub-compose-chunk-3
+    part-compose-chunk-start-3
+    part-compose-chunk-end-3
+    compose-chunk-requires
+    same-length
+    returns
+    loop-less
+    loop-again
+    same-length-2
+    returns-2)

@@ -1,0 +1,5 @@
+pub mod Places
+pub mod Halves
+pub mod Exponents
+pub mod Rounds
+pub mod Chunks

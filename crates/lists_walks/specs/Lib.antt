@@ -1,0 +1,3 @@
+pub mod Products
+pub mod Lanes
+pub mod Letters

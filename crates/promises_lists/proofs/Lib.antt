@@ -1,0 +1,9 @@
+pub mod Papers
+pub mod Each
+pub mod Places
+pub mod Factors
+pub mod Products
+pub mod Tiles
+pub mod Known
+pub mod Unique
+pub mod UniqueProducts

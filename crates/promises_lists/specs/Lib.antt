@@ -1,0 +1,4 @@
+pub mod Places
+pub mod Walls
+pub mod Tiles
+pub mod Known

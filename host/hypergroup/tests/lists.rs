@@ -1,0 +1,153 @@
+//! Questions over lists, through the safe types: at each place what the single call answers, the first place that it refuses, and what a refusal leaves.
+use hypergroup::{Element, Factor, ListRefusal, Product, Refusal, raw};
+
+const S3: [u32; 12] = [1, 2, 0, 3, 4, 0, 5, 1, 2, 5, 3, 4];
+
+fn s3() -> Factor {
+    Factor::from_rows(2, &S3).unwrap()
+}
+
+/// Elements of a group with so many, all of them in a list that is long enough, and exponents of every kind.
+fn lists(places: usize, elements: u32) -> (Vec<Element>, Vec<Element>, Vec<i32>) {
+    let at = |i: usize, by: u32, from: u32| Element((i as u32 * by + from) % elements);
+    let exponents = [0, 1, -1, 2, -2, 5, 100, -99, i32::MAX, i32::MIN];
+    let a = (0..places).map(|i| at(i, 7, 3)).collect();
+    let b = (0..places).map(|i| at(i / 5, 11, 1)).collect();
+    (a, b, (0..places).map(|i| exponents[i % 10]).collect())
+}
+
+/// The lengths at which something changes: none, one, those beside 64, up to which a shorter list is kept for the results, and the most.
+const LENGTHS: [usize; 9] = [0, 1, 2, 63, 64, 65, 100, 4095, 4096];
+
+/// A list of this mark is lent for the output.
+const OLD: Element = Element(77);
+
+/// The same of a factor and of a product: what a macro is asked with is either.
+macro_rules! place_by_place {
+    ($x:expr, $elements:expr) => {
+        for places in LENGTHS {
+            let (a, b, i) = lists(places, $elements);
+            let single: Vec<Element> = (0..places).map(|k| $x.compose(a[k], b[k]).unwrap()).collect();
+            assert_eq!($x.compose_each(&a, &b), Ok(single.clone()));
+            let mut out = vec![OLD; places];
+            assert_eq!($x.compose_each_into(&a, &b, &mut out), Ok(()));
+            assert_eq!(out, single);
+            let single: Vec<Element> = a.iter().map(|&a| $x.inverse(a).unwrap()).collect();
+            assert_eq!($x.inverse_each(&a), Ok(single.clone()));
+            assert_eq!($x.inverse_each_into(&a, &mut out), Ok(()));
+            assert_eq!(out, single);
+            let single: Vec<Element> = (0..places).map(|k| $x.powi(a[k], i[k]).unwrap()).collect();
+            assert_eq!($x.powi_each(&a, &i), Ok(single.clone()));
+            assert_eq!($x.powi_each_into(&a, &i, &mut out), Ok(()));
+            assert_eq!(out, single);
+        }
+    };
+}
+
+#[test]
+fn each_place_is_the_single_call() {
+    let (s3, cube) = (s3(), Factor::from_orders(3, &[4, 2, 3], 48).unwrap());
+    let z2 = Factor::from_orders(1, &[], 2).unwrap();
+    place_by_place!(s3, 6);
+    place_by_place!(cube, 48);
+    place_by_place!(Product::default(), 1);
+    place_by_place!(Product::from(&s3), 6);
+    place_by_place!(Product::new([&s3, &cube, &z2]).unwrap(), 576);
+    place_by_place!(Product::new([&s3; 8]).unwrap(), 1_679_616);
+}
+
+#[test]
+fn known_answers() {
+    let s3 = s3();
+    // Document 01: compose(1,3) is 2 and compose(3,1) is 5; the inverses are 0 1 2 4 3 5.
+    assert_eq!(s3.compose_each(&[1, 3].map(Element), &[3, 1].map(Element)).unwrap(), [2, 5].map(Element));
+    assert_eq!(s3.inverse_each(&[0, 1, 2, 3, 4, 5].map(Element)).unwrap(), [0, 1, 2, 4, 3, 5].map(Element));
+    assert_eq!(s3.powi_each(&[3, 3, 3, 1].map(Element), &[2, 3, -1, i32::MIN]).unwrap(), [4, 0, 4, 0].map(Element));
+}
+
+fn told<T: std::fmt::Debug>(answer: Result<T, ListRefusal>) -> (Option<usize>, u32, [u32; 3]) {
+    let ListRefusal { place, refusal, .. } = answer.unwrap_err();
+    (place, refusal.number, refusal.places)
+}
+
+/// 14 at a place is the first of several, with the position that the single call tells; the output is as it was.
+macro_rules! first_refused {
+    ($x:expr, $elements:expr) => {
+        for places in LENGTHS.into_iter().filter(|&k| k > 0) {
+            let (right, b, i) = lists(places, $elements);
+            for place in [0, places / 2, places - 1] {
+                let (mut a, mut out) = (right.clone(), vec![OLD; places]);
+                a[place] = Element($elements);
+                a[places - 1] = Element(u32::MAX);
+                let due = (Some(place), 14, [0; 3]);
+                assert_eq!(told($x.compose_each(&a, &b)), due);
+                assert_eq!(told($x.compose_each_into(&a, &b, &mut out)), due);
+                assert_eq!(told($x.compose_each_into(&right, &a, &mut out)), (Some(place), 14, [1, 0, 0]));
+                assert_eq!(told($x.inverse_each(&a)), due);
+                assert_eq!(told($x.inverse_each_into(&a, &mut out)), due);
+                assert_eq!(told($x.powi_each(&a, &i)), due);
+                assert_eq!(told($x.powi_each_into(&a, &i, &mut out)), due);
+                assert_eq!(out, vec![OLD; places]);
+                assert_eq!($x.compose_each(&a, &b).unwrap_err().refusal, $x.compose(a[place], b[place]).unwrap_err());
+            }
+        }
+    };
+}
+
+#[test]
+fn the_first_refused_place() {
+    let s3 = s3();
+    first_refused!(s3, 6);
+    first_refused!(Product::default(), 1);
+    first_refused!(Product::from(&s3), 6);
+    first_refused!(Product::new([&s3; 8]).unwrap(), 1_679_616);
+}
+
+/// 4 comes before any place is looked at, and has none.
+macro_rules! lengths_that_differ {
+    ($x:expr) => {
+        let wrong = vec![Element(u32::MAX); 4098];
+        let exponents = vec![1; 4098];
+        let four = (None, 4, [0; 3]);
+        for (a, b) in [(0, 1), (1, 0), (64, 65), (65, 64), (4096, 4097), (4097, 4096), (4097, 4097), (4098, 4098)] {
+            assert_eq!(told($x.compose_each(&wrong[..a], &wrong[..b])), four);
+            assert_eq!(told($x.powi_each(&wrong[..a], &exponents[..b])), four);
+            for long in [a, b] {
+                let mut out = vec![OLD; long];
+                assert_eq!(told($x.compose_each_into(&wrong[..a], &wrong[..b], &mut out)), four);
+                assert_eq!(told($x.powi_each_into(&wrong[..a], &exponents[..b], &mut out)), four);
+                assert_eq!(out, vec![OLD; long]);
+            }
+            if a != b {
+                let mut out = vec![OLD; b];
+                assert_eq!(told($x.compose_each_into(&wrong[..a], &wrong[..a], &mut out)), four);
+                assert_eq!(told($x.inverse_each_into(&wrong[..a], &mut out)), four);
+                assert_eq!(told($x.powi_each_into(&wrong[..a], &exponents[..a], &mut out)), four);
+                assert_eq!(out, vec![OLD; b]);
+            }
+        }
+        assert_eq!(told($x.inverse_each(&wrong[..raw::MOST_PLACES + 1])), four);
+        assert_eq!(told($x.inverse_each(&wrong[..raw::MOST_PLACES])), (Some(0), 14, [0; 3]));
+    };
+}
+
+#[test]
+fn refused_lists() {
+    lengths_that_differ!(s3());
+    lengths_that_differ!(Product::new([&s3(), &s3()]).unwrap());
+}
+
+#[test]
+fn in_words() {
+    fn refused(factor: &Factor) -> Result<Vec<Element>, Refusal> {
+        // A function that is refused for other reasons too hands the refusal on without its place.
+        Ok(factor.inverse_each(&[Element(1), Element(6)])?)
+    }
+    assert_eq!((refused(&s3()).unwrap_err().number, refused(&s3()).unwrap_err().places), (Refusal::OUT_OF_RANGE, [0; 3]));
+    let at: Box<dyn std::error::Error + Send + Sync> =
+        s3().compose_each(&[1, 2, 3, 4].map(Element), &[0, 0, 0, 6].map(Element)).unwrap_err().into();
+    assert_eq!(at.to_string(), "at place 3: refused (14): the argument at position 1, counted from 0, is out of range");
+    let lists = s3().powi_each(&[Element(1)], &[]).unwrap_err();
+    assert_eq!(lists.to_string(), "refused (4): the lists differ in length or have more than 4,096 places");
+    assert_eq!(lists.refusal.to_string(), lists.to_string());
+}
