@@ -80,7 +80,7 @@ pub fn route(s: &[u32], n: u8, count: u32, a: u32, b: u32, len: u32) -> Way
 // an inverse is read at the end of both ways, so that they join without a branch. (`&s[..]` is passed on to the walk back,
 // and not `s`: that call is not put in line, and a slice that is itself passed on would be copied at the start, for which
 // short words too would wait, up to twice their time.)
-fn product_number(s: &[u32], n: u8, count: u32, a: GroupElementId, b: GroupElementId) -> u32
+pub fn product_number(s: &[u32], n: u8, count: u32, a: GroupElementId, b: GroupElementId) -> u32
     ensures { λ r. ⌜ (r < count → composeIn (now (s .entry)) n count (a .0) (b .0) ≡ Reached.Element (record { 0 = r })) ⌝ }
 {
     let first = a.0;

@@ -1,4 +1,4 @@
--- The questions over lists of a factor's elements: the single call of `factor` or `group_powers` at every place.
+-- The questions over lists of a factor's elements: at every place the single call of `factor`, or the power that `group::powi` is for one factor.
 -- Assumes nothing.
 use Prim.Native.Nat.{ℕ}
 use mathlib.Core.List.{List}

@@ -96,11 +96,15 @@ pub fn inverse_by(
     lists::inner::hand_over(said, results, out)
 }
 
-// All the powers at once, in step: as `side_by_side` for products.
+// All the powers at once, in step: as `side_by_side` for products, but only where four walks are quicker than one: in step each place has two products for
+// every bit, where alone it has one for a bit that is 0.
 pub fn in_step(table: &[u32], f: Factor, a: &[u32], exponents: &[i32], results: &mut [u32]) -> bool
     requires { ⌜ (length (now exponents) ≡ length (now a)) × (length (now a) ≤ length (now results)) ⌝ }
     ensures { λ r. ⌜ (r ≡ true → AllRight (length (now (a .entry))) (powiAt (now (table .entry)) f (now (a .entry)) (now (exponents .entry))) (now (results .exit))) ⌝ }
 {
+    if !lists_walks::inner::worth_lanes(f.elements, a.len()) {
+        return false;
+    }
     if !egg::fits(&table[..], f) {
         return false;
     }

@@ -4,7 +4,7 @@ use Prim.Native.Nat.{ℕ, zero, suc, _+_, _≤_, _<_}
 use mathlib.Core.Path.{_≡_, refl, sym, ap, _∙_, subst}
 use mathlib.Core.Logic.{_↔_, _⊎_, inl, inr, ⊎-elim}
 use mathlib.Core.Bool.{Bool, true, false}
-use mathlib.Core.List.{List, [], _∷_}
+use mathlib.Core.List.{List, []}
 use native.Mathlib.Nat.{eq-or-lt-of-le}
 use native.Mathlib.Omega.{arith}
 use borrow.Author.Tests.{eq-eqb, le-leb}
@@ -92,7 +92,7 @@ module _ (first second : ℕ) (single : ℕ → Reached) (out : List ℕ) where
   given (stops place why l f) =
       rw (lengths-exactly first second (length out) .1 l, first-refused first single 0 place why (omega arith) (omega (arith, f .within)) (f .refused) (λ i u v. f .before i v))
   given (fills results l r) =
-      let w : Worked first single Fine results = all-worked (record { each = r .each }) (omega (arith, r .long)) in
+      let w : Worked first single Fine results = all-worked (r .right) (omega (arith, r .long)) in
       rw (lengths-exactly first second (length out) .1 l, ← w .told, ← w .filled refl, take-all first results (omega (arith, r .long)))
 
   some : (h : Answered) × Outcome first second single out h
@@ -106,7 +106,9 @@ module _ (first second : ℕ) (single : ℕ → Reached) (out : List ℕ) where
           answered Fine (numbers first single 0),
           fills (numbers first single 0) l (record {
             long = numbers-long first single 0;
-            each = λ j u. right-number (all j (omega arith) (omega arith)) ∙ ap (λ (x : ℕ). Element (record { 0 = x })) (sym (numbers-at first single 0 j j u (omega arith)));
+            right = record {
+              each = λ j u. right-number (all j (omega arith) (omega arith)) ∙ ap (λ (x : ℕ). Element (record { 0 = x })) (sym (numbers-at first single 0 j j u (omega arith)));
+            };
           }),
         ))
         (λ (p : FirstOf first single 0). (
@@ -130,7 +132,7 @@ module _ {first second : ℕ} (single : ℕ → Reached) (out : List ℕ) (l : A
         results = numbers first single 0;
         answers = given first second single out (fills (numbers first single 0) l (record {
           long = numbers-long first single 0;
-          each = λ j u. at j u ∙ ap (λ (x : ℕ). Element (record { 0 = x })) (sym (numbered j u));
+          right = record { each = λ j u. at j u ∙ ap (λ (x : ℕ). Element (record { 0 = x })) (sym (numbered j u)) };
         }));
         long = numbers-long first single 0;
         each = numbered;

@@ -11,6 +11,7 @@ use Rattle.egg.specs.declared.Reached.{Reached}
 use Rattle.egg.specs.declared.Reached.the-variants.{Element, Refused}
 use Rattle.lists.specs.declared.Listed.the-variants.{Fine, RefusedAt}
 use Rattle.lists.specs.Lists.{Answered, answered, listsRefused}
+use Rattle.lists.specs.Worked.{AllRight}
 
 -- The single call is not refused.
 pub record Right (x : Reached) : Type 0 where
@@ -32,7 +33,7 @@ pub record FirstRefusal (k : ℕ) (single : ℕ → Reached) (place : ℕ) (why 
 -- "The result at each place equals the single call at that place": a list of k places, with the element that the single call reaches at each.
 pub record Results (k : ℕ) (single : ℕ → Reached) (results : List ℕ) : Type 0 where
   pub long : length results ≡ k
-  pub each : (place : ℕ) → place < k → single place ≡ Element (record { 0 = getD results place 0 })
+  pub right : AllRight k single results
 
 -- The outcomes of a question over lists of `first` and `second` places and the output list `out`. "Refusals: 4 when the lists' lengths differ or pass 4,096,
 -- before anything else; then the first refused place", each with "the output list .. unchanged"; else a new output.

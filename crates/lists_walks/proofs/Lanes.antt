@@ -21,7 +21,7 @@ use Rattle.factor_compose.proofs.Numbers.{chosen-inside, ending-reached}
 use Rattle.lists_walks.specs.declared.inner.Lane.{Lane}
 use Rattle.lists_walks.specs.Products.{Multiplied}
 use Rattle.lists_walks.specs.Letters.{CellBack}
-use Rattle.lists_walks.specs.Lanes.{Ready, Right, Asked, Walking, Standing, laneOf, weigh, Finished, Taking, Took, Far, Forward}
+use Rattle.lists_walks.specs.Lanes.{LanesReady, RightAt, Asked, Walking, Standing, laneOf, weigh, Finished, Taking, Took, Far, Forward}
 
 -- What was right but for a place is right once that has its product.
 pub set-after : (P : ℕ → ℕ → Type 0) (l : List ℕ) (i : ℕ) {v : ℕ} → i < length l → P i v → (j : ℕ) → ((j ≡ i → ⊥) → P j (getD l j 0)) → P j (getD (set l i v) j 0)
@@ -50,7 +50,7 @@ settles k {next} {next′} {left} {left′} h o moved l = by (leb left′ 5) ref
 
 module _ {s : List ℕ} {n count : ℕ} {a b : List ℕ} where
   -- The lists stay as long as they were.
-  pub ready-kept : {old new : List ℕ} → Ready s n count a b old → length new ≡ length old → Ready s n count a b new
+  pub ready-kept : {old new : List ℕ} → LanesReady s n count a b old → length new ≡ length old → LanesReady s n count a b new
   ready-kept R q = record { rows = R .rows; some = R .some; paired = R .paired; room = rw q (R .room) }
 
   pub standing-later : {next next′ : ℕ} {l : Lane} → Standing s n count a b next l → next ≤ next′ → next′ ≤ length a → Standing s n count a b next′ l
@@ -66,7 +66,7 @@ module _ {s : List ℕ} {n count : ℕ} {a b : List ℕ} where
   idle-stands next h = record { walking = idle-walks 0 h; spent = λ o m. absurd (omega arith) }
 
   -- The next place: there is none; or its word is short, and the product is stored; or the lane has it.
-  pub takes-none : {old : List ℕ} {next : ℕ} {l : Lane} → Ready s n count a b old → next ≤ length a → length a ≤ next → l ≡ laneOf (length a) 1 0 4096 false
+  pub takes-none : {old : List ℕ} {next : ℕ} {l : Lane} → LanesReady s n count a b old → next ≤ length a → length a ≤ next → l ≡ laneOf (length a) 1 0 4096 false
       → Taking s n count a b next old l next old
   takes-none {old} {next} R h k q = subst (λ m. Taking s n count a b next old m next old) (sym q) (record {
     stands = record { walking = idle-walks 4096 (R .some); spent = λ o m. omega arith };
@@ -77,9 +77,9 @@ module _ {s : List ℕ} {n count : ℕ} {a b : List ℕ} where
     moved = λ o. absurd (omega arith);
   })
 
-  module _ {old : List ℕ} {next : ℕ} (R : Ready s n count a b old) (h : next < length a) where
-    pub right-more : {x : ℕ} → Multiplied s n count (getD a next 0) (getD b next 0) x → (i : ℕ) → (i < next → Right s n count a b old i) → i < next + 1
-        → Right s n count a b (set old next x) i
+  module _ {old : List ℕ} {next : ℕ} (R : LanesReady s n count a b old) (h : next < length a) where
+    pub right-more : {x : ℕ} → Multiplied s n count (getD a next 0) (getD b next 0) x → (i : ℕ) → (i < next → RightAt s n count a b old i) → i < next + 1
+        → RightAt s n count a b (set old next x) i
     right-more M i f o = set-after (λ j v. Multiplied s n count (getD a j 0) (getD b j 0) v) old next (omega (arith, R .room)) M i (λ d. f (omega arith))
 
     pub takes-short : {x : ℕ} {l : Lane} → Multiplied s n count (getD a next 0) (getD b next 0) x → l ≡ laneOf (length a) 1 0 0 false
@@ -115,7 +115,7 @@ module _ {s : List ℕ} {n count : ℕ} {a b : List ℕ} where
   pub finishes-idle : (old : List ℕ) {l : Lane} → length a ≤ l .place → Finished s n count a b l old old
   finishes-idle old h = record { after = λ i k f. f (λ e. absurd (omega arith)) }
 
-  module _ {old : List ℕ} {l : Lane} (R : Ready s n count a b old) (W : Walking s n count a b l) (h : l .place < length a) where
+  module _ {old : List ℕ} {l : Lane} (R : LanesReady s n count a b old) (W : Walking s n count a b l) (h : l .place < length a) where
     pub finishes : {c y z v : ℕ} → c ≡ hopOf s n (l .at) → cellBy (l .left) n 1 c ≡ true → l .left ≤ 5 → 0 < y → y ≤ count
         → LettersBack s n count (l .y - 1) c (l .left) (Element (record { 0 = y - 1 })) → z ≡ inverseOf s n (y - 1) → z < count → v ≡ pick (l .inverted) z (y - 1)
         → Finished s n count a b l old (set old (l .place) v)

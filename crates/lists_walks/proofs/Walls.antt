@@ -7,7 +7,7 @@ use native.Mathlib.Omega.{arith}
 use lib.ListN.{length}
 use Rattle.egg.specs.Table.{pick}
 use Rattle.lists_walks.specs.declared.inner.Lane.{Lane}
-use Rattle.lists_walks.specs.declared.inner.Wall.{Wall}
+use Rattle.lists_walks.specs.declared.inner.FourLanes.{FourLanes}
 use Rattle.lists_walks.specs.Products.{Products}
 use Rattle.lists_walks.specs.Lanes.{Standing, laneOf, Took, Open, weighAll, Far, AllFar, Settled, AllForward, SomeLive, live-p, live-q, live-r, live-t, NoneLive}
 use Rattle.lists_walks.proofs.Lanes.{standing-later, idle-stands, standing-forward, weigh-forward, weigh-less}
@@ -31,7 +31,7 @@ module _ {s : List ℕ} {n count : ℕ} {a b : List ℕ} where
       rest : Standing s n count a b next q
       rest = subst (λ l. Standing s n count a b next l) (sym e) (idle-stands next h)
 
-  pub settled-all : {w : Wall} {p q r t : Lane} {i j k m : ℕ} {old one two three four : List ℕ} → Open s n count a b w old
+  pub settled-all : {w : FourLanes} {p q r t : Lane} {i j k m : ℕ} {old one two three four : List ℕ} → Open s n count a b w old
       → Took s n count a b (w .p) (w .next) old p i one × (5 < p .left) → Took s n count a b (w .q) i one q j two × (5 < q .left)
       → Took s n count a b (w .r) j two r k three × (5 < r .left) → Took s n count a b (w .t) k three t m four × (5 < t .left)
       → Settled s n count a b w (record { p = p; q = q; r = r; t = t; next = m; fine = true }) four
@@ -50,7 +50,7 @@ module _ {s : List ℕ} {n count : ℕ} {a b : List ℕ} where
     weight = omega (arith, P .0 .weight, Q .0 .weight, R .0 .weight, T .0 .weight);
   }
 
-  module _ {live : Bool} {w w′ : Wall} (F : AllForward s n count live w w′) where
+  module _ {live : Bool} {w w′ : FourLanes} (F : AllForward s n count live w w′) where
     pub open-forward : {results : List ℕ} → Open s n count a b w results → Open s n count a b w′ results
     open-forward O = record {
       p = rw (F .next) (standing-forward (F .p) (O .p));
@@ -63,14 +63,14 @@ module _ {s : List ℕ} {n count : ℕ} {a b : List ℕ} where
     }
 
   -- Where no lane has a place, and each has letters to go, every place has been taken.
-  pub all-done : {w : Wall} {results : List ℕ} → Open s n count a b w results → AllFar count w → NoneLive (length a) w → Products s n count a b results
+  pub all-done : {w : FourLanes} {results : List ℕ} → Open s n count a b w results → AllFar count w → NoneLive (length a) w → Products s n count a b results
   all-done O E N = record {
     each = λ i h.
         O .done i (omega (arith, O .p .spent (N .p) (E .p .far))) (λ e. omega (arith, N .p)) (λ e. omega (arith, N .q)) (λ e. omega (arith, N .r)) (λ e. omega (arith, N .t));
   }
 
 -- Each turn costs something: five letters of a lane that has a place, or else it is the last.
-module _ {s : List ℕ} {n count : ℕ} {live : Bool} {w w′ : Wall} (F : AllForward s n count live w w′) where
+module _ {s : List ℕ} {n count : ℕ} {live : Bool} {w w′ : FourLanes} (F : AllForward s n count live w w′) where
   pub falls : {k : ℕ} → (live ≡ true → SomeLive k w) → {before : ℕ} → weighAll k w ≤ before → pick live 1 0 + weighAll k w′ < 1 + before
   unfolding weighAll
   falls {k} some {before} h = by live refl where

@@ -8,7 +8,7 @@ ghost use lib.ListN.{length, getD};
 ghost use Rattle.factor_questions.specs.Walks.{composeIn};
 ghost use Rattle.lists_walks.specs.Products.{Products};
 ghost use Rattle.lists_walks.specs.Letters.{EachOf, Stored, LetterBack, CellBack};
-ghost use Rattle.lists_walks.specs.Lanes.{Ready, Walking, Standing, laneOf, Finished, Taking, Took, Open, AllFar, Settled, AllForward, SomeLive, NoneLive};
+ghost use Rattle.lists_walks.specs.Lanes.{LanesReady, Walking, Standing, laneOf, Finished, Taking, Took, Open, AllFar, Settled, AllForward, SomeLive, NoneLive};
 use egg::GroupElementId;
 use egg::Reached;
 
@@ -30,7 +30,7 @@ pub struct Taken {
 }
 
 // The four lanes, and the same.
-pub struct Wall {
+pub struct FourLanes {
     pub p: Lane,
     pub q: Lane,
     pub r: Lane,
@@ -72,13 +72,18 @@ fn failed(k: usize) -> Taken
     }
 }
 
-// The product of two elements, by itself: quick where it can be, else with care; the count where it is refused.
+// The number of the product of two elements; the count where it is refused. (`compose_elements` comes to the same, as an answer.
+// That `product_number` is called here too keeps it apart from that, which is then put in line wherever somebody asks.)
 fn number(s: &[u32], n: u8, count: u32, a: GroupElementId, b: GroupElementId) -> u32
     ensures { λ r. ⌜ (r < count → composeIn (now (s .entry)) n count (a .0) (b .0) ≡ Reached.Element (record { 0 = r })) ⌝ }
 {
-    match factor_compose::inner::compose_elements(&s[..], n, count, a, b) {
+    let x = factor_compose::inner::product_number(&s[..], n, count, a, b);
+    if x < count {
+        return x;
+    }
+    match factor_questions::inner::compose_with_care(&s[..], n, count, a, b) {
         Reached::Refused(_) => count,
-        Reached::Element(x) => x.0,
+        Reached::Element(y) => y.0,
     }
 }
 
@@ -92,7 +97,7 @@ fn take_now(
     next: usize,
     results: &mut [u32],
 ) -> Taken
-    requires { ⌜ (Ready (now s) n count (now a) (now b) (now results)) × ((next < length (now a)) × ((getD (now a) next 0 < count) × (getD (now b) next 0 < count))) ⌝ }
+    requires { ⌜ (LanesReady (now s) n count (now a) (now b) (now results)) × ((next < length (now a)) × ((getD (now a) next 0 < count) × (getD (now b) next 0 < count))) ⌝ }
     ensures { λ r. ⌜ (r .fine ≡ true → Taking (now (s .entry)) n count (now (a .entry)) (now (b .entry)) next (now (results .entry)) (r .lane) (r .next) (now (results .exit))) ⌝ }
 {
     let first = a[next];
@@ -128,7 +133,7 @@ fn take(
     next: usize,
     results: &mut [u32],
 ) -> Taken
-    requires { ⌜ (Ready (now s) n count (now a) (now b) (now results)) × (next ≤ length (now a)) ⌝ }
+    requires { ⌜ (LanesReady (now s) n count (now a) (now b) (now results)) × (next ≤ length (now a)) ⌝ }
     ensures { λ r. ⌜ (r .fine ≡ true → Taking (now (s .entry)) n count (now (a .entry)) (now (b .entry)) next (now (results .entry)) (r .lane) (r .next) (now (results .exit))) ⌝ }
 {
     if a.len() <= next {
@@ -178,7 +183,7 @@ fn finish(
     lane: Lane,
     results: &mut [u32],
 ) -> bool
-    requires { ⌜ (Ready (now s) n count (now a) (now b) (now results)) × ((Walking (now s) n count (now a) (now b) lane) × (lane .left ≤ 5)) ⌝ }
+    requires { ⌜ (LanesReady (now s) n count (now a) (now b) (now results)) × ((Walking (now s) n count (now a) (now b) lane) × (lane .left ≤ 5)) ⌝ }
     ensures { λ r. ⌜ (r ≡ true → Finished (now (s .entry)) n count (now (a .entry)) (now (b .entry)) lane (now (results .entry)) (now (results .exit))) ⌝ }
 {
     let place = lane.place;
@@ -199,7 +204,7 @@ fn finish(
 }
 
 // Ends a lane's walk and takes places for it until it has more than five letters to go. The lane comes as its numbers: as a struct
-// it would have to be in memory before every test of whether this is called, and a sixth of the time went there.
+// it would have to be in memory before every test of whether this is called, which takes a sixth of the time.
 fn settle(
     s: &[u32],
     n: u8,
@@ -214,7 +219,7 @@ fn settle(
     start: usize,
     results: &mut [u32],
 ) -> Taken
-    requires { ⌜ (Ready (now s) n count (now a) (now b) (now results)) × ((start ≤ length (now a)) × Standing (now s) n count (now a) (now b) start (laneOf place y at left inverted)) ⌝ }
+    requires { ⌜ (LanesReady (now s) n count (now a) (now b) (now results)) × ((start ≤ length (now a)) × Standing (now s) n count (now a) (now b) start (laneOf place y at left inverted)) ⌝ }
     ensures { λ r. ⌜ (r .fine ≡ true → (Took (now (s .entry)) n count (now (a .entry)) (now (b .entry)) (laneOf place y at left inverted) start (now (results .entry)) (r .lane) (r .next) (now (results .exit))) × (5 < r .lane .left)) ⌝ }
 {
     let mut lane = Lane {
@@ -254,7 +259,7 @@ fn settled(
     next: usize,
     results: &mut [u32],
 ) -> Taken
-    requires { ⌜ (Ready (now s) n count (now a) (now b) (now results)) × ((next ≤ length (now a)) × Standing (now s) n count (now a) (now b) next lane) ⌝ }
+    requires { ⌜ (LanesReady (now s) n count (now a) (now b) (now results)) × ((next ≤ length (now a)) × Standing (now s) n count (now a) (now b) next lane) ⌝ }
     ensures { λ r. ⌜ (r .fine ≡ true → (Took (now (s .entry)) n count (now (a .entry)) (now (b .entry)) lane next (now (results .entry)) (r .lane) (r .next) (now (results .exit))) × (5 < r .lane .left)) ⌝ }
 {
     let left = lane.left;
@@ -281,7 +286,7 @@ fn settled(
     )
 }
 
-fn broken(w: Wall) -> Wall
+fn broken(w: FourLanes) -> FourLanes
     ensures { λ r. ⌜ r .fine ≡ false ⌝ }
 {
     let mut v = w;
@@ -296,10 +301,10 @@ fn settle_all(
     count: u32,
     a: &[u32],
     b: &[u32],
-    w: Wall,
+    w: FourLanes,
     results: &mut [u32],
-) -> Wall
-    requires { ⌜ (Ready (now s) n count (now a) (now b) (now results)) × Open (now s) n count (now a) (now b) w (now results) ⌝ }
+) -> FourLanes
+    requires { ⌜ (LanesReady (now s) n count (now a) (now b) (now results)) × Open (now s) n count (now a) (now b) w (now results) ⌝ }
     ensures { λ r. ⌜ (r .fine ≡ true → Settled (now (s .entry)) n count (now (a .entry)) (now (b .entry)) w r (now (results .exit))) ⌝ }
 {
     let p = w.p;
@@ -326,7 +331,7 @@ fn settle_all(
     let second = two.lane;
     let third = three.lane;
     let fourth = four.lane;
-    Wall {
+    FourLanes {
         p: first,
         q: second,
         r: third,
@@ -442,7 +447,7 @@ fn onward(l: Lane, y: u32, c: u32) -> Lane
 }
 
 // Five letters on in every lane, where a lane is live.
-fn five_ahead(s: &[u32], n: u8, count: u32, w: Wall, live: bool) -> Wall
+fn five_ahead(s: &[u32], n: u8, count: u32, w: FourLanes, live: bool) -> FourLanes
     requires { ⌜ (count * (2 * n + 4) ≤ length (now s)) × AllFar count w ⌝ }
     ensures { λ r. ⌜ (r .fine ≡ true → AllForward (now (s .entry)) n count live w r) ⌝ }
 {
@@ -473,7 +478,7 @@ fn five_ahead(s: &[u32], n: u8, count: u32, w: Wall, live: bool) -> Wall
     let second = onward(q, y.q, cells.q);
     let third = onward(r, y.r, cells.r);
     let fourth = onward(t, y.t, cells.t);
-    Wall {
+    FourLanes {
         p: first,
         q: second,
         r: third,
@@ -483,7 +488,7 @@ fn five_ahead(s: &[u32], n: u8, count: u32, w: Wall, live: bool) -> Wall
     }
 }
 
-fn live(k: usize, w: Wall) -> bool
+fn live(k: usize, w: FourLanes) -> bool
     ensures { λ r. ⌜ (r ≡ true → SomeLive k w) × (r ≡ false → NoneLive k w) ⌝ }
 {
     let p = w.p;
@@ -509,10 +514,10 @@ fn lanes(
     count: u32,
     a: &[u32],
     b: &[u32],
-    start: Wall,
+    start: FourLanes,
     results: &mut [u32],
 ) -> bool
-    requires { ⌜ (Ready (now s) n count (now a) (now b) (now results)) × Open (now s) n count (now a) (now b) start (now results) ⌝ }
+    requires { ⌜ (LanesReady (now s) n count (now a) (now b) (now results)) × Open (now s) n count (now a) (now b) start (now results) ⌝ }
     ensures { λ r. ⌜ (r ≡ true → Products (now (s .entry)) n count (now (a .entry)) (now (b .entry)) (now (results .exit))) ⌝ }
 {
     let mut w = start;
@@ -534,7 +539,7 @@ fn lanes(
 // All places, by four lanes. The first takes its place here: `settle` has then two callers, so that it is not put in line in
 // `settled`, which would be too long to be put in line itself.
 fn side_by_side(s: &[u32], n: u8, count: u32, a: &[u32], b: &[u32], results: &mut [u32]) -> bool
-    requires { ⌜ Ready (now s) n count (now a) (now b) (now results) ⌝ }
+    requires { ⌜ LanesReady (now s) n count (now a) (now b) (now results) ⌝ }
     ensures { λ r. ⌜ (r ≡ true → Products (now (s .entry)) n count (now (a .entry)) (now (b .entry)) (now (results .exit))) ⌝ }
 {
     let one = settle(s, n, count, a, b, a.len(), 1, 0, 0, false, 0, results);
@@ -543,7 +548,7 @@ fn side_by_side(s: &[u32], n: u8, count: u32, a: &[u32], b: &[u32], results: &mu
     }
     let p = one.lane;
     let q = idle(a.len(), 0);
-    let w = Wall {
+    let w = FourLanes {
         p,
         q,
         r: q,
@@ -554,7 +559,16 @@ fn side_by_side(s: &[u32], n: u8, count: u32, a: &[u32], b: &[u32], results: &mu
     lanes(s, n, count, a, b, w, results)
 }
 
-// All places, one after another: for so few places, or so short words, that four lanes would not be worth their start.
+// Whether four lanes are quicker than one walk after another: where there are places for all of them, and the rows are so many that
+// a walk waits for each.
+pub fn worth_lanes(count: u32, places: usize) -> bool {
+    if count <= 2048 {
+        return false;
+    }
+    4 <= places
+}
+
+// All places, one after another.
 fn one_after_another(
     s: &[u32],
     n: u8,
@@ -563,7 +577,7 @@ fn one_after_another(
     b: &[u32],
     results: &mut [u32],
 ) -> bool
-    requires { ⌜ Ready (now s) n count (now a) (now b) (now results) ⌝ }
+    requires { ⌜ LanesReady (now s) n count (now a) (now b) (now results) ⌝ }
     ensures { λ r. ⌜ (r ≡ true → Products (now (s .entry)) n count (now (a .entry)) (now (b .entry)) (now (results .exit))) ⌝ }
 {
     let mut i: usize = 0;
@@ -604,10 +618,7 @@ pub fn products(s: &[u32], n: u8, count: u32, a: &[u32], b: &[u32], results: &mu
     if count == 0 {
         return false;
     }
-    if a.len() < 4 {
-        return one_after_another(&s[..], n, count, &a[..], &b[..], results);
-    }
-    if count <= 256 {
+    if !worth_lanes(count, a.len()) {
         return one_after_another(&s[..], n, count, &a[..], &b[..], results);
     }
     side_by_side(&s[..], n, count, &a[..], &b[..], results)

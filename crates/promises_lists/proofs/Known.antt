@@ -48,6 +48,7 @@ known-lists = record {
   product-composed = refl;
   product-inverted = refl;
   product-powered = refl;
+  product-powered-back = refl;
   product-beyond = refl;
   product-large = refl;
   product-unlike = refl;

@@ -1,6 +1,7 @@
 pub mod Papers
 pub mod Each
 pub mod Places
+pub mod Alone
 pub mod Factors
 pub mod Products
 pub mod Tiles

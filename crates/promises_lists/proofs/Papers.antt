@@ -19,8 +19,8 @@ use Rattle.lists_laws.proofs.Outcomes.{given, lists-exactly}
 use Rattle.promises_lists.specs.Places.{paperOf, OnPaper}
 
 -- A single call that is refused is not right.
-refused-right : {x : Reached} {r : Refusal} → x ≡ Refused r → Right x → ⊥
-refused-right q h = let e = h .reached in let z : _≡_ {A = ℕ} 0 1 = cc in omega arith
+refused-apart : {x : Reached} {r : Refusal} → x ≡ Refused r → Right x → ⊥
+refused-apart q h = let e = h .reached in let z : _≡_ {A = ℕ} 0 1 = cc in omega arith
 
 -- Nothing else is in a refusal than what stands on paper.
 abbrev refusalAt : ListPaper → Refusal
@@ -55,7 +55,7 @@ module _ (l : List ℕ) (no-4 : member 4 l ≡ false) (no-0 : member 0 l ≡ fal
       record {
         among = longer l (why .number) m;
         unlike = (λ q. absurd (apart l 4 m no-4 q), λ w. absurd (w alike));
-        right = (λ q. absurd (apart l 0 m no-0 q), λ p. absurd (refused-right (f .refused) (p .1 place (f .within))));
+        right = (λ q. absurd (apart l 0 m no-0 q), λ p. absurd (refused-apart (f .refused) (p .1 place (f .within))));
         refused = λ place′ why′ m′. (
           (λ q. let here : place ≡ place′ = ap (λ (p : ListPaper). p .place) q in let same : why ≡ why′ = ap refusalAt q in rw (← here, ← same) (alike, f)),
           (λ p. ap paperOf (sym e ∙ given first second single out (stops place′ why′ (p .0) (p .1)))),
@@ -64,7 +64,7 @@ module _ (l : List ℕ) (no-4 : member 4 l ≡ false) (no-0 : member 0 l ≡ fal
   by-outcome (fills results alike r) e = record {
     among = refl;
     unlike = (λ q. absurd (omega arith), λ w. absurd (w alike));
-    right = (λ q. (alike, λ place u. record { element = record { 0 = getD results place 0 }; reached = r .each place u }), λ p. refl);
+    right = (λ q. (alike, λ place u. record { element = record { 0 = getD results place 0 }; reached = r .right .each place u }), λ p. refl);
     refused = λ place why m. (
       (λ q. absurd (apart l 0 m no-0 (ap (λ (p : ListPaper). p .refusal .number) (sym q)))),
       (λ p. ap paperOf (sym e ∙ given first second single out (stops place why (p .0) (p .1)))),

@@ -49,6 +49,9 @@ pub record KnownLists : Type 0 where
   pub product-composed : product.composeEach table S3-Z2 (9 ∷ []) (7 ∷ []) (sevens 1) ≡ answered Fine (5 ∷ [])
   pub product-inverted : product.inverseEach table S3-Z2 (9 ∷ 0 ∷ []) (sevens 2) ≡ answered Fine (10 ∷ 0 ∷ [])
   pub product-powered : product.powiEach table S3 (3 ∷ 3 ∷ 3 ∷ []) (pos 2 ∷ negsuc 0 ∷ negsuc 2147483647 ∷ []) (sevens 3) ≡ answered Fine (4 ∷ 4 ∷ 3 ∷ [])
+  -- 9 is 3 of S3 beside the other element of Z2. Its powers by -1, by -5 and by i32::MIN.
+  pub product-powered-back : product.powiEach table S3-Z2 (9 ∷ 9 ∷ 9 ∷ []) (negsuc 0 ∷ negsuc 4 ∷ negsuc 2147483647 ∷ []) (sevens 3)
+      ≡ answered Fine (10 ∷ 9 ∷ 3 ∷ [])
   pub product-beyond : product.composeEach table S3-Z2 (9 ∷ 11 ∷ 12 ∷ []) (7 ∷ 12 ∷ 0 ∷ []) (sevens 3) ≡ stoppedAt 1 14 1 (sevens 3)
   -- 15 is at the first place too, after 4.
   pub product-large : product.inverseEach table nineFactors (0 ∷ 0 ∷ []) (sevens 2) ≡ stoppedAt 0 15 0 (sevens 2)

@@ -1,4 +1,5 @@
 pub mod Places
 pub mod Walls
+pub mod Alone
 pub mod Tiles
 pub mod Known

@@ -9,14 +9,14 @@ use lib.ListN.{length}
 use Rattle.egg.specs.Table.{pick}
 use Rattle.egg.proofs.Rooms.{false-true}
 use Rattle.lists_walks.specs.Products.{Products}
-use Rattle.lists_walks.specs.Lanes.{Ready, Open, weighAll}
+use Rattle.lists_walks.specs.Lanes.{LanesReady, Open, weighAll}
 use Rattle.lists_walks.proofs.Lanes.{ready-kept}
 use Rattle.lists_walks.proofs.Walls.{open-forward, falls, all-done}
 use Rattle.lists_walks.proofs.inner.lanes.Statement.{statement}
 use Rattle.lists_walks.proofs.inner.lanes.Tie as tie
 
 abbrev Inv-loop : tie.InvT-loop
-Inv-loop s n count a b results₀ w₀ more₀ results w more = Ready s n count a b results × ((length results ≡ length results₀) × (Open s n count a b w results × (more ≡ false → Products s n count a b results)))
+Inv-loop s n count a b results₀ w₀ more₀ results w more = LanesReady s n count a b results × ((length results ≡ length results₀) × (Open s n count a b w results × (more ≡ false → Products s n count a b results)))
 
 abbrev μ-loop : tie.MeasureT-loop
 μ-loop s n count a b results₀ w₀ more₀ results w more = pick more 1 0 + weighAll (length a) w

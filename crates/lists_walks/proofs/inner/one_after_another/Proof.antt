@@ -5,13 +5,13 @@ use native.Mathlib.Omega.{arith}
 use borrow.Author.Needs.{needs}
 use lib.ListN.{length, length-set}
 use Rattle.egg.proofs.Rooms.{false-true}
-use Rattle.lists_walks.specs.Lanes.{Ready, Right}
+use Rattle.lists_walks.specs.Lanes.{LanesReady, RightAt}
 use Rattle.lists_walks.proofs.Lanes.{ready-kept, right-more}
 use Rattle.lists_walks.proofs.inner.one_after_another.Statement.{statement}
 use Rattle.lists_walks.proofs.inner.one_after_another.Tie as tie
 
 abbrev Inv-loop : tie.InvT-loop
-Inv-loop s n count a b results₀ i₀ results i = (i ≤ length a) × (Ready s n count a b results × ((length results ≡ length results₀) × ((j : ℕ) → j < i → Right s n count a b results j)))
+Inv-loop s n count a b results₀ i₀ results i = (i ≤ length a) × (LanesReady s n count a b results × ((length results ≡ length results₀) × ((j : ℕ) → j < i → RightAt s n count a b results j)))
 
 abbrev μ-loop : tie.MeasureT-loop
 μ-loop s n count a b results₀ i₀ results i = length a - i

@@ -5,13 +5,13 @@ use borrow.Author.Needs.{needs}
 use borrow.Author.Tests.{not-false}
 use lib.ListN.{length}
 use Rattle.egg.proofs.Rooms.{false-true}
-use Rattle.lists_walks.specs.Lanes.{Ready, Took}
+use Rattle.lists_walks.specs.Lanes.{LanesReady, Took}
 use Rattle.lists_walks.proofs.Lanes.{ready-kept, settles, took-none, took-more}
 use Rattle.lists_walks.proofs.inner.settle.Statement.{statement}
 use Rattle.lists_walks.proofs.inner.settle.Tie as tie
 
 abbrev Inv-loop : tie.InvT-loop
-Inv-loop s n count a b place y at left inverted start results₀ lane₀ next₀ results lane next = Ready s n count a b results × ((length results ≡ length results₀) × Took s n count a b lane₀ next₀ results₀ lane next results)
+Inv-loop s n count a b place y at left inverted start results₀ lane₀ next₀ results lane next = LanesReady s n count a b results × ((length results ≡ length results₀) × Took s n count a b lane₀ next₀ results₀ lane next results)
 
 abbrev μ-loop : tie.MeasureT-loop
 μ-loop s n count a b place y at left inverted start results₀ lane₀ next₀ results lane next = 7 * (length a - next) + (6 - lane .left)
