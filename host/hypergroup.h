@@ -49,7 +49,7 @@
  * - A list that a call writes overlaps no other list of that call. An image and its work are apart.
  *   Lists that are only read may overlap.
  * - Nothing else writes to a lent list, or reads one that is written, while the call runs.
- * - 64 KB of stack. No call needs more for a longer word or a larger group.
+ * - 64 KB of stack. No call needs more for a longer word, a larger group or longer lists.
  * That is all. Every other value of every argument is answered, or refused with a number.
  *
  * How long a list has to be, with n generators and the room R, which is how many elements the factor may
@@ -154,7 +154,8 @@ enum {
     HG_NO_GROUP = 12,           /* no group has these right steps */
     HG_RELATION_FAILS = 13,     /* a relation fails (element, generator, generator) */
     HG_OUT_OF_RANGE = 14,       /* an element, generator or factor out of range (which of these, from 0,
-                                   each entry of a word or list counted) */
+                                   each entry of a word or list counted; of a call that ends in _each
+                                   as the single call has it, 0 or 1, and the place is told apart) */
     HG_TOO_LARGE = 15,          /* over 8 factors, 2^32 - 1 elements, or 65,535 in an overgroup; or a
                                    predicate that needs a ninth generator */
     HG_BAD_IMAGE = 16,          /* the image is malformed */
@@ -432,7 +433,7 @@ uint32_t hg_inverse_each(const uint32_t *table, size_t table_len, size_t start, 
 
 /* Writes to each place of out the power of the element of a there by the exponent there, the
  * inverse's power where that is negative. Refuses as hg_compose_each does, the places as
- * hg_inverse. */
+ * hg_product_powi of the factor alone. */
 uint32_t hg_powi_each(const uint32_t *table, size_t table_len, size_t start, uint32_t room,
     uint8_t n, uint32_t count, const uint32_t *a, size_t a_len, const int32_t *exponents,
     size_t exponents_len, uint32_t *out, size_t out_len, uint32_t *told, size_t told_len);

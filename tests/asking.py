@@ -160,10 +160,10 @@ def listed(what, made, elements, fits, lists, command):
 
 def over_lists():
     one, two = product("2 3"), product("2 3", "2 3")
-    exponents = [-1, 0, 2, -(2**31)]
-    asked = [("", one, 6, [1, 3, 0, 5], [3, 1, 5, 5]), ("", one, 6, [1, 3, 6, 7], [3, 8, 5, 5]), ("", one, 6, [1, 3, 9], [3, 1, 5, 5])]
+    exponents = [2, -1, 2, -(2**31)]
+    asked = [("", one, 6, [1, 3, 4, 3], [3, 1, 5, 5]), ("", one, 6, [1, 3, 6, 7], [3, 8, 5, 5]), ("", one, 6, [1, 3, 9], [3, 1, 5, 5])]
     first, second = [3, 17, 5, 35], [3, 38, 5, 35]
-    asked += [("product ", two, 36, a, b) for a, b in (([1, 33, 0, 35], first), ([1, 33, 36, 37], second), ([1, 33, 99], first))]
+    asked += [("product ", two, 36, a, b) for a, b in (([9, 33, 22, 20], first), ([9, 33, 36, 37], second), ([9, 33, 99], first))]
     for fits in (True, False):
         for what, made, elements, a, b in asked + [("", one, 6, [], []), ("product ", two, 36, [], [])]:
             yield listed(what + "compose", made, elements, fits, [a, b], "compose")

@@ -3,14 +3,14 @@
 
 First the recorded list is replayed by `ours` alone, also where the oracle is not built: where document 01 puts an input
 inside the domain of equality its answer must be the recorded one of the Rust, and elsewhere the refusal that
-tests/recorded/model.py, written from document 01, expects. Then fresh builds and questions, from a seed that is printed
-(or the first argument), go to the model, the oracle and `ours`; images go to the model and `ours`, since the Rust has
-none. What is made has names now and then, of which no answer knows but the joined one: the Rust's label, where they are
-text. A question over lists is answered as the single calls are at its places, by the model and by the Rust, which has no
-lists: of up to 4,096 places, in small groups and in large ones, and with numbers out of range in the tables. Altered tables
-and forged handles: an answer or a refusal that is due, 14 or 17 (of a check against orders 2, 3, 13 or 17), never anything
-else, and over lists what the single calls just said. And the largest factor that there can be, 65,535 elements, beside the
-Rust.
+tests/recorded/model.py, written from document 01, expects. Then fresh builds and questions, from a seed that is printed (or
+the first argument), go to the model, the oracle and `ours`; images go to the model and `ours`, since the Rust has none.
+What is made has names now and then, of which no answer knows but the joined one: the Rust's label, where they are text. A
+question over lists is answered as the single calls are at its places, by the model and by the Rust, which has no lists: of
+up to 4,096 places, in small groups and in large ones, and with numbers out of range in the tables. Altered tables and
+forged handles: an answer or a refusal that is due, 14 or 17 (of a check against orders 2, 3, 13 or 17), never anything
+else, and over lists what the single calls just said, also in tables so large that walks go side by side. And the largest
+factor that there can be, 65,535 elements, beside the Rust.
 """
 
 import math
@@ -26,6 +26,7 @@ from model import LISTS, Model, Product, Refused, RefusedAt, check_arguments, si
 from replay import ORACLE, cases, listed, run, rust
 
 OURS = (HERE.parent / "target" / "ours", "--echo")
+H4 = "enum 4 5 2 3 2 2 3"
 
 
 def differs(where, command, want, got):
@@ -103,7 +104,8 @@ def name_commands(rng):
         n = rng.choice((0, 1, 2, 2, 2, 3, 9))
         yield " ".join(map(str, ["enum", n, *(rng.choice((0, 1, 2, 3, 32768)) for _ in range(n * (n - 1) // 2 + (rng.random() < 0.1)))]))
         rows = random_group(rng)
-        yield rows_command(len(rows[0]), len(rows), rng.choice((rows, *damaged(rng, rows))))
+        rows = rng.choice((rows, *damaged(rng, rows)))
+        yield rows_command(len(rows[0]), len(rows), rows)
         yield "builder %d" % n
     yield from ("room 65535", "name -")
 
@@ -348,10 +350,12 @@ def refusal_over_lists(command, total):
 def long_lists(seed):
     """Lists of up to 4,096 places, in groups that are too large for the model: beside the Rust's single calls."""
     rng, asked, places = random.Random(seed), [], 0
-    h4, e6, order, turn = "enum 4 5 2 3 2 2 3", "enum 6 2 2 3 3 2 3 2 2 2 3 2 2 2 2 3", "enum 2 4096", abelian([4097])
+    e6, order, turn = "enum 6 2 2 3 3 2 3 2 2 2 3 2 2 2 2 3", "enum 2 4096", abelian([4097])
     quaternions = next(more_factors())
-    groups = [[], ["enum 0"], [S3], [abelian([3])], [abelian([5])], [abelian([7, 8, 9])], [quaternions], [rotations()], [H3], [h4], [e6], [order], [turn]]
-    groups += [["enum 0"] * 8, [H3] * 2, [h4, e6], [S3] * 8, [rotations(), quaternions, abelian([2, 9])], [abelian([k]) for k in NEAR]]
+    groups = [[], ["enum 0"], [S3], [abelian([3])], [abelian([5])], [abelian([7, 8, 9])], [quaternions], [rotations()], [H3], [H4], [e6], [order], [turn]]
+    # Up to 2,048 elements places are worked out one after another, and above side by side.
+    groups += [[abelian(orders)] for orders in ([32, 64], [3, 683])] + [["enum 2 1024"], ["enum 2 1025"], [abelian([3, 683]), abelian([32, 64]), S3]]
+    groups += [["enum 0"] * 8, [H3] * 2, [H4, e6], [S3] * 8, [rotations(), quaternions, abelian([2, 9])], [abelian([k]) for k in NEAR]]
     for factors in groups:
         setup = ["clear", *("factor " + line for line in factors), "prod"]
         total = int(cases(run(setup))[-1][1][0].split()[2])
@@ -366,7 +370,7 @@ def long_lists(seed):
     for (command, want), (_, got) in zip(asked, cases(run([command for command, _ in asked], OURS)), strict=True):
         if got != want:
             differs("long lists, seed %s" % seed, command[:200], [line[:200] for line in want or []], [line[:200] for line in got])
-    if places < 350000:
+    if places < 480000:
         sys.exit("only %d places of long lists were compared" % places)
     print("long lists: %d compared, %d places, seed %s" % (len(asked), places, seed))
 
@@ -498,6 +502,21 @@ def asked_both_ways(lines):
     return (call for line in lines for call in (*single_calls(line), line))
 
 
+def as_single_calls(where, answers, place):
+    """A question over lists is answered as the single calls that were asked just before, in order, unless the lengths are wrong,
+    which comes before all else. Which kind of answer it is."""
+    command, lines = answers[place]
+    try:
+        before = answers[place - len(single_calls(command)) : place]
+        want = listed([lines[0] for _, lines in before])
+    except Refused as refused:
+        want = str(refused)
+    if lines != [want]:
+        differs(where, command[:2000], [want[:2000]], [line[:2000] for line in lines])
+    words = want.split()
+    return words[0] if words[0] != "at" else "at " + words[3]
+
+
 def garbage_commands(rng):
     def number():
         return rng.choice((0, 1, 2, 5, 6, 7, 11, 255, 65535, 65536, 2**31, 2**32 - 1, rng.randrange(2**32)))
@@ -576,15 +595,7 @@ def garbage(seed):
             continue
         words = lines[0].split()
         if name in LISTS:
-            # The single calls were asked just before, in order, unless the lengths are wrong, which comes before all else.
-            try:
-                before = answers[place - len(single_calls(command)) : place]
-                want = listed([lines[0] for _, lines in before])
-            except Refused as refused:
-                want = str(refused)
-            if lines != [want]:
-                differs("altered, seed %s" % seed, command, [want], lines)
-            kind = words[0] if words[0] != "at" else "at " + words[3]
+            kind = as_single_calls("altered, seed %s" % seed, answers, place)
             lists[kind] = lists.get(kind, 0) + 1
             asked += 1
             continue
@@ -600,6 +611,60 @@ def garbage(seed):
     if min(lists.get(kind, 0) for kind in ("ok", "at 14", "at 17", "refused")) < 100:
         sys.exit("altered: too few questions over lists: %s" % lists)
     print("altered: %d questions, %d of them over lists, seed %s" % (asked, sum(lists.values()), seed))
+
+
+def altered_number(rng, n, count, kind, within):
+    """Where in a row some number of a kind stands, and another for it: one that could be there, or else out of range too."""
+    element, letters = rng.randrange(count), sum(rng.randrange(n) << 3 * k for k in range(5))
+    beyond = rng.choice((count + 1, count + 1, 65535, 2**31, 2**32 - 1))
+    wrong_letter = element << 15 | rng.choice((n, 7)) << 3 * rng.randrange(5) if n < 8 else 2**32 - 1
+    at, fitting, wrong = {
+        "successor": (rng.randrange(n), 1 + element, rng.choice((0, beyond))),
+        "predecessor": (n + rng.randrange(n), 1 + element, rng.choice((0, beyond))),
+        "letters": (2 * n + 1, element << 15 | letters, rng.choice((wrong_letter, rng.choice((count, 2**17 - 1)) << 15 | letters))),
+        "length": (2 * n + 2, rng.choice((0, 1, 5, 6, 4095, 4096, rng.randrange(4097))), rng.choice((4097, beyond))),
+        "inverse": (2 * n + 3, element, rng.choice((count, beyond))),
+    }[kind]
+    return at, fitting if within else rng.choice((fitting, wrong, wrong))
+
+
+def large_commands(rng):
+    """Tables above 2,048 elements, of which numbers are altered, of one kind or of all, in any row or only in the first and the
+    last ones: the identity's is the one by which a walk goes on that has no place left. Beside lists of 4 to 80 places there are
+    many short ones, in tables with so many altered numbers that about one place comes to one: each walk tests each letter of a
+    cell by itself, and one that was missing would show only where no other walk ends the call."""
+    # Each with its generators, its elements and about how many letters a walk has.
+    large = (("enum 2 1100", 2, 2200, 370), (H4, 4, 14400, 25), (abelian([13, 14, 15]), 3, 2730, 17), (abelian([3, 683]), 2, 2049, 220))
+    kinds = ("successor", "predecessor", "letters", "length", "inverse")
+    for turn in range(240):
+        line, n, count, letters = large[turn % 4]
+        small = rng.choice(([], [], [S3], [abelian([5]), S3]))
+        total = count * math.prod(Model().make(other.split()).count for other in small)
+        yield from ("clear", "room %d" % count, "factor " + line, *("factor " + other for other in small), "prod")
+        some = rng.choice((kinds, kinds[1:2], kinds[1:2], kinds[2:3], kinds[2:3], kinds[:1], kinds[3:4], kinds[4:]))
+        rows = rng.choice((range(count), range(count), range(count), [0], [*range(6), *range(count - 6, count)]))
+        few, within = count // (2 * letters), rng.random() < 0.3
+        for _ in range(rng.choice((1, few, few, 2 * few, 2 * few, 1000))):
+            at, number = altered_number(rng, n, count, rng.choice(some), within)
+            yield "alter %d %d" % (7 + rng.choice(rows) * (2 * n + 4) + at, number)
+        for kind in ("any", rng.choice(KINDS)):
+            yield from asked_both_ways(over_lists(rng, kind, total, rng.choice((4, 5, 6, 7, 8, 16, 33, 64, 65, 80))))
+        yield from asked_both_ways(spoilt_lists(rng, total, rng.choice((4, 5, 20, 65)), 2))
+        for _ in range(30):
+            length = rng.choice((4, 4, 5, 6, 8))
+            yield from asked_both_ways([over("composes", filled(rng, "any", total, length), filled(rng, "any", total, length))])
+
+
+def side_by_side(seed):
+    """Walks that go side by side, in altered tables: over lists what our single calls just said, which have tests of their own."""
+    answers, met = cases(run(list(large_commands(random.Random(seed))), OURS)), {}
+    for place, (command, _) in enumerate(answers):
+        if command.split(None, 1)[0] in LISTS:
+            kind = as_single_calls("side by side, seed %s" % seed, answers, place)
+            met[kind] = met.get(kind, 0) + 1
+    if min(met.get(kind, 0) for kind in ("ok", "at 14", "at 17")) < 100:
+        sys.exit("side by side: too few of a kind: %s" % met)
+    print("side by side: %s, seed %s" % (", ".join("%s %d times" % kind for kind in met.items()), seed))
 
 
 def largest():
@@ -640,6 +705,7 @@ if __name__ == "__main__":
     forged_lists()
     altered_lists(seed)
     garbage(seed)
+    side_by_side(seed)
     if ORACLE.exists():
         largest()
         long_lists(seed)

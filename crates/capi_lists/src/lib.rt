@@ -36,7 +36,7 @@ pub extern "C" fn hg_inverse_each(
 }
 
 // Writes to each place of out the power of the element of a there by the exponent there, the inverse's power where that is negative. Refuses as
-// hg_compose_each does, the places as hg_inverse.
+// hg_compose_each does, the places as hg_product_powi of the factor alone.
 #[no_mangle]
 pub extern "C" fn hg_powi_each(
     table: &[u32],

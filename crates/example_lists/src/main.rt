@@ -108,14 +108,15 @@ fn ask_nothing(table: &[u32], f: Factor, g: Group) {
     product_power(table, g, &[], &[], &mut []);
 }
 
+// What has a negative exponent is of period 3 or 6, so that a power by the other sign would be another element.
 fn ask_all(table: &[u32], f: Factor, g: Group) {
-    let exponents = [-1, 0, 2, -2147483648];
-    ask_factor(table, f, &[1, 3, 0, 5], &[3, 1, 5, 5], &exponents);
+    let exponents = [2, -1, 2, -2147483648];
+    ask_factor(table, f, &[1, 3, 4, 3], &[3, 1, 5, 5], &exponents);
     ask_factor(table, f, &[1, 3, 6, 7], &[3, 8, 5, 5], &exponents);
     ask_factor(table, f, &[1, 3, 9], &[3, 1, 5, 5], &exponents);
-    ask_product(table, g, &[1, 33, 0, 35], &[3, 17, 5, 35], &exponents);
-    ask_product(table, g, &[1, 33, 36, 37], &[3, 38, 5, 35], &exponents);
-    ask_product(table, g, &[1, 33, 99], &[3, 17, 5, 35], &exponents);
+    ask_product(table, g, &[9, 33, 22, 20], &[3, 17, 5, 35], &exponents);
+    ask_product(table, g, &[9, 33, 36, 37], &[3, 38, 5, 35], &exponents);
+    ask_product(table, g, &[9, 33, 99], &[3, 17, 5, 35], &exponents);
     ask_nothing(table, f, g);
 }
 

@@ -1,5 +1,6 @@
 pub mod Example
 pub mod Places
-pub mod Copies
+pub mod Passes
+pub mod Parts
 pub mod Lengths
 pub mod Answers

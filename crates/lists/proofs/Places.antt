@@ -2,11 +2,11 @@
 -- Assumes nothing.
 use Prim.Native.Nat.{ℕ, zero, suc, _+_, _-_, _≤_, _<_}
 use mathlib.Core.Path.{_≡_, refl, sym, ap, _∙_, subst}
-use mathlib.Core.Bool.{Bool, true, false}
 use mathlib.Core.List.{List, [], _∷_, _++_}
 use native.Mathlib.Nat.{sub-zero}
 use native.Mathlib.Omega.{arith}
 use lib.ListN.{length, take, set, getD}
+use lib.IntN.{ℤ}
 use lib.Seq.{take-suc-set, set-getD}
 use Rattle.egg.specs.declared.Refusal.{Refusal}
 use Rattle.egg.specs.declared.GroupElementId.{GroupElementId}
@@ -15,7 +15,7 @@ use Rattle.egg.specs.declared.Reached.the-variants.{Element, Refused}
 use Rattle.egg.proofs.Scans.{left-suc}
 use Rattle.lists.specs.declared.RefusedPlace.{RefusedPlace}
 use Rattle.lists.specs.declared.Listed.{Listed}
-use Rattle.lists.specs.declared.Listed.the-variants.{Fine, RefusedAt, ListsRefused}
+use Rattle.lists.specs.declared.Listed.the-variants.{Fine, RefusedAt}
 use Rattle.lists.specs.Lists.{orHere, firstRefused, numberOf, numbers}
 use Rattle.lists.specs.Worked.{Worked, AllRight}
 
@@ -82,3 +82,7 @@ module _ {k : ℕ} {single : ℕ → Reached} {results : List ℕ} (a : AllRight
 
   pub all-worked : Worked k single Fine results
   all-worked = worked (come k (omega arith)) (omega arith)
+
+-- The single call, where its exponent was read from a list.
+pub exponent-there : (single : ℤ → Reached) {said : Reached} {k e : ℤ} → said ≡ single k → k ≡ e → said ≡ single e
+exponent-there single p q = p ∙ ap single q

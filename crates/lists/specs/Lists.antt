@@ -6,17 +6,16 @@ use Prim.Native.Nat.{ℕ, zero, suc, _+_}
 use mathlib.Core.List.{List, [], _∷_}
 use mathlib.Core.Bool.{Bool, _&&_}
 use lib.Dec.{eqb, leb}
-use Rattle.egg.specs.declared.Refusal.{Refusal}
 use Rattle.egg.specs.declared.Reached.{Reached}
 use Rattle.egg.specs.declared.Reached.the-variants as reached
 use Rattle.egg.specs.Table.{pick}
 use Rattle.egg.specs.Factor.{Paper, refusalPaper}
-use Rattle.lists.specs.declared.RefusedPlace.{RefusedPlace}
 use Rattle.lists.specs.declared.Listed.{Listed}
 use Rattle.lists.specs.declared.Listed.the-variants.{Fine, RefusedAt, ListsRefused}
 
 -- "When an answer is an enum, a definition sets out this paper's number and values for each of its cases": the paper's refusal, number 0 where there is none,
--- and the place of the lists that it was given at. Refused lists have no such place, and 0 stands for it; no single call gives their number, 4.
+-- and the place of the lists that it was given at. Refused lists have no such place, and 0 stands for it; no single call that is asked over
+-- lists gives their number, 4 (`factor-places`, `product-places`).
 pub record ListPaper : Type 0 where
   pub place : ℕ
   pub refusal : Paper

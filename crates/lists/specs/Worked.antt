@@ -1,4 +1,4 @@
--- What the contract of a loop over places says of the list that the results are gathered in. It is no part of a call's answer.
+-- What the contracts of the work say of the list that the results are gathered in.
 -- Assumes nothing.
 use Prim.Native.Nat.{ℕ, _<_}
 use mathlib.Core.Path.{_≡_}

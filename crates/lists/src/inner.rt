@@ -4,6 +4,7 @@ ghost use Prim.Native.Nat.{_≤_, _<_};
 ghost use lib.ListN.{length, take, getD};
 ghost use lib.IntN.{pos};
 ghost use Rattle.lists.specs.Lists.{lengthsRight, listsRefused, orHere, Answered, answered, leftBy, eachPlace};
+ghost use Rattle.lists.specs.Passes.{ChunkEnd};
 use super::Listed;
 use super::RefusedPlace;
 use egg::Reached;
@@ -49,6 +50,14 @@ pub fn exponent(exponents: &[i32], i: usize) -> i32
     ensures { λ r. ⌜ r ≡ getD (now (exponents .entry)) i (pos 0) ⌝ }
 {
     exponents[i]
+}
+
+// Where the chunk that starts at a place ends: lists of our own that are as long as a chunk stay near.
+pub fn chunk_end(i: usize, long: usize) -> usize
+    requires { ⌜ i < long ⌝ }
+    ensures { λ r. ⌜ ChunkEnd i long r ⌝ }
+{
+    if long - i <= 64 { long } else { i + 64 }
 }
 
 fn copy_front(from: &[u32], out: &mut [u32])

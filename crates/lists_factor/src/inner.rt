@@ -1,5 +1,5 @@
-// The places of lists, one after another, into a list of our own: no place is worked out twice, and a refused call has written
-// nothing. Slices are passed on as `&s[..]`, since a slice parameter that is passed on as it is would be copied first.
+// The places of lists, into a list of our own, so that a refused call has written nothing: all at once where that serves, else
+// one after another. Slices are passed on as `&s[..]`, since a slice parameter that is passed on as it is would be copied first.
 ghost use mathlib.Core.Path.{_≡_};
 ghost use mathlib.Core.Bool.{true};
 ghost use Prim.Native.Nat.{_≤_};
@@ -30,9 +30,9 @@ fn compose_in_turn(table: &[u32], f: Factor, a: &[u32], b: &[u32], results: &mut
 {
     let mut i = 0;
     while i < a.len() {
-        let said = factor::compose(&table[..], f, GroupElementId(a[i]), GroupElementId(b[i]));
-        let Reached::Element(e) = said else {
-            return lists::inner::stopped(i, said);
+        let product = factor::compose(&table[..], f, GroupElementId(a[i]), GroupElementId(b[i]));
+        let Reached::Element(e) = product else {
+            return lists::inner::stopped(i, product);
         };
         results[i] = e.0;
         i += 1;
@@ -66,7 +66,7 @@ pub fn compose_by(
     lists::inner::hand_over(said, results, out)
 }
 
-fn inverse_into(table: &[u32], f: Factor, a: &[u32], results: &mut [u32]) -> Listed
+pub fn inverse_into(table: &[u32], f: Factor, a: &[u32], results: &mut [u32]) -> Listed
     requires { ⌜ length (now a) ≤ length (now results) ⌝ }
     ensures { λ r. ⌜ Worked (length (now (a .entry))) (inverseAt (now (table .entry)) f (now (a .entry))) r (now (results .exit)) ⌝ }
 {
@@ -135,7 +135,13 @@ fn powi_in_turn(
     Listed::Fine
 }
 
-fn powi_into(table: &[u32], f: Factor, a: &[u32], exponents: &[i32], results: &mut [u32]) -> Listed
+pub fn powi_into(
+    table: &[u32],
+    f: Factor,
+    a: &[u32],
+    exponents: &[i32],
+    results: &mut [u32],
+) -> Listed
     requires { ⌜ (length (now exponents) ≡ length (now a)) × (length (now a) ≤ length (now results)) ⌝ }
     ensures { λ r. ⌜ Worked (length (now (a .entry))) (powiAt (now (table .entry)) f (now (a .entry)) (now (exponents .entry))) r (now (results .exit)) ⌝ }
 {

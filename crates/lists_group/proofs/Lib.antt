@@ -1,4 +1,3 @@
-pub mod Exponents
 pub mod Passes
 pub mod Turns
 pub mod Chunks

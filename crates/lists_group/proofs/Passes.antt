@@ -4,36 +4,12 @@ use Prim.Native.Nat.{ℕ, _+_, _*_, _/_, _%_, _≤_, _<_}
 use mathlib.Core.Path.{_≡_, refl, ap, _∙_}
 use mathlib.Core.List.{List}
 use native.Mathlib.Omega.{arith}
+use native.Mathlib.Nat.{mul-le-mul-left}
 use borrow.Author.Count.{below-more}
-use lib.ListN.{length, getD, set, length-set, replicate, getD-replicate}
-use lib.Seq.{getD-set-same, getD-set-other}
-use Rattle.lists_group.specs.Passes.{Written, Copied, Cut, Addable}
-
--- The invariant of a loop that stores a number at each place and has come to i: the places before it have theirs, those after it are as they were.
-pub record Writing (value : ℕ → ℕ) (before : List ℕ) (i : ℕ) (out : List ℕ) : Type 0 where
-  pub done : (j : ℕ) → j < i → getD out j 0 ≡ value j
-  pub left : (j : ℕ) → i ≤ j → getD out j 0 ≡ getD before j 0
-  pub as-long : length out ≡ length before
-
-pub writing : {value : ℕ → ℕ} {out : List ℕ} → Writing value out 0 out
-writing = record { done = λ j h. absurd (omega arith); left = λ j h. refl; as-long = refl }
-
-module _ {value : ℕ → ℕ} {before : List ℕ} {i : ℕ} {out : List ℕ} (w : Writing value before i out) where
-  pub writes : {x : ℕ} → i < length out → x ≡ value i → Writing value before (i + 1) (set out i x)
-  writes {x} h q = record {
-    done = below-more (λ (j : ℕ). getD (set out i x) j 0 ≡ value j) i
-        (λ j u. getD-set-other out i j x 0 (λ e. omega arith) ∙ w .done j u)
-        (getD-set-same out i x 0 h ∙ q);
-    left = λ j u. getD-set-other out i j x 0 (λ e. omega arith) ∙ w .left j (omega arith);
-    as-long = length-set out i x ∙ w .as-long;
-  }
-
-  pub written : {k : ℕ} → k ≤ i → Written k value out
-  written h = record { each = λ j u. w .done j (omega arith) }
-
--- Zeros.
-pub cleared : {k : ℕ} {out : List ℕ} (n : ℕ) → out ≡ replicate n 0 → k ≤ n → Written k (λ i. 0) out
-cleared {k} {out} n q h = record { each = λ j u. ap (λ (l : List ℕ). getD l j 0) q ∙ getD-replicate n j 0 0 (omega arith) }
+use lib.ListN.{length, getD, set}
+use Rattle.egg.specs.Table.{inverseOf}
+use Rattle.lists.proofs.Passes.{Writing, writing, writes, written}
+use Rattle.lists_group.specs.Passes.{Copied, Cut, Addable, Low, Inverted}
 
 -- The copy: what was passed is below the limit too.
 pub record Copying (limit : ℕ) (from before : List ℕ) (i : ℕ) (to : List ℕ) : Type 0 where
@@ -75,3 +51,31 @@ module _ (stride : ℕ) (digits : List ℕ) {before : List ℕ} {i : ℕ} {sums 
 
   pub add-fits : {k : ℕ} → Addable k stride digits before → i < k → getD sums i 0 + stride * getD digits i 0 ≤ 4294967295
   add-fits a h = omega (arith, a .each i h, w .left i (omega arith))
+
+-- The pass of inverses: neither the number nor the sum that is read has been altered yet.
+pub record Inverting (s : List ℕ) (generators n stride : ℕ) (before sums₀ : List ℕ) (i : ℕ) (rest sums : List ℕ) : Type 0 where
+  pub small : (j : ℕ) → j < i → inverseOf s generators (getD before j 0 % n) < n
+  pub rest-of : Writing (λ j. getD before j 0 / n) before i rest
+  pub sum : Writing (λ j. getD sums₀ j 0 + stride * inverseOf s generators (getD before j 0 % n)) sums₀ i sums
+
+pub inverting : {s : List ℕ} {generators n stride : ℕ} {rest sums : List ℕ} → Inverting s generators n stride rest sums 0 rest sums
+inverting = record { small = λ j h. absurd (omega arith); rest-of = writing; sum = writing }
+
+module _ {s : List ℕ} {generators n stride : ℕ} {before sums₀ : List ℕ} {i : ℕ} {rest sums : List ℕ} (c : Inverting s generators n stride before sums₀ i rest sums) where
+  pub inverse-fits : {k x : ℕ} → Low k stride sums₀ → i < k → x < n → stride * n ≤ 4294967295 → getD sums i 0 + stride * x ≤ 4294967295
+  inverse-fits l h b fits = omega (arith, l .each i h, c .sum .left i (omega arith), mul-le-mul-left stride b, fits)
+
+  pub inverses : {x : ℕ} → i < length rest → i < length sums → x ≡ inverseOf s generators (getD rest i 0 % n) → x < n
+      → Inverting s generators n stride before sums₀ (i + 1) (set rest i (getD rest i 0 / n)) (set sums i (getD sums i 0 + stride * x))
+  inverses {x} h l q b =
+      let old : getD rest i 0 ≡ getD before i 0 = c .rest-of .left i (omega arith) in
+      let got : x ≡ inverseOf s generators (getD before i 0 % n) = q ∙ ap (λ (m : ℕ). inverseOf s generators (m % n)) old in
+      let under : inverseOf s generators (getD before i 0 % n) < n = rw (← got) b in
+      record {
+        small = below-more (λ (j : ℕ). inverseOf s generators (getD before j 0 % n) < n) i (c .small) under;
+        rest-of = writes (c .rest-of) h (ap (λ (m : ℕ). m / n) old);
+        sum = writes (c .sum) l (rw (c .sum .left i (omega arith), got));
+      }
+
+  pub inverted : {k : ℕ} → k ≤ i → Inverted s generators n stride k before sums₀ rest sums
+  inverted h = record { small = λ j u. c .small j (omega arith); rest = written (c .rest-of) h; sum = written (c .sum) h }

@@ -1,5 +1,5 @@
-// The places of lists, one after another, into a list of our own: no place is worked out twice, and a refused call has written
-// nothing. Slices are passed on as `&s[..]`, since a slice parameter that is passed on as it is would be copied first.
+// The places of lists, into a list of our own, so that a refused call has written nothing: all at once where that serves, else
+// one after another. Slices are passed on as `&s[..]`, since a slice parameter that is passed on as it is would be copied first.
 ghost use mathlib.Core.Path.{_≡_};
 ghost use mathlib.Core.Bool.{true};
 ghost use Prim.Native.Nat.{_≤_};
@@ -75,7 +75,20 @@ pub fn compose_by(
     lists::inner::hand_over(said, results, out)
 }
 
-fn inverse_into(table: &[u32], g: Group, a: &[u32], results: &mut [u32]) -> Listed
+// All the inverses at once: its handles are looked at once, and not at each place. As `side_by_side` for products.
+fn inverses_at_once(table: &[u32], g: Group, a: &[u32], results: &mut [u32]) -> bool
+    requires { ⌜ length (now a) ≤ length (now results) ⌝ }
+    ensures { λ r. ⌜ (r ≡ true → AllRight (length (now (a .entry))) (inverseAt (now (table .entry)) g (now (a .entry))) (now (results .exit))) ⌝ }
+{
+    let seen = group_handles::inner::look(&table[..], g);
+    let Verdict::Fine = group_handles::inner::admit_none_seen(seen, g.count) else {
+        return false;
+    };
+    let elements = (seen.elements % 4294967296) as u32;
+    chunks::inverses_in_chunks(&table[..], g, elements, &a[..], results)
+}
+
+fn inverse_in_turn(table: &[u32], g: Group, a: &[u32], results: &mut [u32]) -> Listed
     requires { ⌜ length (now a) ≤ length (now results) ⌝ }
     ensures { λ r. ⌜ Worked (length (now (a .entry))) (inverseAt (now (table .entry)) g (now (a .entry))) r (now (results .exit)) ⌝ }
 {
@@ -89,6 +102,21 @@ fn inverse_into(table: &[u32], g: Group, a: &[u32], results: &mut [u32]) -> List
         i += 1;
     }
     Listed::Fine
+}
+
+// A product of one factor is asked as the factor is.
+fn inverse_into(table: &[u32], g: Group, a: &[u32], results: &mut [u32]) -> Listed
+    requires { ⌜ length (now a) ≤ length (now results) ⌝ }
+    ensures { λ r. ⌜ Worked (length (now (a .entry))) (inverseAt (now (table .entry)) g (now (a .entry))) r (now (results .exit)) ⌝ }
+{
+    if group_handles::inner::alone(g) {
+        let h = g.factors[0];
+        return lists_factor::inner::inverse_into(&table[..], h, &a[..], results);
+    }
+    if inverses_at_once(&table[..], g, &a[..], results) {
+        return Listed::Fine;
+    }
+    inverse_in_turn(&table[..], g, &a[..], results)
 }
 
 pub fn inverse_by(
@@ -105,7 +133,13 @@ pub fn inverse_by(
     lists::inner::hand_over(said, results, out)
 }
 
-fn powi_into(table: &[u32], g: Group, a: &[u32], exponents: &[i32], results: &mut [u32]) -> Listed
+fn powi_in_turn(
+    table: &[u32],
+    g: Group,
+    a: &[u32],
+    exponents: &[i32],
+    results: &mut [u32],
+) -> Listed
     requires { ⌜ (length (now exponents) ≡ length (now a)) × (length (now a) ≤ length (now results)) ⌝ }
     ensures { λ r. ⌜ Worked (length (now (a .entry))) (powiAt (now (table .entry)) g (now (a .entry)) (now (exponents .entry))) r (now (results .exit)) ⌝ }
 {
@@ -120,6 +154,17 @@ fn powi_into(table: &[u32], g: Group, a: &[u32], exponents: &[i32], results: &mu
         i += 1;
     }
     Listed::Fine
+}
+
+fn powi_into(table: &[u32], g: Group, a: &[u32], exponents: &[i32], results: &mut [u32]) -> Listed
+    requires { ⌜ (length (now exponents) ≡ length (now a)) × (length (now a) ≤ length (now results)) ⌝ }
+    ensures { λ r. ⌜ Worked (length (now (a .entry))) (powiAt (now (table .entry)) g (now (a .entry)) (now (exponents .entry))) r (now (results .exit)) ⌝ }
+{
+    if group_handles::inner::alone(g) {
+        let h = g.factors[0];
+        return lists_factor::inner::powi_into(&table[..], h, &a[..], &exponents[..], results);
+    }
+    powi_in_turn(&table[..], g, &a[..], &exponents[..], results)
 }
 
 pub fn powi_by(

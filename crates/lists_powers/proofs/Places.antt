@@ -1,18 +1,19 @@
 -- Laws of lists that are gone through from their start on.
 -- Assumes nothing.
 use Prim.Native.Nat.{ℕ, _+_, _/_, _%_, _^_, _≤_, _<_}
-use mathlib.Core.Path.{_≡_, refl, sym, ap, _∙_, subst}
+use mathlib.Core.Path.{_≡_, sym, ap, _∙_, subst}
 use mathlib.Core.Bool.{Bool, true, false}
 use mathlib.Core.List.{List}
 use native.Mathlib.Nat.{le-trans}
 use native.Mathlib.Omega.{arith}
 use borrow.Author.Count.{below-more}
 use lib.Dec.{T, eqb}
-use lib.ListN.{length, getD, set, length-set}
+use lib.ListN.{length, getD, set}
 use lib.Seq.{getD-set-same, getD-set-other}
 use lib.IntN.{ℤ, pos}
 use Rattle.egg.specs.Table.{pick}
-use Rattle.lists_powers.specs.Rounds.{Base, Bases, Largest, Filled, keptAt}
+use Rattle.lists.proofs.Passes.{Writing, writes}
+use Rattle.lists_powers.specs.Rounds.{Base, Bases, Largest, keptAt}
 
 -- An answer that is false promises nothing.
 pub never : {A : Type 0} {b : Bool} → b ≡ false → b ≡ true → A
@@ -24,38 +25,15 @@ there l {i} v h = getD-set-same l i v 0 h
 before : (l : List ℕ) {i k : ℕ} (v : ℕ) → k < i → getD (set l i v) k 0 ≡ getD l k 0
 before l {i} {k} v h = getD-set-other l i k v 0 (λ e. omega arith)
 
-pub filling : {said : ℕ → ℕ} {l : List ℕ} → Filled said 0 l
-filling = record { each = λ k h. absurd (omega arith) }
-
-pub fills : {said : ℕ → ℕ} {i : ℕ} {l : List ℕ} {v : ℕ} → Filled said i l → i < length l → v ≡ said i → Filled said (i + 1) (set l i v)
-fills {said} {i} {l} {v} f h q =
-    record { each = below-more (λ (k : ℕ). getD (set l i v) k 0 ≡ said k) i (λ k b. before l v b ∙ f .each k b) (there l v h ∙ q) }
-
-pub filled : {said : ℕ → ℕ} {i m : ℕ} {l : List ℕ} → Filled said i l → m ≤ i → Filled said m l
-filled f h = record { each = λ k b. f .each k (omega arith) }
-
 -- A list that is altered in its place: what is not reached yet is as it was.
-pub record Keeping (ks : List ℕ) (j : ℕ) (ys xs₀ : List ℕ) (i : ℕ) (xs : List ℕ) : Type 0 where
-  pub done : Filled (keptAt ks j ys xs₀) i xs
-  pub rest : (k : ℕ) → i ≤ k → getD xs k 0 ≡ getD xs₀ k 0
-  pub as-long : length xs ≡ length xs₀
-
-pub keeping : {ks ys xs : List ℕ} {j : ℕ} → Keeping ks j ys xs 0 xs
-keeping = record { done = filling; rest = λ k h. refl; as-long = refl }
-
-pub keeps : {ks ys xs₀ xs : List ℕ} {j i x v : ℕ} → Keeping ks j ys xs₀ i xs → i < length xs
+pub keeps : (ks : List ℕ) (j : ℕ) (ys : List ℕ) {xs₀ xs : List ℕ} {i x v : ℕ} → Writing (keptAt ks j ys xs₀) xs₀ i xs → i < length xs
     → x ≡ pick (eqb (getD ks i 0 / 2 ^ j % 2) 0) (getD ys i 0) (getD xs i 0) → v ≡ pick (eqb (getD ks i 0 / 2 ^ j) 0) 0 x
-    → Keeping ks j ys xs₀ (i + 1) (set xs i v)
-keeps {ks} {ys} {xs₀} {xs} {j} {i} {x} {v} w h p q =
-    record {
-      done =
-          fills (w .done) h
-          (q
-          ∙ ap (λ (z : ℕ). pick (eqb (getD ks i 0 / 2 ^ j) 0) 0 z)
-          (p ∙ ap (λ (z : ℕ). pick (eqb (getD ks i 0 / 2 ^ j % 2) 0) (getD ys i 0) z) (w .rest i (omega arith))));
-      rest = λ k b. getD-set-other xs i k v 0 (λ e. omega arith) ∙ w .rest k (omega arith);
-      as-long = length-set xs i v ∙ w .as-long;
-    }
+    → Writing (keptAt ks j ys xs₀) xs₀ (i + 1) (set xs i v)
+keeps ks j ys {i = i} w h p q =
+    writes w h
+    (q
+    ∙ ap (λ (z : ℕ). pick (eqb (getD ks i 0 / 2 ^ j) 0) 0 z)
+    (p ∙ ap (λ (z : ℕ). pick (eqb (getD ks i 0 / 2 ^ j % 2) 0) (getD ys i 0) z) (w .left i (omega arith))))
 
 pub largest-none : {ks : List ℕ} → Largest ks 0 0
 largest-none = record { each = λ k h. absurd (omega arith) }

@@ -12,9 +12,10 @@ use Rattle.egg.specs.declared.Reached.the-variants.{Element}
 use Rattle.factor_questions.specs.Walks.{composeIn}
 use Rattle.group_powers.specs.Powers.{byHalving}
 use Rattle.group_powers.proofs.Powers.{power-none}
+use Rattle.lists.specs.Passes.{Written}
 use Rattle.lists_walks.specs.Products.{Products}
 use Rattle.lists_powers.specs.Powers.{Powered}
-use Rattle.lists_powers.specs.Rounds.{Bases, Largest, Filled, factorAt, keptAt, Raised}
+use Rattle.lists_powers.specs.Rounds.{Bases, Largest, factorAt, keptAt, Raised}
 use Rattle.lists_powers.proofs.Halves.{next-power}
 
 module _ {s : List ℕ} {n count : ℕ} {bs ks : List ℕ} where
@@ -31,8 +32,8 @@ module _ {s : List ℕ} {n count : ℕ} {bs ks : List ℕ} where
   pub raised-at : {j k : ℕ} {xs : List ℕ} → Raised s n count bs ks j xs → j ≡ k → Raised s n count bs ks k xs
   raised-at {xs = xs} R e = subst (λ (m : ℕ). Raised s n count bs ks m xs) e R
 
-  pub raised-next : {j : ℕ} {xs ys ms zs out : List ℕ} → Raised s n count bs ks (j + 1) xs → Filled (factorAt bs ks j) (length bs) ms → Products s n count xs xs ys → Products s n count ys ms zs
-      → Filled (keptAt ks j ys zs) (length ks) out → length bs ≡ length ks → length xs ≡ length ks → length ys ≡ length ks → Raised s n count bs ks j out
+  pub raised-next : {j : ℕ} {xs ys ms zs out : List ℕ} → Raised s n count bs ks (j + 1) xs → Written (length bs) (factorAt bs ks j) ms → Products s n count xs xs ys → Products s n count ys ms zs
+      → Written (length ks) (keptAt ks j ys zs) out → length bs ≡ length ks → length xs ≡ length ks → length ys ≡ length ks → Raised s n count bs ks j out
   raised-next {j} R F P Q K b x y =
       record {
         each = λ i h.

@@ -1,5 +1,5 @@
 -- What the rounds of powers over lists do, place by place. None of it is part of the answer.
-use Prim.Native.Nat.{ℕ, _-_, _/_, _%_, _^_, _≤_, _<_}
+use Prim.Native.Nat.{ℕ, _/_, _%_, _^_, _≤_, _<_}
 use mathlib.Core.Path.{_≡_}
 use mathlib.Core.List.{List}
 use lib.ListN.{length, getD}
@@ -23,10 +23,6 @@ pub record Bases (s : List ℕ) (n count : ℕ) (a : List ℕ) (exponents : List
 pub record Largest (ks : List ℕ) (m most : ℕ) : Type 0 where
   pub each : (i : ℕ) → i < m → getD ks i 0 ≤ most
 
--- The first m numbers of a list are what is said of each place.
-pub record Filled (said : ℕ → ℕ) (m : ℕ) (l : List ℕ) : Type 0 where
-  pub each : (i : ℕ) → i < m → getD l i 0 ≡ said i
-
 -- What a square is multiplied by: the base, where the exponent so far is odd, and else the identity.
 abbrev pub factorAt : (bs ks : List ℕ) (j i : ℕ) → ℕ
 factorAt bs ks j i = pick (eqb (getD ks i 0 / 2 ^ j % 2) 0) 0 (getD bs i 0)
@@ -39,9 +35,3 @@ keptAt ks j squares products i =
 -- The list holds the powers by the exponents without their last j bits.
 pub record Raised (s : List ℕ) (n count : ℕ) (bs ks : List ℕ) (j : ℕ) (xs : List ℕ) : Type 0 where
   pub each : (i : ℕ) → i < length ks → byHalving (getD ks i 0 / 2 ^ j) (composeIn s n count) (getD bs i 0) (getD ks i 0 / 2 ^ j) ≡ Element (record { 0 = getD xs i 0 })
-
--- Where a chunk that starts at i ends, in lists of `long` places.
-pub record ChunkEnd (i long end : ℕ) : Type 0 where
-  pub on : i < end
-  pub within : end ≤ long
-  pub short : end - i ≤ 64

@@ -5,8 +5,9 @@ ghost use mathlib.Core.Path.{_≡_};
 ghost use mathlib.Core.Bool.{true, false};
 ghost use Prim.Native.Nat.{_+_, _/_, _^_, _≤_, _<_};
 ghost use lib.ListN.{length, replicate};
+ghost use Rattle.lists.specs.Passes.{Written};
 ghost use Rattle.lists_powers.specs.Powers.{Powered};
-ghost use Rattle.lists_powers.specs.Rounds.{Base, Bases, Largest, Filled, factorAt, keptAt, Raised, ChunkEnd};
+ghost use Rattle.lists_powers.specs.Rounds.{Base, Bases, Largest, factorAt, keptAt, Raised};
 use egg::GroupElementId;
 use egg::Reached;
 
@@ -123,7 +124,7 @@ fn bits(k: u32) -> u32
 // What the squares are multiplied by in the round of bit j.
 fn factors(bs: &[u32], ks: &[u32], j: u32, ms: &mut [u32])
     requires { ⌜ (j < 32) × ((length (now ks) ≡ length (now bs)) × (length (now ms) ≡ length (now bs))) ⌝ }
-    ensures { λ r. ⌜ Filled (factorAt (now (bs .entry)) (now (ks .entry)) j) (length (now (bs .entry))) (now (ms .exit)) ⌝ }
+    ensures { λ r. ⌜ Written (length (now (bs .entry))) (factorAt (now (bs .entry)) (now (ks .entry)) j) (now (ms .exit)) ⌝ }
 {
     let mut i = 0;
     while i < bs.len() {
@@ -136,7 +137,7 @@ fn factors(bs: &[u32], ks: &[u32], j: u32, ms: &mut [u32])
 // The powers after the round of bit j, of the squares ys and their products xs.
 fn keep(ks: &[u32], j: u32, ys: &[u32], xs: &mut [u32])
     requires { ⌜ (j < 32) × ((length (now ys) ≡ length (now ks)) × (length (now xs) ≡ length (now ks))) ⌝ }
-    ensures { λ r. ⌜ Filled (keptAt (now (ks .entry)) j (now (ys .entry)) (now (xs .entry))) (length (now (ks .entry))) (now (xs .exit)) ⌝ }
+    ensures { λ r. ⌜ Written (length (now (ks .entry))) (keptAt (now (ks .entry)) j (now (ys .entry)) (now (xs .entry))) (now (xs .exit)) ⌝ }
 {
     let mut i = 0;
     while i < ks.len() {
@@ -243,13 +244,6 @@ fn chunk(s: &[u32], n: u8, count: u32, a: &[u32], exponents: &[i32], results: &m
     )
 }
 
-fn chunk_end(i: usize, long: usize) -> usize
-    requires { ⌜ i < long ⌝ }
-    ensures { λ r. ⌜ ChunkEnd i long r ⌝ }
-{
-    if long - i <= 64 { long } else { i + 64 }
-}
-
 // The powers of a by the exponents, place by place, to the start of `results`: whether each was found. Where one was not, which may be for a number out of
 // range or only because the quick walks do not serve, `results` may hold anything. The chunks are short, so that what a round writes is still at hand in the next.
 pub fn powers(
@@ -265,7 +259,7 @@ pub fn powers(
 {
     let mut i = 0;
     while i < a.len() {
-        let end = chunk_end(i, a.len());
+        let end = lists::inner::chunk_end(i, a.len());
         if !chunk(
             &s[..],
             n,

@@ -23,7 +23,7 @@ use core::fmt;
 pub struct ListRefusal {
     /// The place of the lists, from 0; none where the lists themselves are refused, with 4.
     pub place: Option<usize>,
-    /// What the single call says there.
+    /// What the single call says there; of refused lists, 4.
     pub refusal: Refusal,
 }
 

@@ -179,6 +179,91 @@ fn enumerated(n: u8, orders: &[u32], room: u32) -> (Vec<u32>, Handle) {
     (table, handle)
 }
 
+/// The table of the numbers below so many by adding these, and its handle. Its words are not as long as their inverses'.
+fn added<const N: usize>(count: u32, by: [u32; N]) -> (Vec<u32>, Handle) {
+    let (mut values, mut rows, n, mut e) = (vec![0], vec![], N as u8, 0);
+    while e < values.len() {
+        for x in by {
+            let value = (values[e] + x) % count;
+            let known = values.iter().position(|&v| v == value).unwrap_or(values.len());
+            if known == values.len() {
+                values.push(value);
+            }
+            rows.push(known as u32);
+        }
+        e += 1;
+    }
+    let (mut table, mut work) = (vec![0; raw::table_need(n, count)], vec![0; raw::work_need(n, count)]);
+    let handle = raw::composed(&mut table, 0, &mut work, &rows, n, count).unwrap();
+    (table, handle)
+}
+
+/// A number for a cell of a row: one that could stand there, or, where it is wrong, one out of range.
+fn another(r: &mut Random, n: u64, count: u32, cell: u64, wrong: bool) -> u32 {
+    let element = r.below(u64::from(count)) as u32;
+    let letters = (0..5).fold(0, |all, _| all << 3 | r.below(n) as u32);
+    let one = r.below(6) as usize;
+    match cell.checked_sub(2 * n) {
+        None if wrong => [0, count + 1, u32::MAX][one / 2],
+        None => element + 1,
+        Some(1) if wrong => [element << 15 | 0o70, count << 15 | letters, u32::MAX][one / 2],
+        Some(1) => element << 15 | letters,
+        Some(2) if wrong => [4097, u32::MAX][one / 3],
+        Some(2) => [0, 1, 5, 6, 4095, 4096][one],
+        _ if wrong => [count, u32::MAX][one / 3],
+        _ => element,
+    }
+}
+
+/// Above 2,048 elements four walks go side by side. In tables of which any numbers are altered, also in the identity's row, by which a walk goes on that has no
+/// place left, each place is what the single call says.
+#[test]
+fn side_by_side() {
+    let mut r = Random(13);
+    let s3 = s3();
+    let groups = [enumerated(2, &[1100], 2200), enumerated(4, &[5, 2, 3, 2, 2, 3], 14_400), added(2730, [1, 46, 500])];
+    let mut met = [[0; 18]; 2];
+    for turn in 0..600 {
+        let (mut table, h) = groups[turn % 3].clone();
+        let (n, count) = (u64::from(h.generators), h.elements);
+        let (width, within) = (2 * n + 4, r.below(2) == 0);
+        for _ in 0..[1, 3, 30, 300][r.below(4) as usize] {
+            let (row, cell) = ([r.below(2), r.below(u64::from(count))][r.below(4).min(1) as usize], r.below(width));
+            let wrong = !within && r.below(2) == 0;
+            table[(row * width + cell) as usize] = another(&mut r, n, count, cell, wrong);
+        }
+        let pair: Handles = [h, s3.1.at(table.len())].into_iter().collect();
+        table.extend(&s3.0);
+        let (t, k) = (&table, 4 + [r.below(6), r.below(77)][r.below(2) as usize] as usize);
+        for (which, elements) in [count, 6 * count].into_iter().enumerate() {
+            // Mostly elements that are there; many of them with short words, so that walks end at different times.
+            let mut element = || match r.below(300) {
+                0 => elements,
+                1..100 => r.below(9) as u32,
+                _ => r.below(u64::from(elements)) as u32,
+            };
+            let a: Vec<u32> = (0..k).map(|_| element()).collect();
+            let b: Vec<u32> = (0..k).map(|_| element()).collect();
+            let i: Vec<i32> = b.iter().map(|&b| [b as i32, -(b as i32 % 99), i32::MIN][b as usize % 3]).collect();
+            let p = &pair;
+            let numbers = match which {
+                0 => [
+                    listed([k; 3], |k| raw::compose(t, h, a[k], b[k]), |out| raw::compose_each(t, h, &a, &b, out)),
+                    listed([k; 3], |k| raw::inverse(t, h, a[k]), |out| raw::inverse_each(t, h, &a, out)),
+                    listed([k; 3], |k| raw::powi(t, h, a[k], i[k]), |out| raw::powi_each(t, h, &a, &i, out)),
+                ],
+                _ => [
+                    listed([k; 3], |k| raw::product_compose(t, p, a[k], b[k]), |out| raw::product_compose_each(t, p, &a, &b, out)),
+                    listed([k; 3], |k| raw::product_inverse(t, p, a[k]), |out| raw::product_inverse_each(t, p, &a, out)),
+                    listed([k; 3], |k| raw::product_powi(t, p, a[k], i[k]), |out| raw::product_powi_each(t, p, &a, &i, out)),
+                ],
+            };
+            numbers.into_iter().for_each(|number| met[which][number] += 1);
+        }
+    }
+    assert!(met.iter().all(|met| [0, 14, 17].iter().all(|&k| met[k] > 100)), "{met:?}");
+}
+
 /// Where the cell stands that has the last five letters of an element's word, and the element at which the word ends without them. The length is behind it.
 fn letters_at(h: Handle, e: u32) -> usize {
     let n = usize::from(h.generators);

@@ -1,10 +1,24 @@
 //! Questions over lists, through the safe types: at each place what the single call answers, the first place that it refuses, and what a refusal leaves.
-use hypergroup::{Element, Factor, ListRefusal, Product, Refusal, raw};
+use hypergroup::{Element, Factor, Generator, ListRefusal, Product, Refusal, raw};
 
 const S3: [u32; 12] = [1, 2, 0, 3, 4, 0, 5, 1, 2, 5, 3, 4];
 
 fn s3() -> Factor {
     Factor::from_rows(2, &S3).unwrap()
+}
+
+/// The numbers below so many, by adding 1 and 46, so that no word is long.
+fn turns(elements: u32) -> Factor {
+    let mut values = vec![0];
+    let compose = |e: Element, g: Generator| {
+        let value = (values[e.0 as usize] + [1, 46][usize::from(g.0)]) % elements;
+        let known = values.iter().position(|&v| v == value).unwrap_or(values.len());
+        if known == values.len() {
+            values.push(value);
+        }
+        Element(known as u32)
+    };
+    Factor::from_compose_fn(2, compose, elements).unwrap()
 }
 
 /// Elements of a group with so many, all of them in a list that is long enough, and exponents of every kind.
@@ -16,8 +30,9 @@ fn lists(places: usize, elements: u32) -> (Vec<Element>, Vec<Element>, Vec<i32>)
     (a, b, (0..places).map(|i| exponents[i % 10]).collect())
 }
 
-/// The lengths at which something changes: none, one, those beside 64, up to which a shorter list is kept for the results, and the most.
-const LENGTHS: [usize; 9] = [0, 1, 2, 63, 64, 65, 100, 4095, 4096];
+/// The lengths at which something changes: none; one, for which no results are kept; four, from which on walks may go side by side; 64, up to which a shorter list is
+/// kept for the results, and which is a product's chunk; and the most. With the lengths beside them.
+const LENGTHS: [usize; 12] = [0, 1, 2, 3, 4, 5, 63, 64, 65, 100, 4095, 4096];
 
 /// A list of this mark is lent for the output.
 const OLD: Element = Element(77);
@@ -54,6 +69,18 @@ fn each_place_is_the_single_call() {
     place_by_place!(Product::from(&s3), 6);
     place_by_place!(Product::new([&s3, &cube, &z2]).unwrap(), 576);
     place_by_place!(Product::new([&s3; 8]).unwrap(), 1_679_616);
+}
+
+/// Above 2,048 elements walks go side by side: both sides of that, and far above it, by themselves and in a product.
+#[test]
+fn each_place_of_a_large_group() {
+    let (most, above) = (turns(2048), turns(2049));
+    assert_eq!((most.element_count(), above.element_count()), (2048, 2049));
+    let h4 = Factor::from_orders(4, &[5, 2, 3, 2, 2, 3], 14_400).unwrap();
+    place_by_place!(most, 2048);
+    place_by_place!(above, 2049);
+    place_by_place!(h4, 14_400);
+    place_by_place!(Product::new([&s3(), &h4, &above]).unwrap(), 177_033_600);
 }
 
 #[test]
@@ -101,6 +128,9 @@ fn the_first_refused_place() {
     first_refused!(Product::default(), 1);
     first_refused!(Product::from(&s3), 6);
     first_refused!(Product::new([&s3; 8]).unwrap(), 1_679_616);
+    let above = turns(2049);
+    first_refused!(above, 2049);
+    first_refused!(Product::new([&above, &s3]).unwrap(), 12_294);
 }
 
 /// 4 comes before any place is looked at, and has none.

@@ -208,12 +208,12 @@ impl Ours {
                 self.least(|p| p.ask_alone(w[1], &parts))
             }
             "composes" | "inverses" | "powers" => {
-                let (places, asked) = (number(w, 1)?, pairs(number(w, 2)?));
-                self.least(|p| p.ask_lists(w[0], p.single(), places, &asked))
+                let (places, lists) = (number(w, 1)?, self.product.in_lists(w[0], &pairs(number(w, 2)?))?);
+                self.least(|p| p.ask_lists(w[0], p.single(), places, &lists))
             }
             "product" if matches!(w[1], "composes" | "inverses" | "powers") => {
-                let (places, asked) = (number(w, 2)?, pairs(number(w, 3)?));
-                self.least(|p| p.ask_lists(w[1], None, places, &asked))
+                let (places, lists) = (number(w, 2)?, self.product.in_lists(w[1], &pairs(number(w, 3)?))?);
+                self.least(|p| p.ask_lists(w[1], None, places, &lists))
             }
             "product" => {
                 let asked = pairs(number(w, 2)?);

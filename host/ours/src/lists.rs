@@ -84,24 +84,31 @@ impl Product {
         }?)
     }
 
-    /// `bench composes K TURNS` and so on: the arguments of `bench compose TURNS`, in lists of K places, and the sum of the answers. The lists are filled in
-    /// the time that is measured, since `bench compose` reckons its arguments there.
-    pub(crate) fn ask_lists(&self, name: &str, single: Option<Handle>, places: usize, asked: &[(u32, u32)]) -> Result<u32, No> {
-        let (t, p) = (&self.table, &self.handles);
-        let (count, places) = (raw::product_count(t, p)?, places.max(1));
-        let (mut a, mut b, mut i, mut out) = (vec![0; places], vec![0; places], vec![0; places], vec![0; places]);
+    /// The arguments of `bench compose` and so on as a host has them before it asks over lists: elements, and of powers an exponent beside each.
+    pub(crate) fn in_lists(&self, name: &str, asked: &[(u32, u32)]) -> Result<Lists, No> {
+        let count = raw::product_count(&self.table, &self.handles)?;
+        let (a, b): (Vec<u32>, Vec<u32>) = asked.iter().map(|&(a, b)| (a % count, if name == "powers" { b } else { b % count })).unzip();
+        let exponents = b.iter().map(|&b| b as i32).collect();
+        Ok(Lists { pairs: a.iter().copied().zip(b.iter().copied()).collect(), a, b, exponents })
+    }
+
+    /// `bench composes K TURNS` and so on: the sum of the answers, in lists of K places, or by single calls where K is 0.
+    pub(crate) fn ask_lists(&self, name: &str, single: Option<Handle>, places: usize, asked: &Lists) -> Result<u32, No> {
+        let (t, p, Lists { pairs, a, b, exponents }) = (&self.table, &self.handles, asked);
+        if places == 0 {
+            return match (name, single) {
+                ("composes", Some(h)) => bench::summed(pairs, |a, b| raw::compose(t, h, a, b)),
+                ("composes", None) => bench::summed(pairs, |a, b| raw::product_compose(t, p, a, b)),
+                ("inverses", Some(h)) => bench::summed(pairs, |a, _| raw::inverse(t, h, a)),
+                ("inverses", None) => bench::summed(pairs, |a, _| raw::product_inverse(t, p, a)),
+                ("powers", _) => bench::summed(pairs, |a, i| raw::product_powi(t, p, a, i as i32)),
+                _ => unsupported(),
+            };
+        }
+        let mut out = vec![0; places.min(a.len())];
         let mut sum = 0u32;
-        for part in asked.chunks(places) {
-            let k = part.len();
-            let (a, b, i, out) = (&mut a[..k], &mut b[..k], &mut i[..k], &mut out[..k]);
-            for (x, pair) in a.iter_mut().zip(part) {
-                *x = pair.0 % count;
-            }
-            match name {
-                "composes" => b.iter_mut().zip(part).for_each(|(x, pair)| *x = pair.1 % count),
-                "powers" => i.iter_mut().zip(part).for_each(|(x, pair)| *x = pair.1 as i32),
-                _ => {}
-            }
+        for ((a, b), i) in a.chunks(places).zip(b.chunks(places)).zip(exponents.chunks(places)) {
+            let out = &mut out[..a.len()];
             match (name, single) {
                 ("composes", Some(h)) => raw::compose_each(t, h, a, b, out),
                 ("composes", None) => raw::product_compose_each(t, p, a, b, out),
@@ -115,4 +122,12 @@ impl Product {
         }
         Ok(sum)
     }
+}
+
+/// The arguments of a question over lists, in pairs for the single calls too.
+pub(crate) struct Lists {
+    pairs: Vec<(u32, u32)>,
+    a: Vec<u32>,
+    b: Vec<u32>,
+    exponents: Vec<i32>,
 }

@@ -19,7 +19,7 @@
 //! - `composes A,A,.. B,B,..`, `inverses A,A,..` and `powers A,A,.. I,I,..` ask over lists, `-` being an empty one, into an output that is as long as the
 //!   first, or by `+1` or `-1` at the end of the line one longer or shorter. They print `ok` and the numbers, `refused 4 0 0 0` for the lists, or
 //!   `at PLACE refused NUMBER A B C`. `bench composes K TURNS`, `bench inverses K TURNS` and `bench powers K TURNS` ask what `bench compose TURNS` and so
-//!   on ask in lists of K places.
+//!   on ask in lists of K places, or by single calls where K is 0; the arguments are elements before the clock starts.
 //! - `count`, `length e`; `shortword e` writes a word into one byte less than it has, `shortsplit e` the digits into one place less;
 //!   `part e` is the word by the call that hands back the filled part of its buffer, nothing where it is refused.
 //! - `safe` prints how many answers of the safe types were compared so far.

@@ -388,6 +388,7 @@ impl Oracle {
         let mut given = 0;
         let asked = match w[0] {
             "enum" | "table" | "sub" | "subpred" | "flatten" => vec![],
+            "composes" | "inverses" | "powers" => self.elements(w[0], pairs(number(w, 2)?)),
             _ => pairs(number(w, 1)?),
         };
         // What the calls are given is made ready before the clock starts.
@@ -420,6 +421,12 @@ impl Oracle {
         self.say(format!("{given} {least:.9}"));
         Ok(())
     }
+    /// Arguments as they stand in lists, `bench composes 0 TURNS` and so on: elements already, and of powers an exponent beside each.
+    fn elements(&self, name: &str, asked: Vec<(u32, u32)>) -> Vec<(u32, u32)> {
+        let count = self.group.element_count() as u32;
+        let second = |b| if name == "powers" { b } else { b % count };
+        asked.into_iter().map(|(a, b)| (a % count, second(b))).collect()
+    }
     /// The sum of the answers to one question, over many arguments.
     fn ask_often(&self, name: &str, asked: &[(u32, u32)]) -> Answer<u32> {
         let g = &self.group;
@@ -431,6 +438,9 @@ impl Oracle {
         Ok(match name {
             "step" => sum(&|a, b| g.compose_elem_generator(e(a), GeneratorId((b % n) as u8)).0),
             "compose" => sum(&|a, b| g.compose(e(a), e(b)).0),
+            "composes" => sum(&|a, b| g.compose(GroupElementId(a), GroupElementId(b)).0),
+            "inverses" => sum(&|a, _| g.inverse(GroupElementId(a)).0),
+            "powers" => sum(&|a, b| g.powi(GroupElementId(a), b as i32).0),
             "conjugate" => sum(&|a, b| g.conjugate(e(a), e(b)).0),
             "inverse" => sum(&|a, _| g.inverse(e(a)).0),
             "powi" => sum(&|a, b| g.powi(e(a), b as i32).0),

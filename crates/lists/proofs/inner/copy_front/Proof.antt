@@ -1,22 +1,20 @@
--- The invariant is `Copying`: the first i numbers are those of the other list.
-use Rattle.lists.proofs.Copies.{Copying, copying, copies, copied}
+-- The invariant is `Writing`: the first i numbers are those of the other list.
+use Rattle.lists.proofs.Passes.{Writing, writing, writes, copied}
 use borrow.Author.Needs.{needs}
 use native.Mathlib.Omega.{arith}
-use lib.ListN.{length}
+use lib.ListN.{length, getD}
 use Prim.Native.Nat.{_-_}
 use Rattle.lists.proofs.inner.copy_front.Statement.{statement}
 use Rattle.lists.proofs.inner.copy_front.Tie as tie
-use Rattle.lists.proofs.inner.copy_front.Reads as reads
-use Rattle.lists.proofs.inner.copy_front.Lts as lts
 
 abbrev Inv-loop : tie.InvT-loop
-Inv-loop from out₀ i₀ out i = Copying from out₀ out i
+Inv-loop from out₀ i₀ out i = Writing (λ j. getD from j 0) out₀ i out
 
 abbrev μ-loop : tie.MeasureT-loop
 μ-loop from out₀ i₀ out i = length out₀ - i
 
 loop-holds : tie.Need-loop-holds Inv-loop μ-loop
-loop-holds c = copying
+loop-holds c = writing
 
 mul-out : tie.Need-mul-out Inv-loop μ-loop
 mul-out c = search needs
@@ -37,13 +35,13 @@ loop-less : tie.Need-loop-less Inv-loop μ-loop
 loop-less c = omega (arith, (c .before .before .loop .inv .as-long))
 
 loop-again : tie.Need-loop-again Inv-loop μ-loop
-loop-again c = copies ((c .before .before .loop .inv)) ((c .before .before .before .pre)) (search needs) (search needs)
+loop-again c = writes ((c .before .before .loop .inv)) (search needs) (search needs)
 
 same-length : tie.Need-same-length Inv-loop μ-loop
 same-length c = (c .before .loop .inv .as-long)
 
 returns : tie.Need-returns Inv-loop μ-loop
-returns c = copied ((c .before .loop .inv)) ((c .before .before .pre)) (search needs)
+returns c = copied (c .before .before .args .from .now) ((c .before .loop .inv)) ((c .before .before .pre)) (search needs)
 
 pub copy-front-spec : {M : Type 1} → statement M
 copy-front-spec =

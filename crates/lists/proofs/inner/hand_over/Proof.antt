@@ -2,9 +2,6 @@
 use borrow.Author.Needs.{needs}
 use Rattle.lists.proofs.inner.hand_over.Statement.{statement}
 use Rattle.lists.proofs.inner.hand_over.Tie as tie
-use Rattle.lists.proofs.inner.hand_over.Reads as reads
-use Rattle.lists.proofs.inner.hand_over.Lts as lts
-use Rattle.lists.proofs.inner.copy_front.Reads as copy-front-reads
 
 enum-known-said : tie.Need-enum-known-said
 enum-known-said c = search needs

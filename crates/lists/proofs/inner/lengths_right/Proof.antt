@@ -2,8 +2,6 @@
 use Rattle.lists.proofs.Lengths.{right-second, right-out, right-long}
 use Rattle.lists.proofs.inner.lengths_right.Statement.{statement}
 use Rattle.lists.proofs.inner.lengths_right.Tie as tie
-use Rattle.lists.proofs.inner.lengths_right.Reads as reads
-use Rattle.lists.proofs.inner.lengths_right.Lts as lts
 
 returns : tie.Need-returns
 returns c = right-second _ _ _ ((c .if1 .taken))

@@ -2,8 +2,6 @@
 use borrow.Author.Needs.{needs}
 use Rattle.lists.proofs.inner.stopped.Statement.{statement}
 use Rattle.lists.proofs.inner.stopped.Tie as tie
-use Rattle.lists.proofs.inner.stopped.Reads as reads
-use Rattle.lists.proofs.inner.stopped.Lts as lts
 
 enum-known-said : tie.Need-enum-known-said
 enum-known-said c = search needs

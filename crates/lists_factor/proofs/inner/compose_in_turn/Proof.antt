@@ -3,15 +3,11 @@ use Rattle.lists.proofs.Places.{Working, working, stores, refuses, worked}
 use Rattle.lists_factor.specs.Each.{composeAt}
 use borrow.Author.Needs.{needs}
 use native.Mathlib.Omega.{arith}
-use mathlib.Core.Path.{_≡_, refl, _∙_}
+use mathlib.Core.Path.{_≡_, refl}
 use lib.ListN.{length, length-set}
 use Prim.Native.Nat.{_-_}
 use Rattle.lists_factor.proofs.inner.compose_in_turn.Statement.{statement}
 use Rattle.lists_factor.proofs.inner.compose_in_turn.Tie as tie
-use Rattle.lists_factor.proofs.inner.compose_in_turn.Reads as reads
-use Rattle.lists_factor.proofs.inner.compose_in_turn.Lts as lts
-use Rattle.factor.proofs.compose.Reads as compose-reads
-use Rattle.lists.proofs.inner.stopped.Reads as stopped-reads
 
 abbrev Inv-loop : tie.InvT-loop
 Inv-loop table f a b results₀ i₀ results i = Working (length a) (composeAt table f a b) i results × (length results ≡ length results₀)
@@ -37,8 +33,8 @@ shared-slice-read-t18 c = omega (arith, (c .before .before .before .before .befo
 compose-requires : tie.Need-compose-requires Inv-loop μ-loop
 compose-requires c κs = search needs
 
-enum-known-said : tie.Need-enum-known-said Inv-loop μ-loop
-enum-known-said c = search needs
+enum-known-product : tie.Need-enum-known-product Inv-loop μ-loop
+enum-known-product c = search needs
 
 enum-told : tie.Need-enum-told Inv-loop μ-loop
 enum-told c = search needs
@@ -65,7 +61,7 @@ loop-less : tie.Need-loop-less Inv-loop μ-loop
 loop-less c = omega arith
 
 loop-again : tie.Need-loop-again Inv-loop μ-loop
-loop-again c = (stores ((c .before .before .before .before .before .before .before .loop .inv .0)) (search needs) (omega (arith, (c .before .before .before .before .before .before .before .before .before .before .before .before .pre .1), (c .before .before .before .before .before .before .before .loop .inv .1))) ((c .before .before .before .compose .ensures)) ((c .before .said .given .1)), simp length-set ((c .before .before .before .before .before .before .before .loop .inv .1)))
+loop-again c = (stores ((c .before .before .before .before .before .before .before .loop .inv .0)) (search needs) (omega (arith, (c .before .before .before .before .before .before .before .before .before .before .before .before .pre .1), (c .before .before .before .before .before .before .before .loop .inv .1))) ((c .before .before .before .compose .ensures)) ((c .before .product .given .1)), simp length-set ((c .before .before .before .before .before .before .before .loop .inv .1)))
 
 same-length-2 : tie.Need-same-length-2 Inv-loop μ-loop
 same-length-2 c = (c .before .loop .inv .1)
@@ -85,7 +81,7 @@ compose-in-turn-spec =
     mul-t16
     shared-slice-read-t18
     compose-requires
-    enum-known-said
+    enum-known-product
     enum-told
     stopped-requires
     same-length

@@ -1,13 +1,8 @@
 -- What was gathered is handed over, by `handed`.
 use Rattle.lists.proofs.Answers.{handed}
-use native.Mathlib.Omega.{arith}
 use borrow.Author.Needs.{needs}
 use Rattle.lists_factor.proofs.inner.inverse_by.Statement.{statement}
 use Rattle.lists_factor.proofs.inner.inverse_by.Tie as tie
-use Rattle.lists_factor.proofs.inner.inverse_by.Reads as reads
-use Rattle.lists_factor.proofs.inner.inverse_by.Lts as lts
-use Rattle.lists.proofs.inner.hand_over.Reads as hand-over-reads
-use Rattle.lists_factor.proofs.inner.inverse_into.Reads as inverse-into-reads
 
 inverse-into-requires : tie.Need-inverse-into-requires
 inverse-into-requires c κs = search needs

@@ -3,15 +3,11 @@ use Rattle.lists.proofs.Places.{Working, working, stores, refuses, worked}
 use Rattle.lists_factor.specs.Each.{inverseAt}
 use borrow.Author.Needs.{needs}
 use native.Mathlib.Omega.{arith}
-use mathlib.Core.Path.{_≡_, refl, _∙_}
+use mathlib.Core.Path.{_≡_, refl}
 use lib.ListN.{length, length-set}
 use Prim.Native.Nat.{_-_}
 use Rattle.lists_factor.proofs.inner.inverse_into.Statement.{statement}
 use Rattle.lists_factor.proofs.inner.inverse_into.Tie as tie
-use Rattle.lists_factor.proofs.inner.inverse_into.Reads as reads
-use Rattle.lists_factor.proofs.inner.inverse_into.Lts as lts
-use Rattle.factor.proofs.inverse.Reads as inverse-reads
-use Rattle.lists.proofs.inner.stopped.Reads as stopped-reads
 
 abbrev Inv-loop : tie.InvT-loop
 Inv-loop table f a results₀ i₀ results i = Working (length a) (inverseAt table f a) i results × (length results ≡ length results₀)

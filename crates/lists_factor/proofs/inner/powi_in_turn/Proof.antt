@@ -1,20 +1,16 @@
 -- The invariant is `Working`: the results so far are the single calls' numbers, and what is left gives the answer of the whole.
 use Rattle.group_powers.proofs.Signs.{read-is}
-use Rattle.lists.proofs.Places.{Working, working, stores, refuses, worked}
+use Rattle.lists.proofs.Places.{Working, working, stores, refuses, worked, exponent-there}
 use Rattle.lists_factor.specs.Each.{powiAt}
 use borrow.Author.Needs.{needs}
 use native.Mathlib.Omega.{arith}
 use mathlib.Core.Path.{_≡_, refl, _∙_}
-use lib.ListN.{length, length-set}
+use lib.ListN.{length, getD, length-set}
 use Prim.Native.Nat.{_-_}
-use Rattle.lists_factor.proofs.Exponents.{powi-there}
+use Rattle.group_powers.specs.Powers.{powiAlone}
+use lib.IntN.{ℤ}
 use Rattle.lists_factor.proofs.inner.powi_in_turn.Statement.{statement}
 use Rattle.lists_factor.proofs.inner.powi_in_turn.Tie as tie
-use Rattle.lists_factor.proofs.inner.powi_in_turn.Reads as reads
-use Rattle.lists_factor.proofs.inner.powi_in_turn.Lts as lts
-use Rattle.group_powers.proofs.inner.one.powi.Reads as powi-reads
-use Rattle.lists.proofs.inner.exponent.Reads as exponent-reads
-use Rattle.lists.proofs.inner.stopped.Reads as stopped-reads
 
 abbrev Inv-loop : tie.InvT-loop
 Inv-loop table f a exponents results₀ i₀ results i = Working (length a) (powiAt table f a exponents) i results × (length results ≡ length results₀)
@@ -50,7 +46,7 @@ same-length : tie.Need-same-length Inv-loop μ-loop
 same-length c = (c .before .before .before .before .before .before .before .loop .inv .1)
 
 returns : tie.Need-returns Inv-loop μ-loop
-returns c = refuses ((c .before .before .before .before .before .before .before .loop .inv .0)) (search needs) (powi-there ((c .before .before .before .before .before .before .before .before .before .before .before .args .table .now)) ((c .before .before .before .before .before .before .before .before .before .before .before .args .f)) ((c .before .before .before .before .before .before .before .before .before .before .before .args .a .now)) ((c .before .before .before .before .before .before .before .before .before .before .before .args .exponents .now)) ((c .before .before .before .before .before .before .before .loop .i)) ((c .before .before .before .powi .ensures)) (read-is ((c .before .before .before .before .before .exponent .result)) (record { sfits = (c .before .before .before .before .before .exponent .ok) }) ∙ (c .before .before .before .before .before .exponent .ensures))) ((c .before .enum-told .given .1)) ((c .stopped .ensures))
+returns c = refuses ((c .before .before .before .before .before .before .before .loop .inv .0)) (search needs) (exponent-there (λ (z : ℤ). powiAlone ((c .before .before .before .before .before .before .before .before .before .before .before .args .table .now)) ((c .before .before .before .before .before .before .before .before .before .before .before .args .f)) (record { 0 = getD ((c .before .before .before .before .before .before .before .before .before .before .before .args .a .now)) ((c .before .before .before .before .before .before .before .loop .i)) 0 }) z) ((c .before .before .before .powi .ensures)) (read-is ((c .before .before .before .before .before .exponent .result)) (record { sfits = (c .before .before .before .before .before .exponent .ok) }) ∙ (c .before .before .before .before .before .exponent .ensures))) ((c .before .enum-told .given .1)) ((c .stopped .ensures))
 
 mul-results : tie.Need-mul-results Inv-loop μ-loop
 mul-results c = search needs
@@ -65,7 +61,7 @@ loop-less : tie.Need-loop-less Inv-loop μ-loop
 loop-less c = omega arith
 
 loop-again : tie.Need-loop-again Inv-loop μ-loop
-loop-again c = (stores ((c .before .before .before .before .before .before .before .loop .inv .0)) (search needs) (omega (arith, (c .before .before .before .before .before .before .before .before .before .before .before .pre .1), (c .before .before .before .before .before .before .before .loop .inv .1))) (powi-there ((c .before .before .before .before .before .before .before .before .before .before .before .args .table .now)) ((c .before .before .before .before .before .before .before .before .before .before .before .args .f)) ((c .before .before .before .before .before .before .before .before .before .before .before .args .a .now)) ((c .before .before .before .before .before .before .before .before .before .before .before .args .exponents .now)) ((c .before .before .before .before .before .before .before .loop .i)) ((c .before .before .before .powi .ensures)) (read-is ((c .before .before .before .before .before .exponent .result)) (record { sfits = (c .before .before .before .before .before .exponent .ok) }) ∙ (c .before .before .before .before .before .exponent .ensures))) ((c .before .said .given .1)), simp length-set ((c .before .before .before .before .before .before .before .loop .inv .1)))
+loop-again c = (stores ((c .before .before .before .before .before .before .before .loop .inv .0)) (search needs) (omega (arith, (c .before .before .before .before .before .before .before .before .before .before .before .pre .1), (c .before .before .before .before .before .before .before .loop .inv .1))) (exponent-there (λ (z : ℤ). powiAlone ((c .before .before .before .before .before .before .before .before .before .before .before .args .table .now)) ((c .before .before .before .before .before .before .before .before .before .before .before .args .f)) (record { 0 = getD ((c .before .before .before .before .before .before .before .before .before .before .before .args .a .now)) ((c .before .before .before .before .before .before .before .loop .i)) 0 }) z) ((c .before .before .before .powi .ensures)) (read-is ((c .before .before .before .before .before .exponent .result)) (record { sfits = (c .before .before .before .before .before .exponent .ok) }) ∙ (c .before .before .before .before .before .exponent .ensures))) ((c .before .said .given .1)), simp length-set ((c .before .before .before .before .before .before .before .loop .inv .1)))
 
 same-length-2 : tie.Need-same-length-2 Inv-loop μ-loop
 same-length-2 c = (c .before .loop .inv .1)

@@ -3,15 +3,11 @@ use Rattle.lists.proofs.Places.{Working, working, stores, refuses, worked}
 use Rattle.lists_group.specs.Each.{composeAt}
 use borrow.Author.Needs.{needs}
 use native.Mathlib.Omega.{arith}
-use mathlib.Core.Path.{_≡_, refl, _∙_}
+use mathlib.Core.Path.{_≡_, refl}
 use lib.ListN.{length, length-set}
 use Prim.Native.Nat.{_-_}
 use Rattle.lists_group.proofs.inner.compose_in_turn.Statement.{statement}
 use Rattle.lists_group.proofs.inner.compose_in_turn.Tie as tie
-use Rattle.lists_group.proofs.inner.compose_in_turn.Reads as reads
-use Rattle.lists_group.proofs.inner.compose_in_turn.Lts as lts
-use Rattle.group.proofs.compose.Reads as compose-reads
-use Rattle.lists.proofs.inner.stopped.Reads as stopped-reads
 
 abbrev Inv-loop : tie.InvT-loop
 Inv-loop table f a b results₀ i₀ results i = Working (length a) (composeAt table f a b) i results × (length results ≡ length results₀)

@@ -1,5 +1,5 @@
 -- A product of one factor by the factor's own; else what the look at the handles shows is what the chunks ask for.
-use Rattle.lists_group.proofs.Chunks.{alone-right, sound}
+use Rattle.lists_group.proofs.Chunks.{compose-alone, sound}
 use Rattle.egg.proofs.Rooms.{false-true}
 use lib.ListN.{length}
 use borrow.Author.Needs.{needs}
@@ -19,7 +19,7 @@ same-length : tie.Need-same-length
 same-length c = search needs
 
 returns : tie.Need-returns
-returns c = λ h. alone-right ((c .before .before .before .before .before .before .before .before .before .before .before .args .table .now)) ((c .before .before .before .before .before .before .before .before .before .before .before .args .t2)) ((c .before .before .before .before .before .before .before .before .before .before .before .args .a .now)) ((c .before .before .before .before .before .before .before .before .before .before .before .args .b .now)) ((c .before .before .before .before .before .before .alone .ensures) ((c .before .before .before .before .before .if1 .taken))) ((c .before .before .side-by-side .ensures) h)
+returns c = λ h. compose-alone ((c .before .before .before .before .before .before .before .before .before .before .before .args .table .now)) ((c .before .before .before .before .before .before .before .before .before .before .before .args .t2)) ((c .before .before .before .before .before .before .before .before .before .before .before .args .a .now)) ((c .before .before .before .before .before .before .alone .ensures) ((c .before .before .before .before .before .if1 .taken))) ((c .before .before .before .before .before .before .before .before .before .before .before .args .b .now)) ((c .before .before .side-by-side .ensures) h)
 
 look-requires : tie.Need-look-requires
 look-requires c κs = search needs

@@ -1,22 +1,21 @@
--- The invariant is `Filled`, over the places so far.
+-- The invariant is `Writing`, over the places so far.
 use Prim.Native.Nat.{_-_}
-use mathlib.Core.Path.{_≡_, refl}
-use lib.ListN.{length, length-set}
+use lib.ListN.{length}
 use native.Mathlib.Omega.{arith}
 use borrow.Author.Needs.{needs}
-use Rattle.lists_powers.specs.Rounds.{Filled, factorAt}
-use Rattle.lists_powers.proofs.Places.{filling, fills, filled}
+use Rattle.lists_powers.specs.Rounds.{factorAt}
+use Rattle.lists.proofs.Passes.{Writing, writing, writes, written}
 use Rattle.lists_powers.proofs.inner.factors.Statement.{statement}
 use Rattle.lists_powers.proofs.inner.factors.Tie as tie
 
 abbrev Inv-loop : tie.InvT-loop
-Inv-loop bs ks j ms₀ i₀ ms i = Filled (factorAt bs ks j) i ms × (length ms ≡ length ms₀)
+Inv-loop bs ks j ms₀ i₀ ms i = Writing (factorAt bs ks j) ms₀ i ms
 
 abbrev μ-loop : tie.MeasureT-loop
 μ-loop bs ks j ms₀ i₀ ms i = length bs - i
 
 loop-holds : tie.Need-loop-holds Inv-loop μ-loop
-loop-holds c = (filling, refl)
+loop-holds c = writing
 
 mul-m : tie.Need-mul-m Inv-loop μ-loop
 mul-m c = search needs
@@ -40,7 +39,7 @@ mul-ms : tie.Need-mul-ms Inv-loop μ-loop
 mul-ms c = search needs
 
 slice-write-ms : tie.Need-slice-write-ms Inv-loop μ-loop
-slice-write-ms c = omega (arith, (c .before .before .before .before .before .before .before .before .pre .1 .1), (c .before .before .before .before .loop .inv .1))
+slice-write-ms c = omega (arith, (c .before .before .before .before .before .before .before .before .pre .1 .1), (c .before .before .before .before .loop .inv .as-long))
 
 add-i : tie.Need-add-i Inv-loop μ-loop
 add-i c = search needs
@@ -49,13 +48,13 @@ loop-less : tie.Need-loop-less Inv-loop μ-loop
 loop-less c = omega arith
 
 loop-again : tie.Need-loop-again Inv-loop μ-loop
-loop-again c = (fills ((c .before .before .before .before .loop .inv .0)) (omega (arith, (c .before .before .before .before .before .before .before .before .pre .1 .1), (c .before .before .before .before .loop .inv .1))) ((c .chosen .ensures)), simp length-set ((c .before .before .before .before .loop .inv .1)))
+loop-again c = writes ((c .before .before .before .before .loop .inv)) (omega (arith, (c .before .before .before .before .before .before .before .before .pre .1 .1), (c .before .before .before .before .loop .inv .as-long))) ((c .chosen .ensures))
 
 same-length : tie.Need-same-length Inv-loop μ-loop
-same-length c = (c .before .loop .inv .1)
+same-length c = (c .before .loop .inv .as-long)
 
 returns : tie.Need-returns Inv-loop μ-loop
-returns c = filled ((c .before .loop .inv .0)) (search needs)
+returns c = written ((c .before .loop .inv)) (search needs)
 
 pub factors-spec : {M : Type 1} → statement M
 factors-spec =

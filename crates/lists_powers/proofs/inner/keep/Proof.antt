@@ -1,20 +1,22 @@
--- The invariant is `Keeping`: what is not reached yet is as it was.
+-- The invariant is `Writing`: what is not reached yet is as it was.
 use Prim.Native.Nat.{_-_}
 use lib.ListN.{length}
 use native.Mathlib.Omega.{arith}
 use borrow.Author.Needs.{needs}
-use Rattle.lists_powers.proofs.Places.{filled, Keeping, keeping, keeps}
+use Rattle.lists.proofs.Passes.{Writing, writing, written}
+use Rattle.lists_powers.specs.Rounds.{keptAt}
+use Rattle.lists_powers.proofs.Places.{keeps}
 use Rattle.lists_powers.proofs.inner.keep.Statement.{statement}
 use Rattle.lists_powers.proofs.inner.keep.Tie as tie
 
 abbrev Inv-loop : tie.InvT-loop
-Inv-loop ks j ys xs₀ i₀ xs i = Keeping ks j ys xs₀ i xs
+Inv-loop ks j ys xs₀ i₀ xs i = Writing (keptAt ks j ys xs₀) xs₀ i xs
 
 abbrev μ-loop : tie.MeasureT-loop
 μ-loop ks j ys xs₀ i₀ xs i = length ks - i
 
 loop-holds : tie.Need-loop-holds Inv-loop μ-loop
-loop-holds c = keeping
+loop-holds c = writing
 
 mul-m : tie.Need-mul-m Inv-loop μ-loop
 mul-m c = search needs
@@ -56,13 +58,13 @@ loop-less : tie.Need-loop-less Inv-loop μ-loop
 loop-less c = omega arith
 
 loop-again : tie.Need-loop-again Inv-loop μ-loop
-loop-again c = keeps ((c .before .before .before .before .before .before .loop .inv)) (omega (arith, (c .before .before .before .before .before .before .before .before .before .before .pre .1 .1), (c .before .before .before .before .before .before .loop .inv .as-long))) ((c .before .chosen .ensures)) ((c .chosen2 .ensures))
+loop-again c = keeps (c .before .before .before .before .before .before .before .before .before .before .args .ks .now) (c .before .before .before .before .before .before .before .before .before .before .args .j) (c .before .before .before .before .before .before .before .before .before .before .args .ys .now) ((c .before .before .before .before .before .before .loop .inv)) (omega (arith, (c .before .before .before .before .before .before .before .before .before .before .pre .1 .1), (c .before .before .before .before .before .before .loop .inv .as-long))) ((c .before .chosen .ensures)) ((c .chosen2 .ensures))
 
 same-length : tie.Need-same-length Inv-loop μ-loop
 same-length c = (c .before .loop .inv .as-long)
 
 returns : tie.Need-returns Inv-loop μ-loop
-returns c = filled ((c .before .loop .inv .done)) (search needs)
+returns c = written ((c .before .loop .inv)) (search needs)
 
 pub keep-spec : {M : Type 1} → statement M
 keep-spec =

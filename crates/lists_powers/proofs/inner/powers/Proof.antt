@@ -1,13 +1,13 @@
 -- The invariant is `Powering`: the powers at the places so far. A chunk's part goes back to its place.
 use borrow.Rule.Slice.PartMut.{same-len-mid, mid-len}
-use Rattle.lists_powers.proofs.Chunks.{part-short}
 use Prim.Native.Nat.{_-_}
 use mathlib.Core.Path.{_≡_, refl, _∙_}
 use lib.ListN.{length}
 use native.Mathlib.Omega.{arith}
 use borrow.Author.Needs.{needs}
 use borrow.Author.Tests.{not-false}
-use Rattle.lists_powers.proofs.Chunks.{Powering, powering, powering-all, powering-next, parts-alike}
+use Rattle.lists.proofs.Parts.{parts-alike, part-short}
+use Rattle.lists_powers.proofs.Chunks.{Powering, powering, powering-all, powering-next}
 use Rattle.lists_powers.proofs.inner.powers.Statement.{statement}
 use Rattle.lists_powers.proofs.inner.powers.Tie as tie
 

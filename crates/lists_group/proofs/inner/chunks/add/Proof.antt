@@ -1,5 +1,6 @@
 -- The invariant is `Writing`: each sum that has been passed has its digit, times the stride.
-use Rattle.lists_group.proofs.Passes.{Writing, writing, adds, add-fits, written}
+use Rattle.lists.proofs.Passes.{Writing, writing, written}
+use Rattle.lists_group.proofs.Passes.{adds, add-fits}
 use borrow.Author.Needs.{needs}
 use native.Mathlib.Omega.{arith}
 use lib.ListN.{getD}

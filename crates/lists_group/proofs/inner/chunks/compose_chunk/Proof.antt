@@ -1,7 +1,7 @@
 -- Both lists are copied, or a number is no element; then the factors answer.
 use lib.ListN.{length}
 use Rattle.lists_group.proofs.Chunks.{chunk-right}
-use Rattle.lists_group.proofs.Passes.{cleared}
+use Rattle.lists.proofs.Passes.{cleared}
 use Rattle.group_handles.proofs.Admitted.{few-elements}
 use Rattle.egg.proofs.Rooms.{false-true}
 use borrow.Author.Tests.{not-false}

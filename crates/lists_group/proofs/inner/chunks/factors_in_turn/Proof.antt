@@ -1,7 +1,8 @@
 -- The invariant is `Together`: at each place, what is left to gather gives what the whole does. The lists keep their lengths.
-use Rattle.lists_group.proofs.Turns.{Together, together, addable, turns, composed}
+use Rattle.lists_group.proofs.Turns.{Together, together, addable, turns, gathered}
 use Rattle.group_handles.proofs.Lists.{turn-at, turned-all, fits-there, some-there, positive}
 use Rattle.group_digits.proofs.Walks.{stride-fits}
+use Rattle.group_digits.specs.Digits.{Compose}
 use Rattle.group_handles.specs.Handles.{handles}
 use Rattle.egg.proofs.Rooms.{false-true}
 use borrow.Author.Tests.{not-false}
@@ -15,7 +16,7 @@ use Rattle.lists_group.proofs.inner.chunks.factors_in_turn.Statement.{s
 use Rattle.lists_group.proofs.inner.chunks.factors_in_turn.Tie as tie
 
 abbrev Inv-loop : tie.InvT-loop
-Inv-loop table k xs₀ ys₀ sums₀ g dx₀ dy₀ ds₀ c f₀ stride₀ xs ys sums dx dy ds f stride = Together table (handles g) k xs₀ ys₀ f stride xs ys sums × (((length xs ≡ length xs₀) × ((length ys ≡ length ys₀) × (length sums ≡ length sums₀))) × ((length dx ≡ 64) × ((length dy ≡ 64) × (length ds ≡ 64))))
+Inv-loop table k xs₀ ys₀ sums₀ g dx₀ dy₀ ds₀ c f₀ stride₀ xs ys sums dx dy ds f stride = Together Compose table (handles g) k xs₀ ys₀ f stride xs ys sums × (((length xs ≡ length xs₀) × ((length ys ≡ length ys₀) × (length sums ≡ length sums₀))) × ((length dx ≡ 64) × ((length dy ≡ 64) × (length ds ≡ 64))))
 
 abbrev μ-loop : tie.MeasureT-loop
 μ-loop table k xs₀ ys₀ sums₀ g dx₀ dy₀ ds₀ c f₀ stride₀ xs ys sums dx dy ds f stride = c - f
@@ -24,7 +25,7 @@ listed-requires : tie.Need-listed-requires Inv-loop μ-loop
 listed-requires c κs = search needs
 
 loop-holds : tie.Need-loop-holds Inv-loop μ-loop
-loop-holds c = (together ((c .before .before .before .before .before .args .table .now)) (handles ((c .before .before .before .before .before .args .t2))) ((c .before .before .before .before .before .args .xs .now)) ((c .before .before .before .before .before .args .ys .now)) ((c .before .before .before .before .before .pre .1 .nothing)), ((refl, (refl, refl)), (refl, (refl, refl))))
+loop-holds c = (together Compose ((c .before .before .before .before .before .args .table .now)) (handles ((c .before .before .before .before .before .args .t2))) ((c .before .before .before .before .before .args .xs .now)) ((c .before .before .before .before .before .args .ys .now)) ((c .before .before .before .before .before .pre .1 .nothing)), ((refl, (refl, refl)), (refl, (refl, refl))))
 
 mul-h : tie.Need-mul-h Inv-loop μ-loop
 mul-h c = search needs
@@ -108,7 +109,7 @@ same-length-6 : tie.Need-same-length-6 Inv-loop μ-loop
 same-length-6 c = (c .before .loop .inv .1 .0 .1 .1)
 
 returns-2 : tie.Need-returns-2 Inv-loop μ-loop
-returns-2 c = λ h. composed ((c .before .loop .inv .0)) (turned-all (handles ((c .before .before .before .before .before .before .before .args .t2))) ((c .before .loop .f)) ((c .before .before .listed .ensures .0)) ((c .loop-test .left)))
+returns-2 c = λ h. gathered ((c .before .loop .inv .0)) (turned-all (handles ((c .before .before .before .before .before .before .before .args .t2))) ((c .before .loop .f)) ((c .before .before .listed .ensures .0)) ((c .loop-test .left)))
 
 pub factors-in-turn-spec : {M : Type 1} → statement M
 factors-in-turn-spec =

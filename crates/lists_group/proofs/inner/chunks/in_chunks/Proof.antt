@@ -1,6 +1,6 @@
 -- The invariant: the places before this chunk are right.
 use borrow.Rule.Slice.PartMut.{mid-len, same-len-mid}
-use Rattle.lists_group.proofs.Chunks.{next-chunk, none-yet, all-places}
+use Rattle.lists_group.proofs.Chunks.{next-chunk, compose-places, none-yet, all-places}
 use Rattle.lists_group.specs.Each.{composeAt}
 use Rattle.lists.specs.Worked.{AllRight}
 use Rattle.egg.proofs.Rooms.{false-true}
@@ -32,10 +32,10 @@ sub-compose-chunk : tie.Need-sub-compose-chunk Inv-loop μ-loop
 sub-compose-chunk c = search needs
 
 part-compose-chunk-start : tie.Need-part-compose-chunk-start Inv-loop μ-loop
-part-compose-chunk-start c = omega (arith, (c .chunk-end .ensures .0), (c .chunk-end .ensures .1 .0))
+part-compose-chunk-start c = omega (arith, (c .chunk-end .ensures .on), (c .chunk-end .ensures .within))
 
 part-compose-chunk-end : tie.Need-part-compose-chunk-end Inv-loop μ-loop
-part-compose-chunk-end c = omega (arith, (c .chunk-end .ensures .0), (c .chunk-end .ensures .1 .0))
+part-compose-chunk-end c = omega (arith, (c .chunk-end .ensures .on), (c .chunk-end .ensures .within))
 
 mul-compose-chunk-2 : tie.Need-mul-compose-chunk-2 Inv-loop μ-loop
 mul-compose-chunk-2 c = search needs
@@ -44,10 +44,10 @@ sub-compose-chunk-2 : tie.Need-sub-compose-chunk-2 Inv-loop μ-loop
 sub-compose-chunk-2 c = search needs
 
 part-compose-chunk-start-2 : tie.Need-part-compose-chunk-start-2 Inv-loop μ-loop
-part-compose-chunk-start-2 c = omega (arith, (c .before .chunk-end .ensures .0), (c .before .chunk-end .ensures .1 .0), (c .before .before .before .before .before .before .before .before .pre .1 .0))
+part-compose-chunk-start-2 c = omega (arith, (c .before .chunk-end .ensures .on), (c .before .chunk-end .ensures .within), (c .before .before .before .before .before .before .before .before .pre .1 .0))
 
 part-compose-chunk-end-2 : tie.Need-part-compose-chunk-end-2 Inv-loop μ-loop
-part-compose-chunk-end-2 c = omega (arith, (c .before .chunk-end .ensures .0), (c .before .chunk-end .ensures .1 .0), (c .before .before .before .before .before .before .before .before .pre .1 .0))
+part-compose-chunk-end-2 c = omega (arith, (c .before .chunk-end .ensures .on), (c .before .chunk-end .ensures .within), (c .before .before .before .before .before .before .before .before .pre .1 .0))
 
 mul-compose-chunk-3 : tie.Need-mul-compose-chunk-3 Inv-loop μ-loop
 mul-compose-chunk-3 c = search needs
@@ -56,16 +56,16 @@ sub-compose-chunk-3 : tie.Need-sub-compose-chunk-3 Inv-loop μ-loop
 sub-compose-chunk-3 c = search needs
 
 part-compose-chunk-start-3 : tie.Need-part-compose-chunk-start-3 Inv-loop μ-loop
-part-compose-chunk-start-3 c = omega (arith, (c .before .before .chunk-end .ensures .0), (c .before .before .chunk-end .ensures .1 .0), (c .before .before .before .before .before .before .before .before .before .pre .1 .1), (c .before .before .before .before .loop .inv .1 .1))
+part-compose-chunk-start-3 c = omega (arith, (c .before .before .chunk-end .ensures .on), (c .before .before .chunk-end .ensures .within), (c .before .before .before .before .before .before .before .before .before .pre .1 .1), (c .before .before .before .before .loop .inv .1 .1))
 
 part-compose-chunk-end-3 : tie.Need-part-compose-chunk-end-3 Inv-loop μ-loop
-part-compose-chunk-end-3 c = omega (arith, (c .before .before .chunk-end .ensures .0), (c .before .before .chunk-end .ensures .1 .0), (c .before .before .before .before .before .before .before .before .before .pre .1 .1), (c .before .before .before .before .loop .inv .1 .1))
+part-compose-chunk-end-3 c = omega (arith, (c .before .before .chunk-end .ensures .on), (c .before .before .chunk-end .ensures .within), (c .before .before .before .before .before .before .before .before .before .pre .1 .1), (c .before .before .before .before .loop .inv .1 .1))
 
 compose-chunk-requires : tie.Need-compose-chunk-requires Inv-loop μ-loop
-compose-chunk-requires c κs = let x = mid-len ((c .before .before .before .before .before .loop .at)) ((c .before .before .before .chunk-end .result)) ((c .before .before .before .before .before .before .before .before .before .before .args .a .now)) ((c .before .before .before .chunk-end .ensures .1 .0)) in
-    let y = mid-len ((c .before .before .before .before .before .loop .at)) ((c .before .before .before .chunk-end .result)) ((c .before .before .before .before .before .before .before .before .before .before .args .b .now)) (omega (arith, (c .before .before .before .chunk-end .ensures .1 .0), (c .before .before .before .before .before .before .before .before .before .before .pre .1 .0))) in
-    let z = mid-len ((c .before .before .before .before .before .loop .at)) ((c .before .before .before .chunk-end .result)) ((c .before .before .before .before .before .loop .results)) (omega (arith, (c .before .before .before .chunk-end .ensures .1 .0), (c .before .before .before .before .before .before .before .before .before .before .pre .1 .1), (c .before .before .before .before .before .loop .inv .1 .1))) in
-    ((c .before .before .before .before .before .before .before .before .before .before .pre .0), (y ∙ sym x, (z ∙ sym x, omega (arith, x, (c .before .before .before .chunk-end .ensures .1 .1)))))
+compose-chunk-requires c κs = let x = mid-len ((c .before .before .before .before .before .loop .at)) ((c .before .before .before .chunk-end .result)) ((c .before .before .before .before .before .before .before .before .before .before .args .a .now)) ((c .before .before .before .chunk-end .ensures .within)) in
+    let y = mid-len ((c .before .before .before .before .before .loop .at)) ((c .before .before .before .chunk-end .result)) ((c .before .before .before .before .before .before .before .before .before .before .args .b .now)) (omega (arith, (c .before .before .before .chunk-end .ensures .within), (c .before .before .before .before .before .before .before .before .before .before .pre .1 .0))) in
+    let z = mid-len ((c .before .before .before .before .before .loop .at)) ((c .before .before .before .chunk-end .result)) ((c .before .before .before .before .before .loop .results)) (omega (arith, (c .before .before .before .chunk-end .ensures .within), (c .before .before .before .before .before .before .before .before .before .before .pre .1 .1), (c .before .before .before .before .before .loop .inv .1 .1))) in
+    ((c .before .before .before .before .before .before .before .before .before .before .pre .0), (y ∙ sym x, (z ∙ sym x, omega (arith, x, (c .before .before .before .chunk-end .ensures .short)))))
 
 same-length : tie.Need-same-length Inv-loop μ-loop
 same-length c = same-len-mid ((c .before .before .before .before .before .before .before .before .before .loop .at)) ((c .before .before .before .before .before .before .before .chunk-end .result) - (c .before .before .before .before .before .before .before .before .before .loop .at)) ((c .before .before .before .before .before .before .before .before .before .loop .results)) ((c .before .before .before .compose-chunk .last .1 .1 .1 .1 .1 .0)) ((c .before .before .before .compose-chunk .kept .1 .1 .1 .1 .1 .0)) ∙ (c .before .before .before .before .before .before .before .before .before .loop .inv .1 .1)
@@ -74,15 +74,15 @@ returns : tie.Need-returns Inv-loop μ-loop
 returns c = λ h. absurd (false-true h)
 
 loop-less : tie.Need-loop-less Inv-loop μ-loop
-loop-less c = omega (arith, (c .before .before .before .before .before .before .before .chunk-end .ensures .0), (c .before .before .before .before .before .before .before .chunk-end .ensures .1 .0))
+loop-less c = omega (arith, (c .before .before .before .before .before .before .before .chunk-end .ensures .on), (c .before .before .before .before .before .before .before .chunk-end .ensures .within))
 
 loop-again : tie.Need-loop-again Inv-loop μ-loop
-loop-again c = let x = mid-len ((c .before .before .before .before .before .before .before .before .before .loop .at)) ((c .before .before .before .before .before .before .before .chunk-end .result)) ((c .before .before .before .before .before .before .before .before .before .before .before .before .before .before .args .a .now)) ((c .before .before .before .before .before .before .before .chunk-end .ensures .1 .0)) in
-    let z = mid-len ((c .before .before .before .before .before .before .before .before .before .loop .at)) ((c .before .before .before .before .before .before .before .chunk-end .result)) ((c .before .before .before .before .before .before .before .before .before .loop .results)) (omega (arith, (c .before .before .before .before .before .before .before .chunk-end .ensures .1 .0), (c .before .before .before .before .before .before .before .before .before .before .before .before .before .before .pre .1 .1), (c .before .before .before .before .before .before .before .before .before .loop .inv .1 .1))) in (
-      next-chunk ((c .before .before .before .before .before .before .before .before .before .loop .at)) ((c .before .before .before .before .before .before .before .chunk-end .result)) ((c .before .before .before .before .before .before .before .before .before .loop .results)) ((c .before .before .before .compose-chunk .last .1 .1 .1 .1 .1 .0)) (omega (arith, (c .before .before .before .before .before .before .before .chunk-end .ensures .0)))
-          (omega (arith, (c .before .before .before .before .before .before .before .chunk-end .ensures .1 .0), (c .before .before .before .before .before .before .before .before .before .before .before .before .before .before .pre .1 .1), (c .before .before .before .before .before .before .before .before .before .loop .inv .1 .1))) ((c .before .before .before .before .before .before .before .before .before .before .before .before .before .before .args .table .now)) ((c .before .before .before .before .before .before .before .before .before .before .before .before .before .before .args .g)) ((c .before .before .before .before .before .before .before .before .before .before .before .before .before .before .args .a .now)) ((c .before .before .before .before .before .before .before .before .before .before .before .before .before .before .args .b .now)) x ((c .before .before .before .compose-chunk .kept .1 .1 .1 .1 .1 .0) ∙ z)
+loop-again c = let x = mid-len ((c .before .before .before .before .before .before .before .before .before .loop .at)) ((c .before .before .before .before .before .before .before .chunk-end .result)) ((c .before .before .before .before .before .before .before .before .before .before .before .before .before .before .args .a .now)) ((c .before .before .before .before .before .before .before .chunk-end .ensures .within)) in
+    let z = mid-len ((c .before .before .before .before .before .before .before .before .before .loop .at)) ((c .before .before .before .before .before .before .before .chunk-end .result)) ((c .before .before .before .before .before .before .before .before .before .loop .results)) (omega (arith, (c .before .before .before .before .before .before .before .chunk-end .ensures .within), (c .before .before .before .before .before .before .before .before .before .before .before .before .before .before .pre .1 .1), (c .before .before .before .before .before .before .before .before .before .loop .inv .1 .1))) in (
+      next-chunk ((c .before .before .before .before .before .before .before .before .before .loop .at)) ((c .before .before .before .before .before .before .before .chunk-end .result)) ((c .before .before .before .before .before .before .before .before .before .loop .results)) ((c .before .before .before .compose-chunk .last .1 .1 .1 .1 .1 .0)) (omega (arith, (c .before .before .before .before .before .before .before .before .before .before .before .before .before .before .pre .1 .1), (c .before .before .before .before .before .before .before .before .before .loop .inv .1 .1), (c .before .before .before .before .before .before .before .before .before .loop .inv .1 .0))) x ((c .before .before .before .compose-chunk .kept .1 .1 .1 .1 .1 .0) ∙ z)
+          (compose-places ((c .before .before .before .before .before .before .before .before .before .before .before .before .before .before .args .table .now)) ((c .before .before .before .before .before .before .before .before .before .before .before .before .before .before .args .g)) ((c .before .before .before .before .before .before .before .before .before .loop .at)) ((c .before .before .before .before .before .before .before .chunk-end .result) - (c .before .before .before .before .before .before .before .before .before .loop .at)) ((c .before .before .before .before .before .before .before .before .before .before .before .before .before .before .args .a .now)) ((c .before .before .before .before .before .before .before .before .before .before .before .before .before .before .args .b .now)))
           ((c .before .before .before .before .before .before .before .before .before .loop .inv .0)) ((c .before .before .before .compose-chunk .ensures) (not-false _ ((c .if1 .left)))),
-      ((c .before .before .before .before .before .before .before .chunk-end .ensures .1 .0), same-len-mid ((c .before .before .before .before .before .before .before .before .before .loop .at)) ((c .before .before .before .before .before .before .before .chunk-end .result) - (c .before .before .before .before .before .before .before .before .before .loop .at)) ((c .before .before .before .before .before .before .before .before .before .loop .results)) ((c .before .before .before .compose-chunk .last .1 .1 .1 .1 .1 .0)) ((c .before .before .before .compose-chunk .kept .1 .1 .1 .1 .1 .0)) ∙ (c .before .before .before .before .before .before .before .before .before .loop .inv .1 .1)),
+      ((c .before .before .before .before .before .before .before .chunk-end .ensures .within), same-len-mid ((c .before .before .before .before .before .before .before .before .before .loop .at)) ((c .before .before .before .before .before .before .before .chunk-end .result) - (c .before .before .before .before .before .before .before .before .before .loop .at)) ((c .before .before .before .before .before .before .before .before .before .loop .results)) ((c .before .before .before .compose-chunk .last .1 .1 .1 .1 .1 .0)) ((c .before .before .before .compose-chunk .kept .1 .1 .1 .1 .1 .0)) ∙ (c .before .before .before .before .before .before .before .before .before .loop .inv .1 .1)),
     )
 
 same-length-2 : tie.Need-same-length-2 Inv-loop μ-loop
