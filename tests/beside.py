@@ -180,15 +180,18 @@ def product_commands(rng):
     yield "quiet 0"
 
 
+# Lists of one place, of up to 32, 64 and 256 and of more are worked out in ways of their own.
+EDGES = (31, 32, 33, 63, 64, 65, 255, 256, 257, 512, 513)
+
 def list_commands(rng):
     """Questions over lists in random products: filled in each way, with elements that are none, and of wrong lengths."""
     for most in (1, 2, 4, 8) * 6:
         lines, _, total = make_product(rng, FACTORS, most, 2**32 - 1)
         yield from lines
         for kind in KINDS:
-            yield from over_lists(rng, kind, total, rng.choice((0, 1, 2, 3, 4, 5, 6, 7, 8, 63, 64, 65, 66, 67, 68, rng.randrange(200))))
-        yield from spoilt_lists(rng, total, rng.choice((1, 2, 5, 64, 65, 130)), 6)
-        yield from wrong_lengths(rng, total, rng.choice((1, 2, 64, 65)), 3)
+            yield from over_lists(rng, kind, total, rng.choice((0, 1, 2, 3, 4, 5, 6, 7, 8, *EDGES, 66, 67, 68, rng.randrange(600))))
+        yield from spoilt_lists(rng, total, rng.choice((1, 2, 5, 130, 600, *EDGES)), 6)
+        yield from wrong_lengths(rng, total, rng.choice((1, 2, *EDGES)), 3)
 
 
 def fresh(seed):
@@ -359,11 +362,11 @@ def long_lists(seed):
     for factors in groups:
         setup = ["clear", *("factor " + line for line in factors), "prod"]
         total = int(cases(run(setup))[-1][1][0].split()[2])
-        right = [line for length in (0, 1, 2, 3, 4, 5, 63, 64, 65, 129) for kind in KINDS for line in over_lists(rng, kind, total, length)]
+        right = [line for length in (0, 1, 2, 3, 4, 5, 129, *EDGES) for kind in KINDS for line in over_lists(rng, kind, total, length)]
         many = [rng.choice(list(over_lists(rng, rng.choice(KINDS[:3]), total, 4095))), *over_lists(rng, rng.choice(KINDS[:3]), total, 4096)]
         # A power where words have thousands of letters takes too long.
         right += [line for line in many if not (line.startswith("powers") and factors in ([order], [turn]))]
-        wrong = [*spoilt_lists(rng, total, 129, 3), *spoilt_lists(rng, total, 4096, 3), *wrong_lengths(rng, total, 4096, 2), over("inverses", [0] * 4097)]
+        wrong = [*spoilt_lists(rng, total, rng.choice((129, *EDGES)), 3), *spoilt_lists(rng, total, 4096, 3), *wrong_lengths(rng, total, 4096, 2), over("inverses", [0] * 4097)]
         answers = rust([*setup, *right])
         asked += answers + [(command, refusal_over_lists(command, total)) for command in wrong]
         places += sum(len(lines[0].split()) - 1 for _, lines in answers[len(setup) :])
@@ -430,7 +433,7 @@ def altered_lists(seed):
         model.product = Altered(model.product.factors)
         asked.append(("alter %d %d" % (cell, number), []))
         lines = ["inverse %d" % rng.randrange(total), "compose %d %d" % (rng.randrange(total), rng.randrange(total))]
-        for length in (1, 2, 3, 4, 5, rng.choice((63, 64, 65, 129)), 4096 if turn % 10 == 0 else 9):
+        for length in (1, 2, 3, 4, 5, rng.choice((129, *EDGES)), 4096 if turn % 10 == 0 else 9):
             lines += over_lists(rng, rng.choice(KINDS[:3]), total, length)
             # Where few places read it, it is met late.
             lines.append(over("inverses", filled(rng, "rare", total, length)))
@@ -534,7 +537,7 @@ def garbage_commands(rng):
         yield from ("inverse %d" % number(), "inverse 3", "gens", "count", "length %d" % number(), "split %d" % number())
         yield from ("powi %d %d" % (rng.choice((1, 3, number())), rng.randint(-(2**31), 2**31 - 1)), "period %d" % rng.choice((1, 3, number())))
         yield "joined %d" % rng.choice((0, 1, 12, 277, 300))
-        for length in (0, 1, 3, 7, rng.choice((4, 64, 65, 130))):
+        for length in (0, 1, 3, 7, rng.choice((4, 130, *EDGES))):
             yield from asked_both_ways(over_lists(rng, "any", rng.choice((2, 3, 6, 6, 7, 24)), length))
         yield from ("composes 1,2 1", "inverses 1 +1", "powers 1,2 3,4 -1")
         yield from ("project %d %d" % (rng.randrange(3), number()), "inject %d %d" % (rng.randrange(3), number()), "join %d %d %d" % (number(), number(), number()))
@@ -568,7 +571,7 @@ def garbage_commands(rng):
         for _ in range(rng.randint(1, 6)):
             yield "alter %d %d" % (rng.randrange(1300), rng.choice((rng.randrange(40), number())))
         for kind in KINDS[:3]:
-            yield from asked_both_ways(over_lists(rng, kind, rng.choice((30, 40, 41)), rng.choice((5, 16, 64, 65, 130, 200))))
+            yield from asked_both_ways(over_lists(rng, kind, rng.choice((30, 40, 41)), rng.choice((5, 16, 130, 600, *EDGES))))
     for _ in range(150):
         yield from ("clear", "room %d" % rng.choice((3, 8)), "builder %d" % rng.choice((1, 2, 3)))
         for _ in range(rng.randint(1, 12)):
@@ -648,8 +651,8 @@ def large_commands(rng):
             at, number = altered_number(rng, n, count, rng.choice(some), within)
             yield "alter %d %d" % (7 + rng.choice(rows) * (2 * n + 4) + at, number)
         for kind in ("any", rng.choice(KINDS)):
-            yield from asked_both_ways(over_lists(rng, kind, total, rng.choice((4, 5, 6, 7, 8, 16, 33, 64, 65, 80))))
-        yield from asked_both_ways(spoilt_lists(rng, total, rng.choice((4, 5, 20, 65)), 2))
+            yield from asked_both_ways(over_lists(rng, kind, total, rng.choice((4, 5, 6, 7, 8, 16, 80, *EDGES))))
+        yield from asked_both_ways(spoilt_lists(rng, total, rng.choice((4, 5, 20, *EDGES)), 2))
         for _ in range(30):
             length = rng.choice((4, 4, 5, 6, 8))
             yield from asked_both_ways([over("composes", filled(rng, "any", total, length), filled(rng, "any", total, length))])

@@ -139,7 +139,7 @@ static void no_list(uint32_t number) {
 }
 
 int main(void) {
-    static const size_t lengths[] = {0, 1, 2, 3, 63, 64, 65, 66, 1000, HG_PLACES - 1, HG_PLACES};
+    static const size_t lengths[] = {0, 1, 2, 3, 31, 32, 33, 63, 64, 65, 66, 255, 256, 257, 512, 513, 1000, HG_PLACES - 1, HG_PLACES};
     size_t i;
     int kind, product;
     a_end = (uint32_t *)guarded();

@@ -1,6 +1,7 @@
 // The questions over lists, of a factor and of a product, as C functions: one call for up to 4,096 places; `capi_lists_compose` has the products of a
 // factor's elements. A handle is its four numbers, a product its list of handles. The results go to `out`, the verdict to `told`, which has five numbers:
 // the refusal's number and its three places, 0 where nothing is refused, and the place of the lists that was refused, 0 where there is none.
+// Where a product's lists have one place, products and inverses are answered from its list of handles, as by the single calls: no product is made.
 ghost use mathlib.Core.Path.{_≡_};
 ghost use mathlib.Core.List.{[], _∷_};
 ghost use Rattle.lists_factor.specs.Each as factor;
@@ -9,7 +10,10 @@ ghost use Rattle.capi_values.specs.Bridge.{handle, telling};
 ghost use Rattle.capi_handles.specs.Product.{productOf};
 ghost use Rattle.capi_lists.specs.Told.{toldOf};
 use capi_handles::inner::product_of;
+use capi_handles_compose::inner::compose;
+use capi_handles_inverse::inner::inverse;
 use capi_values::inner::factor_of;
+use egg::GroupElementId;
 
 pub mod inner;
 
@@ -75,6 +79,13 @@ pub extern "C" fn hg_product_compose_each(
     if told.len() < 5 {
         return 4;
     }
+    if lists::inner::one_place(a.len(), b.len(), out.len()) {
+        let x = a[0];
+        let y = b[0];
+        let said = compose(table, handles, count, GroupElementId(x), GroupElementId(y));
+        let listed = lists::inner::hand_over_one(said, out);
+        return inner::write_listed(told, listed);
+    }
     let g = product_of(handles, count);
     let said = lists_group::compose_each(table, g, a, b, out);
     inner::write_listed(told, said)
@@ -94,6 +105,12 @@ pub extern "C" fn hg_product_inverse_each(
 {
     if told.len() < 5 {
         return 4;
+    }
+    if lists::inner::one_place(a.len(), a.len(), out.len()) {
+        let x = a[0];
+        let said = inverse(table, handles, count, GroupElementId(x));
+        let listed = lists::inner::hand_over_one(said, out);
+        return inner::write_listed(told, listed);
     }
     let g = product_of(handles, count);
     let said = lists_group::inverse_each(table, g, a, out);

@@ -4,3 +4,4 @@ pub mod Passes
 pub mod Parts
 pub mod Lengths
 pub mod Answers
+pub mod Pieces

@@ -14,20 +14,20 @@ use Rattle.lists.specs.Passes.{ChunkEnd}
 pub parts-alike : {A B : Type 0} (l : List A) (m : List B) (a e : ℕ) → e ≤ length l → e ≤ length m → length (midOf a (e - a) l) ≡ length (midOf a (e - a) m)
 parts-alike l m a e g h = mid-len a e l g ∙ sym (mid-len a e m h)
 
-pub part-short : {A : Type 0} (l : List A) {i end : ℕ} → ChunkEnd i (length l) end → length (midOf i (end - i) l) ≤ 64
-part-short l {i} {end} c = omega (arith, mid-len i end l (c .within), c .short)
+pub part-short : {A : Type 0} (l : List A) {most i end : ℕ} → ChunkEnd most i (length l) end → length (midOf i (end - i) l) ≤ most
+part-short l {most} {i} {end} c = omega (arith, mid-len i end l (c .within), c .short)
 
 -- The part at its own place j, in the whole.
 pub mid-at : {A : Type 0} (d : A) (at k : ℕ) (l : List A) (j : ℕ) → j < k → getD (midOf at k l) j d ≡ getD l (at + j) d
 mid-at d at k l j u = getD-take k (drop at l) j d u ∙ getD-drop at l j d
 
 module _ (at k : ℕ) (l part : List ℕ) (inside : at ≤ length l) where
-  put-before : (i : ℕ) → i < at → getD (putMid at k l part) i 0 ≡ getD l i 0
+  pub put-before : (i : ℕ) → i < at → getD (putMid at k l part) i 0 ≡ getD l i 0
   put-before i u =
       let there : i < length (take at l) = rw (length-take-le at l inside) u in
       List·getD-append (take at l) (part ++ postOf at k l) 0 i there ∙ getD-take at l i 0 u
 
-  put-in : (j : ℕ) → j < length part → getD (putMid at k l part) (at + j) 0 ≡ getD part j 0
+  pub put-in : (j : ℕ) → j < length part → getD (putMid at k l part) (at + j) 0 ≡ getD part j 0
   put-in j u =
       ap (λ (n : ℕ). getD (putMid at k l part) (n + j) 0) (sym (length-take-le at l inside))
       ∙ getD-append-add (take at l) (part ++ postOf at k l) j 0 ∙ List·getD-append part (postOf at k l) 0 j u

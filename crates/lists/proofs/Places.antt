@@ -5,9 +5,10 @@ use mathlib.Core.Path.{_≡_, refl, sym, ap, _∙_, subst}
 use mathlib.Core.List.{List, [], _∷_, _++_}
 use native.Mathlib.Nat.{sub-zero}
 use native.Mathlib.Omega.{arith}
+use borrow.Author.Count.{below-more}
 use lib.ListN.{length, take, set, getD}
 use lib.IntN.{ℤ}
-use lib.Seq.{take-suc-set, set-getD}
+use lib.Seq.{take-suc-set, set-getD, getD-set-same, getD-set-other}
 use Rattle.egg.specs.declared.Refusal.{Refusal}
 use Rattle.egg.specs.declared.GroupElementId.{GroupElementId}
 use Rattle.egg.specs.declared.Reached.{Reached}
@@ -24,6 +25,17 @@ pub numbers-next : (i : ℕ) (single : ℕ → Reached) (j m : ℕ) → m ≡ j 
 unfolding numbers
 numbers-next zero single j m e = let q : j ≡ m = omega arith in ap (λ (x : ℕ). numberOf (single x) ∷ []) q
 numbers-next (suc i) single j m e = ap (λ (l : List ℕ). numberOf (single j) ∷ l) (numbers-next i single (j + 1) m (omega arith))
+
+pub numbers-long : (k : ℕ) (single : ℕ → Reached) (i : ℕ) → length (numbers k single i) ≡ k
+unfolding numbers
+numbers-long zero single i = refl
+numbers-long (suc k) single i = ap suc (numbers-long k single (i + 1))
+
+pub numbers-at : (k : ℕ) (single : ℕ → Reached) (i j m : ℕ) → j < k → m ≡ i + j → getD (numbers k single i) j 0 ≡ numberOf (single m)
+unfolding numbers
+numbers-at zero single i j m h e = absurd (omega arith)
+numbers-at (suc k) single i zero m h e = let q : i ≡ m = omega arith in ap (λ (x : ℕ). numberOf (single x)) q
+numbers-at (suc k) single i (suc j) m h e = numbers-at k single (i + 1) j m (omega arith) (omega arith)
 
 pub refused-right : {at : RefusedPlace} → RefusedAt at ≡ Fine → ⊥
 refused-right h = let q : _≡_ {A = ℕ} 0 1 = cc in omega arith
@@ -82,6 +94,23 @@ module _ {k : ℕ} {single : ℕ → Reached} {results : List ℕ} (a : AllRight
 
   pub all-worked : Worked k single Fine results
   all-worked = worked (come k (omega arith)) (omega arith)
+
+-- The same place by place, for a loop that asks each by a quick way.
+pub none-yet : {single : ℕ → Reached} {results : List ℕ} → AllRight 0 single results
+none-yet = record { each = λ i u. absurd (omega arith) }
+
+pub all-places : {k at : ℕ} {single : ℕ → Reached} {results : List ℕ} → AllRight at single results → k ≤ at → AllRight k single results
+all-places w h = record { each = λ i u. w .each i (omega arith) }
+
+pub right-here : {single : ℕ → Reached} {i x : ℕ} {results : List ℕ} → AllRight i single results → i < length results → single i ≡ Element (record { 0 = x })
+    → AllRight (i + 1) single (set results i x)
+right-here {single} {i} {x} {results} w h q =
+    let put : (y z : ℕ) → y ≡ z → Element (record { 0 = y }) ≡ Element (record { 0 = z }) = λ y z e. ap (λ (v : ℕ). Element (record { 0 = v })) e in
+    record {
+      each = below-more (λ (j : ℕ). single j ≡ Element (record { 0 = getD (set results i x) j 0 })) i
+          (λ j u. w .each j u ∙ put _ _ (sym (getD-set-other results i j x 0 (λ e. omega arith))))
+          (q ∙ put _ _ (sym (getD-set-same results i x 0 h)));
+    }
 
 -- The single call, where its exponent was read from a list.
 pub exponent-there : (single : ℤ → Reached) {said : Reached} {k e : ℤ} → said ≡ single k → k ≡ e → said ≡ single e

@@ -9,8 +9,8 @@ use lib.ListN.{getD}
 pub record Written (k : ℕ) (value : ℕ → ℕ) (out : List ℕ) : Type 0 where
   pub each : (i : ℕ) → i < k → getD out i 0 ≡ value i
 
--- Where a chunk that starts at i ends, in lists of `long` places.
-pub record ChunkEnd (i long end : ℕ) : Type 0 where
+-- Where a chunk of at most so many places that starts at i ends, in lists of `long` places.
+pub record ChunkEnd (most i long end : ℕ) : Type 0 where
   pub on : i < end
   pub within : end ≤ long
-  pub short : end - i ≤ 64
+  pub short : end - i ≤ most

@@ -1,10 +1,12 @@
 // What every question over lists does before and after its places.
 ghost use mathlib.Core.Path.{_≡_};
-ghost use Prim.Native.Nat.{_≤_, _<_};
+ghost use mathlib.Core.Bool.{true};
+ghost use Prim.Native.Nat.{_+_, _-_, _≤_, _<_};
 ghost use lib.ListN.{length, take, getD};
 ghost use lib.IntN.{pos};
 ghost use Rattle.lists.specs.Lists.{lengthsRight, listsRefused, orHere, Answered, answered, leftBy, eachPlace};
 ghost use Rattle.lists.specs.Passes.{ChunkEnd};
+ghost use Rattle.lists.specs.Worked.{behindBy, PieceOver};
 use super::Listed;
 use super::RefusedPlace;
 use egg::Reached;
@@ -21,6 +23,19 @@ pub fn lengths_right(first: usize, second: usize, out: usize) -> bool
         return false;
     }
     first <= 4096
+}
+
+// Whether three lists have one place each.
+pub fn one_place(first: usize, second: usize, out: usize) -> bool
+    ensures { λ r. ⌜ (r ≡ true → (first ≡ 1) × ((second ≡ 1) × (out ≡ 1))) ⌝ }
+{
+    if first != 1 {
+        return false;
+    }
+    if second != 1 {
+        return false;
+    }
+    out == 1
 }
 
 pub fn lists_refused() -> Listed
@@ -53,11 +68,11 @@ pub fn exponent(exponents: &[i32], i: usize) -> i32
 }
 
 // Where the chunk that starts at a place ends: lists of our own that are as long as a chunk stay near.
-pub fn chunk_end(i: usize, long: usize) -> usize
-    requires { ⌜ i < long ⌝ }
-    ensures { λ r. ⌜ ChunkEnd i long r ⌝ }
+pub fn chunk_end(i: usize, long: usize, most: usize) -> usize
+    requires { ⌜ (i < long) × (0 < most) ⌝ }
+    ensures { λ r. ⌜ ChunkEnd most i long r ⌝ }
 {
-    if long - i <= 64 { long } else { i + 64 }
+    if long - i <= most { long } else { i + most }
 }
 
 fn copy_front(from: &[u32], out: &mut [u32])
@@ -95,6 +110,37 @@ pub fn hand_over_one(said: Reached, out: &mut [u32]) -> Listed
         Reached::Refused(why) => Listed::RefusedAt(RefusedPlace { place: 0, why }),
         Reached::Element(e) => {
             out[0] = e.0;
+            Listed::Fine
+        }
+    }
+}
+
+// The refusal of a place that was counted from i.
+pub fn behind(i: usize, at: RefusedPlace) -> Listed
+    requires { ⌜ i + at .place ≤ 18446744073709551615 ⌝ }
+    ensures { λ r. ⌜ r ≡ behindBy i (Listed.RefusedAt at) ⌝ }
+{
+    let why = at.why;
+    let place = i + at.place;
+    Listed::RefusedAt(RefusedPlace { place, why })
+}
+
+// Hands a piece's results over to its places, where what comes after it is fine too.
+pub fn hand_over_piece(
+    later: Listed,
+    piece: &[u32],
+    i: usize,
+    end: usize,
+    out: &mut [u32],
+) -> Listed
+    requires { ⌜ (i ≤ end) × ((end ≤ length (now out)) × (end - i ≤ length (now piece))) ⌝ }
+    ensures { λ r. ⌜ (r ≡ later) × PieceOver later i end (now (piece .entry)) (now (out .entry)) (now (out .exit)) ⌝ }
+{
+    match later {
+        Listed::RefusedAt(at) => Listed::RefusedAt(at),
+        Listed::ListsRefused(why) => Listed::ListsRefused(why),
+        Listed::Fine => {
+            copy_front(piece, &mut out[i..end]);
             Listed::Fine
         }
     }

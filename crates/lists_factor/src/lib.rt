@@ -8,8 +8,7 @@ use lists::Listed;
 
 pub mod inner;
 
-// At each place the product of the two elements there. One place is the single call, and needs no list of our own; few need no
-// long list, which would have to be zeroed.
+// At each place the product of the two elements there. One place needs no list of our own, and few a short one.
 pub fn compose_each(table: &[u32], f: Factor, a: &[u32], b: &[u32], out: &mut [u32]) -> Listed
     ensures { λ r. ⌜ Answered.answered r (now (out .exit)) ≡ composeEach (now (table .entry)) f (now (a .entry)) (now (b .entry)) (now (out .entry)) ⌝ }
 {
@@ -17,15 +16,12 @@ pub fn compose_each(table: &[u32], f: Factor, a: &[u32], b: &[u32], out: &mut [u
         return lists::inner::lists_refused();
     }
     if a.len() == 1 {
-        let said = factor::compose(&table[..], f, GroupElementId(a[0]), GroupElementId(b[0]));
-        return lists::inner::hand_over_one(said, out);
+        return inner::compose_one(&table[..], f, &a[..], &b[..], out);
     }
-    if a.len() <= 64 {
-        let mut few = [0; 64];
-        return inner::compose_by(&table[..], f, &a[..], &b[..], &mut few, out);
+    if inner::few(f.elements, a.len()) {
+        return inner::compose_few(&table[..], f, &a[..], &b[..], out);
     }
-    let mut many = [0; 4096];
-    inner::compose_by(&table[..], f, &a[..], &b[..], &mut many, out)
+    inner::compose_several(&table[..], f, &a[..], &b[..], out)
 }
 
 // At each place the inverse of the element there.
@@ -43,11 +39,11 @@ pub fn inverse_each(table: &[u32], f: Factor, a: &[u32], out: &mut [u32]) -> Lis
         let mut few = [0; 64];
         return inner::inverse_by(&table[..], f, &a[..], &mut few, out);
     }
-    let mut many = [0; 4096];
-    inner::inverse_by(&table[..], f, &a[..], &mut many, out)
+    inner::inverse_from(&table[..], f, &a[..], 0, out)
 }
 
-// At each place the power of the element there by the exponent there.
+// At each place the power of the element there by the exponent there. Powers take so long that a list of our own for all places costs nothing beside them, and it takes less of the
+// stack than pieces.
 pub fn powi_each(table: &[u32], f: Factor, a: &[u32], exponents: &[i32], out: &mut [u32]) -> Listed
     ensures { λ r. ⌜ Answered.answered r (now (out .exit)) ≡ powiEach (now (table .entry)) f (now (a .entry)) (now (exponents .entry)) (now (out .entry)) ⌝ }
 {

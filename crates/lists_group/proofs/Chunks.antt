@@ -95,9 +95,3 @@ module _ (t : List ℕ) (g : Group) (at k : ℕ) (a : List ℕ) where
 
   pub inverse-places : (j : ℕ) → j < k → inverseAt t g a (at + j) ≡ inverseAt t g (midOf at k a) j
   inverse-places j u = rw (mid-at 0 at k a j u)
-
-pub none-yet : {single : ℕ → Reached} {results : List ℕ} → AllRight 0 single results
-none-yet = record { each = λ i u. absurd (omega arith) }
-
-pub all-places : {k at : ℕ} {single : ℕ → Reached} {results : List ℕ} → AllRight at single results → k ≤ at → AllRight k single results
-all-places w h = record { each = λ i u. w .each i (omega arith) }

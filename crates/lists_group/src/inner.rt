@@ -5,7 +5,7 @@ ghost use mathlib.Core.Bool.{true};
 ghost use Prim.Native.Nat.{_≤_};
 ghost use lib.ListN.{length};
 ghost use Rattle.lists.specs.Lists.{Answered, eachPlace};
-ghost use Rattle.lists.specs.Worked.{Worked, AllRight};
+ghost use Rattle.lists.specs.Worked.{Worked, AllRight, WorkedFrom};
 ghost use Rattle.lists_group.specs.Each.{composeAt, inverseAt, powiAt};
 use egg::GroupElementId;
 use egg::Reached;
@@ -75,6 +75,35 @@ pub fn compose_by(
     lists::inner::hand_over(said, results, out)
 }
 
+// The places from i on, a piece at a time. A piece's results wait in a list of our own until those behind it are known to be right: it is as long as a piece,
+// so that a list of few pieces has few of them.
+pub fn compose_from(
+    table: &[u32],
+    g: Group,
+    a: &[u32],
+    b: &[u32],
+    i: usize,
+    out: &mut [u32],
+) -> Listed
+    requires { ⌜ (length (now b) ≡ length (now a)) × (length (now out) ≡ length (now a)) ⌝ }
+    ensures { λ r. ⌜ WorkedFrom i (length (now (a .entry))) (composeAt (now (table .entry)) g (now (a .entry)) (now (b .entry))) (now (out .entry)) r (now (out .exit)) ⌝ }
+{
+    if a.len() <= i {
+        return Listed::Fine;
+    }
+    let end = lists::inner::chunk_end(i, a.len(), 256);
+    let mut piece = [0; 256];
+    let said = compose_into(&table[..], g, &a[i..end], &b[i..end], &mut piece);
+    match said {
+        Listed::RefusedAt(at) => lists::inner::behind(i, at),
+        Listed::ListsRefused(why) => Listed::ListsRefused(why),
+        Listed::Fine => {
+            let later = compose_from(&table[..], g, &a[..], &b[..], end, out);
+            lists::inner::hand_over_piece(later, &piece, i, end, out)
+        }
+    }
+}
+
 // All the inverses at once: its handles are looked at once, and not at each place. As `side_by_side` for products.
 fn inverses_at_once(table: &[u32], g: Group, a: &[u32], results: &mut [u32]) -> bool
     requires { ⌜ length (now a) ≤ length (now results) ⌝ }
@@ -131,6 +160,26 @@ pub fn inverse_by(
 {
     let said = inverse_into(&table[..], g, &a[..], results);
     lists::inner::hand_over(said, results, out)
+}
+
+pub fn inverse_from(table: &[u32], g: Group, a: &[u32], i: usize, out: &mut [u32]) -> Listed
+    requires { ⌜ length (now out) ≡ length (now a) ⌝ }
+    ensures { λ r. ⌜ WorkedFrom i (length (now (a .entry))) (inverseAt (now (table .entry)) g (now (a .entry))) (now (out .entry)) r (now (out .exit)) ⌝ }
+{
+    if a.len() <= i {
+        return Listed::Fine;
+    }
+    let end = lists::inner::chunk_end(i, a.len(), 256);
+    let mut piece = [0; 256];
+    let said = inverse_into(&table[..], g, &a[i..end], &mut piece);
+    match said {
+        Listed::RefusedAt(at) => lists::inner::behind(i, at),
+        Listed::ListsRefused(why) => Listed::ListsRefused(why),
+        Listed::Fine => {
+            let later = inverse_from(&table[..], g, &a[..], end, out);
+            lists::inner::hand_over_piece(later, &piece, i, end, out)
+        }
+    }
 }
 
 fn powi_in_turn(

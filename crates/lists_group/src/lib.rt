@@ -8,8 +8,8 @@ use lists::Listed;
 
 pub mod inner;
 
-// At each place the product of the two elements there. One place is the single call, and needs no list of our own; few need no
-// long list, which would have to be zeroed.
+// At each place the product of the two elements there. One place is the single call, and needs no list of our own; few have a
+// short one, which is soon zeroed, and more than few are asked a piece at a time.
 pub fn compose_each(table: &[u32], g: Group, a: &[u32], b: &[u32], out: &mut [u32]) -> Listed
     ensures { λ r. ⌜ Answered.answered r (now (out .exit)) ≡ composeEach (now (table .entry)) g (now (a .entry)) (now (b .entry)) (now (out .entry)) ⌝ }
 {
@@ -24,8 +24,7 @@ pub fn compose_each(table: &[u32], g: Group, a: &[u32], b: &[u32], out: &mut [u3
         let mut few = [0; 64];
         return inner::compose_by(&table[..], g, &a[..], &b[..], &mut few, out);
     }
-    let mut many = [0; 4096];
-    inner::compose_by(&table[..], g, &a[..], &b[..], &mut many, out)
+    inner::compose_from(&table[..], g, &a[..], &b[..], 0, out)
 }
 
 // At each place the inverse of the element there.
@@ -43,11 +42,11 @@ pub fn inverse_each(table: &[u32], g: Group, a: &[u32], out: &mut [u32]) -> List
         let mut few = [0; 64];
         return inner::inverse_by(&table[..], g, &a[..], &mut few, out);
     }
-    let mut many = [0; 4096];
-    inner::inverse_by(&table[..], g, &a[..], &mut many, out)
+    inner::inverse_from(&table[..], g, &a[..], 0, out)
 }
 
-// At each place the power of the element there by the exponent there.
+// At each place the power of the element there by the exponent there. Powers take so long that a list of our own for all places costs nothing beside them, and it takes less of the
+// stack than pieces.
 pub fn powi_each(table: &[u32], g: Group, a: &[u32], exponents: &[i32], out: &mut [u32]) -> Listed
     ensures { λ r. ⌜ Answered.answered r (now (out .exit)) ≡ powiEach (now (table .entry)) g (now (a .entry)) (now (exponents .entry)) (now (out .entry)) ⌝ }
 {

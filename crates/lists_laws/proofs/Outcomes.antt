@@ -19,7 +19,7 @@ use Rattle.lists.specs.declared.Listed.the-variants.{Fine, RefusedAt}
 use Rattle.lists.specs.Lists.{lengthsRight, listsRefused, firstRefused, numberOf, numbers, Answered, answered, eachPlace, overLists}
 use Rattle.lists.specs.Worked.{Worked}
 use Rattle.lists.proofs.Lengths.{right-lengths}
-use Rattle.lists.proofs.Places.{all-worked}
+use Rattle.lists.proofs.Places.{numbers-long, numbers-at, all-worked}
 use Rattle.lists_laws.specs.Outcomes.{Right, Alike, Outcome, unlike, stops, fills, Filled}
 
 -- The lists are taken exactly where they are of one length that does not pass 4,096.
@@ -58,17 +58,6 @@ look (suc k) single i = go (single i) refl (look k single (i + 1)) where
       inl (λ j u v. here-or-later (λ j. Right (single j)) u (record { element = x; reached = e }) (λ p. all j (omega arith) (omega arith)))
   go (Element x) e (inr p) =
       inr (p .0, p .1, omega (arith, p .2), omega (arith, p .3), p .4, λ l u v. here-or-later (λ j. Right (single j)) u (record { element = x; reached = e }) (λ q. p .5 l (omega arith) v))
-
-numbers-long : (k : ℕ) (single : ℕ → Reached) (i : ℕ) → length (numbers k single i) ≡ k
-unfolding numbers
-numbers-long zero single i = refl
-numbers-long (suc k) single i = ap suc (numbers-long k single (i + 1))
-
-numbers-at : (k : ℕ) (single : ℕ → Reached) (i j m : ℕ) → j < k → m ≡ i + j → getD (numbers k single i) j 0 ≡ numberOf (single m)
-unfolding numbers
-numbers-at zero single i j m h e = absurd (omega arith)
-numbers-at (suc k) single i zero m h e = let q : i ≡ m = omega arith in ap (λ (x : ℕ). numberOf (single x)) q
-numbers-at (suc k) single i (suc j) m h e = numbers-at k single (i + 1) j m (omega arith) (omega arith)
 
 right-number : {x : Reached} → Right x → x ≡ Element (record { 0 = numberOf x })
 right-number {x} h = h .reached ∙ ap (λ (y : Reached). Element (record { 0 = numberOf y })) (sym (h .reached))

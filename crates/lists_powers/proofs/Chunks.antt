@@ -28,7 +28,7 @@ module _ {s : List ℕ} {n count : ℕ} {a : List ℕ} {exponents : List ℤ} wh
   pub powering-all : {i : ℕ} {results : List ℕ} → Powering s n count a exponents i results → length a ≤ i → Powered s n count a exponents results
   powering-all P h = record { each = λ k b. P .each k (omega arith) }
 
-  module _ {i end : ℕ} {results part : List ℕ} (P : Powering s n count a exponents i results) (c : ChunkEnd i (length a) end) (room : length a ≤ length results)
+  module _ {i end : ℕ} {results part : List ℕ} (P : Powering s n count a exponents i results) (c : ChunkEnd 64 i (length a) end) (room : length a ≤ length results)
       (R : Powered s n count (midOf i (end - i) a) (midOf i (end - i) exponents) part) (long : length part ≡ end - i)
     where
       in-chunk : (k : ℕ) → k < end - i → Power s n count (getD a (i + k) 0) (getD exponents (i + k) (pos 0)) (getD part k 0)

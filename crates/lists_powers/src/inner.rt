@@ -259,7 +259,7 @@ pub fn powers(
 {
     let mut i = 0;
     while i < a.len() {
-        let end = lists::inner::chunk_end(i, a.len());
+        let end = lists::inner::chunk_end(i, a.len(), 64);
         if !chunk(
             &s[..],
             n,

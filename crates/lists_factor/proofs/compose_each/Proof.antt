@@ -1,10 +1,9 @@
--- The lists are refused; or one place is asked; or each, with a short list of our own or a long one.
-use Rattle.lists.proofs.Answers.{lists-wrong, lists-right, only-place}
+-- The lists are refused; or one place is asked, or few, or several.
+use Rattle.lists.proofs.Answers.{lists-wrong, lists-right}
 use Rattle.lists.proofs.Lengths.{right-lengths}
-use Rattle.lists_factor.specs.Each.{composeEach}
 use borrow.Author.Tests.{not-true, not-false}
 use mathlib.Core.Path.{sym, _∙_}
-use native.Mathlib.Omega.{arith}
+use Rattle.lists_factor.specs.Each.{composeEach}
 use borrow.Author.Needs.{needs}
 use Rattle.lists_factor.proofs.compose_each.Statement.{statement}
 use Rattle.lists_factor.proofs.compose_each.Tie as tie
@@ -19,50 +18,38 @@ returns : tie.Need-returns
 unfolding composeEach
 returns c = lists-wrong ((c .before .before .lengths-right .ensures)) _ _ _ (not-true _ ((c .before .if1 .taken))) ((c .lists-refused .ensures))
 
-shared-slice-read-t17 : tie.Need-shared-slice-read-t17
-shared-slice-read-t17 c = search needs
-
-shared-slice-read-t20 : tie.Need-shared-slice-read-t20
-shared-slice-read-t20 c = let l = right-lengths _ _ _ (sym ((c .before .before .before .before .lengths-right .ensures)) ∙ not-false _ ((c .before .before .before .if1 .left))) in omega (arith, l .0, (c .before .before .if2 .taken))
-
-compose-requires : tie.Need-compose-requires
-compose-requires c κs = search needs
-
-hand-over-one-requires : tie.Need-hand-over-one-requires
-hand-over-one-requires c κs = let l = right-lengths _ _ _ (sym ((c .before .before .before .before .before .before .lengths-right .ensures)) ∙ not-false _ ((c .before .before .before .before .before .if1 .left))) in sym (l .1 .0) ∙ (c .before .before .before .before .if2 .taken)
+compose-one-requires : tie.Need-compose-one-requires
+compose-one-requires c κs = let l = right-lengths _ _ _ (sym ((c .before .before .before .lengths-right .ensures)) ∙ not-false _ ((c .before .before .if1 .left))) in ((c .before .if2 .taken), (sym (l .0), sym (l .1 .0)))
 
 same-length : tie.Need-same-length
 same-length c = search needs
 
 returns-2 : tie.Need-returns-2
 unfolding composeEach
-returns-2 c = lists-right ((c .before .before .before .before .before .before .before .before .before .lengths-right .ensures)) _ _ _ (not-false _ ((c .before .before .before .before .before .before .before .before .if1 .left))) (only-place ((c .before .before .before .before .before .before .before .before .before .before .before .before .before .before .args .out .now)) _ ((c .before .before .before .before .before .before .before .if2 .taken)) ((c .before .before .before .before .compose .ensures)) ((c .before .before .hand-over-one .ensures)))
+returns-2 c = lists-right ((c .before .before .before .before .before .before .lengths-right .ensures)) _ _ _ (not-false _ ((c .before .before .before .before .before .if1 .left))) ((c .before .before .compose-one .ensures))
 
-slice-aggregate-compose-by : tie.Need-slice-aggregate-compose-by
-slice-aggregate-compose-by c = search needs
+few-requires : tie.Need-few-requires
+few-requires c κs = search needs
 
-compose-by-requires : tie.Need-compose-by-requires
-compose-by-requires c κs = let l = right-lengths _ _ _ (sym ((c .before .before .before .before .before .lengths-right .ensures)) ∙ not-false _ ((c .before .before .before .before .if1 .left))) in (sym (l .0), (sym (l .1 .0), search needs))
+compose-few-requires : tie.Need-compose-few-requires
+compose-few-requires c κs = let l = right-lengths _ _ _ (sym ((c .before .before .before .before .before .lengths-right .ensures)) ∙ not-false _ ((c .before .before .before .before .if1 .left))) in ((c .before .before .few .ensures) ((c .before .if3 .taken)), (sym (l .0), sym (l .1 .0)))
 
 same-length-2 : tie.Need-same-length-2
 same-length-2 c = search needs
 
 returns-3 : tie.Need-returns-3
 unfolding composeEach
-returns-3 c = lists-right ((c .before .before .before .before .before .before .before .before .before .lengths-right .ensures)) _ _ _ (not-false _ ((c .before .before .before .before .before .before .before .before .if1 .left))) ((c .before .before .before .compose-by .ensures))
+returns-3 c = lists-right ((c .before .before .before .before .before .before .before .before .lengths-right .ensures)) _ _ _ (not-false _ ((c .before .before .before .before .before .before .before .if1 .left))) ((c .before .before .compose-few .ensures))
 
-slice-aggregate-compose-by-2 : tie.Need-slice-aggregate-compose-by-2
-slice-aggregate-compose-by-2 c = search needs
-
-compose-by-requires-2 : tie.Need-compose-by-requires-2
-compose-by-requires-2 c κs = let l = right-lengths _ _ _ (sym ((c .before .before .before .before .before .lengths-right .ensures)) ∙ not-false _ ((c .before .before .before .before .if1 .left))) in (sym (l .0), (sym (l .1 .0), l .1 .1))
+compose-several-requires : tie.Need-compose-several-requires
+compose-several-requires c κs = let l = right-lengths _ _ _ (sym ((c .before .before .before .before .before .lengths-right .ensures)) ∙ not-false _ ((c .before .before .before .before .if1 .left))) in (sym (l .0), sym (l .1 .0))
 
 same-length-3 : tie.Need-same-length-3
 same-length-3 c = search needs
 
 returns-4 : tie.Need-returns-4
 unfolding composeEach
-returns-4 c = lists-right ((c .before .before .before .before .before .before .before .before .before .lengths-right .ensures)) _ _ _ (not-false _ ((c .before .before .before .before .before .before .before .before .if1 .left))) ((c .before .before .before .compose-by2 .ensures))
+returns-4 c = lists-right ((c .before .before .before .before .before .before .before .before .lengths-right .ensures)) _ _ _ (not-false _ ((c .before .before .before .before .before .before .before .if1 .left))) ((c .before .before .compose-several .ensures))
 
 pub compose-each-spec : {M : Type 1} → statement M
 compose-each-spec =
@@ -71,17 +58,13 @@ compose-each-spec =
     lengths-right-requires
     lists-refused-requires
     returns
-    shared-slice-read-t17
-    shared-slice-read-t20
-    compose-requires
-    hand-over-one-requires
+    compose-one-requires
     same-length
     returns-2
-    slice-aggregate-compose-by
-    compose-by-requires
+    few-requires
+    compose-few-requires
     same-length-2
     returns-3
-    slice-aggregate-compose-by-2
-    compose-by-requires-2
+    compose-several-requires
     same-length-3
     returns-4)

@@ -1,9 +1,10 @@
--- The lists are refused; or one place is asked; or each, with a short list of our own or a long one.
+-- The lists are refused; or one place is asked; or few, with a short list of our own; or a piece at a time.
 use Rattle.lists.proofs.Answers.{lists-wrong, lists-right, only-place}
 use Rattle.lists.proofs.Lengths.{right-lengths}
-use Rattle.lists_factor.specs.Each.{inverseEach}
 use borrow.Author.Tests.{not-true, not-false}
 use mathlib.Core.Path.{sym, _∙_}
+use Rattle.lists.proofs.Pieces.{in-pieces}
+use Rattle.lists_factor.specs.Each.{inverseEach}
 use borrow.Author.Needs.{needs}
 use Rattle.lists_factor.proofs.inverse_each.Statement.{statement}
 use Rattle.lists_factor.proofs.inverse_each.Tie as tie
@@ -18,8 +19,8 @@ returns : tie.Need-returns
 unfolding inverseEach
 returns c = lists-wrong ((c .before .before .lengths-right .ensures)) _ _ _ (not-true _ ((c .before .if1 .taken))) ((c .lists-refused .ensures))
 
-shared-slice-read-t16 : tie.Need-shared-slice-read-t16
-shared-slice-read-t16 c = search needs
+shared-slice-read-t15 : tie.Need-shared-slice-read-t15
+shared-slice-read-t15 c = search needs
 
 inverse-requires : tie.Need-inverse-requires
 inverse-requires c κs = search needs
@@ -47,18 +48,15 @@ returns-3 : tie.Need-returns-3
 unfolding inverseEach
 returns-3 c = lists-right ((c .before .before .before .before .before .before .before .before .before .lengths-right .ensures)) _ _ _ (not-false _ ((c .before .before .before .before .before .before .before .before .if1 .left))) ((c .before .before .before .inverse-by .ensures))
 
-slice-aggregate-inverse-by-2 : tie.Need-slice-aggregate-inverse-by-2
-slice-aggregate-inverse-by-2 c = search needs
-
-inverse-by-requires-2 : tie.Need-inverse-by-requires-2
-inverse-by-requires-2 c κs = let l = right-lengths _ _ _ (sym ((c .before .before .before .before .before .lengths-right .ensures)) ∙ not-false _ ((c .before .before .before .before .if1 .left))) in (sym (l .1 .0), l .1 .1)
+inverse-from-requires : tie.Need-inverse-from-requires
+inverse-from-requires c κs = let l = right-lengths _ _ _ (sym ((c .before .before .before .before .lengths-right .ensures)) ∙ not-false _ ((c .before .before .before .if1 .left))) in sym (l .1 .0)
 
 same-length-3 : tie.Need-same-length-3
 same-length-3 c = search needs
 
 returns-4 : tie.Need-returns-4
 unfolding inverseEach
-returns-4 c = lists-right ((c .before .before .before .before .before .before .before .before .before .lengths-right .ensures)) _ _ _ (not-false _ ((c .before .before .before .before .before .before .before .before .if1 .left))) ((c .before .before .before .inverse-by2 .ensures))
+returns-4 c = in-pieces _ ((c .before .before .before .before .before .before .before .lengths-right .ensures)) (not-false _ ((c .before .before .before .before .before .before .if1 .left))) ((c .before .before .inverse-from .ensures)) ((c .before .before .inverse-from .kept .1 .1 .1 .1 .0))
 
 pub inverse-each-spec : {M : Type 1} → statement M
 inverse-each-spec =
@@ -67,7 +65,7 @@ inverse-each-spec =
     lengths-right-requires
     lists-refused-requires
     returns
-    shared-slice-read-t16
+    shared-slice-read-t15
     inverse-requires
     hand-over-one-requires
     same-length
@@ -76,7 +74,6 @@ inverse-each-spec =
     inverse-by-requires
     same-length-2
     returns-3
-    slice-aggregate-inverse-by-2
-    inverse-by-requires-2
+    inverse-from-requires
     same-length-3
     returns-4)

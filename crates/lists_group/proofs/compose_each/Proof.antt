@@ -1,8 +1,9 @@
--- The lists are refused; or one place is asked; or each, with a short list of our own or a long one.
+-- The lists are refused; or one place is asked; or few, with a short list of our own; or more, a piece at a time.
 use borrow.Author.Needs.{needs}
 use Rattle.lists.proofs.Answers.{lists-wrong, lists-right, only-place}
 use Rattle.lists.proofs.Lengths.{right-lengths}
 use Rattle.lists_group.specs.Each.{composeEach}
+use Rattle.lists.proofs.Pieces.{in-pieces}
 use borrow.Author.Tests.{not-true, not-false}
 use mathlib.Core.Path.{sym, _∙_}
 use native.Mathlib.Omega.{arith}
@@ -19,11 +20,11 @@ returns : tie.Need-returns
 unfolding composeEach
 returns c = lists-wrong ((c .before .before .lengths-right .ensures)) _ _ _ (not-true _ ((c .before .if1 .taken))) ((c .lists-refused .ensures))
 
-shared-slice-read-t17 : tie.Need-shared-slice-read-t17
-shared-slice-read-t17 c = search needs
+shared-slice-read-t16 : tie.Need-shared-slice-read-t16
+shared-slice-read-t16 c = search needs
 
-shared-slice-read-t20 : tie.Need-shared-slice-read-t20
-shared-slice-read-t20 c = let l = right-lengths _ _ _ (sym ((c .before .before .before .before .lengths-right .ensures)) ∙ not-false _ ((c .before .before .before .if1 .left))) in omega (arith, l .0, (c .before .before .if2 .taken))
+shared-slice-read-t19 : tie.Need-shared-slice-read-t19
+shared-slice-read-t19 c = let l = right-lengths _ _ _ (sym ((c .before .before .before .before .lengths-right .ensures)) ∙ not-false _ ((c .before .before .before .if1 .left))) in omega (arith, l .0, (c .before .before .if2 .taken))
 
 compose-requires : tie.Need-compose-requires
 compose-requires c κs = search needs
@@ -51,18 +52,15 @@ returns-3 : tie.Need-returns-3
 unfolding composeEach
 returns-3 c = lists-right ((c .before .before .before .before .before .before .before .before .before .lengths-right .ensures)) _ _ _ (not-false _ ((c .before .before .before .before .before .before .before .before .if1 .left))) ((c .before .before .before .compose-by .ensures))
 
-slice-aggregate-compose-by-2 : tie.Need-slice-aggregate-compose-by-2
-slice-aggregate-compose-by-2 c = search needs
-
-compose-by-requires-2 : tie.Need-compose-by-requires-2
-compose-by-requires-2 c κs = let l = right-lengths _ _ _ (sym ((c .before .before .before .before .before .lengths-right .ensures)) ∙ not-false _ ((c .before .before .before .before .if1 .left))) in (sym (l .0), (sym (l .1 .0), l .1 .1))
+compose-from-requires : tie.Need-compose-from-requires
+compose-from-requires c κs = let l = right-lengths _ _ _ (sym (c .before .before .before .before .lengths-right .ensures) ∙ not-false _ (c .before .before .before .if1 .left)) in (sym (l .0), sym (l .1 .0))
 
 same-length-3 : tie.Need-same-length-3
 same-length-3 c = search needs
 
 returns-4 : tie.Need-returns-4
 unfolding composeEach
-returns-4 c = lists-right ((c .before .before .before .before .before .before .before .before .before .lengths-right .ensures)) _ _ _ (not-false _ ((c .before .before .before .before .before .before .before .before .if1 .left))) ((c .before .before .before .compose-by2 .ensures))
+returns-4 c = in-pieces _ (c .before .before .before .before .before .before .before .lengths-right .ensures) (not-false _ (c .before .before .before .before .before .before .if1 .left)) (c .before .before .compose-from .ensures) (c .before .before .compose-from .kept .1 .1 .1 .1 .1 .0)
 
 pub compose-each-spec : {M : Type 1} → statement M
 compose-each-spec =
@@ -71,8 +69,8 @@ compose-each-spec =
     lengths-right-requires
     lists-refused-requires
     returns
-    shared-slice-read-t17
-    shared-slice-read-t20
+    shared-slice-read-t16
+    shared-slice-read-t19
     compose-requires
     hand-over-one-requires
     same-length
@@ -81,7 +79,6 @@ compose-each-spec =
     compose-by-requires
     same-length-2
     returns-3
-    slice-aggregate-compose-by-2
-    compose-by-requires-2
+    compose-from-requires
     same-length-3
     returns-4)

@@ -188,7 +188,7 @@ pub fn in_chunks(
 {
     let mut at: usize = 0;
     while at < a.len() {
-        let end = lists::inner::chunk_end(at, a.len());
+        let end = lists::inner::chunk_end(at, a.len(), 64);
         if !compose_chunk(
             &table[..],
             g,
@@ -216,7 +216,7 @@ pub fn inverses_in_chunks(
 {
     let mut at: usize = 0;
     while at < a.len() {
-        let end = lists::inner::chunk_end(at, a.len());
+        let end = lists::inner::chunk_end(at, a.len(), 64);
         if !inverse_chunk(&table[..], g, elements, &a[at..end], &mut results[at..end]) {
             return false;
         }

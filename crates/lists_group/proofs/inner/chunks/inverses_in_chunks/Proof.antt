@@ -1,6 +1,7 @@
 -- The invariant: the places before this chunk are right.
 use borrow.Rule.Slice.PartMut.{mid-len, same-len-mid}
-use Rattle.lists_group.proofs.Chunks.{next-chunk, inverse-places, none-yet, all-places}
+use Rattle.lists.proofs.Places.{none-yet, all-places}
+use Rattle.lists_group.proofs.Chunks.{next-chunk, inverse-places}
 use Rattle.lists_group.specs.Each.{inverseAt}
 use Rattle.lists.specs.Worked.{AllRight}
 use Rattle.egg.proofs.Rooms.{false-true}
@@ -23,7 +24,7 @@ loop-holds : tie.Need-loop-holds Inv-loop μ-loop
 loop-holds c = (none-yet, (omega arith, refl))
 
 chunk-end-requires : tie.Need-chunk-end-requires Inv-loop μ-loop
-chunk-end-requires c κs = omega arith
+chunk-end-requires c κs = search needs
 
 mul-inverse-chunk : tie.Need-mul-inverse-chunk Inv-loop μ-loop
 mul-inverse-chunk c = search needs
