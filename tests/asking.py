@@ -144,8 +144,8 @@ def names():
 
 
 def listed(what, made, elements, fits, lists, command):
-    """The single questions at each place, into an output of four sevens: 4 where the lengths differ, then the first refused place."""
-    out = ["7"] * 4 if lists[0] else []
+    """The single questions at each place, into an output of four sevens, or of one for one place: 4 where the lengths differ, then the first refused place."""
+    out = ["7"] * (len(lists[0]) if len(lists[0]) < 2 else 4)
     if any(len(one) != len(out) for one in lists):
         return "%s refused 4 0 0 0: %s" % (what, " ".join(out))
     # An exponent may be any; an element is in its range.
@@ -164,11 +164,13 @@ def over_lists():
     asked = [("", one, 6, [1, 3, 4, 3], [3, 1, 5, 5]), ("", one, 6, [1, 3, 6, 7], [3, 8, 5, 5]), ("", one, 6, [1, 3, 9], [3, 1, 5, 5])]
     first, second = [3, 17, 5, 35], [3, 38, 5, 35]
     asked += [("product ", two, 36, a, b) for a, b in (([9, 33, 22, 20], first), ([9, 33, 36, 37], second), ([9, 33, 99], first))]
+    asked += [("", one, 6, [], []), ("product ", two, 36, [], [])]
+    asked += [line for x, y in ((3, 22), (6, 36)) for line in (("", one, 6, [x], [5]), ("product ", two, 36, [y], [35]))]
     for fits in (True, False):
-        for what, made, elements, a, b in asked + [("", one, 6, [], []), ("product ", two, 36, [], [])]:
+        for what, made, elements, a, b in asked:
             yield listed(what + "compose", made, elements, fits, [a, b], "compose")
             yield listed(what + "inverse", made, elements, fits, [a], "inverse")
-            yield listed(what + "power", made, elements, fits, [a, exponents if a else []], "powi")
+            yield listed(what + "power", made, elements, fits, [a, exponents[1 : len(a) + 1] if len(a) < 2 else exponents], "powi")
 
 
 TEXTS = {"example_calls": calls, "example_names": names, "example_lists": over_lists}

@@ -1,8 +1,8 @@
 #!/usr/bin/env python3
 """fill.py CRATE FN < ANSWERS: writes a function's proof from short answers.
 
-Run `rt dev CRATE` and store the skeleton that it prints as crates/CRATE/proofs/FN/Proof.antt (FN as `inner/walk`), then
-`rt goals CRATE`. An answer is a line
+Run `rt dev CRATE` and store the skeleton that it prints as crates/CRATE/proofs/FN/Proof.antt (FN as `inner/walk`, or
+`inner/+walk` where it calls itself), then `rt goals CRATE`. An answer is a line
 
     need: term            what proves the need
     need [f g]: term      the same, with `unfolding f g`
@@ -21,7 +21,9 @@ import sys
 
 def read_goals(crate, fn):
     """The records of a function's generated module with their fields, and the record that each need is about."""
-    text = pathlib.Path(f"target/goals/{crate}/Rattle.{crate}.proofs/proofs/{fn}/Lts.antt").read_text()
+    name = fn.rpartition("/")[2]
+    module = f"Lts-{name[1:]}" if name.startswith("+") else "Lts"
+    text = pathlib.Path(f"target/goals/{crate}/Rattle.{crate}.proofs/proofs/{fn}/{module}.antt").read_text()
     shape = r"^ +pub record (\S+) : Type 0 where\n((?: +pub [^\n]*\n(?:(?! +pub | *\n)[^\n]*\n)*)*)"
     records = {m[1]: re.findall(r"^ +pub (\S+) :\s*(\S*)", m[2], re.M) for m in re.finditer(shape, text, re.M)}
     needs = {m[1]: m[2] for m in re.finditer(r"^ +Need-(\S+) =\s*\(c : (\S+)\)", text, re.M)}

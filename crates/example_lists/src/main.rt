@@ -1,5 +1,5 @@
 // A program that asks over lists, as a page does that shows many viewers at once, and prints each answer and what the output holds then: of a factor and of a
-// product of two, with right lists, a place that is refused, lists of different lengths, none, and a handle that fits no buffer.
+// product of two, with right lists, a place that is refused, lists of different lengths, of one place and of none, and a handle that fits no buffer.
 use egg::Factor;
 use egg::Refusal;
 use group_handles::Group;
@@ -108,6 +108,16 @@ fn ask_nothing(table: &[u32], f: Factor, g: Group) {
     product_power(table, g, &[], &[], &mut []);
 }
 
+// With one place, which the calls ask by itself.
+fn ask_one(table: &[u32], f: Factor, g: Group, x: u32, y: u32) {
+    compose(table, f, &[x], &[5], &mut [7]);
+    inverse(table, f, &[x], &mut [7]);
+    power(table, f, &[x], &[-1], &mut [7]);
+    product_compose(table, g, &[y], &[35], &mut [7]);
+    product_inverse(table, g, &[y], &mut [7]);
+    product_power(table, g, &[y], &[-1], &mut [7]);
+}
+
 // What has a negative exponent is of period 3 or 6, so that a power by the other sign would be another element.
 fn ask_all(table: &[u32], f: Factor, g: Group) {
     let exponents = [2, -1, 2, -2147483648];
@@ -118,6 +128,8 @@ fn ask_all(table: &[u32], f: Factor, g: Group) {
     ask_product(table, g, &[9, 33, 36, 37], &[3, 38, 5, 35], &exponents);
     ask_product(table, g, &[9, 33, 99], &[3, 17, 5, 35], &exponents);
     ask_nothing(table, f, g);
+    ask_one(table, f, g, 3, 22);
+    ask_one(table, f, g, 6, 36);
 }
 
 fn main() {

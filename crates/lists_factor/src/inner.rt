@@ -52,7 +52,7 @@ fn compose_into(table: &[u32], f: Factor, a: &[u32], b: &[u32], results: &mut [u
     compose_in_turn(&table[..], f, &a[..], &b[..], results)
 }
 
-pub fn compose_by(
+fn compose_by(
     table: &[u32],
     f: Factor,
     a: &[u32],

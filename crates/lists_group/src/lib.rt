@@ -45,8 +45,8 @@ pub fn inverse_each(table: &[u32], g: Group, a: &[u32], out: &mut [u32]) -> List
     inner::inverse_from(&table[..], g, &a[..], 0, out)
 }
 
-// At each place the power of the element there by the exponent there. Powers take so long that a list of our own for all places costs nothing beside them, and it takes less of the
-// stack than pieces.
+// At each place the power of the element there by the exponent there. Powers take so long that a long list of our own costs nothing
+// beside them, and it takes less of the stack than pieces.
 pub fn powi_each(table: &[u32], g: Group, a: &[u32], exponents: &[i32], out: &mut [u32]) -> Listed
     ensures { λ r. ⌜ Answered.answered r (now (out .exit)) ≡ powiEach (now (table .entry)) g (now (a .entry)) (now (exponents .entry)) (now (out .entry)) ⌝ }
 {

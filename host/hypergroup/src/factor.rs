@@ -1,5 +1,5 @@
 use crate::ffi::{letters, numbers, numbers_mut};
-use crate::lists::gathered;
+use crate::lists::{alone, gathered};
 use crate::raw::{self, Handle, Name};
 use crate::refusal::Said;
 use crate::{Element, Generator, Image, ListRefusal, Naming, Refusal};
@@ -322,6 +322,9 @@ impl Factor {
     /// As [`compose_each`](Factor::compose_each).
     #[inline]
     pub fn compose_each_into(&self, a: &[Element], b: &[Element], out: &mut [Element]) -> Result<(), ListRefusal> {
+        if let ([a], [b], [out]) = (a, b, &mut *out) {
+            return alone(self.compose(*a, *b), out);
+        }
         raw::compose_each(&self.table, self.handle, numbers(a), numbers(b), numbers_mut(out))
     }
 
@@ -348,6 +351,9 @@ impl Factor {
     /// As [`inverse_each`](Factor::inverse_each), with 4 also where the lists differ in length.
     #[inline]
     pub fn inverse_each_into(&self, a: &[Element], out: &mut [Element]) -> Result<(), ListRefusal> {
+        if let ([a], [out]) = (a, &mut *out) {
+            return alone(self.inverse(*a), out);
+        }
         raw::inverse_each(&self.table, self.handle, numbers(a), numbers_mut(out))
     }
 
@@ -375,6 +381,9 @@ impl Factor {
     /// As [`powi_each`](Factor::powi_each).
     #[inline]
     pub fn powi_each_into(&self, a: &[Element], exponents: &[i32], out: &mut [Element]) -> Result<(), ListRefusal> {
+        if let ([a], [i], [out]) = (a, exponents, &mut *out) {
+            return alone(self.powi(*a, *i), out);
+        }
         raw::powi_each(&self.table, self.handle, numbers(a), exponents, numbers_mut(out))
     }
 

@@ -60,3 +60,10 @@ pub(crate) fn gathered(places: usize, call: impl FnOnce(&mut [Element]) -> Resul
     call(&mut out)?;
     Ok(out)
 }
+
+/// What a list of one place is answered with, which is the single call, and costs no more than that.
+#[inline]
+pub(crate) fn alone(said: Result<Element, Refusal>, out: &mut Element) -> Result<(), ListRefusal> {
+    *out = said.map_err(|refusal| ListRefusal { place: Some(0), refusal })?;
+    Ok(())
+}

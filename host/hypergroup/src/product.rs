@@ -1,5 +1,5 @@
 use crate::ffi::{letters, numbers, numbers_mut};
-use crate::lists::gathered;
+use crate::lists::{alone, gathered};
 use crate::raw::{self, Handle, Handles, Name};
 use crate::refusal::Said;
 use crate::{Element, Factor, Generator, ListRefusal, Refusal};
@@ -303,6 +303,9 @@ impl Product {
     /// As [`compose_each`](Product::compose_each).
     #[inline]
     pub fn compose_each_into(&self, a: &[Element], b: &[Element], out: &mut [Element]) -> Result<(), ListRefusal> {
+        if let ([a], [b], [out]) = (a, b, &mut *out) {
+            return alone(self.compose(*a, *b), out);
+        }
         raw::product_compose_each(&self.table, &self.handles, numbers(a), numbers(b), numbers_mut(out))
     }
 
@@ -330,6 +333,9 @@ impl Product {
     /// As [`inverse_each`](Product::inverse_each), with 4 also where the lists differ in length.
     #[inline]
     pub fn inverse_each_into(&self, a: &[Element], out: &mut [Element]) -> Result<(), ListRefusal> {
+        if let ([a], [out]) = (a, &mut *out) {
+            return alone(self.inverse(*a), out);
+        }
         raw::product_inverse_each(&self.table, &self.handles, numbers(a), numbers_mut(out))
     }
 
@@ -358,6 +364,9 @@ impl Product {
     /// As [`powi_each`](Product::powi_each).
     #[inline]
     pub fn powi_each_into(&self, a: &[Element], exponents: &[i32], out: &mut [Element]) -> Result<(), ListRefusal> {
+        if let ([a], [i], [out]) = (a, exponents, &mut *out) {
+            return alone(self.powi(*a, *i), out);
+        }
         raw::product_powi_each(&self.table, &self.handles, numbers(a), exponents, numbers_mut(out))
     }
 
