@@ -49,7 +49,7 @@
  * - A list that a call writes overlaps no other list of that call. An image and its work are apart.
  *   Lists that are only read may overlap.
  * - Nothing else writes to a lent list, or reads one that is written, while the call runs.
- * - 64 KB of stack. No call needs more for a longer word, a larger group or longer lists.
+ * - 64 KB of stack, which are enough for every call, whatever the word, the group and the lists.
  * That is all. Every other value of every argument is answered, or refused with a number.
  *
  * How long a list has to be, with n generators and the room R, which is how many elements the factor may

@@ -183,6 +183,7 @@ def product_commands(rng):
 # Lists of one place, of up to 32, 64 and 256 and of more are worked out in ways of their own.
 EDGES = (31, 32, 33, 63, 64, 65, 255, 256, 257, 512, 513)
 
+
 def list_commands(rng):
     """Questions over lists in random products: filled in each way, with elements that are none, and of wrong lengths."""
     for most in (1, 2, 4, 8) * 6:
@@ -373,7 +374,7 @@ def long_lists(seed):
     for (command, want), (_, got) in zip(asked, cases(run([command for command, _ in asked], OURS)), strict=True):
         if got != want:
             differs("long lists, seed %s" % seed, command[:200], [line[:200] for line in want or []], [line[:200] for line in got])
-    if places < 480000:
+    if places < 1100000:
         sys.exit("only %d places of long lists were compared" % places)
     print("long lists: %d compared, %d places, seed %s" % (len(asked), places, seed))
 
@@ -633,7 +634,7 @@ def altered_number(rng, n, count, kind, within):
 
 def large_commands(rng):
     """Tables above 2,048 elements, of which numbers are altered, of one kind or of all, in any row or only in the first and the
-    last ones: the identity's is the one by which a walk goes on that has no place left. Beside lists of 4 to 80 places there are
+    last ones: the identity's is the one by which a walk goes on that has no place left. Beside lists of 4 to 513 places there are
     many short ones, in tables with so many altered numbers that about one place comes to one: each walk tests each letter of a
     cell by itself, and one that was missing would show only where no other walk ends the call."""
     # Each with its generators, its elements and about how many letters a walk has.

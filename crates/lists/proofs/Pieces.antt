@@ -2,6 +2,7 @@
 -- Assumes nothing.
 use Prim.Native.Nat.{ℕ, zero, suc, _+_, _-_, _≤_, _<_}
 use mathlib.Core.Path.{_≡_, refl, sym, ap, _∙_, subst}
+use mathlib.Core.Bool.{Bool, true}
 use mathlib.Core.List.{List}
 use native.Mathlib.Decide.{decLt}
 use native.Mathlib.Nat.{sub-zero}
@@ -10,18 +11,16 @@ use borrow.Rule.Slice.PartMut.{putMid, drop-put, midOf, mid-len}
 use lib.ListN.{length, getD, take}
 use lib.Seq.{getD-take, getD-drop, ext-getD}
 use Rattle.egg.specs.declared.Refusal.{Refusal}
-use Rattle.egg.specs.declared.GroupElementId.{GroupElementId}
 use Rattle.egg.specs.declared.Reached.{Reached}
 use Rattle.egg.specs.declared.Reached.the-variants.{Element, Refused}
 use Rattle.lists.specs.declared.RefusedPlace.{RefusedPlace}
 use Rattle.lists.specs.declared.Listed.{Listed}
 use Rattle.lists.specs.declared.Listed.the-variants.{Fine, RefusedAt, ListsRefused}
-use Rattle.lists.specs.Lists.{firstRefused, numberOf, numbers, leftBy, Answered, answered, eachPlace, listedPaper, lengthsRight, overLists}
-use mathlib.Core.Bool.{Bool, true}
+use Rattle.lists.specs.Lists.{firstRefused, numberOf, numbers, leftBy, answered, eachPlace, listedPaper, lengthsRight, overLists}
 use Rattle.lists.specs.Passes.{ChunkEnd}
 use Rattle.lists.specs.Worked.{Worked, WorkedFrom, behindBy, PieceOver}
 use Rattle.lists.proofs.Lengths.{right-lengths}
-use Rattle.lists.proofs.Answers as answers
+use Rattle.lists.proofs.Answers.{lists-right}
 use Rattle.lists.proofs.Parts.{put-before, put-in}
 use Rattle.lists.proofs.Places.{numbers-long, numbers-at, refused-right}
 
@@ -84,8 +83,8 @@ module _ {m : ℕ} {part : ℕ → Reached} {said : Listed} {piece : List ℕ} (
   number-there : said ≡ Fine → (j : ℕ) → j < m → getD piece j 0 ≡ numberOf (part j)
   number-there fine j u = sym (getD-take m piece j 0 u) ∙ ap (λ (l : List ℕ). getD l j 0) (w .filled fine) ∙ numbers-at m part 0 j j u (omega arith)
 
-pub lists-right : {why : Refusal} → ListsRefused why ≡ Fine → ⊥
-lists-right h = let q : _≡_ {A = ℕ} 0 1 = cc in omega arith
+pub lists-refused-right : {why : Refusal} → ListsRefused why ≡ Fine → ⊥
+lists-refused-right h = let q : _≡_ {A = ℕ} 0 1 = cc in omega arith
 
 -- No place is left.
 pub none-left : {i k : ℕ} {single : ℕ → Reached} (out : List ℕ) → k ≤ i → WorkedFrom i k single out Fine out
@@ -112,7 +111,7 @@ module _ {i end k : ℕ} (single : ℕ → Reached) {part : ℕ → Reached} {sa
     fine : (v : Listed) → behindBy i v ≡ Fine → v ≡ Fine
     fine Fine h = refl
     fine (RefusedAt at) h = absurd (refused-right h)
-    fine (ListsRefused why) h = absurd (lists-right h)
+    fine (ListsRefused why) h = absurd (lists-refused-right h)
 
   -- The piece is right, and what comes after it has been asked.
   piece-done : {before mid out : List ℕ} {later r : Listed} → said ≡ Fine → WorkedFrom end k single before later mid → r ≡ later → PieceOver later i end piece mid out
@@ -146,7 +145,7 @@ pieces-all {k} {single} {before} {out} {r} w as-long long =
       by Fine q = rw q (ext-getD 0 out (numbers k single 0) (as-long ∙ long ∙ sym (numbers-long k single 0))
           (λ j u. w .filled q j (omega arith) (omega (arith, as-long, long)) ∙ sym (numbers-at k single 0 j j (omega (arith, as-long, long)) (omega arith))))
       by (RefusedAt at) q = rw q (w .kept (λ h. refused-right (sym q ∙ h)))
-      by (ListsRefused why) q = rw q (w .kept (λ h. lists-right (sym q ∙ h)))
+      by (ListsRefused why) q = rw q (w .kept (λ h. lists-refused-right (sym q ∙ h)))
 
 -- One piece, asked by the parts of the lists that were lent for it.
 module _ {most i end : ℕ} (a : List ℕ) (c : ChunkEnd most i (length a) end) {part : ℕ → Reached} {said : Listed} {piece : List ℕ}
@@ -167,7 +166,7 @@ module _ {most i end : ℕ} (a : List ℕ) (c : ChunkEnd most i (length a) end) 
 
     pub lists-refused-here : {why : Refusal} {out : List ℕ} → said ≡ ListsRefused why → WorkedFrom i (length a) single out (ListsRefused why) out
     lists-refused-here {out = out} q =
-        piece-stops single (omega (arith, c .on)) (c .within) (λ j u. sym (same j u)) own out (λ h. lists-right (sym q ∙ h)) (ap (behindBy i) (sym q))
+        piece-stops single (omega (arith, c .on)) (c .within) (λ j u. sym (same j u)) own out (λ h. lists-refused-right (sym q ∙ h)) (ap (behindBy i) (sym q))
 
     pub goes-on : {before mid out : List ℕ} {later r : Listed} → said ≡ Fine → WorkedFrom end (length a) single before later mid
         → (r ≡ later) × PieceOver later i end piece mid out → WorkedFrom i (length a) single before r out
@@ -177,7 +176,7 @@ module _ {most i end : ℕ} (a : List ℕ) (c : ChunkEnd most i (length a) end) 
 pub in-pieces : {first : ℕ} (second : ℕ) {test : Bool} {single : ℕ → Reached} {before out : List ℕ} {r : Listed} → test ≡ lengthsRight first second (length before)
     → test ≡ true → WorkedFrom 0 first single before r out → length out ≡ length before
     → answered r out ≡ overLists (lengthsRight first second (length before)) first single before
-in-pieces second q h w as-long = answers.lists-right q _ _ _ h (pieces-all w as-long (sym (right-lengths _ _ _ (sym q ∙ h) .1 .0)))
+in-pieces second q h w as-long = lists-right q _ _ _ h (pieces-all w as-long (sym (right-lengths _ _ _ (sym q ∙ h) .1 .0)))
 
 -- What is handed over of a piece.
 module _ {later : Listed} (i end : ℕ) (piece out : List ℕ) where

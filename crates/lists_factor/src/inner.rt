@@ -100,7 +100,7 @@ pub fn compose_several(table: &[u32], f: Factor, a: &[u32], b: &[u32], out: &mut
     compose_from(&table[..], f, &a[..], &b[..], 0, out)
 }
 
-// The number of one product, where the quick walk finds it; else the count of elements.
+// The number of one product; the count of elements where it is refused.
 fn product_at_once(table: &[u32], f: Factor, a: u32, b: u32) -> u32
     ensures { λ r. ⌜ (r < f .elements → composeAnswer (now (table .entry)) f (record { 0 = a }) (record { 0 = b }) ≡ Reached.Element (record { 0 = r })) ⌝ }
 {
@@ -115,16 +115,10 @@ fn product_at_once(table: &[u32], f: Factor, a: u32, b: u32) -> u32
         return count;
     }
     let s = egg::inner::part(&table[..], f);
-    factor_compose::inner::product_number(
-        s,
-        f.generators,
-        count,
-        GroupElementId(a),
-        GroupElementId(b),
-    )
+    lists_walks::inner::number(s, f.generators, count, GroupElementId(a), GroupElementId(b))
 }
 
-// One place: where the quick walk finds its product, no list of our own comes between.
+// One place: where it has a product, no list of our own comes between.
 pub fn compose_one(table: &[u32], f: Factor, a: &[u32], b: &[u32], out: &mut [u32]) -> Listed
     requires { ⌜ (length (now a) ≡ 1) × ((length (now b) ≡ length (now a)) × (length (now out) ≡ length (now a))) ⌝ }
     ensures { λ r. ⌜ Answered.answered r (now (out .exit)) ≡ eachPlace (length (now (a .entry))) (composeAt (now (table .entry)) f (now (a .entry)) (now (b .entry))) (now (out .entry)) ⌝ }
@@ -137,7 +131,7 @@ pub fn compose_one(table: &[u32], f: Factor, a: &[u32], b: &[u32], out: &mut [u3
     compose_several(&table[..], f, &a[..], &b[..], out)
 }
 
-// Whether places are so few that each is best asked by itself: then no walks go on side by side.
+// Whether the places are so few that each is best asked by itself, and no walks go side by side.
 pub fn few(count: u32, places: usize) -> bool
     ensures { λ r. ⌜ (r ≡ true → places ≤ 32) ⌝ }
 {
@@ -147,7 +141,7 @@ pub fn few(count: u32, places: usize) -> bool
     !lists_walks::inner::worth_lanes(count, places)
 }
 
-// The products by their quick walks, one by one: whether each was found. As `side_by_side`.
+// The products one by one: whether each was found. As `side_by_side`.
 fn one_by_one(table: &[u32], f: Factor, a: &[u32], b: &[u32], results: &mut [u32]) -> bool
     requires { ⌜ (length (now b) ≡ length (now a)) × (length (now a) ≤ length (now results)) ⌝ }
     ensures { λ r. ⌜ (r ≡ true → AllRight (length (now (a .entry))) (composeAt (now (table .entry)) f (now (a .entry)) (now (b .entry))) (now (results .exit))) ⌝ }

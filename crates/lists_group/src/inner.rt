@@ -162,6 +162,7 @@ pub fn inverse_by(
     lists::inner::hand_over(said, results, out)
 }
 
+// As `compose_from`.
 pub fn inverse_from(table: &[u32], g: Group, a: &[u32], i: usize, out: &mut [u32]) -> Listed
     requires { ⌜ length (now out) ≡ length (now a) ⌝ }
     ensures { λ r. ⌜ WorkedFrom i (length (now (a .entry))) (inverseAt (now (table .entry)) g (now (a .entry))) (now (out .entry)) r (now (out .exit)) ⌝ }

@@ -74,7 +74,7 @@ fn failed(k: usize) -> Taken
 
 // The number of the product of two elements; the count where it is refused. (`compose_elements` comes to the same, as an answer.
 // That `product_number` is called here too keeps it apart from that, which is then put in line wherever somebody asks.)
-fn number(s: &[u32], n: u8, count: u32, a: GroupElementId, b: GroupElementId) -> u32
+pub fn number(s: &[u32], n: u8, count: u32, a: GroupElementId, b: GroupElementId) -> u32
     ensures { λ r. ⌜ (r < count → composeIn (now (s .entry)) n count (a .0) (b .0) ≡ Reached.Element (record { 0 = r })) ⌝ }
 {
     let x = factor_compose::inner::product_number(&s[..], n, count, a, b);

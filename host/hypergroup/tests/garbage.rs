@@ -149,8 +149,8 @@ fn questions_over_lists() {
             1 => p = [h; 9].into_iter().collect(),
             _ => {}
         }
-        // Mostly as many places, a few or so many that the longer list is taken for the results.
-        let k = [r.below(5), 60 + r.below(9)][r.below(12) as usize / 11] as usize;
+        // Mostly as many places: a few, about as many as a short list of results has, or so many that they are asked in two pieces.
+        let k = [r.below(5), 60 + r.below(9), 30 + r.below(5), 250 + r.below(20)][(r.below(16) as usize).saturating_sub(12)] as usize;
         let mut lengths = [k; 3];
         if r.below(6) == 0 {
             lengths[r.below(3) as usize] = r.below(6) as usize;

@@ -30,9 +30,10 @@ fn lists(places: usize, elements: u32) -> (Vec<Element>, Vec<Element>, Vec<i32>)
     (a, b, (0..places).map(|i| exponents[i % 10]).collect())
 }
 
-/// The lengths at which something changes: none; one, for which no results are kept; four, from which on walks may go side by side; 64, up to which a shorter list is
-/// kept for the results, and which is a product's chunk; and the most. With the lengths beside them.
-const LENGTHS: [usize; 12] = [0, 1, 2, 3, 4, 5, 63, 64, 65, 100, 4095, 4096];
+/// The lengths at which something changes: none; one, which is the single call; four, from which on walks may go side by side; 32, up to which a small factor's places are
+/// asked one by one; 64, up to which a short list is kept for the results, and which is a product's chunk; 256, which is a piece of a longer list; and the most. With the
+/// lengths beside them.
+const LENGTHS: [usize; 17] = [0, 1, 2, 3, 4, 5, 32, 33, 63, 64, 65, 100, 256, 257, 513, 4095, 4096];
 
 /// A list of this mark is lent for the output.
 const OLD: Element = Element(77);
@@ -119,6 +120,41 @@ macro_rules! first_refused {
             }
         }
     };
+}
+
+/// One place is answered as the first of two is, for which no single call is made: the same refusal, in the same words, and the output as it was.
+macro_rules! one_as_of_two {
+    ($x:expr, $elements:expr) => {
+        let (right, wrong) = (Element(0), Element($elements));
+        for (a, b) in [(wrong, right), (right, wrong), (wrong, wrong), (Element(u32::MAX), right)] {
+            let mut out = [OLD];
+            let alone = $x.compose_each_into(&[a], &[b], &mut out).unwrap_err();
+            let first = $x.compose_each(&[a, right], &[b, right]).unwrap_err();
+            assert_eq!((alone, alone.to_string(), out), (first, first.to_string(), [OLD]));
+        }
+        let mut out = [OLD];
+        let alone = $x.inverse_each_into(&[wrong], &mut out).unwrap_err();
+        let first = $x.inverse_each(&[wrong, right]).unwrap_err();
+        assert_eq!((alone, alone.to_string(), out), (first, first.to_string(), [OLD]));
+        let alone = $x.powi_each_into(&[wrong], &[-1], &mut out).unwrap_err();
+        let first = $x.powi_each(&[wrong, right], &[-1, 1]).unwrap_err();
+        assert_eq!((alone, alone.to_string(), out), (first, first.to_string(), [OLD]));
+        for e in (0..$elements.min(100)).map(Element) {
+            assert_eq!($x.compose_each(&[e], &[e]).unwrap()[0], $x.compose_each(&[e, e], &[e, e]).unwrap()[0]);
+            assert_eq!($x.inverse_each(&[e]).unwrap()[0], $x.inverse_each(&[e, e]).unwrap()[0]);
+            assert_eq!($x.powi_each(&[e], &[-3]).unwrap()[0], $x.powi_each(&[e, e], &[-3, 1]).unwrap()[0]);
+        }
+    };
+}
+
+#[test]
+fn one_place_as_the_first_of_two() {
+    let (s3, z7) = (s3(), Factor::from_rows(1, &[1, 2, 3, 4, 5, 6, 0]).unwrap());
+    one_as_of_two!(s3, 6u32);
+    one_as_of_two!(z7, 7u32);
+    one_as_of_two!(Product::default(), 1u32);
+    one_as_of_two!(Product::from(&z7), 7u32);
+    one_as_of_two!(Product::new([&s3, &z7]).unwrap(), 42u32);
 }
 
 #[test]

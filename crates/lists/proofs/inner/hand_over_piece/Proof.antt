@@ -1,6 +1,6 @@
 -- By the answer of what is behind: only where it is fine is there anything to copy.
 use Rattle.lists.proofs.Places.{refused-right}
-use Rattle.lists.proofs.Pieces.{lists-right, piece-waits, piece-over}
+use Rattle.lists.proofs.Pieces.{lists-refused-right, piece-waits, piece-over}
 use borrow.Rule.Slice.PartMut.{mid-len}
 use mathlib.Core.Path.{sym, ap, _∙_}
 use Prim.Native.Nat.{ℕ}
@@ -37,7 +37,7 @@ returns : tie.Need-returns
 returns c = (sym ((c .before .later .given .1)), piece-waits _ _ _ _ (λ h. refused-right (sym ((c .before .later .given .1)) ∙ h)))
 
 returns-2 : tie.Need-returns-2
-returns-2 c = (sym ((c .before .later2 .given .1)), piece-waits _ _ _ _ (λ h. lists-right (sym ((c .before .later2 .given .1)) ∙ h)))
+returns-2 c = (sym ((c .before .later2 .given .1)), piece-waits _ _ _ _ (λ h. lists-refused-right (sym ((c .before .later2 .given .1)) ∙ h)))
 
 same-length : tie.Need-same-length
 same-length c = search needs

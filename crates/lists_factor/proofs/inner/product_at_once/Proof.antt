@@ -22,11 +22,11 @@ returns-3 c = λ h. absurd (omega (arith, h))
 part-requires : tie.Need-part-requires
 part-requires c κs = sym ((c .before .before .before .fits2 .ensures)) ∙ not-false _ ((c .before .before .if1 .left))
 
-product-number-requires : tie.Need-product-number-requires
-product-number-requires c κs = search needs
+number-requires : tie.Need-number-requires
+number-requires c κs = search needs
 
 returns-4 : tie.Need-returns-4
-returns-4 c = λ h. product-right ((c .before .before .before .before .before .before .before .args .table .now)) ((c .before .before .before .before .before .before .before .args .f)) (sym ((c .before .before .before .before .before .fits2 .ensures)) ∙ not-false _ ((c .before .before .before .before .if1 .left))) ((c .before .part .ensures)) (omega (arith, (c .before .before .before .if2 .left))) (omega (arith, (c .before .before .if3 .left))) ((c .product-number .ensures) h)
+returns-4 c = λ h. product-right ((c .before .before .before .before .before .before .before .args .table .now)) ((c .before .before .before .before .before .before .before .args .f)) (sym ((c .before .before .before .before .before .fits2 .ensures)) ∙ not-false _ ((c .before .before .before .before .if1 .left))) ((c .before .part .ensures)) (omega (arith, (c .before .before .before .if2 .left))) (omega (arith, (c .before .before .if3 .left))) ((c .number .ensures) h)
 
 pub product-at-once-spec : {M : Type 1} → statement M
 product-at-once-spec =
@@ -37,5 +37,5 @@ product-at-once-spec =
     returns-2
     returns-3
     part-requires
-    product-number-requires
+    number-requires
     returns-4)
