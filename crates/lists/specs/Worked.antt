@@ -19,8 +19,8 @@ pub record Worked (k : ℕ) (single : ℕ → Reached) (answer : Listed) (result
 pub record AllRight (k : ℕ) (single : ℕ → Reached) (results : List ℕ) : Type 0 where
   pub each : (place : ℕ) → place < k → single place ≡ Element (record { 0 = getD results place 0 })
 
--- The same of the places from i on, where they are asked by themselves and their numbers go straight to the caller's list: what stands there before i is
--- as it was, and where a place is refused all of it is.
+-- This and what follows stand in contracts of the work only, and are no part of a call's answer. As `Worked`, of the places from i on, whose numbers stand in
+-- the caller's own list at the end: what stands there before i is as it was, and where a place is refused all of it is.
 pub record WorkedFrom (i k : ℕ) (single : ℕ → Reached) (before : List ℕ) (answer : Listed) (out : List ℕ) : Type 0 where
   pub told : answer ≡ firstRefused (k - i) single i
   pub kept : (answer ≡ Fine → ⊥) → out ≡ before
