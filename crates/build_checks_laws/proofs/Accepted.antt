@@ -12,7 +12,7 @@ use Rattle.egg.specs.Factor.{read_step}
 use Rattle.egg.specs.Table.{start_of, parent_of, last_of, length_of, step_of, back_of}
 use Rattle.build_checks.specs.Checks.{check_table, counted, counts_right, Checked, checked, then_checked, with_table, check_rest, check_group}
 use Rattle.build_checks_inverses.specs.Inverses.{fill_inverses, inverses_right}
-use Rattle.build_checks_group.specs.Lefts.{spelled, check_steps, Lefts, left, lefts}
+use Rattle.build_checks_group.specs.Lefts.{check_steps, Lefts, left, lefts}
 use Rattle.theory.specs.Table.{Table, Columns}
 use Rattle.theory.specs.Words.{Parents, Recorded}
 use Rattle.theory.specs.Group.{GroupOn, RightSteps, RightRegular}

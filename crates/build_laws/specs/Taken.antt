@@ -1,9 +1,7 @@
 -- Which numbers a build takes, from whatever source they come, and what its stretch of table holds then; and which numbers are refused by 12.
 use Rattle.std.specs.Prelude.{ℕ, ◌+◌, ◌*◌, ◌≤◌, ◌<◌, ◌≡◌, List, length, get_or}
 use Rattle.egg.specs.Table.{step_of}
-use Rattle.egg.specs.Factor.{stretch}
 use Rattle.build_word_cells.specs.Hops.{Hops}
-use Rattle.build_lending.specs.Lending.{within}
 use Rattle.theory.specs.Numbering.{IdentityRow}
 use Rattle.theory.specs.Appearance.{recorded}
 use Rattle.theory.specs.AnyGroup.{SomeGroup}

@@ -24,7 +24,6 @@ use Rattle.build_lending.specs.Finish.{built, zeroed, finished}
 use Rattle.build_reading_laws.specs.Read.{Stops, skips_ahead, no_room, long_word, Readable, ReadSoFar, ReadingRefused}
 use Rattle.build_reading_laws.proofs.ReadingState.{ReadingState, On, read_place_lem}
 use Rattle.build_reading_laws.proofs.Runs.{state_start, state_row}
-use Rattle.theory.specs.Appearance.{row}
 use Rattle.theory.proofs.Places.{ahead_column, ahead_row, nothing_ahead}
 use Rattle.theory.proofs.Counting.{row_known}
 use Rattle.theory.proofs.Reading.{numbered_once}

@@ -1,15 +1,12 @@
 -- Reading a table of composed numbers. Document 01, module 3: "at (e,g), in order, a number below the count is set, the count itself is a new element,
 -- more is 7." "During reading the order at one place is 7, 5, 6." The source of numbers is a function of element and generator.
 use Rattle.std.specs.Prelude.{ℕ, zero, suc, ◌+◌, ◌*◌, List, get_or, ltb}
-use Rattle.egg.specs.declared.Refusal.{Refusal}
-use Rattle.egg.specs.declared.GroupElementId.{GroupElementId}
-use Rattle.egg.specs.declared.GeneratorId.{GeneratorId}
 use Rattle.egg.specs.declared.Reached.{Reached}
 use Rattle.egg.specs.declared.Reached.TheVariants as reached
 use Rattle.egg.specs.declared.Counted.{Counted}
 use Rattle.egg.specs.declared.Counted.TheVariants.{Count, Refused}
 use Rattle.egg.specs.Table.{pick}
-use Rattle.build_reading.specs.Build.{set_step, Adds, adds}
+use Rattle.build_reading.specs.Build.{set_step, adds}
 use Rattle.egg.specs.Answers.{numbered}
 
 -- What a reading comes to: the count of elements, or a refusal; and the table.

@@ -1,10 +1,10 @@
 -- What an accepted reading stored, as the theorems about the checks ask for it.
-use Prim.Native.Nat.{ℕ, zero, suc, ◌+◌, ◌*◌, ◌≤◌, ◌<◌}
+use Prim.Native.Nat.{ℕ, zero, suc, ◌+◌, ◌<◌}
 use mathlib.Core.Path.{◌≡◌, refl, sym, ap, ◌∙◌, subst}
 use mathlib.Core.List.{List, [], ◌∷◌, ◌++◌}
 use native.Mathlib.Omega.{arith}
 use lib.ListN.{length, get_or}
-use Rattle.egg.specs.Table.{start_of, parent_of, last_of, length_of, step_of, back_of}
+use Rattle.egg.specs.Table.{start_of, parent_of, last_of, back_of}
 use Rattle.theory.specs.Table.{Columns}
 use Rattle.theory.specs.Words.{Recorded}
 use Rattle.theory.specs.Appearance.{recorded}

@@ -1,4 +1,6 @@
 // From builder.rs: a table that is built element by element, by `begin`, `add_successor`, `set_successor` and `build`.
+#![tactic(auto)]
+
 ghost use Rattle.std.specs.Prelude.{◌≡◌};
 ghost use Rattle.build_lending.specs.Lending.{Making};
 ghost use Rattle.builder.specs.Calls.{Leaving, begins, grows, stores, builds};
@@ -9,25 +11,25 @@ pub mod inner;
 
 // The handle of a build that is under way: a factor's numbers under a type of their own, since its table is not checked
 // yet.
-#[derive(Drop)]
+#[derive(Clone, Copy)]
 pub struct Builder(pub Factor);
 
 // What beginning answers: a verdict, and the handle, which fits no buffer where the call was refused.
-#[derive(Drop)]
+#[derive(Clone, Copy)]
 pub struct Begun {
     pub answer: Verdict,
     pub builder: Builder,
 }
 
 // What adding an element answers: the element, and the builder that knows it.
-#[derive(Drop)]
+#[derive(Clone, Copy)]
 pub struct Grown {
     pub answer: Reached,
     pub builder: Builder,
 }
 
 // What storing a step answers: whether the step was new or had been known.
-#[derive(Drop)]
+#[derive(Clone, Copy)]
 pub enum Stored {
     New,
     Known,

@@ -1,20 +1,22 @@
 // From egg.rs: the element-by-generator table, in a lent stretch of 32-bit numbers, and the handle of a factor that
 // stands in one.
+#![tactic(auto)]
+
 ghost use Rattle.std.specs.Prelude.{◌≡◌, Bool, ◌+◌, ◌*◌, ◌<◌, ◌≤◌, length};
 ghost use Rattle.egg.specs.Factor.{has_room, fits_in, step_answer};
 
 pub mod inner;
 
 // The number of an element; 0 is the identity.
-#[derive(Drop)]
+#[derive(Clone, Copy)]
 pub struct GroupElementId(pub u32);
 
 // The number of a generator, never taken for an element's.
-#[derive(Drop)]
+#[derive(Clone, Copy)]
 pub struct GeneratorId(pub u8);
 
 // Document 01's refusal: its number and its three places, zero where none is listed.
-#[derive(Drop)]
+#[derive(Clone, Copy)]
 pub struct Refusal {
     pub number: u32,
     pub a: u32,
@@ -23,28 +25,28 @@ pub struct Refusal {
 }
 
 // What a check answers.
-#[derive(Drop)]
+#[derive(Clone, Copy)]
 pub enum Verdict {
     Fine,
     Refused(Refusal),
 }
 
 // What a question about elements answers.
-#[derive(Drop)]
+#[derive(Clone, Copy)]
 pub enum Reached {
     Element(GroupElementId),
     Refused(Refusal),
 }
 
 // What a question about numbers answers.
-#[derive(Drop)]
+#[derive(Clone, Copy)]
 pub enum Counted {
     Count(u32),
     Refused(Refusal),
 }
 
 // The handle of a factor: where its stretch starts in the table buffer, and the numbers that it was built with.
-#[derive(Drop)]
+#[derive(Clone, Copy)]
 pub struct Factor {
     pub start: usize,
     pub room: u32,
@@ -54,7 +56,7 @@ pub struct Factor {
 
 // What a call that makes a factor answers: a verdict, and beside it the handle, which fits no buffer where the call was
 // refused.
-#[derive(Drop)]
+#[derive(Clone, Copy)]
 pub struct Made {
     pub answer: Verdict,
     pub factor: Factor,

@@ -1,5 +1,5 @@
 -- If the table's steps are multiplication on the right in some group, the check passes, and the group is the one that `compose` describes.
-use mathlib.Core.Path.{◌≡◌, refl, sym}
+use mathlib.Core.Path.{◌≡◌, ap, refl, sym, ◌∙◌}
 use mathlib.Core.List.{List}
 use Prim.Native.Nat.{ℕ, zero, suc, ◌<◌}
 use lib.IntN.{ℤ, pos, negsuc}
@@ -18,9 +18,9 @@ module _ {n N : ℕ} {step op : ℕ → ℕ → ℕ} {inv : ℕ → ℕ} (G : Gr
   -- To walk from a is to multiply on the right by what the word spells.
   pub walk_is_op : {a : ℕ} {w : List ℕ} → a < N → Word n w → walk step a w ≡ op a (walk step 0 w)
   walk_is_op a empty = sym (G.right_identity a)
-  walk_is_op a (letter g w) =
+  walk_is_op {a = x} a (letter {g = h} g w) =
       let s = R.element g in
-      cc (walk_is_op (right_table.closed a g) w, walk_is_op s w, R.step_is a g, G.assoc a s (walk_closed right_table G.identity w))
+      cc (walk_is_op {a = step x h} (right_table.closed a g) w, walk_is_op {a = step 0 h} s w, R.step_is a g, G.assoc a s (walk_closed right_table G.identity w))
 
   -- A generator fixes no element, unless it is the identity.
   pub no_fixed_point : {e g : ℕ} → e < N → g < n → step e g ≡ e → step 0 g ≡ 0
@@ -81,4 +81,4 @@ module _ {n N : ℕ} {step op : ℕ → ℕ → ℕ} {inv : ℕ → ℕ} (G : Gr
 
       pub integer_power_is : {a : ℕ} → a < N → (z : ℤ) → integer_power (compose step word) (inverse back word) a z ≡ integer_power op inv a z
       integer_power_is a (pos k) = power_is a k
-      integer_power_is a (negsuc k) = rw (inverse_is_inv a) (power_is (G.inv_closed a) (suc k))
+      integer_power_is a (negsuc k) = ap (λ x. power (compose step word) x (suc k)) (inverse_is_inv a) ∙ power_is (G.inv_closed a) (suc k)

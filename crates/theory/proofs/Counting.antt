@@ -48,7 +48,7 @@ module _ {n : ℕ} {step : ℕ → ℕ → ℕ} where
   appeared k pos l = let (y, h, f, a) = appeared_before k pos l in (y, h, f)
 
 -- What is to be read has no say: the rule has held so far in any table with the same entries so far.
-pub known_same : {n x g c : ℕ} {step step' : ℕ → ℕ → ℕ} → Known n step x g c → ((y h : ℕ) → h < n → Ahead y h x g → step' y h ≡ step y h)
+pub known_same : {n : ℕ} {step step' : ℕ → ℕ → ℕ} {x g c : ℕ} → Known n step x g c → ((y h : ℕ) → h < n → Ahead y h x g → step' y h ≡ step y h)
     → Known n step' x g c
 known_same start same = start
 known_same (old {x} {g} k hg t) same =

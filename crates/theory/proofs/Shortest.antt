@@ -69,8 +69,8 @@ module _ {n N : ℕ} {step : ℕ → ℕ → ℕ} {parent last : ℕ → ℕ} {w
 
   walk_at_most : {e : ℕ} {u v : List ℕ} → e < N → Word n v → AtMost (word e) u → AtMost (word (walk step e v)) (u ++ v)
   walk_at_most e empty m = rw append-nil m
-  walk_at_most {u = u} e (letter {g = g} h v) m =
-      rw append_assoc at (walk_at_most {u = u ++ g ∷ []} (T.closed e h) v (at_most_trans (step_at_most e h) (at_most_append m g)))
+  walk_at_most {e = x} {u = u} e (letter {g = g} h v) m =
+      rw append_assoc at (walk_at_most {e = step x g} {u = u ++ g ∷ []} (T.closed e h) v (at_most_trans (step_at_most e h) (at_most_append m g)))
 
   -- The word of e is, of all the words that lead to e, the first.
   pub word_least : {e : ℕ} {w : List ℕ} → Word n w → walk step 0 w ≡ e → AtMost (word e) w

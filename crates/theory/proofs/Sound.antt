@@ -12,7 +12,7 @@ module _ {n N : ℕ} {step : ℕ → ℕ → ℕ} {word : ℕ → List ℕ} (T :
   -- Multiplication on the left by a generator commutes with every walk.
   left_walk_lem : {s x : ℕ} {v : List ℕ} → s < n → x < N → Word n v → left step word s (walk step x v) ≡ walk step (left step word s x) v
   left_walk_lem s x empty = refl
-  left_walk_lem s x (letter g v) = rw (← C.commutes s g x) (left_walk_lem s (T.closed x g) v)
+  left_walk_lem {x = y} s x (letter {g = h} g v) = rw (← C.commutes s g x) (left_walk_lem {x = step y h} s (T.closed x g) v)
 
   left_spells : {s : ℕ} {u : List ℕ} → s < n → Word n u → left step word s (walk step 0 u) ≡ walk step 0 (s ∷ u)
   left_spells s u = rw S.start at (left_walk_lem s T.origin u)

@@ -40,4 +40,4 @@ module _ {A : Type 0} (G : GroupOver A) (gen : ℕ → A) where
       map_only f unit steps {e} he = cc (along (S.over he) T.origin, S.spells he, unit, G.left_unit (word_product G gen (word e))) where
         along : {x : ℕ} {w : List ℕ} → Word n w → x < N → f (walk step x w) ≡ G.op (f x) (word_product G gen w)
         along {x} empty hx = sym (G.right_unit (f x))
-        along {x} (letter {g} {w} hg hw) hx = cc (along hw (T.closed hx hg), steps x g hx hg, G.assoc (f x) (gen g) (word_product G gen w))
+        along {x} (letter {g} {w} hg hw) hx = cc (along {x = step x g} hw (T.closed hx hg), steps x g hx hg, G.assoc (f x) (gen g) (word_product G gen w))

@@ -29,7 +29,7 @@ retrace_append back e (g ∷ u) v = ap (λ x. back x g) (retrace_append back e u
 module _ {n N : ℕ} {step : ℕ → ℕ → ℕ} (T : Table n N step) where
   pub walk_closed : {e : ℕ} {w : List ℕ} → e < N → Word n w → walk step e w < N
   walk_closed e empty = e
-  walk_closed e (letter g w) = walk_closed (T.closed e g) w
+  walk_closed {e = x} e (letter {g = h} g w) = walk_closed {e = step x h} (T.closed e g) w
 
 module _ {n N : ℕ} {step back : ℕ → ℕ → ℕ} (B : Columns n N step back) where
   pub retrace_closed : {e : ℕ} {w : List ℕ} → e < N → Word n w → retrace back e w < N
@@ -44,7 +44,7 @@ module _ {n N : ℕ} {step back : ℕ → ℕ → ℕ} (B : Columns n N step bac
 module _ {n N : ℕ} {step step' : ℕ → ℕ → ℕ} (T : Table n N step) (agree : (e g : ℕ) → e < N → g < n → step' e g ≡ step e g) where
   pub walk_agree : {e : ℕ} {w : List ℕ} → e < N → Word n w → walk step' e w ≡ walk step e w
   walk_agree e empty = refl
-  walk_agree {e} h (letter {g = g} k w) = rw (agree e g h k) (walk_agree (T.closed h k) w)
+  walk_agree {e} h (letter {g = g} k w) = rw (agree e g h k) (walk_agree {e = step e g} (T.closed h k) w)
 
 module _ {n N : ℕ} {step back back' : ℕ → ℕ → ℕ} (B : Columns n N step back) (agree : (e g : ℕ) → e < N → g < n → back' e g ≡ back e g) where
   pub retrace_agree : {e : ℕ} {w : List ℕ} → e < N → Word n w → retrace back' e w ≡ retrace back e w

@@ -75,14 +75,14 @@ module _ {A : Type 0} (G : GroupOver A) (gen : ℕ → A) where
   module _ {i j : ℕ} {x : A} where
     pub near_turned : {y : A} (c d k : ℕ) → (c ≡ i) ⊎ (c ≡ j) → (d ≡ i) ⊎ (d ≡ j) → Near G gen i j x y → Near G gen i j x (G.op y (turned G gen c d k))
     near_turned {y} c d zero hc hd N = rw (G.right_unit y) N
-    near_turned {y} c d (suc k) hc hd N = rw (G.assoc y (gen c) (turned G gen d c k)) at (near_turned d c k hd hc (on c hc N))
+    near_turned {y} c d (suc k) hc hd N = rw (G.assoc y (gen c) (turned G gen d c k)) at (near_turned {y = G.op y (gen c)} d c k hd hc (on c hc N))
 
     pub near_mirror : {y : A} (c d k : ℕ) → (c ≡ i) ⊎ (c ≡ j) → (d ≡ i) ⊎ (d ≡ j) → Near G gen i j x y → Near G gen i j x (G.op y (mirror G gen c d k))
     near_mirror c d zero hc hd N = on c hc N
     near_mirror {y} c d (suc k) hc hd N =
         let a = gen c in
         let b = mirror G gen d c k in
-        subst (Near G gen i j x) (G.assoc (G.op y a) b a ∙ G.assoc y a (G.op b a)) (on c hc (near_mirror d c k hd hc (on c hc N)))
+        subst (Near G gen i j x) (G.assoc (G.op y a) b a ∙ G.assoc y a (G.op b a)) (on c hc (near_mirror {y = G.op y (gen c)} d c k hd hc (on c hc N)))
 
     pub near_on : {y z : A} → Near G gen i j x y → Near G gen i j y z → Near G gen i j x z
     near_on N here = N

@@ -57,7 +57,7 @@ module _ {n N : ℕ} {m step : ℕ → ℕ → ℕ} (P : PresentedTable n N m st
   walked {e} he empty = ap num (group.right_unit (elt e)) ∙ numbers.num_elt he
   walked {e} he (letter {g} {w} hg hw) =
       let q : elt (step e g) ≡ group.op (elt e) (gen g) = ap elt (steps he hg) ∙ numbers.elt_num (group.op (elt e) (gen g)) in
-      ap num (sym (group.assoc (elt e) (gen g) (word_product group gen w)) ∙ ap (λ x. group.op x (word_product group gen w)) (sym q)) ∙ walked (table.closed he hg) hw
+      ap num (sym (group.assoc (elt e) (gen g) (word_product group gen w)) ∙ ap (λ x. group.op x (word_product group gen w)) (sym q)) ∙ walked {e = step e g} (table.closed he hg) hw
 
   walked_zero : {u : List ℕ} → Word n u → num (word_product group gen u) ≡ walk step 0 u
   walked_zero {u} hu = ap num (sym (group.left_unit (word_product group gen u)) ∙ ap (λ x. group.op x (word_product group gen u)) (sym (elt_zero numbers))) ∙ walked table.origin hu

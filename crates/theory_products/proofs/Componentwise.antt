@@ -1,6 +1,5 @@
 -- What is taken factor by factor: every term in the operation, the inverse and the identity.
 use mathlib.Core.Path.{◌≡◌, sym}
-use mathlib.Core.List.{[]}
 use Prim.Native.Nat.{ℕ, zero, suc, ◌+◌, ◌*◌, ◌/◌, ◌%◌, ◌<◌}
 use native.Mathlib.Nat.{mod-add-div, mul-zero}
 use native.Mathlib.Omega.{arith}

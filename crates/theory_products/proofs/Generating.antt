@@ -1,11 +1,10 @@
 -- The generators of a product of factors whose generators are distinct, and none of them the identity, are so too.
-use Prim.Native.Nat.{ℕ, suc, ◌+◌, ◌*◌, ◌≤◌, ◌<◌}
+use Prim.Native.Nat.{ℕ, ◌+◌, ◌*◌, ◌≤◌, ◌<◌}
 use mathlib.Core.Path.{◌≡◌, sym, ap, ◌∙◌}
 use mathlib.Core.List.{List}
 use native.Mathlib.Nat.{eq_of_mul-eq-mul_left, mul-le-mul, le_refl, mul-one}
 use native.Mathlib.Omega.{arith}
-use Rattle.theory.specs.Numbering.{Distinct}
-use Rattle.theory_products.specs.Product.{Part, trivial, pair, product, Each, Stepped, DistinctlyGenerated}
+use Rattle.theory_products.specs.Product.{Part, trivial, pair, product, Each, DistinctlyGenerated}
 use Rattle.theory_products.proofs.ProductLaws.{product_has}
 use Rattle.theory_products.proofs.StepLaws.{WhichFactor, left, right, side, element_left, element_right, pair_stepped, trivial_stepped}
 

@@ -1,0 +1,7 @@
+-- The three stores one after the other are `set_word`'s.
+use Rattle.build_reading.proofs.Laws.{word_stored}
+use Rattle.build_reading.proofs.inner.record_word.Goals as goal
+
+pub returns : goal.returns
+returns c = let a = c.args in
+    word_stored a.t.now a.n a.e a.g a.new a.len c.start.ensures.at c.put.ensures c.put-2.ensures c.put-3.ensures

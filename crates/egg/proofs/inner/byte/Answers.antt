@@ -1,0 +1,7 @@
+-- The test decides the read.
+use mathlib.Core.Path.{sym}
+use lib.ListN.{get_or-eq_default}
+use Rattle.egg.proofs.inner.byte.Goals as goal
+
+pub returns-else-i-s : goal.returns-else-i-s
+returns-else-i-s c = sym (get_or-eq_default c.args.s.now 0 c.if-i-s.false)

@@ -1,0 +1,5 @@
+use mathlib.Core.Path.{◌∙◌}
+use Rattle.egg.proofs.inner.cell.Goals as goal
+
+pub returns : goal.returns
+returns c = c.get.ensures ∙ rw c.start.ensures.at
