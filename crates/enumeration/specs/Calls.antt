@@ -1,8 +1,6 @@
 -- The enumeration as it is called: the refusals in front of it, the run in its stretches, the checks, and what every lent buffer holds. Document 01,
 -- module 4, and "13 applies to enumeration".
-use Rattle.std.specs.Prelude.{ℕ, ◌+◌, ◌*◌, List, length, take, ltb}
-use Rattle.egg.specs.declared.Refusal.{Refusal}
-use Rattle.egg.specs.declared.Made.{Made}
+use Rattle.std.specs.Prelude.{ℕ, List, length, ltb}
 use Rattle.egg.specs.declared.Verdict.{Verdict}
 use Rattle.egg.specs.declared.Verdict.TheVariants as verdict
 use Rattle.egg.specs.declared.Counted.{Counted}
@@ -14,7 +12,7 @@ use Rattle.build_lending.specs.Lending.{table_need, work_need, lent_right, no_fa
 use Rattle.factor_relations.specs.Relations.{relations_row}
 use Rattle.enumeration_run.specs.declared.inner.Ran.{Ran}
 use Rattle.enumeration_run.specs.declared.inner.Ran.TheVariants as ran
-use Rattle.enumeration_run.specs.Run.{RunResult, enumerated}
+use Rattle.enumeration_run.specs.Run.{enumerated}
 
 -- How a run ended, as a count or a refusal. A run whose allowance is spent would go on with what it has, and 8 would refuse it; with the largest
 -- allowance that never happens.

@@ -1,4 +1,6 @@
 // From todd_coxeter.rs: a checked factor from pair orders.
+#![tactic(auto)]
+
 ghost use Rattle.std.specs.Prelude.{◌≡◌, ◌+◌, ◌*◌, ◌<◌, ◌≤◌, length};
 ghost use Rattle.build_lending.specs.Lending.{Making};
 ghost use Rattle.enumeration.specs.Calls.{enumerates};

@@ -13,7 +13,7 @@ use Rattle.enumeration_run_laws.specs.Invariant.{CellOfKind, Copy}
 use Rattle.enumeration_run_laws.specs.Stack.{Absent, SameStackLinks}
 use Rattle.enumeration_run_laws.proofs.Spots.{spot_once, row_spot, copy_once}
 use Rattle.enumeration_run_laws.proofs.Storing.{read_same}
-use Rattle.enumeration_closure_laws.specs.Queues.{In, here, there, list_of, copy_at, last_link, Chain, end, next, Waiter, Hand, Queue, Waiting, Queues, Sized, SameBeyond, RowFits, Appended}
+use Rattle.enumeration_closure_laws.specs.Queues.{In, here, list_of, copy_at, last_link, Chain, end, next, Waiter, Hand, Queue, Waiting, Queues, Sized, SameBeyond, RowFits, Appended}
 use Rattle.enumeration_closure_laws.proofs.Lists.{in_left, in_right, in_append, in_one, absent, not_in, once_last, last_link_lem, last_in, once_length}
 use Rattle.enumeration_closure_laws.proofs.Places.{bit_below, list_spot, list_below, cell_once, list_once, copy_apart, copy_is, copy_below, work_small}
 use Rattle.enumeration_closure_laws.proofs.Choosing.{choose, choose_yes, choose_no, same_list}

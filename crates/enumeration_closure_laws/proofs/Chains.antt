@@ -30,10 +30,10 @@ chain_last [] q p l o same to ends c = absurd (omega arith)
 chain_last (x ∷ []) q p l o same to ends c =
     let e : x ≡ q = omega arith in
     next {ps = p ∷ []} (chain_next c).0 (rw e (next {ps = []} to (end ends)))
-chain_last (x ∷ y ∷ ps) q p l o same to ends c =
+chain_last {w = w} (x ∷ y ∷ ps) q p l o same to ends c =
     let d : x ≡ q → ⊥ = λ e. not_in (y ∷ ps) o.0 (rw (← e) at (last_in q (y ∷ ps) l)) in
     next {ps = y ∷ ps ++ p ∷ []} (chain_next c).0
-    (rw (same x (here refl) d) (chain_last (y ∷ ps) q p l o.1 (λ z i. same z (there i)) to ends (chain_next c).1))
+    (rw (same x (here refl) d) (chain_last {at = get_or w (x + 5) 0} (y ∷ ps) q p l o.1 (λ z i. same z (there i)) to ends (chain_next c).1))
 
 pub waiter_same : {n count count' pairs : ℕ} {side : SideOfGap} {w w' : List ℕ} {list p : ℕ} → count ≤ count' → stored_row w' p ≡ stored_row w p
     → Waiter n count pairs side w list p → Waiter n count' pairs side w' list p

@@ -27,7 +27,7 @@ module _ {n count pairs : ℕ} {w : List ℕ} (S : Sized n count pairs w) where
       (copy_apart n W.number W'.number S.paired W.number_below W'.number_below W.element W'.element side s (sym W.stands ∙ W'.stands)).2
 
   pub waiter_list : {side s : SideOfGap} {list list' p : ℕ} → Waiter n count pairs side w list p → Waiter n count pairs s w list' p → list ≡ list'
-  waiter_list {side} {s} {p = p} W W' = sym W.Waits-in ∙ ap (λ x. list_at n (stored_row w p) x) (waiter_side W W') ∙ W'.Waits-in
+  waiter_list {side} {s} {p = p} W W' = sym W.waits_in ∙ ap (λ x. list_at n (stored_row w p) x) (waiter_side W W') ∙ W'.waits_in
 
 -- The link of the new last copy, and which cells it may be.
 module _ {n count pairs : ℕ} {w : List ℕ} (S : Sized n count pairs w) {side : SideOfGap} {e g : ℕ} (he : e < count) (hg : g < n) {ps : List ℕ}

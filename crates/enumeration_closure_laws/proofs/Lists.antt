@@ -43,6 +43,7 @@ absent [] h = tt
 absent (q ∷ ps) h = (λ e. h (here e), absent ps (λ i. h (there i)))
 
 pub not_in : {p : ℕ} (ps : List ℕ) → Absent p ps → In p ps → ⊥
+not_in {p = p} [] a i = elim i [ ]
 not_in (q ∷ ps) a (here e) = a.0 e
 not_in (q ∷ ps) a (there i) = not_in ps a.1 i
 

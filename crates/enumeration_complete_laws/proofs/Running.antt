@@ -24,7 +24,6 @@ use Rattle.theory.specs.Presentation.{order_of}
 use Rattle.theory.proofs.Walking.{walk_closed}
 use Rattle.theory.proofs.Counting.{numbered_table, row_known}
 use Rattle.theory.proofs.RuleLaws.{count_within, step_within, new_letters}
-use Rattle.enumeration_run_laws.specs.Invariant.{StepKnown}
 use Rattle.build_reading_laws.specs.Read.{Stops, skips_ahead, no_room, long_word, ReadSoFar, ReadingRefused}
 use Rattle.enumeration_run.specs.Limits.{Limits}
 use Rattle.enumeration_run_laws.specs.Going.{Going}

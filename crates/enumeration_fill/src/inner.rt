@@ -11,7 +11,7 @@ use egg::{GeneratorId, GroupElementId};
 use enumeration_rows::inner::RelationTableRow;
 
 // An end of a row on its way: the element where it stands, and the steps that it has left.
-#[derive(Drop)]
+#[derive(Clone, Copy)]
 pub struct Walked {
     pub element: GroupElementId,
     pub left: u32,
@@ -19,7 +19,7 @@ pub struct Walked {
 
 // A leg of a walk: where it ends, how many steps are left, whether there is more of the walk, and by how many numbers
 // its last two steps led on.
-#[derive(Drop)]
+#[derive(Clone, Copy)]
 pub struct Leg {
     pub element: GroupElementId,
     pub left: u32,

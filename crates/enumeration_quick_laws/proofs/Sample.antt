@@ -1,6 +1,6 @@
 -- Two cases by computing, with `swift` applied to them: the run by closed loops is done with every element of the group, its table is that of 000's run and passes
 -- the checks and the relations, and with one room less both runs are refused alike.
-use Prim.Native.Nat.{ℕ, zero, suc, ◌-◌, ◌<◌, ◌≤◌}
+use Prim.Native.Nat.{ℕ, zero, suc, ◌<◌, ◌≤◌}
 use mathlib.Core.Path.{◌≡◌, refl}
 use mathlib.Core.List.{List, [], ◌∷◌}
 use native.Mathlib.Omega.{arith}

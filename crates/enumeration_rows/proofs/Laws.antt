@@ -1,6 +1,6 @@
 -- Laws of the rows' definitions, for this crate's proofs and for the layers above.
 use Prim.Native.Nat.{ℕ, suc, ◌+◌, ◌*◌, ◌-◌, ◌%◌, ◌≤◌, ◌<◌}
-use mathlib.Core.Path.{◌≡◌, refl, sym, ap, ◌∙◌}
+use mathlib.Core.Path.{◌≡◌}
 use mathlib.Core.List.{List}
 use native.Mathlib.Nat.{add-mod_right, mod-add-mod}
 use native.Mathlib.Omega.{arith}

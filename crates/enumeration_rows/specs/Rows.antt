@@ -1,6 +1,6 @@
 -- Relation rows and their waiting lists, as a list of numbers, to be read beside todd_coxeter.rs (000). The head of src/inner.rt says what rows,
 -- copies and places are. Document 01: "one pool with links in the work buffer, keeping waiting order".
-use Rattle.std.specs.Prelude.{ℕ, zero, suc, ◌+◌, ◌*◌, ◌-◌, ◌/◌, ◌%◌, ◌≤◌, ◌<◌, List, ◌∷◌, [], get_or, length, eqb}
+use Rattle.std.specs.Prelude.{ℕ, zero, suc, ◌+◌, ◌*◌, ◌-◌, ◌/◌, ◌%◌, ◌≤◌, ◌<◌, List, get_or, length, eqb}
 use Rattle.egg.specs.declared.GroupElementId.{GroupElementId}
 use Rattle.egg.specs.declared.GeneratorId.{GeneratorId}
 use Rattle.egg.specs.Pairs.{pair_code}

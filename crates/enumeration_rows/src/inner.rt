@@ -15,7 +15,7 @@ use egg::{GeneratorId, GroupElementId};
 
 // 000's `RelationTableRow`: the pair (a, b) as 8a + b, the columns on the left and the right of the gap, and the
 // elements there.
-#[derive(Drop)]
+#[derive(Clone, Copy)]
 pub struct RelationTableRow {
     pub pair: u32,
     pub left: u32,
@@ -25,7 +25,7 @@ pub struct RelationTableRow {
 }
 
 // The side of its gap on which a copy of a row waits.
-#[derive(Drop)]
+#[derive(Clone, Copy)]
 pub enum SideOfGap {
     Left,
     Right,

@@ -23,7 +23,7 @@ use Rattle.enumeration_run.specs.declared.inner.Ran.{Ran}
 use Rattle.enumeration_run.specs.declared.inner.Ran.TheVariants as ran
 use Rattle.enumeration_wake.specs.Waking.{State, state, link, below_at}
 use Rattle.enumeration_facts.specs.Facts.{settled}
-use Rattle.enumeration_run.specs.Run.{discovered, Visit, visit, visits, advanced, RunResult, outcome, runs, start_of_run, enumerated}
+use Rattle.enumeration_run.specs.Run.{discovered, visit, visits, advanced, outcome, runs, start_of_run, enumerated}
 
 module _ (n : ℕ) (o : List ℕ) (e : GroupElementId) (g : GeneratorId) (new : GroupElementId) (t w : List ℕ) where
   pub discovered_by : {t₁ t₂ w₁ w₂ w₃ : List ℕ} {x : ℕ} → t₁ ≡ set_step t n new g e → w₁ ≡ added_rows w o n new

@@ -7,7 +7,7 @@ ghost use Rattle.enumeration_run.specs.Run.{discovered, visit, visits, advanced,
 use egg::{Counted, GeneratorId, GroupElementId, Reached, Refusal};
 
 // Where a run stands: the place to visit next, by its element and generator, and how many elements there are so far.
-#[derive(Drop)]
+#[derive(Clone, Copy)]
 pub struct Run {
     pub element: u32,
     pub generator: u8,
@@ -15,7 +15,7 @@ pub struct Run {
 }
 
 // How a run ended: with so many elements, at a place where its allowance was spent, or refused.
-#[derive(Drop)]
+#[derive(Clone, Copy)]
 pub enum Ran {
     Done(u32),
     Paused(Run),

@@ -15,7 +15,7 @@ use Rattle.egg.specs.Table.{pick, put_at, start_of, parent_of, last_of}
 use Rattle.build_reading.specs.Build.{set_step, set_word}
 use Rattle.enumeration_rows.specs.declared.inner.RelationTableRow.{RelationTableRow}
 use Rattle.enumeration_run_laws.specs.Invariant.{Step, Marked, RecordsWords, TableOk, RowOk, WorkOk}
-use Rattle.egg.proofs.Cells.{inside, put_same, put_other, put_length}
+use Rattle.egg.proofs.Cells.{put_same, put_other, put_length}
 use Rattle.enumeration_run_laws.proofs.Cells.{put_keeps}
 use Rattle.enumeration_run_laws.proofs.Rowing.{step_back}
 use Rattle.enumeration_run_laws.proofs.Marking.{row_is, cell_is, set_ok}

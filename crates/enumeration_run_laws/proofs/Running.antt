@@ -27,7 +27,7 @@ use Rattle.enumeration_run.specs.declared.inner.Ran.{Ran}
 use Rattle.enumeration_run.specs.declared.inner.Ran.TheVariants as ran
 use Rattle.enumeration_run.specs.Limits.{Limits}
 use Rattle.enumeration_run_laws.specs.Invariant.{TableOk, Working, Link, FactLink, MayHold, StateOk, RunOk}
-use Rattle.egg.proofs.Cells.{inside, put_length}
+use Rattle.egg.proofs.Cells.{put_length}
 use Rattle.enumeration_run_laws.proofs.Visiting.{next}
 use Rattle.enumeration_run_laws.proofs.Storing.{work_put}
 use Rattle.enumeration_run_laws.proofs.Waiting.{place_spot, added_rows_ok, added_rows_length}

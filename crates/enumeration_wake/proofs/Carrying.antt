@@ -1,12 +1,11 @@
 -- How copies that stand alike are moved on together.
-use Rattle.std.proofs.Common.{◌≡◌, ℕ, ◌+◌, ◌-◌, ◌<◌, ◌≤◌, List, get_or, sym, refl, ap, ◌∙◌, arith}
+use Rattle.std.proofs.Common.{◌≡◌, ℕ, ◌+◌, ◌-◌, List, get_or, ◌∙◌, arith}
 use Rattle.enumeration_rows.specs.declared.inner.RelationTableRow.{RelationTableRow}
 use Rattle.enumeration_rows.specs.declared.inner.SideOfGap.{SideOfGap}
 use Rattle.enumeration_rows.specs.Rows.{stored_row, write_row, list_at, appended, waits}
-use Rattle.enumeration_fill.specs.Fill.{filled}
 use Rattle.enumeration_fill.specs.Alike.{Moves, Alike, forth, backward, moved_alike}
-use Rattle.enumeration_fill.proofs.Alike.{moves_forth, moves_back, moves_alike, moved_list}
-use Rattle.enumeration_wake.specs.Waking.{State, state, wakes, wakes_all}
+use Rattle.enumeration_fill.proofs.Alike.{moves_alike, moved_list}
+use Rattle.enumeration_wake.specs.Waking.{state, wakes, wakes_all}
 use Rattle.enumeration_wake.proofs.WakeLaws.{woken_waits, wake_turn}
 
 module _ (t w : List ℕ) (n top : ℕ) (side : SideOfGap) (b a : RelationTableRow) (M : Moves t n b a) where

@@ -57,7 +57,7 @@ pub fn wake(
 
 // How far the waking of a list has come: the link of the copy that is due, how many copies are left, by how many
 // numbers the last link led on, and whether more of them may stand alike.
-#[derive(Drop)]
+#[derive(Clone, Copy)]
 pub struct Carried {
     pub at: u32,
     pub left: u32,

@@ -1,4 +1,6 @@
 // From abstract_group.rs: a checked factor from composed rows, and what may be asked of it.
+#![tactic(auto)]
+
 ghost use Rattle.std.specs.Prelude.{◌≡◌, ◌+◌, ◌*◌, ◌<◌, ◌≤◌, length};
 ghost use Rattle.build_lending.specs.Lending.{Making};
 ghost use Rattle.factor.specs.Composed.{composed};

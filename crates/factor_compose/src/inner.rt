@@ -18,7 +18,7 @@ pub fn rows_within(s: &[u32], n: u8, count: u32) -> bool
 // The way to a product whose second word has more than five letters: back along `letters` letters of the word of `word`, from the
 // element `from`, to the product or, where `inverted`, to its inverse. It is `found` where every number that was looked at is in
 // range and the inverse of the second has no longer word.
-#[derive(Drop)]
+#[derive(Clone, Copy)]
 pub struct Way {
     pub found: bool,
     pub inverted: bool,

@@ -1,6 +1,6 @@
 -- The written word is the recorded one: its letters are read from the last to the first, five from one row, and each is a generator's number and so a byte.
 use Prim.Native.Nat.{ℕ, zero, suc, ◌+◌, ◌≤◌, ◌<◌}
-use mathlib.Core.Path.{◌≡◌, refl, sym, ap, ◌∙◌}
+use mathlib.Core.Path.{◌≡◌, sym, ap, ◌∙◌}
 use mathlib.Core.List.{List, [], ◌∷◌, ◌++◌, append_assoc}
 use native.Mathlib.Nat.{mod-eq_of_lt, zero-add}
 use native.Mathlib.Omega.{arith}

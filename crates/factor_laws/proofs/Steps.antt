@@ -60,7 +60,7 @@ module _ {s : List ℕ} {n N : ℕ} (S : Sound s n N) where
   pub follow_word : {a : ℕ} {w : List ℕ} → a < N → Word n w → follow s n N a w ≡ reach (walk (step_of s n) a w)
   unfolding follow
   follow_word ha empty = refl
-  follow_word ha (letter hg w) = rw (read_step_lem S ha hg) (follow_word (S.table.closed ha hg) w)
+  follow_word {a = a} ha (letter {g = g} {w = w'} hg w) = rw (read_step_lem S ha hg) (follow_word {a = step_of s n a g} (S.table.closed ha hg) w)
 
   pub read_back : {e g : ℕ} → e < N → g < n → read_step_back s n N e g ≡ reach (back_of s n e g)
   read_back {e} {g} he hg =

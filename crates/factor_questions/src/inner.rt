@@ -9,6 +9,7 @@ use egg::{GeneratorId, GroupElementId, Reached};
 // walked, so that none has to be kept; where that word is longer, forward along the element's own.
 // Where the first's word is shorter than the second's, back along that from the second's inverse, to the inverse of the
 // product.
+#[tactic(auto, using(crate::proofs::Walks::compose_own, crate::proofs::Walks::compose_along))]
 pub fn compose_with_care(
     s: &[u32],
     n: u8,

@@ -1,13 +1,12 @@
 -- Laws of the relations: of turning, of one relation at one element, and of the pairs, whose codes are small and of which 8 generators have 28.
 use Prim.Native.Nat.{ℕ, zero, suc, ◌-◌, ◌/◌, ◌%◌, ◌≤◌, ◌<◌}
 use mathlib.Core.Path.{◌≡◌, refl, sym, ap, ◌∙◌}
-use mathlib.Core.Bool.{Bool, true, false, ◌&&◌}
+use mathlib.Core.Bool.{Bool, true, ◌&&◌}
 use mathlib.Core.List.{List, [], ◌∷◌}
-use native.Mathlib.Nat.{mul-le-mul}
 use native.Mathlib.Omega.{arith}
-use borrow.Author.Tests.{eq-eqb, ne_eqb, eqb-true, eqb-false, ltb-true}
+use borrow.Author.Tests.{eq-eqb, ne_eqb, ltb-true}
 use lib.ListN.{length, get_or}
-use lib.Dec.{eqb, ltb}
+use lib.Dec.{ltb}
 use Rattle.egg.specs.declared.Refusal.{Refusal}
 use Rattle.egg.specs.declared.GroupElementId.{GroupElementId}
 use Rattle.egg.specs.declared.Verdict.{Verdict}
@@ -15,7 +14,7 @@ use Rattle.egg.specs.declared.Verdict.TheVariants as verdict
 use Rattle.egg.specs.declared.Reached.{Reached}
 use Rattle.egg.specs.declared.Reached.TheVariants.{Element, Refused}
 use Rattle.egg.specs.Scan.{refused_of}
-use Rattle.egg.specs.Pairs.{pairs, pair_code, pair_count, orders_right}
+use Rattle.egg.specs.Pairs.{pairs, pair_code, orders_right}
 use Rattle.egg.specs.Factor.{read_step}
 use Rattle.egg.proofs.Rooms.{and_first, and_second}
 use Rattle.factor_relations.specs.Relations.{turned, returns_to, relation_at}

@@ -1,7 +1,6 @@
 -- Refusal 13, "a relation fails", with its places "element, generator, generator". "For each element it tests each generator doubled, then each
 -- pair's 2m steps in list order." A number out of range on the way is 17, as met.
-use Rattle.std.specs.Prelude.{ℕ, zero, suc, ◌+◌, ◌/◌, ◌%◌, List, length, get_or, eqb}
-use Rattle.egg.specs.declared.Refusal.{Refusal}
+use Rattle.std.specs.Prelude.{ℕ, zero, suc, ◌/◌, ◌%◌, List, length, get_or, eqb}
 use Rattle.egg.specs.declared.Verdict.{Verdict}
 use Rattle.egg.specs.declared.Verdict.TheVariants as verdict
 use Rattle.egg.specs.declared.Reached.{Reached}

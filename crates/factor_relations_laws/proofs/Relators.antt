@@ -1,7 +1,7 @@
 -- Refusal 13 on an accepted table: the test is exact, and what holds at the identity holds at every element.
-use Prim.Native.Nat.{ℕ, zero, suc, ◌+◌, ◌/◌, ◌-◌, ◌%◌, ◌≤◌, ◌<◌}
+use Prim.Native.Nat.{ℕ, zero, suc, ◌/◌, ◌-◌, ◌%◌, ◌≤◌, ◌<◌}
 use mathlib.Core.Path.{◌≡◌, refl, sym, ◌∙◌}
-use mathlib.Core.Logic.{◌↔◌, ◌⊎◌, inl, inr, ⊎_elim}
+use mathlib.Core.Logic.{◌↔◌, ⊎_elim}
 use mathlib.Core.Bool.{Bool, true, false}
 use mathlib.Core.List.{List}
 use native.Mathlib.Omega.{arith}
@@ -14,7 +14,7 @@ use Rattle.egg.specs.declared.Reached.TheVariants.{Element}
 use Rattle.egg.specs.declared.Verdict.TheVariants.{Fine, Refused}
 use Rattle.egg.specs.Table.{pick, step_of}
 use Rattle.egg.specs.Pairs.{pair_code, pair_count, orders_right, order_at}
-use Rattle.egg.specs.Scan.{and_then, scan}
+use Rattle.egg.specs.Scan.{scan}
 use Rattle.egg.proofs.Scans.{refused_fine, and_then_fine, and_then_refused, scan_here, scan_fine, scan_refused}
 use Rattle.factor_relations.specs.Relations.{turned, relation_at, doubled_row, pairs_row, relations_row, relations}
 use Rattle.theory.specs.Words.{walk}

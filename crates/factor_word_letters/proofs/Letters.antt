@@ -9,7 +9,6 @@ use lib.ListN.{length, take, drop, set, length-set, length-append, length-drop}
 use lib.Seq.{drop-cons, get_or-set_same, drop-set-lt, drop-set-add}
 use lib.Dec.{ltb}
 use Rattle.egg.specs.Table.{hop_of}
-use Rattle.egg.proofs.Rooms.{false_true}
 use Rattle.build_word_cells.specs.Hops.{without}
 use Rattle.build_word_cells.proofs.Hops.{five_off}
 use Rattle.factor_word_letters.specs.Spell.{cell_within, readable_by, readable, letters_by, letters, spell_by, spell_from, spell}

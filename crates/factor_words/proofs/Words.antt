@@ -1,6 +1,6 @@
 -- Laws of the recorded words, one for each answer, by the tests that lead to it.
 use Prim.Native.Nat.{ℕ, ◌+◌, ◌-◌, ◌≤◌, ◌<◌}
-use mathlib.Core.Path.{◌≡◌, refl, sym, ◌∙◌}
+use mathlib.Core.Path.{◌≡◌, refl, sym}
 use mathlib.Core.Bool.{Bool, true, false}
 use mathlib.Core.List.{List, ◌++◌}
 use native.Mathlib.Omega.{arith}
@@ -11,8 +11,8 @@ use Rattle.egg.specs.declared.Refusal.{Refusal}
 use Rattle.egg.specs.declared.Counted.{Counted}
 use Rattle.egg.specs.declared.Counted.TheVariants as counted
 use Rattle.egg.specs.Table.{length_of}
-use Rattle.factor_word_letters.specs.Spell.{readable, letters, spell}
-use Rattle.factor_word_letters.proofs.Letters.{take_all, letters_length, letters_spelled, letters_taken}
+use Rattle.factor_word_letters.specs.Spell.{readable, spell}
+use Rattle.factor_word_letters.proofs.Letters.{letters_spelled, letters_taken}
 pub use Rattle.factor_word_letters.proofs.Letters.{drop_set_here}
 use Rattle.factor_words.specs.Words.{length_in, write_in, written_by}
 
@@ -25,11 +25,9 @@ module _ (s : List ℕ) (n e : ℕ) {len : ℕ} (q : len ≡ length_of s n e) wh
   unfolding length_in
   length_count h = rw (← q) (simp (le-ltb _ _ h))
 
-pub spell_copied : (s : List ℕ) (n k e : ℕ) (held out : List ℕ) {l out' : List ℕ} → k + 4 ≤ length held → k ≤ length out → l ≡ spell k s n e (drop 4 held)
-    → out' ≡ take (length (take (k + 4 - 4) l)) (take (k + 4 - 4) l) ++ drop (length (take (k + 4 - 4) l)) out → out' ≡ spell k s n e out
-spell_copied s n k e held out {l} h r p q =
-    let all : take k (letters k s n e) ≡ letters k s n e = take_all (letters k s n e) k (sym (letters_length s n k 0 e)) in
-    q ∙ rw (letters_taken s n k e held h p, letters_length s n k 0 e, all) (sym (letters_spelled s n k 0 e out r))
+pub spell_copied : (s : List ℕ) (n k e : ℕ) (held out : List ℕ) {l copied : List ℕ} → k + 4 ≤ length held → k ≤ length out → l ≡ spell k s n e (drop 4 held)
+    → copied ≡ take (k + 4 - 4) l → copied ++ drop k out ≡ spell k s n e out
+spell_copied s n k e held out h r p q = rw (q, letters_taken s n k e held h p) (sym (letters_spelled s n k 0 e out r))
 
 module _ (s : List ℕ) (n count e size : ℕ) {len : ℕ} (q : len ≡ length_of s n e) where
   pub write_long : 4096 < len → write_in s n count e size ≡ counted.Refused (record { number = 17; a = 0; b = 0; c = 0 })

@@ -28,7 +28,7 @@ fn write_short(s: &[u32], n: u8, count: u32, e: GroupElementId, len: u32, out: &
     if !factor_word_letters::inner::gather(&s[..], n, count, e, len, &mut held) {
         return false;
     }
-    bytes::copy(&held[4..(len as usize) + 4], out);
+    out[..len as usize].copy_from_slice(&held[4..(len as usize) + 4]);
     true
 }
 
@@ -41,7 +41,7 @@ fn write_long(s: &[u32], n: u8, count: u32, e: GroupElementId, len: u32, out: &m
     if !factor_word_letters::inner::gather(&s[..], n, count, e, len, &mut held) {
         return false;
     }
-    bytes::copy(&held[4..(len as usize) + 4], out);
+    out[..len as usize].copy_from_slice(&held[4..(len as usize) + 4]);
     true
 }
 
