@@ -3,6 +3,8 @@
 // 17 for each handle, 14 for its arguments, 15 for a product too large (more than 8 factors or 4,294,967,295 elements), 1 and 4 for what a build is
 // given and lent, and then 17 for each number that it reads. Where a product has one factor alone, that factor is asked itself, since there is
 // nothing to split.
+#![tactic(auto)]
+
 ghost use Rattle.std.specs.Prelude.{◌≡◌, length};
 ghost use Rattle.build_lending.specs.Lending.{Making};
 ghost use Rattle.group.specs.Questions.{count_answer, generators_answer, generator_answer, step_answer, walk_answer, project_answer, inject_answer, split_answer, split_leaves, join_answer, compose_answer, inverse_answer, conjugate_answer, powi_answer, period_answer, length_answer, write_answer, written, word_part};

@@ -1,5 +1,5 @@
 -- Laws of strides, of splitting into a lent list, and of joining.
-use Prim.Native.Nat.{ℕ, zero, suc, ◌+◌, ◌*◌, ◌-◌, ◌/◌, ◌%◌, ◌≤◌, ◌<◌}
+use Prim.Native.Nat.{ℕ, zero, suc, ◌+◌, ◌*◌, ◌/◌, ◌%◌, ◌≤◌, ◌<◌}
 use mathlib.Core.Path.{◌≡◌, refl, sym, ap, ◌∙◌}
 use mathlib.Core.Bool.{Bool, true, false}
 use mathlib.Core.List.{List, [], ◌∷◌, ◌++◌}
@@ -10,7 +10,7 @@ use lib.ListN.{length, get_or, drop}
 use lib.Dec.{ltb}
 use lib.Seq.{drop-cons, set-append_seam}
 use Rattle.egg.specs.declared.Factor.{Factor}
-use Rattle.egg.specs.declared.Verdict.TheVariants.{Fine, Refused}
+use Rattle.egg.specs.declared.Verdict.TheVariants.{Fine}
 use Rattle.egg.specs.declared.Counted.{Counted}
 use Rattle.egg.specs.declared.Counted.TheVariants as counted
 use Rattle.egg.specs.declared.Reached.TheVariants as reached

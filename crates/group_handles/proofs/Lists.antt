@@ -1,5 +1,5 @@
 -- Laws of the list of handles: how long it is, and what stands at a place of it.
-use Prim.Native.Nat.{ℕ, zero, suc, ◌+◌, ◌-◌, ◌≤◌, ◌<◌}
+use Prim.Native.Nat.{ℕ, zero, suc, ◌+◌, ◌≤◌, ◌<◌}
 use mathlib.Core.Path.{◌≡◌, refl, sym, ap, ◌∙◌}
 use mathlib.Core.Bool.{true}
 use mathlib.Core.List.{List, [], ◌∷◌, map}
@@ -12,7 +12,6 @@ use Rattle.egg.specs.Factor.{fits_in}
 use Rattle.egg.proofs.Rooms.{and_first, and_second, some}
 use Rattle.build_lending.proofs.Fits.{fits_small}
 use Rattle.build_lending.specs.Lending.{no_factor}
-use Rattle.theory_radix.specs.Radix.{count}
 use Rattle.group_handles.specs.declared.Group.{Group}
 use Rattle.group_handles.specs.Handles.{handles, sizes, elements_of, all_fit}
 use Rattle.group_handles.specs.Alone.{Alone}

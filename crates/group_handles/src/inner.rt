@@ -58,7 +58,7 @@ pub fn times(p: u64, n: u32) -> u64
 
 // What one pass over the handles shows: whether each fits the buffer, and how many elements (as far as 32 bits can tell)
 // and generators they have together.
-#[derive(Drop)]
+#[derive(Clone, Copy)]
 pub struct Seen {
     pub fit: bool,
     pub elements: u64,
@@ -132,7 +132,7 @@ pub fn limited(g: Group) -> bool
 }
 
 // What an argument has to be below.
-#[derive(Drop)]
+#[derive(Clone, Copy)]
 pub enum Limit {
     Elements,
     Generators,

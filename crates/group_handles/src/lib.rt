@@ -1,5 +1,7 @@
 // Direct products as values, and how they are made, from group.rs. A product is up to eight handles of factors that stand in one table buffer, the
 // fastest digit first.
+#![tactic(auto)]
+
 ghost use Rattle.std.specs.Prelude.{◌≡◌, [], ◌∷◌, length};
 ghost use Rattle.group_handles.specs.Handles.{group_of, joins};
 
@@ -8,14 +10,14 @@ use egg::{Factor, Verdict};
 pub mod inner;
 
 // A product: its factors, of which only the first `count` are looked at.
-#[derive(Drop)]
+#[derive(Clone, Copy)]
 pub struct Group {
     pub factors: [Factor; 8],
     pub count: u8,
 }
 
 // What a call that makes a product answers; the product stands beside the verdict, and fits no buffer where it was refused.
-#[derive(Drop)]
+#[derive(Clone, Copy)]
 pub struct Grouped {
     pub answer: Verdict,
     pub group: Group,

@@ -9,6 +9,9 @@ use group_handles::Group;
 
 pub mod one;
 
+// The least exponent, i32::MIN.
+const LEAST: i32 = -2147483648;
+
 // The k-th power: the square of the power by half of k, and once more the element where k is odd.
 pub fn power(table: &[u32], g: Group, a: GroupElementId, k: u32) -> Reached
     requires { (all_fit (length table.now) (handles g) ≡ true) × (elements_of (handles g) ≤ 4294967295) }
@@ -43,7 +46,7 @@ pub fn powi_in(table: &[u32], g: Group, a: GroupElementId, i: i32) -> Reached
     let Reached::Element(b) = back else {
         return back;
     };
-    if i == -2147483648 {
+    if i == LEAST {
         let root = power(&table[..], g, b, 1073741824);
         let Reached::Element(x) = root else {
             return root;

@@ -33,7 +33,7 @@ fn admit_walk(s: Seen, g: Group, e: u32, word: &[u8]) -> Verdict
 }
 
 // The place of a factor, and how many generators come before its own.
-#[derive(Drop)]
+#[derive(Clone, Copy)]
 pub struct Owner {
     pub at: u32,
     pub before: u32,

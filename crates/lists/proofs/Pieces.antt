@@ -77,7 +77,7 @@ module _ {m : ℕ} {part : ℕ → Reached} {said : Listed} {piece : List ℕ} (
   place_within : {at : RefusedPlace} → said ≡ RefusedAt at → at.place ≤ m
   place_within {at} q =
       let own : RefusedAt at ≡ first_refused m part 0 = sym q ∙ w.told in
-      let h : (listed_paper (RefusedAt at)).place ≤ 0 + m = rw own (refused_below m part 0) in
+      let h : (listed_paper (RefusedAt at)).place ≤ 0 + m = subst (λ (x : Listed). (listed_paper x).place ≤ 0 + m) (sym own) (refused_below m part 0) in
       omega (arith, h)
 
   number_there : said ≡ Fine → (j : ℕ) → j < m → get_or piece j 0 ≡ number_of (part j)

@@ -8,6 +8,7 @@ use super::{Listed, RefusedPlace};
 use egg::{Reached, Refusal};
 
 // Whether three lists are of one length, and of at most 4,096 places.
+#[tactic(auto, using(crate::proofs::Lengths::right_second, crate::proofs::Lengths::right_out, crate::proofs::Lengths::right_long))]
 pub fn lengths_right(first: usize, second: usize, out: usize) -> bool
     ensures { result ≡ lengths_right first second out }
 {

@@ -1,17 +1,19 @@
 // Order 2: what a question over lists answers.
+#![tactic(auto)]
+
 use egg::Refusal;
 
 pub mod inner;
 
 // A place of the lists, counted from 0, and what the single call says there.
-#[derive(Drop)]
+#[derive(Clone, Copy)]
 pub struct RefusedPlace {
     pub place: usize,
     pub why: Refusal,
 }
 
 // All places are right; or the first that is refused; or the lists themselves are, before any place is looked at.
-#[derive(Drop)]
+#[derive(Clone, Copy)]
 pub enum Listed {
     Fine,
     RefusedAt(RefusedPlace),

@@ -1,4 +1,6 @@
 // Order 2: questions about a factor's elements, over lists of them.
+#![tactic(auto)]
+
 ghost use Rattle.std.specs.Prelude.{◌≡◌};
 ghost use Rattle.lists.specs.Lists.{Answered};
 ghost use Rattle.lists_factor.specs.Each.{compose_each, inverse_each, powi_each};

@@ -9,7 +9,7 @@ ghost use Rattle.lists_powers.specs.Rounds.{Base, Bases, Largest, factor_at, kep
 use egg::{GroupElementId, Reached};
 
 // The element whose power is taken, and by how much; and whether there is one.
-#[derive(Drop)]
+#[derive(Clone, Copy)]
 pub struct PowerOf {
     pub fine: bool,
     pub base: u32,

@@ -11,7 +11,7 @@ use egg::{GroupElementId, Reached};
 
 // One walk. It is to the product at `place`, and idle where that is the lists' length. It has come to the element that is stored
 // as y, `left` letters are left, the next of them in the row of `at`, and at the end the inverse is wanted or the element itself.
-#[derive(Drop)]
+#[derive(Clone, Copy)]
 pub struct Lane {
     pub place: usize,
     pub y: u32,
@@ -21,7 +21,7 @@ pub struct Lane {
 }
 
 // A lane, and the next place that no lane has had yet. Where not `fine`, a number was out of range, and the rest means nothing.
-#[derive(Drop)]
+#[derive(Clone, Copy)]
 pub struct Taken {
     pub lane: Lane,
     pub next: usize,
@@ -29,7 +29,7 @@ pub struct Taken {
 }
 
 // The four lanes, and the same.
-#[derive(Drop)]
+#[derive(Clone, Copy)]
 pub struct FourLanes {
     pub p: Lane,
     pub q: Lane,
@@ -40,7 +40,7 @@ pub struct FourLanes {
 }
 
 // A number for each lane.
-#[derive(Drop)]
+#[derive(Clone, Copy)]
 pub struct Four {
     pub p: u32,
     pub q: u32,

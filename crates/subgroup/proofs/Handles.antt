@@ -1,7 +1,7 @@
 -- Laws of the questions about the handles alone, one for each answer; and of the overgroup's factors, which are few enough to be one product.
 use Prim.Native.Nat.{ℕ, ◌+◌, ◌≤◌}
-use mathlib.Core.Path.{◌≡◌, refl, sym, ap, ◌∙◌, subst}
-use mathlib.Core.Bool.{Bool, true, false, ◌&&◌}
+use mathlib.Core.Path.{◌≡◌, refl, sym, ap, ◌∙◌}
+use mathlib.Core.Bool.{Bool, true, false}
 use mathlib.Core.List.{List, ◌++◌}
 use native.Mathlib.Omega.{arith}
 use borrow.Author.Tests.{leb-true}
@@ -15,12 +15,11 @@ use Rattle.egg.specs.Scan.{refused_of}
 use Rattle.egg.proofs.Rooms.{and_first, and_second}
 use Rattle.egg.proofs.Scans.{refused_fine}
 use Rattle.group_handles.specs.declared.Group.{Group}
-use Rattle.group_handles.specs.declared.Grouped.{Grouped}
 use Rattle.group_handles.specs.Handles.{handles, group_of, no_group}
 use Rattle.group_handles.proofs.Sums.{both_length}
 use Rattle.group_handles.proofs.Joins.{handles_of}
 use Rattle.subgroup_build.specs.declared.Subgroup.{Subgroup}
-use Rattle.subgroup_sides.specs.Sides.{over_side, sub_side, sides_fit, few_factors, sides_limited}
+use Rattle.subgroup_sides.specs.Sides.{over_side, sides_fit, few_factors, sides_limited}
 use Rattle.subgroup.specs.Questions.{admits_handles, if_grouped}
 
 -- 17, then 15.

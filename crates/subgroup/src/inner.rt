@@ -18,7 +18,7 @@ use subgroup_build::Subgroup;
 // What one look at a subgroup's handles shows: whether each fits its buffer, whether either side has at most 8 factors, and how many elements there
 // are in the factors below, in the subgroup's own, in those that it stands for and in those above, as far as 32 bits can tell. The questions need no
 // more than these numbers; a `Subgroup` is 620 bytes, which every function that is not put in line copies.
-#[derive(Drop)]
+#[derive(Clone, Copy)]
 pub struct Outline {
     pub fit: bool,
     pub few: bool,

@@ -2,6 +2,8 @@
 // lent maps: `inn` from the overgroup's elements to the subgroup's, or to 4,294,967,295 for "not in the subgroup", and `outw` from the subgroup's to
 // the overgroup's. Every call checks, in this order: 17 for each handle, 14 for its arguments, 15 for a product too large, 1 and 4 for what a build
 // is given and lent, and then 17 for each number that it reads.
+#![tactic(auto)]
+
 ghost use Rattle.std.specs.Prelude.{◌≡◌, length};
 ghost use Rattle.subgroup_build.specs.Lent.{Subgrouping};
 ghost use Rattle.subgroup_build.specs.Generated.{from_generators};
@@ -17,7 +19,7 @@ pub use subgroup_predicate::from_predicate;
 pub mod inner;
 
 // What an element of the overgroup is in the subgroup: an element, or outside of it.
-#[derive(Drop)]
+#[derive(Clone, Copy)]
 pub enum Within {
     Element(GroupElementId),
     Outside,

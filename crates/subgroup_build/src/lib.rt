@@ -1,5 +1,7 @@
 // Builds a subgroup from generators, numbering the overgroup's products in order of first appearance. From subgroup_action.rs; the crate `subgroup`
 // has the calls.
+#![tactic(auto)]
+
 use egg::{Factor, Verdict};
 use group_handles::Group;
 
@@ -7,7 +9,7 @@ pub mod inner;
 
 // A subgroup of the product `over`, with other factors multiplied on at either side: the overgroup is below · over · above, and the subgroup is below
 // · factor · above, the fastest digit first. The handles of the overgroup stand in one lent buffer, the factor in the one that it was built in.
-#[derive(Drop)]
+#[derive(Clone, Copy)]
 pub struct Subgroup {
     pub below: Group,
     pub factor: Factor,
@@ -16,7 +18,7 @@ pub struct Subgroup {
 }
 
 // What a call that makes a subgroup answers; the subgroup stands beside the verdict, and its factor fits no buffer where it was refused.
-#[derive(Drop)]
+#[derive(Clone, Copy)]
 pub struct Subgrouped {
     pub answer: Verdict,
     pub subgroup: Subgroup,

@@ -25,6 +25,7 @@ fn factor_product(from: &[u32], f: Factor, a: GroupElementId, b: GroupElementId)
 
 // One more than the letter by which a product with b is a step, where the word of b has one letter, and its cell nothing above
 // that; else 0.
+#[tactic(auto, using(crate::proofs::LetterLaws::no_letter, crate::proofs::LetterLaws::one_letter))]
 fn step_letter(s: &[u32], n: u8, b: GroupElementId) -> u32
     ensures { OneLetter s.now n b.0 result }
 {

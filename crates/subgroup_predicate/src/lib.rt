@@ -1,4 +1,6 @@
 // Builds the subgroup that a predicate tells, a lent byte for each element of the overgroup: `from_subgroup_predicate` of subgroup_action.rs.
+#![tactic(auto)]
+
 ghost use Rattle.std.specs.Prelude.{◌≡◌};
 ghost use Rattle.subgroup_build.specs.Lent.{Subgrouping};
 ghost use Rattle.subgroup_predicate.specs.Predicate.{from_predicate};

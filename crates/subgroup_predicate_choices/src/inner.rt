@@ -11,7 +11,7 @@ use egg::{Counted, GroupElementId, Refusal};
 use group_handles::Group;
 
 // The elements that a predicate has chosen so far, the first `generators` of eight, and how their build ended.
-#[derive(Drop)]
+#[derive(Clone, Copy)]
 pub struct Picks {
     pub chosen: [u32; 8],
     pub generators: u8,
@@ -71,7 +71,8 @@ fn choose(
         return p;
     }
     let k = p.generators as usize;
-    if 8 <= k {
+    let full = 8 <= k;
+    if full {
         return ninth(t, w, inn, outw, p);
     }
     let new = x.0;

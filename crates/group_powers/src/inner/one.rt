@@ -5,6 +5,9 @@ ghost use Rattle.group_powers.specs.Powers.{by_halving, powers, powi_alone};
 
 use egg::{Factor, GroupElementId, Reached, Verdict};
 
+// The least exponent, i32::MIN.
+const LEAST: i32 = -2147483648;
+
 // The k-th power: the square of the power by half of k, and once more the element where k is odd.
 fn power(s: &[u32], n: u8, count: u32, a: GroupElementId, k: u32) -> Reached
     ensures { result ≡ by_halving k (compose_in s.now n count) a.0 k }
@@ -37,7 +40,7 @@ fn powi_in(s: &[u32], n: u8, count: u32, a: GroupElementId, i: i32) -> Reached
     let Reached::Element(b) = back else {
         return back;
     };
-    if i == -2147483648 {
+    if i == LEAST {
         let root = power(&s[..], n, count, b, 1073741824);
         let Reached::Element(x) = root else {
             return root;

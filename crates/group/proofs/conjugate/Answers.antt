@@ -1,0 +1,22 @@
+-- A product of one factor is asked as the factor is. Else the verdict of `admit` decides, and the work's own contract is the answer.
+use lib.ListN.{length}
+use mathlib.Core.Path.{◌∙◌}
+use Rattle.group.specs.Questions.{conjugate_answer}
+use Rattle.factor.proofs.Admits.{reach_refused, reach_fine}
+use Rattle.group_handles.proofs.Admitted.{ready}
+use Rattle.group.proofs.OneFactor.{one_conjugate}
+use Rattle.group.proofs.conjugate.Goals as goal
+
+pub returns-then-alone : goal.returns-then-alone
+returns-then-alone c = c.conjugate.ensures ∙ one_conjugate c.args.table.now c.args.g _ (c.alone.ensures c.if-alone.true).counted (c.alone.ensures c.if-alone.true).listed c.args.a c.args.b
+
+pub conjugate_digits-requires : goal.conjugate_digits-requires
+conjugate_digits-requires c = (ready (length c.args.table.now) c.args.g _ _ _ _ c.admit.ensures c.in-Fine.is)
+
+pub returns-in-Refused : goal.returns-in-Refused
+unfolding conjugate_answer
+returns-in-Refused c = reach_refused c.admit.ensures _ c.in-Refused.is
+
+pub returns-in-Fine : goal.returns-in-Fine
+unfolding conjugate_answer
+returns-in-Fine c = c.conjugate_digits.ensures ∙ reach_fine c.admit.ensures _ c.in-Fine.is

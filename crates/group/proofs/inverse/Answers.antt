@@ -1,0 +1,22 @@
+-- A product of one factor is asked as the factor is. Else the verdict of `admit_one` decides, and the work's own contract is the answer.
+use lib.ListN.{length}
+use mathlib.Core.Path.{◌∙◌}
+use Rattle.group.specs.Questions.{inverse_answer}
+use Rattle.factor.proofs.Admits.{reach_refused, reach_fine}
+use Rattle.group_handles.proofs.Admitted.{ready}
+use Rattle.group.proofs.OneFactor.{one_inverse}
+use Rattle.group.proofs.inverse.Goals as goal
+
+pub returns-then-alone : goal.returns-then-alone
+returns-then-alone c = c.inverse.ensures ∙ one_inverse c.args.table.now c.args.g _ (c.alone.ensures c.if-alone.true).counted (c.alone.ensures c.if-alone.true).listed c.args.a
+
+pub inverse_digits-requires : goal.inverse_digits-requires
+inverse_digits-requires c = (ready (length c.args.table.now) c.args.g _ _ _ _ c.admit_one.ensures c.in-Fine.is)
+
+pub returns-in-Refused : goal.returns-in-Refused
+unfolding inverse_answer
+returns-in-Refused c = reach_refused c.admit_one.ensures _ c.in-Refused.is
+
+pub returns-in-Fine : goal.returns-in-Fine
+unfolding inverse_answer
+returns-in-Fine c = c.inverse_digits.ensures ∙ reach_fine c.admit_one.ensures _ c.in-Fine.is

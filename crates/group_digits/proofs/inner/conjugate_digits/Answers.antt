@@ -1,0 +1,52 @@
+use Prim.Native.Nat.{◌%◌}
+use lib.ListN.{length, get_or}
+use native.Mathlib.Nat.{mod-lt}
+use native.Mathlib.Omega.{arith}
+use Rattle.build_lending.specs.Lending.{no_factor}
+use Rattle.group_handles.specs.Handles.{handles}
+use Rattle.group_digits.specs.Digits.{Conjugate}
+use Rattle.group_handles.proofs.Lists.{turn_at, turned_all, fits_there, some_there, positive}
+use Rattle.group_digits.proofs.Walks.{gathering, gathers_on, gathers_stop, gathers_end, below_element, digit_below, digit_conjugate, sum_fits, stride_fits}
+use Rattle.group_digits.proofs.inner.conjugate_digits.Goals as goal
+
+pub loop-f-init : goal.loop-f-init
+loop-f-init c = gathering (handles c.args.g) c.args.a.0 c.args.b.0
+
+pub part-s-requires : goal.part-s-requires
+part-s-requires c = fits_there c.args.g c.loop-f.f c.listed-c.ensures.0 c.loop-f-test.true (length c.args.table.now) c.requires.0
+
+pub nonzero_rem-x : goal.nonzero_rem-x
+nonzero_rem-x c = omega (arith, (some_there c.args.g c.loop-f.f c.listed-c.ensures.0 c.loop-f-test.true (length c.args.table.now) c.requires.0))
+
+pub nonzero_rem-y : goal.nonzero_rem-y
+nonzero_rem-y c = omega (arith, (some_there c.args.g c.loop-f.f c.listed-c.ensures.0 c.loop-f-test.true (length c.args.table.now) c.requires.0))
+
+pub returns-in_default : goal.returns-in_default
+returns-in_default c = gathers_stop c.loop-f.invariant (turn_at c.args.g c.loop-f.f c.listed-c.ensures.0 c.loop-f-test.true) (digit_conjugate c.args.table.now (get_or c.args.g.factors c.loop-f.f no_factor) (c.loop-f.x % (get_or c.args.g.factors c.loop-f.f no_factor).elements) (c.loop-f.y % (get_or c.args.g.factors c.loop-f.f no_factor).elements) c.part-s.ensures c.conjugate_elements-r.ensures) c.in_default.is
+
+pub overflow_mul-sum : goal.overflow_mul-sum
+overflow_mul-sum c = omega (arith, sum_fits c.loop-f.invariant.walks (turn_at c.args.g c.loop-f.f c.listed-c.ensures.0 c.loop-f-test.true) (below_element (digit_below Conjugate c.args.table.now (get_or c.args.g.factors c.loop-f.f no_factor) (c.loop-f.x % (get_or c.args.g.factors c.loop-f.f no_factor).elements) (c.loop-f.y % (get_or c.args.g.factors c.loop-f.f no_factor).elements) (mod-lt c.loop-f.x (some_there c.args.g c.loop-f.f c.listed-c.ensures.0 c.loop-f-test.true (length c.args.table.now) c.requires.0))) (digit_conjugate c.args.table.now (get_or c.args.g.factors c.loop-f.f no_factor) (c.loop-f.x % (get_or c.args.g.factors c.loop-f.f no_factor).elements) (c.loop-f.y % (get_or c.args.g.factors c.loop-f.f no_factor).elements) c.part-s.ensures c.conjugate_elements-r.ensures) c.in-Element.is), stride_fits c.loop-f.invariant.walks (turn_at c.args.g c.loop-f.f c.listed-c.ensures.0 c.loop-f-test.true) (positive (length c.args.table.now) (handles c.args.g) c.requires.0), c.requires.1)
+
+pub overflow_add-sum : goal.overflow_add-sum
+overflow_add-sum c = omega (arith, sum_fits c.loop-f.invariant.walks (turn_at c.args.g c.loop-f.f c.listed-c.ensures.0 c.loop-f-test.true) (below_element (digit_below Conjugate c.args.table.now (get_or c.args.g.factors c.loop-f.f no_factor) (c.loop-f.x % (get_or c.args.g.factors c.loop-f.f no_factor).elements) (c.loop-f.y % (get_or c.args.g.factors c.loop-f.f no_factor).elements) (mod-lt c.loop-f.x (some_there c.args.g c.loop-f.f c.listed-c.ensures.0 c.loop-f-test.true (length c.args.table.now) c.requires.0))) (digit_conjugate c.args.table.now (get_or c.args.g.factors c.loop-f.f no_factor) (c.loop-f.x % (get_or c.args.g.factors c.loop-f.f no_factor).elements) (c.loop-f.y % (get_or c.args.g.factors c.loop-f.f no_factor).elements) c.part-s.ensures c.conjugate_elements-r.ensures) c.in-Element.is), stride_fits c.loop-f.invariant.walks (turn_at c.args.g c.loop-f.f c.listed-c.ensures.0 c.loop-f-test.true) (positive (length c.args.table.now) (handles c.args.g) c.requires.0), c.requires.1)
+
+pub overflow_mul-stride : goal.overflow_mul-stride
+overflow_mul-stride c = omega (arith, stride_fits c.loop-f.invariant.walks (turn_at c.args.g c.loop-f.f c.listed-c.ensures.0 c.loop-f-test.true) (positive (length c.args.table.now) (handles c.args.g) c.requires.0), c.requires.1)
+
+pub nonzero_div-x : goal.nonzero_div-x
+nonzero_div-x c = omega (arith, (some_there c.args.g c.loop-f.f c.listed-c.ensures.0 c.loop-f-test.true (length c.args.table.now) c.requires.0))
+
+pub nonzero_div-y : goal.nonzero_div-y
+nonzero_div-y c = omega (arith, (some_there c.args.g c.loop-f.f c.listed-c.ensures.0 c.loop-f-test.true (length c.args.table.now) c.requires.0))
+
+pub overflow_add-f : goal.overflow_add-f
+overflow_add-f c = omega (arith, c.listed-c.ensures.1, c.loop-f-test.true)
+
+pub loop-f-smaller : goal.loop-f-smaller
+loop-f-smaller c = omega (arith, c.loop-f-test.true)
+
+pub loop-f-preserved : goal.loop-f-preserved
+loop-f-preserved c = gathers_on c.loop-f.invariant (turn_at c.args.g c.loop-f.f c.listed-c.ensures.0 c.loop-f-test.true) (digit_conjugate c.args.table.now (get_or c.args.g.factors c.loop-f.f no_factor) (c.loop-f.x % (get_or c.args.g.factors c.loop-f.f no_factor).elements) (c.loop-f.y % (get_or c.args.g.factors c.loop-f.f no_factor).elements) c.part-s.ensures c.conjugate_elements-r.ensures) c.in-Element.is (below_element (digit_below Conjugate c.args.table.now (get_or c.args.g.factors c.loop-f.f no_factor) (c.loop-f.x % (get_or c.args.g.factors c.loop-f.f no_factor).elements) (c.loop-f.y % (get_or c.args.g.factors c.loop-f.f no_factor).elements) (mod-lt c.loop-f.x (some_there c.args.g c.loop-f.f c.listed-c.ensures.0 c.loop-f-test.true (length c.args.table.now) c.requires.0))) (digit_conjugate c.args.table.now (get_or c.args.g.factors c.loop-f.f no_factor) (c.loop-f.x % (get_or c.args.g.factors c.loop-f.f no_factor).elements) (c.loop-f.y % (get_or c.args.g.factors c.loop-f.f no_factor).elements) c.part-s.ensures c.conjugate_elements-r.ensures) c.in-Element.is)
+
+pub returns : goal.returns
+returns c = gathers_end c.loop-f.invariant (turned_all (handles c.args.g) c.loop-f.f c.listed-c.ensures.0 c.loop-f-test.false)

@@ -1,0 +1,7 @@
+-- The pass shows them over any buffer.
+use mathlib.Core.Path.{ap}
+use Rattle.group_handles.specs.declared.inner.Seen.{Seen}
+use Rattle.group_handles.proofs.inner.generators_of.Goals as goal
+
+pub returns : goal.returns
+returns c = (ap (λ (s : Seen). s.generators) c.look-s.ensures.0, c.look-s.ensures.1)
