@@ -1,4 +1,7 @@
 // The builder's calls as C functions. A builder's handle is four numbers, as a factor's is: start, room, generators, and how many elements it knows.
+// `capi_builder_c` exports them to C.
+#![tactic(auto)]
+
 ghost use Rattle.std.specs.Prelude.{◌≡◌, [], ◌∷◌};
 ghost use Rattle.egg.specs.Factor.{verdict_paper, reached_paper};
 ghost use Rattle.builder.specs.Calls.{Leaving, begins, grows, stores, builds};
@@ -68,14 +71,7 @@ fn write_grown(out: &mut [u32], g: Grown) -> u32
 
 // Begins a build in the stretch of table that starts at start. Refuses in this order: 4 for an out shorter than 5, 1 for more than 8 generators, 4
 // for a room out of range or a short table.
-#[unsafe(no_mangle)]
-pub extern "C" fn hg_begin(
-    table: &mut [u32],
-    start: usize,
-    room: u32,
-    n: u8,
-    out: &mut [u32],
-) -> u32
+pub fn hg_begin(table: &mut [u32], start: usize, room: u32, n: u8, out: &mut [u32]) -> u32
     ensures { telling result out.new (table.new ∷ []) ≡ in_out 5 out.old (table.old ∷ []) (begun_told (begins table.old start room n) out.old) }
 {
     if out.len() < 5 {
@@ -88,8 +84,7 @@ pub extern "C" fn hg_begin(
 // Adds a new element, reached from e by g. Refuses in this order: 4 for an out shorter than 5, 17 for a handle that does not fit, 14 for an element
 // or a generator out of range, which touch nothing; then 5 beyond the room, 17 for a length read that is over 4,096, 6 for a word that would pass
 // 4,096, which end the build.
-#[unsafe(no_mangle)]
-pub extern "C" fn hg_add(
+pub fn hg_add(
     table: &mut [u32],
     start: usize,
     room: u32,
@@ -111,8 +106,7 @@ pub extern "C" fn hg_add(
 
 // Sets the step from e by g to x, both ways, and says whether the place was new. Refuses in this order: 17 for a handle that does not fit, 14 for an
 // element or a generator out of range, 17 for a stored step that is.
-#[unsafe(no_mangle)]
-pub extern "C" fn hg_set(
+pub fn hg_set(
     table: &mut [u32],
     start: usize,
     room: u32,
@@ -133,8 +127,7 @@ pub extern "C" fn hg_set(
 
 // Reads the builder's steps, checks them and makes them a factor. Refuses in this order: 4 for an out shorter than 5, 17 for a handle that does not
 // fit, 4 for short work, 17, 7 or 6 while it reads, then 8 to 12.
-#[unsafe(no_mangle)]
-pub extern "C" fn hg_build(
+pub fn hg_build(
     table: &mut [u32],
     start: usize,
     room: u32,

@@ -1,4 +1,7 @@
 // The calls that make a whole factor at once, from composed rows or from pair orders, as C functions.
+// `capi_factor_build_c` exports them to C.
+#![tactic(auto)]
+
 ghost use Rattle.std.specs.Prelude.{◌≡◌, [], ◌∷◌};
 ghost use Rattle.factor.specs.Composed.{composed};
 ghost use Rattle.enumeration.specs.Calls.{enumerates};
@@ -8,8 +11,7 @@ use capi_values::inner;
 
 // Builds a factor from composed rows, n numbers for each element. Refuses in this order: 4 for an out shorter than 5, 1 for more than 8 generators, 4
 // for a room out of range or a short buffer, 7, 5 or 6 while it reads, then 8 to 12.
-#[unsafe(no_mangle)]
-pub extern "C" fn hg_composed(
+pub fn hg_composed(
     table: &mut [u32],
     start: usize,
     work: &mut [u32],
@@ -30,8 +32,7 @@ pub extern "C" fn hg_composed(
 // Builds the group that the pair orders present; they come in the order (0,1),(0,2),(1,2),(0,3).. Refuses in this order: 4 for an out
 // shorter than 5, 1 for more than 8 generators, 2 for a list of the wrong length, 3 for the first order out of range, 4 for a room out of range or a
 // short buffer, 5 or 6 while it runs. No other refusal comes.
-#[unsafe(no_mangle)]
-pub extern "C" fn hg_enumerate(
+pub fn hg_enumerate(
     table: &mut [u32],
     start: usize,
     work: &mut [u32],

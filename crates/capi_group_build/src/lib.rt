@@ -1,5 +1,8 @@
 // C functions that make a product, flatten it, and give its elements as digits and as words. A product is a list of handles and a count, and answers
 // are numbers, as in `capi_group`.
+// `capi_group_build_c` exports them to C.
+#![tactic(auto)]
+
 ghost use Rattle.std.specs.Prelude.{◌≡◌, [], ◌∷◌, length};
 ghost use Rattle.capi_values.specs.Bridge.{reached_code, counted_code, telling, in_out, bridged};
 ghost use Rattle.egg.specs.Factor.{verdict_paper};
@@ -25,8 +28,7 @@ fn write_grouped(out: &mut [u32], g: Grouped) -> u32
 
 // Writes the verdict on the product of two into out, and how many factors it has: those of the first and then those of the second. Refuses in this
 // order: 4 for an out shorter than 5, 17 for a handle that does not fit, 15 for more than 8 factors or more than 4,294,967,295 elements.
-#[unsafe(no_mangle)]
-pub extern "C" fn hg_product(
+pub fn hg_product(
     table: &[u32],
     first: &[u32],
     k: u8,
@@ -47,8 +49,7 @@ pub extern "C" fn hg_product(
 
 // Answers how long the word of e is. Refuses in this order: 17 for a handle that does not fit, 14 for an element out of range, 15 for a product too
 // large, 17 for a recorded length over 4,096.
-#[unsafe(no_mangle)]
-pub extern "C" fn hg_product_length(table: &[u32], handles: &[u32], count: u8, e: u32) -> u64
+pub fn hg_product_length(table: &[u32], handles: &[u32], count: u8, e: u32) -> u64
     ensures { result ≡ counted_code (length_answer table.now (product_of handles.now count) (record { 0 = e })) }
 {
     let g = capi_handles::inner::product_of(handles, count);
@@ -57,14 +58,7 @@ pub extern "C" fn hg_product_length(table: &[u32], handles: &[u32], count: u8, e
 
 // Writes the digits of e, its elements in each factor, to the start of out and answers how many they are. Refuses in this order: 17 for a handle that
 // does not fit, 14 for an element out of range, 15 for a product too large, 4 for a short out.
-#[unsafe(no_mangle)]
-pub extern "C" fn hg_product_split(
-    table: &[u32],
-    handles: &[u32],
-    count: u8,
-    e: u32,
-    out: &mut [u32],
-) -> u64
+pub fn hg_product_split(table: &[u32], handles: &[u32], count: u8, e: u32, out: &mut [u32]) -> u64
     ensures { (result ≡ counted_code (split_answer table.now (product_of handles.now count) (record { 0 = e }) (length out.old))) × (out.new ≡ split_leaves table.now (product_of handles.now count) (record { 0 = e }) out.old) }
 {
     let g = capi_handles::inner::product_of(handles, count);
@@ -73,8 +67,7 @@ pub extern "C" fn hg_product_split(
 
 // Answers the element whose digits the list starts with. Refuses in this order: 17 for a handle that does not fit, 14 for the first digit out of
 // range, 15 for a product too large, 4 for a list with fewer digits than there are factors.
-#[unsafe(no_mangle)]
-pub extern "C" fn hg_product_join(table: &[u32], handles: &[u32], count: u8, digits: &[u32]) -> u64
+pub fn hg_product_join(table: &[u32], handles: &[u32], count: u8, digits: &[u32]) -> u64
     ensures { result ≡ reached_code (join_answer table.now (product_of handles.now count) digits.now) }
 {
     let g = capi_handles::inner::product_of(handles, count);
@@ -83,14 +76,7 @@ pub extern "C" fn hg_product_join(table: &[u32], handles: &[u32], count: u8, dig
 
 // Writes the word of e to the start of out and answers its length. Refuses as hg_product_length does, then with 4 a short out, then with 17 a cell of letters
 // that is out of range.
-#[unsafe(no_mangle)]
-pub extern "C" fn hg_product_word(
-    table: &[u32],
-    handles: &[u32],
-    count: u8,
-    e: u32,
-    out: &mut [u8],
-) -> u64
+pub fn hg_product_word(table: &[u32], handles: &[u32], count: u8, e: u32, out: &mut [u8]) -> u64
     ensures { (result ≡ counted_code (write_answer table.now (product_of handles.now count) (record { 0 = e }) (length out.old))) × (out.new ≡ written table.now (product_of handles.now count) (record { 0 = e }) out.old) }
 {
     let g = capi_handles::inner::product_of(handles, count);
@@ -100,8 +86,7 @@ pub extern "C" fn hg_product_word(
 // Builds one factor that is the product, with its numbers. Refuses in this order: 4 for an out shorter than 5, 17 for a handle that does not fit, 15
 // for a product too large, 1 for more than 8 generators, 4 for a room out of range or a short buffer; then as hg_composed does while it reads and
 // after it, and with 17 a number read that is out of range.
-#[unsafe(no_mangle)]
-pub extern "C" fn hg_product_flatten(
+pub fn hg_product_flatten(
     from: &[u32],
     handles: &[u32],
     count: u8,

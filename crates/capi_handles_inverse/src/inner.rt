@@ -12,7 +12,7 @@ use group_handles::inner::{Limit, Seen, admit_seen, both, times};
 
 // What the pass shows for an inverse: all that the handles have together but their generators, whether each digit's inverse is in range, and the sum
 // of these, each times its stride. Where a handle does not fit, only that is shown.
-#[derive(Drop)]
+#[derive(Clone, Copy)]
 pub struct DigitInverses {
     pub seen: Seen,
     pub right: bool,

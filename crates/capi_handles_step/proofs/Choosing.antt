@@ -1,17 +1,16 @@
 -- Laws of the pass that finds the factor that has a generator.
-use Prim.Native.Nat.{ℕ, zero, suc, ◌+◌, ◌*◌, ◌≤◌, ◌<◌}
+use Prim.Native.Nat.{ℕ, suc, ◌+◌, ◌*◌, ◌≤◌, ◌<◌}
 use mathlib.Core.Path.{◌≡◌, refl, sym, ◌∙◌}
 use mathlib.Core.Bool.{Bool, true, false}
 use mathlib.Core.List.{List, [], ◌∷◌}
 use native.Mathlib.Omega.{arith}
 use borrow.Author.Tests.{leb-true, leb-false}
-use lib.ListN.{length, get_or, take, drop}
+use lib.ListN.{length, take, drop}
 use lib.Dec.{leb}
 use Rattle.egg.specs.declared.Factor.{Factor}
 use Rattle.egg.specs.Table.{pick}
 use Rattle.egg.specs.Factor.{fits_in}
 use Rattle.egg.proofs.Rooms.{false_true}
-use Rattle.build_lending.specs.Lending.{no_factor}
 use Rattle.group_handles.specs.Handles.{handles, generators_of}
 use Rattle.group_handles.proofs.Caps.{cap_small}
 use Rattle.group_walk.proofs.Steps.{taken_next}

@@ -21,7 +21,7 @@ fn chosen_long(first: bool, x: u64, y: u64) -> u64
 
 // What the pass shows for a generator: what the handles have together, and for the factor that has the generator its place, its stride and how many
 // generators come before. Where a handle does not fit, only that is shown.
-#[derive(Drop)]
+#[derive(Clone, Copy)]
 pub struct Spot {
     pub seen: Seen,
     pub at: u32,

@@ -1,4 +1,7 @@
 // The image's calls as C functions on bytes and numbers, for a host: host/hypergroup.h has them for C. The check and the walk need no factor.
+// `capi_image_c` exports them to C.
+#![tactic(auto)]
+
 ghost use Rattle.std.specs.Prelude.{◌≡◌, [], ◌∷◌, length};
 ghost use Rattle.image.specs.Image.{image_number, image_work};
 ghost use Rattle.image.specs.Checked.{image_need};
@@ -13,8 +16,7 @@ use egg::GroupElementId;
 
 // Checks an image in lent bytes and answers the refusal's number, or 0. Refuses in this order: 16 or 1 for the head, 4 for short work, 7, 5 or 6
 // while it reads, 16 for fewer elements than the head says, then 8 to 12.
-#[unsafe(no_mangle)]
-pub extern "C" fn hg_image_check(image: &[u8], work: &mut [u8]) -> u32
+pub fn hg_image_check(image: &[u8], work: &mut [u8]) -> u32
     ensures { (result ≡ image_number image.now (length work.old)) × (work.new ≡ image_work image.now work.old) }
 {
     image::check(image, work)
@@ -22,8 +24,7 @@ pub extern "C" fn hg_image_check(image: &[u8], work: &mut [u8]) -> u32
 
 // Answers how many bytes of work a check of the image needs. Refuses what no work that is long enough can change: 16 or 1 for the head, then
 // 16 where there is no generator and more than one element.
-#[unsafe(no_mangle)]
-pub extern "C" fn hg_image_need(image: &[u8]) -> u64
+pub fn hg_image_need(image: &[u8]) -> u64
     ensures { result ≡ counted_code (image_need image.now) }
 {
     inner::counted_code(image::need(image))
@@ -31,8 +32,7 @@ pub extern "C" fn hg_image_need(image: &[u8]) -> u64
 
 // Checks an image in lent bytes as hg_image_check does, writes the verdict into out, its number and three places, and hands the number back. Refuses
 // with 4 an out shorter than 4, before anything else.
-#[unsafe(no_mangle)]
-pub extern "C" fn hg_image_verdict(image: &[u8], work: &mut [u8], out: &mut [u32]) -> u32
+pub fn hg_image_verdict(image: &[u8], work: &mut [u8], out: &mut [u32]) -> u32
     ensures { telling result out.new (work.new ∷ []) ≡ in_out 4 out.old (work.old ∷ []) (checked_into image.now work.old out.old) }
 {
     if out.len() < 4 {
@@ -44,8 +44,7 @@ pub extern "C" fn hg_image_verdict(image: &[u8], work: &mut [u8], out: &mut [u32
 
 // Walks a word of generators from an element and answers the element reached, or 65,536 + the refusal's number. Refuses in this order: 16 or 1 for
 // the head, 14 for the start or a generator out of range, 17 for a number read that is no element.
-#[unsafe(no_mangle)]
-pub extern "C" fn hg_image_walk(image: &[u8], start: u32, word: &[u8]) -> u32
+pub fn hg_image_walk(image: &[u8], start: u32, word: &[u8]) -> u32
     ensures { result ≡ walk_number image.now start word.now }
 {
     image::walk(image, GroupElementId(start), word)
@@ -53,8 +52,7 @@ pub extern "C" fn hg_image_walk(image: &[u8], start: u32, word: &[u8]) -> u32
 
 // Writes the image of a factor to the start of out and answers its length. Refuses in this order: 17 for a handle that does not fit, 4 for a short
 // out, 17 for a step that is missing or out of range.
-#[unsafe(no_mangle)]
-pub extern "C" fn hg_image_write(
+pub fn hg_image_write(
     table: &[u32],
     start: usize,
     room: u32,
@@ -70,8 +68,7 @@ pub extern "C" fn hg_image_write(
 
 // Builds the factor that an image stores. Refuses with 4 an out shorter than 5; then as hg_image_check does, with the places, where 4 is for a short
 // table or work.
-#[unsafe(no_mangle)]
-pub extern "C" fn hg_image_read(
+pub fn hg_image_read(
     bytes: &[u8],
     table: &mut [u32],
     start: usize,

@@ -2,6 +2,9 @@
 // factor's elements. A handle is its four numbers, a product its list of handles. The results go to `out`, the verdict to `told`, which has five numbers:
 // the refusal's number and its three places, 0 where nothing is refused, and the place of the lists that was refused, 0 where there is none.
 // Where a product's lists have one place, products and inverses are answered from its list of handles, as by the single calls: no product is made.
+// `capi_lists_c` exports them to C.
+#![tactic(auto)]
+
 ghost use Rattle.std.specs.Prelude.{◌≡◌, [], ◌∷◌};
 ghost use Rattle.lists_factor.specs.Each as factor;
 ghost use Rattle.lists_group.specs.Each as group;
@@ -18,8 +21,7 @@ use egg::GroupElementId;
 pub mod inner;
 
 // Writes to each place of out the inverse of the element of a there. Refuses as hg_compose_each does, the places as hg_inverse.
-#[unsafe(no_mangle)]
-pub extern "C" fn hg_inverse_each(
+pub fn hg_inverse_each(
     table: &[u32],
     start: usize,
     room: u32,
@@ -41,8 +43,7 @@ pub extern "C" fn hg_inverse_each(
 
 // Writes to each place of out the power of the element of a there by the exponent there, the inverse's power where that is negative. Refuses as
 // hg_compose_each does, the places as hg_product_powi of the factor alone.
-#[unsafe(no_mangle)]
-pub extern "C" fn hg_powi_each(
+pub fn hg_powi_each(
     table: &[u32],
     start: usize,
     room: u32,
@@ -64,8 +65,7 @@ pub extern "C" fn hg_powi_each(
 }
 
 // Writes to each place of out the product a * b of the elements there. Refuses as hg_compose_each does, the places as hg_product_compose.
-#[unsafe(no_mangle)]
-pub extern "C" fn hg_product_compose_each(
+pub fn hg_product_compose_each(
     table: &[u32],
     handles: &[u32],
     count: u8,
@@ -92,8 +92,7 @@ pub extern "C" fn hg_product_compose_each(
 }
 
 // Writes to each place of out the inverse of the element of a there. Refuses as hg_compose_each does, the places as hg_product_inverse.
-#[unsafe(no_mangle)]
-pub extern "C" fn hg_product_inverse_each(
+pub fn hg_product_inverse_each(
     table: &[u32],
     handles: &[u32],
     count: u8,
@@ -119,8 +118,7 @@ pub extern "C" fn hg_product_inverse_each(
 
 // Writes to each place of out the power of the element of a there by the exponent there, the inverse's power where that is negative. Refuses as
 // hg_compose_each does, the places as hg_product_powi.
-#[unsafe(no_mangle)]
-pub extern "C" fn hg_product_powi_each(
+pub fn hg_product_powi_each(
     table: &[u32],
     handles: &[u32],
     count: u8,

@@ -28,7 +28,7 @@ fn name_at(l: &[u8], i: u8) -> Name
         return misfit();
     }
     let mut bytes = [0; 32];
-    bytes::copy(&l[at..at + 32], &mut bytes);
+    bytes.copy_from_slice(&l[at..at + 32]);
     Name {
         bytes,
         length: l[at + 32],
@@ -59,7 +59,7 @@ fn write_name(kept: &mut [u8], m: Name)
     ensures { kept.new ≡ at_start (record_of m) kept.old }
 {
     let bytes = m.bytes;
-    bytes::copy(&bytes, kept);
+    kept[..32].copy_from_slice(&bytes);
     kept[32] = m.length;
 }
 

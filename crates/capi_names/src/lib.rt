@@ -1,5 +1,8 @@
 // The calls with names as C functions. A name is lent as its bytes; where a call accepts, `record` gets it as it is kept, in 33 bytes: 32 with zeros
 // behind the name, then its length. Such records in the order of a product's handles are what the joined name is asked for by.
+// `capi_names_c` exports them to C.
+#![tactic(auto)]
+
 ghost use Rattle.std.specs.Prelude.{◌≡◌, [], ◌∷◌, length, replicate};
 ghost use Rattle.capi_values.specs.Bridge.{telling, counted_code, letter_of};
 ghost use Rattle.names.specs.Making.{named_composed, named_enumerates, named_begins};
@@ -12,8 +15,7 @@ pub mod inner;
 // Builds a factor with a name from composed rows, as hg_composed does. Refuses in this order: 4 for an out shorter than 5 or a record shorter than 33,
 // 1 for more than 8 generators, 4 for a room out of range or a short buffer, 18 for a name of more than 32 bytes; then as hg_composed does. Where it
 // refuses, the record stays as it was.
-#[unsafe(no_mangle)]
-pub extern "C" fn hg_composed_named(
+pub fn hg_composed_named(
     table: &mut [u32],
     start: usize,
     work: &mut [u32],
@@ -39,8 +41,7 @@ pub extern "C" fn hg_composed_named(
 // Builds the group that the pair orders present, with a name, as hg_enumerate does. Refuses in this order: 4 for an out shorter than 5 or a record
 // shorter than 33, 1 for more than 8 generators, 2 for a list of the wrong length, 3 for the first order out of range, 4 for a room out of range or a
 // short buffer, 18 for a name of more than 32 bytes, 5 or 6 while it runs. Where it refuses, the record stays as it was.
-#[unsafe(no_mangle)]
-pub extern "C" fn hg_enumerate_named(
+pub fn hg_enumerate_named(
     table: &mut [u32],
     start: usize,
     work: &mut [u32],
@@ -66,8 +67,7 @@ pub extern "C" fn hg_enumerate_named(
 // Begins a build of a factor with a name, as hg_begin does. Refuses in this order: 4 for an out shorter than 5 or a record shorter than 33, 1 for more
 // than 8 generators, 4 for a room out of range or a short table, 18 for a name of more than 32 bytes. Where it refuses, the record stays as it was; else
 // it belongs to the factor that hg_build makes.
-#[unsafe(no_mangle)]
-pub extern "C" fn hg_begin_named(
+pub fn hg_begin_named(
     table: &mut [u32],
     start: usize,
     room: u32,
@@ -91,14 +91,7 @@ pub extern "C" fn hg_begin_named(
 // Writes the joined name of a product, the names of its factors with " x " between each two, to the start of out and answers its length; names has 33
 // bytes for each factor, as a record gets them. Refuses in this order, and writes nothing then: 17 for a handle that does not fit, a length above 32 or
 // a list of names too short, 15 for a product too large, 18 for an out shorter than the joined name.
-#[unsafe(no_mangle)]
-pub extern "C" fn hg_joined(
-    table: &[u32],
-    handles: &[u32],
-    count: u8,
-    names: &[u8],
-    out: &mut [u8],
-) -> u64
+pub fn hg_joined(table: &[u32], handles: &[u32], count: u8, names: &[u8], out: &mut [u8]) -> u64
     ensures { (result ≡ counted_code (joined_answer table.now (named_product handles.now count names.now) (length out.old))) × (out.new ≡ joined_leaves table.now (named_product handles.now count names.now) out.old) }
 {
     let g = inner::named_product(handles, count, names);
@@ -107,14 +100,7 @@ pub extern "C" fn hg_joined(
 
 // Answers the k-th byte of the joined name or, from its end on, 256 and its length. A joined name that hg_joined refuses is empty here: the answer is
 // 256. No joined name is longer than 277 bytes.
-#[unsafe(no_mangle)]
-pub extern "C" fn hg_joined_part(
-    table: &[u32],
-    handles: &[u32],
-    count: u8,
-    names: &[u8],
-    k: usize,
-) -> u64
+pub fn hg_joined_part(table: &[u32], handles: &[u32], count: u8, names: &[u8], k: usize) -> u64
     ensures { result ≡ letter_of (joined_part table.now (named_product handles.now count names.now) (replicate 277 0)) k }
 {
     let g = inner::named_product(handles, count, names);

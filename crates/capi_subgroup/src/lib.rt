@@ -1,6 +1,9 @@
 // The calls on subgroups as C functions. The overgroup is a product, as in `capi_group`; a subgroup is 128 numbers in a lent list: the handle of its
 // factor, how many factors are below, over and above, and their handles. A handle that is not wholly in the list is no factor, which fits no buffer
 // (17); a count that is missing is 0.
+// `capi_subgroup_c` exports them to C.
+#![tactic(auto)]
+
 ghost use Rattle.std.specs.Prelude.{◌≡◌, [], ◌∷◌, length, get_or};
 ghost use Rattle.egg.specs.Factor.{verdict_paper};
 ghost use Rattle.capi_values.specs.Bridge.{reached_code, counted_code, telling, in_out, verdict_told};
@@ -84,8 +87,7 @@ fn write_subgrouped(out: &mut [u32], m: Subgrouped) -> u32
 // Builds the subgroup that the elements gens of a product generate; inn maps the overgroup to it, outw back. Refuses in this order: 4 for an out
 // shorter than 6, 17 for a handle that does not fit, 14 for the first entry that is no element, 15 for an overgroup too large to number, 1 for more
 // than 8 generators, 4 for a room out of range or a short buffer, 17, 5 or 6 while it numbers, then 8 to 12.
-#[unsafe(no_mangle)]
-pub extern "C" fn hg_subgroup(
+pub fn hg_subgroup(
     from: &[u32],
     handles: &[u32],
     count: u8,
@@ -111,8 +113,7 @@ pub extern "C" fn hg_subgroup(
 // Builds the subgroup of a byte for each element of the product, not 0 for a member; table and work are lent as for eight generators. Refuses in this
 // order: 4 for an out shorter than 6, 17 for a handle that does not fit, 15 for an overgroup too large to number, 4 for a room out of range, a short
 // buffer or too few bytes; then the first refusal of a build, or 15 for a ninth generator.
-#[unsafe(no_mangle)]
-pub extern "C" fn hg_subgroup_predicate(
+pub fn hg_subgroup_predicate(
     from: &[u32],
     handles: &[u32],
     count: u8,
@@ -137,14 +138,7 @@ pub extern "C" fn hg_subgroup_predicate(
 
 // Answers the element of the overgroup that the subgroup's e is. Refuses in this order: 17 for a handle that does not fit or a short map, 14 for an
 // element out of range, 15 for a side too large, 17 for a number in the map that is no element.
-#[unsafe(no_mangle)]
-pub extern "C" fn hg_subgroup_over(
-    from: &[u32],
-    table: &[u32],
-    sub: &[u32],
-    outw: &[u32],
-    e: u32,
-) -> u64
+pub fn hg_subgroup_over(from: &[u32], table: &[u32], sub: &[u32], outw: &[u32], e: u32) -> u64
     ensures { result ≡ reached_code (to_over_answer (length from.now) (length table.now) (subgroup_from sub.now) outw.now (record { 0 = e })) }
 {
     let o = outline_from(from, table, sub);
@@ -152,14 +146,7 @@ pub extern "C" fn hg_subgroup_over(
 }
 
 // Answers the element of the subgroup that the overgroup's x is, or 4,294,967,295 where it is not in it. Refuses as hg_subgroup_over does.
-#[unsafe(no_mangle)]
-pub extern "C" fn hg_subgroup_back(
-    from: &[u32],
-    table: &[u32],
-    sub: &[u32],
-    inn: &[u32],
-    x: u32,
-) -> u64
+pub fn hg_subgroup_back(from: &[u32], table: &[u32], sub: &[u32], inn: &[u32], x: u32) -> u64
     ensures { result ≡ within_code (to_sub_answer (length from.now) (length table.now) (subgroup_from sub.now) inn.now (record { 0 = x })) }
 {
     let o = outline_from(from, table, sub);
@@ -168,14 +155,7 @@ pub extern "C" fn hg_subgroup_back(
 
 // Answers the subgroup's generator g as an element of the overgroup. Refuses in this order: 17 for a handle that does not fit or a short map, 14 for
 // a generator out of range, 15 for a side too large, 17 for a number read that is out of range.
-#[unsafe(no_mangle)]
-pub extern "C" fn hg_subgroup_generator(
-    from: &[u32],
-    table: &[u32],
-    sub: &[u32],
-    outw: &[u32],
-    g: u8,
-) -> u64
+pub fn hg_subgroup_generator(from: &[u32], table: &[u32], sub: &[u32], outw: &[u32], g: u8) -> u64
     ensures { result ≡ reached_code (generator_answer from.now table.now (subgroup_from sub.now) outw.now (record { 0 = g })) }
 {
     let s = subgroup_from(sub);
@@ -184,8 +164,7 @@ pub extern "C" fn hg_subgroup_generator(
 
 // Answers how many generators the subgroup has, with those of the groups that were multiplied on. Refuses in this order: 17 for a handle that does
 // not fit, 15 for too many factors or elements.
-#[unsafe(no_mangle)]
-pub extern "C" fn hg_subgroup_generators(from: &[u32], table: &[u32], sub: &[u32]) -> u64
+pub fn hg_subgroup_generators(from: &[u32], table: &[u32], sub: &[u32]) -> u64
     ensures { result ≡ counted_code (generator_count_answer (length from.now) (length table.now) (subgroup_from sub.now)) }
 {
     let s = subgroup_from(sub);
@@ -194,8 +173,7 @@ pub extern "C" fn hg_subgroup_generators(from: &[u32], table: &[u32], sub: &[u32
 
 // Writes into out whether a subgroup can have a product's factors below it: then these go in front of those that it has below. Refuses in this order:
 // 4 for an out shorter than 4, 17 for a handle that does not fit, 15 for more than 8 factors or too many elements on a side.
-#[unsafe(no_mangle)]
-pub extern "C" fn hg_subgroup_left(
+pub fn hg_subgroup_left(
     from: &[u32],
     table: &[u32],
     handles: &[u32],
@@ -217,8 +195,7 @@ pub extern "C" fn hg_subgroup_left(
 
 // Writes into out whether a subgroup can have a product's factors above it: then these go behind those that it has above. Refuses as hg_subgroup_left
 // does.
-#[unsafe(no_mangle)]
-pub extern "C" fn hg_subgroup_right(
+pub fn hg_subgroup_right(
     from: &[u32],
     table: &[u32],
     sub: &[u32],

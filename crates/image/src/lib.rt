@@ -1,5 +1,7 @@
 // The calls on stored images: their head; an image written from a factor, read back, checked in lent bytes, and walked. The Rust has no such file:
 // document 01 asks for it under "The image".
+#![tactic(auto)]
+
 ghost use Rattle.std.specs.Prelude.{◌≡◌, ◌*◌, ◌≤◌, length, ltb, eqb, ◌&&◌};
 ghost use Rattle.build_lending.specs.Lending.{table_need, Making};
 ghost use Rattle.image_writing.specs.Written.{image_size};

@@ -1,4 +1,6 @@
 // Makes the listing as text, under contract, so that the program only reads and prints.
+#![tactic(auto)]
+
 ghost use Rattle.std.specs.Prelude.{◌≡◌, length};
 ghost use Rattle.listing_page.specs.Listing.{listing_count, listing_leaves};
 

@@ -1,6 +1,8 @@
 // Factors and products with their names, from the labels of abstract_group.rs and group.rs. A call here is the call without a name, with
 // the name beside what that one makes; only `write_joined` and `joined` look at a name. Every other question is asked by the handle
 // (`named.factor`, `product.group`, `begun.builder`), of a type that holds no name.
+#![tactic(auto)]
+
 ghost use Rattle.std.specs.Prelude.{◌≡◌, [], length};
 ghost use Rattle.builder.specs.Calls.{Leaving};
 ghost use Rattle.group_handles.specs.Handles.{group_of};

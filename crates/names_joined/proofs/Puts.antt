@@ -2,13 +2,13 @@
 use Prim.Native.Nat.{ℕ, zero, suc, ◌+◌, ◌-◌, ◌≤◌}
 use mathlib.Core.Path.{◌≡◌, refl, sym, ap, ◌∙◌}
 use mathlib.Core.Bool.{true}
-use mathlib.Core.List.{List, [], ◌∷◌, ◌++◌, append_assoc, append-nil}
+use mathlib.Core.List.{List, [], ◌∷◌, ◌++◌, append_assoc}
 use native.Mathlib.Nat.{add-zero}
 use native.Mathlib.Omega.{arith}
 use borrow.Author.Tests.{leb-true}
-use borrow.Rule.Slice.PartMut.{mid_of, put_mid, Post-is}
+use borrow.Rule.Slice.PartMut.{put_mid, Post-is}
 use lib.ListN.{length, take, drop, length-append, length-drop, take-append-drop}
-use lib.Seq.{length-take-le, take_all, take-length, drop-length, take_at, drop_at, drop-drop, take-add, take-append_seam, drop-append_seam}
+use lib.Seq.{length-take-le, take-length, take_at, drop_at, drop-drop, take-add, take-append_seam, drop-append_seam}
 use lib.Dec.{leb}
 use Rattle.egg.proofs.Rooms.{and_first}
 use Rattle.names_values.specs.declared.Name.{Name}
@@ -16,17 +16,12 @@ use Rattle.names_values.specs.Names.{bytes_of}
 use Rattle.names_joined.specs.Joined.{names_fit, gap_at, between, joined_from, joined_name, at_start, PutFrom}
 use Rattle.names_joined.proofs.Sums.{fit_from}
 
--- A copy to the start of what follows `at`, when that is back.
-pub copied_back : (out part : List ℕ) (at : ℕ) → at ≤ length out → {p : List ℕ}
-    → p ≡ take (length part) part ++ drop (length part) (mid_of at (length out - at) out)
-    → PutFrom part out at (put_mid at (length out - at) out p) (at + length part)
-copied_back out part at h q =
-    let rest : mid_of at (length out - at) out ≡ drop at out = take_all (length out - at) (drop at out) (omega (arith, length-drop at out)) in
-    record {
-      to = refl;
-      is =
-          rw (q, Post-is at (length out) out h, drop-length out, append-nil (take (length part) part ++ drop (length part) (mid_of at (length out - at) out)), rest, take-length part, drop-drop (length part) at out);
-    }
+-- A copy to the part from `at` on that is as long as what is copied, when that part is back.
+pub copied_back : (out part : List ℕ) (at : ℕ) {p : List ℕ} → p ≡ part
+    → PutFrom part out at (put_mid at (at + length part - at) out p) (at + length part)
+copied_back out part at q =
+    let e : at ≤ at + length part = omega arith in
+    record { to = refl; is = rw (q, Post-is at (at + length part) out e) }
 
 -- Before the first name nothing is put.
 pub no_gap : (out : List ℕ) (at : ℕ) {f : ℕ} → f ≡ 0 → PutFrom (gap_at f) out at out at

@@ -46,8 +46,9 @@ fn put_at(out: &mut [u8], at: usize, part: &[u8]) -> usize
     requires { at + length part.now ≤ length out.old }
     ensures { PutFrom part.now out.old at out.new result }
 {
-    bytes::copy(part, &mut out[at..]);
-    at + part.len()
+    let end = at + part.len();
+    out[at..end].copy_from_slice(part);
+    end
 }
 
 // Writes a name from `at` on, and answers where it ends.

@@ -10,7 +10,7 @@ pub fn name_of(name: &[u8]) -> Name
     ensures { result ≡ name_of name.now }
 {
     let mut bytes = [0; 32];
-    bytes::copy(name, &mut bytes);
+    bytes[..name.len()].copy_from_slice(name);
     Name {
         bytes,
         length: name.len() as u8,

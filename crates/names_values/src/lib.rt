@@ -1,5 +1,7 @@
 // A factor's name and the records that hold one, from the labels of abstract_group.rs and group.rs. The handle of a factor stays what
 // it is, and the name stands beside it: every question takes the handle alone, so that none can look at a name.
+#![tactic(auto)]
+
 ghost use Rattle.std.specs.Prelude.{◌≡◌};
 ghost use Rattle.names_values.specs.Names.{no_name, unnamed_of};
 
@@ -10,14 +12,14 @@ use group_handles::Group;
 pub mod inner;
 
 // A name of 0 to 32 bytes, by value: the first `length` bytes, and behind them zeros.
-#[derive(Drop)]
+#[derive(Clone, Copy)]
 pub struct Name {
     pub bytes: [u8; 32],
     pub length: u8,
 }
 
 // The record of a factor: its handle, and its name.
-#[derive(Drop)]
+#[derive(Clone, Copy)]
 pub struct Named {
     pub factor: Factor,
     pub name: Name,
@@ -25,35 +27,35 @@ pub struct Named {
 
 // What a call that makes a factor answers: a verdict, and beside it the record, whose handle fits no buffer and whose name is empty
 // where the call was refused.
-#[derive(Drop)]
+#[derive(Clone, Copy)]
 pub struct NamedMade {
     pub answer: Verdict,
     pub named: Named,
 }
 
 // A build that is under way, and the name that its factor is to have.
-#[derive(Drop)]
+#[derive(Clone, Copy)]
 pub struct NamedBuilder {
     pub builder: Builder,
     pub name: Name,
 }
 
 // What beginning a build answers: a verdict, and the builder, which fits no buffer where the call was refused.
-#[derive(Drop)]
+#[derive(Clone, Copy)]
 pub struct NamedBegun {
     pub answer: Verdict,
     pub begun: NamedBuilder,
 }
 
 // A product, and beside it the name of each of its factors, of which only the first `count` are looked at.
-#[derive(Drop)]
+#[derive(Clone, Copy)]
 pub struct NamedGroup {
     pub group: Group,
     pub names: [Name; 8],
 }
 
 // What a call that makes a product answers; where it was refused the product fits no buffer and has no names.
-#[derive(Drop)]
+#[derive(Clone, Copy)]
 pub struct NamedGrouped {
     pub answer: Verdict,
     pub product: NamedGroup,

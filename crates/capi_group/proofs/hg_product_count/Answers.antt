@@ -1,0 +1,5 @@
+-- The call's own answer, as one number.
+use Rattle.capi_group.proofs.hg_product_count.Goals as goal
+
+pub returns : goal.returns
+returns c = rw (c.counted_code.ensures, c.element_count.ensures, c.product_of-g.ensures)

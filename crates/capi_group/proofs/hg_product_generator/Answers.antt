@@ -1,0 +1,5 @@
+-- The call's own answer, as one number.
+use Rattle.capi_group.proofs.hg_product_generator.Goals as goal
+
+pub returns : goal.returns
+returns c = rw (c.reached_code.ensures, c.generator.ensures)

@@ -1,0 +1,6 @@
+-- By cases on the answer.
+use mathlib.Core.Path.{◌∙◌}
+use Rattle.capi_subgroup.proofs.within_code.Goals as goal
+
+pub returns-in-Refused : goal.returns-in-Refused
+returns-in-Refused c = c.refusal_code.ensures ∙ rw c.in-Refused.is

@@ -1,0 +1,6 @@
+-- What the calls ensure, from the last to the first.
+use mathlib.Core.Path.{◌∙◌}
+use Rattle.image_check_reading.proofs.inner.table.back_last.Goals as goal
+
+pub returns : goal.returns
+returns c = c.element.ensures ∙ rw (c.cell.ensures, c.last.ensures)

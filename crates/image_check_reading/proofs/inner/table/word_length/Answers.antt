@@ -1,0 +1,6 @@
+-- The address of the cell.
+use mathlib.Core.Path.{◌∙◌}
+use Rattle.image_check_reading.proofs.inner.table.word_length.Goals as goal
+
+pub returns : goal.returns
+returns c = c.get.ensures ∙ rw c.start.ensures.at
