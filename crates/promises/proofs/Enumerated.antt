@@ -1,5 +1,5 @@
 -- Demand 3: whatever the arguments, an enumeration that is accepted gives the group that the pair orders present.
-use Prim.Native.Nat.{ℕ, ◌≤◌}
+use Prim.Native.Nat.{ℕ}
 use mathlib.Core.Path.{◌≡◌, refl, sym, ap, ◌∙◌}
 use mathlib.Core.Bool.{true}
 use mathlib.Core.List.{List}
@@ -16,7 +16,6 @@ use Rattle.theory.proofs.Presented.{presented}
 use Rattle.factor_laws.specs.Accepted.{Accepted, reach}
 use Rattle.factor_laws.proofs.Handles.{compose_answer_lem}
 use Rattle.enumeration_run.specs.Limits.{Limits}
-use Rattle.enumeration_run_laws.specs.Recorded as run
 use Rattle.enumeration.proofs.Calls.{limits}
 use Rattle.enumeration.proofs.Handle.{enumerates_is_build, passed}
 use Rattle.promises.specs.Enumerated.{EnumerationRight, Enumerated, Demand3}

@@ -43,7 +43,6 @@ use Rattle.build_checks_laws.proofs.Complete.{checks_complete}
 use Rattle.build_reading_laws.specs.Read.{Read}
 use Rattle.build_reading_laws.proofs.Readings.{accepted_read, readable_accepted, read_letters}
 use Rattle.enumeration_run.specs.Limits.{Limits}
-use Rattle.enumeration_run_laws.specs.Recorded as run
 use Rattle.enumeration_run_laws.proofs.Derivation.{work_long, done_sound}
 use Rattle.enumeration_run_laws.specs.Longer.{longer}
 use Rattle.enumeration_run_laws.proofs.LongerStores.{longer_get, longer_put, longer_length}

@@ -25,12 +25,14 @@ module _ {t : List ℕ} {f : Factor} (A : Accepted t f) where
 
   live_walk : {e : ℕ} {u : List ℕ} → e < f.elements → Word f.generators u → live t f (record { 0 = e }) u ≡ reach (walk (factor_step t f) e u)
   live_walk he empty = refl
-  live_walk he (letter hg hu) = rw (step_answer_lem A he hg) (live_walk (A.sound.table.closed he hg) hu)
+  live_walk {e = e} he (letter {g = g} {w = w} hg hu) =
+      rw (step_answer_lem A he hg) (live_walk {e = factor_step t f e g} (A.sound.table.closed he hg) hu)
 
   gathered_walk : {e : ℕ} {u : List ℕ} → e < f.elements → Word f.generators u → gathered t f (record { 0 = e }) u ≡ reach (walk (factor_step t f) e u)
   gathered_walk he empty = refl
-  gathered_walk he (letter hg hu) =
-      rw (generator_answer_lem A hg, ← A.sound.identity_row_lem hg, compose_turns he (letter hg empty)) (gathered_walk (A.sound.table.closed he hg) hu)
+  gathered_walk {e = e} he (letter {g = g} {w = w} hg hu) =
+      rw (generator_answer_lem A hg, ← A.sound.identity_row_lem hg, compose_turns he (letter hg empty))
+      (gathered_walk {e = factor_step t f e g} (A.sound.table.closed he hg) hu)
 
   pub viewers : {e : ℕ} {u : List ℕ} → e < f.elements → Word f.generators u → OneState t f (record { 0 = e }) u
   viewers {e} {u} he hu = record {
@@ -62,11 +64,11 @@ module _ {t : List ℕ} {f : Factor} (A : Accepted t f) where
   watched_walk [] he hw = refl
   watched_walk {e} (one_by_one u ∷ l) he hw =
       let hu = word_left u (turns_of l) hw in
-      rw (live_walk he hu, walk_append (factor_step t f) e u (turns_of l)) (watched_walk l (walk_closed A.sound.table he hu) (word_right u (turns_of l) hw))
+      rw (live_walk he hu, walk_append (factor_step t f) e u (turns_of l)) (watched_walk {e = walk (factor_step t f) e u} l (walk_closed A.sound.table he hu) (word_right u (turns_of l) hw))
   watched_walk {e} (at_once u ∷ l) he hw =
       let hu = word_left u (turns_of l) hw in
       rw (gathered_walk A.sound.table.origin hu, compose_turns he hu, walk_append (factor_step t f) e u (turns_of l))
-      (watched_walk l (walk_closed A.sound.table he hu) (word_right u (turns_of l) hw))
+      (watched_walk {e = walk (factor_step t f) e u} l (walk_closed A.sound.table he hu) (word_right u (turns_of l) hw))
 
   -- However often a viewer falls behind and catches up, he lands where the live viewer does.
   pub watched_lands : {e : ℕ} (l : List Batch) → e < f.elements → Word f.generators (turns_of l)

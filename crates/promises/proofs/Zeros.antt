@@ -34,7 +34,6 @@ use Rattle.build_reading_laws.proofs.Readings.{accepted_read, refused_read, refu
 use Rattle.factor_relations_laws.specs.Fails.{Fails}
 use Rattle.factor_relations_laws.proofs.Relators.{orders_long, relations_identity, relations_fail}
 use Rattle.enumeration_run.specs.Limits.{Limits}
-use Rattle.enumeration_run_laws.specs.Recorded as run
 use Rattle.enumeration_run_laws.specs.Going.{Broken, no_room, long_word}
 use Rattle.enumeration_run_laws.proofs.Derivation.{done_sound}
 use Rattle.enumeration_run_laws.proofs.Going.{done_finished, refused_broken}

@@ -1,5 +1,5 @@
 -- What `build` accepts, and what an accepted build gives.
-use Prim.Native.Nat.{ℕ, suc, ◌-◌, ◌≤◌, ◌<◌}
+use Prim.Native.Nat.{ℕ, suc, ◌≤◌, ◌<◌}
 use mathlib.Core.Path.{◌≡◌, refl, sym, ap, ◌∙◌, subst}
 use mathlib.Core.Logic.{◌↔◌}
 use mathlib.Core.Bool.{Bool, true, false}
@@ -11,10 +11,9 @@ use lib.ListN.{length}
 use Rattle.egg.specs.declared.Factor.{Factor}
 use Rattle.egg.specs.declared.Verdict.TheVariants as verdict
 use Rattle.egg.specs.Table.{pick}
-use Rattle.egg.specs.Factor.{fits_in, stretch}
-use Rattle.egg.proofs.Rooms.{some}
+use Rattle.egg.specs.Factor.{fits_in}
 use Rattle.builder.specs.declared.Builder.{Builder}
-use Rattle.build_lending.specs.Lending.{work_need, within, refused_made, Making, making}
+use Rattle.build_lending.specs.Lending.{work_need, refused_made, Making, making}
 use Rattle.builder.specs.Calls.{builds}
 use Rattle.build_reading.specs.Reading.{composed_at}
 use Rattle.theory.proofs.Reading.{numbered_once}

@@ -1,7 +1,7 @@
 -- 8 of a table that a builder's own rows were read into: the first place that is lacking.
 use Prim.Native.Nat.{ℕ, zero, suc, ◌+◌, ◌*◌, ◌-◌, ◌≤◌, ◌<◌}
 use mathlib.Core.Path.{◌≡◌, refl, sym, ap, ◌∙◌}
-use mathlib.Core.Logic.{◌⊎◌, ⊎_elim}
+use mathlib.Core.Logic.{⊎_elim}
 use mathlib.Core.Bool.{Bool, true, false}
 use mathlib.Core.List.{List}
 use native.Mathlib.Nat.{le_refl, eq-zero-or-pos}
@@ -23,7 +23,6 @@ use Rattle.theory.proofs.Places.{Places, sooner, same, later, places}
 use Rattle.theory.proofs.Counting.{numbered_table}
 use Rattle.build_checks_laws.proofs.Tests.{missing_fine}
 use Rattle.build_reading_laws.specs.Read.{Read}
-use Rattle.build_reading_laws.proofs.Stores.{cell}
 use Rattle.promises_builder.specs.Own.{own_number}
 use Rattle.promises_builder.specs.Refusals.{AllThere, NoneLeads, AllLedTo, BuilderLacks, no_successor, no_predecessor, not_reached}
 use Rattle.promises_builder.proofs.Missing.{TableBeside}

@@ -1,7 +1,7 @@
 -- By which numbers a reading of a builder's own rows is refused, and what a builder that lacks something has.
-use Prim.Native.Nat.{ℕ, ◌-◌, ◌≤◌, ◌<◌}
+use Prim.Native.Nat.{ℕ, ◌≤◌, ◌<◌}
 use mathlib.Core.Path.{◌≡◌, refl}
-use mathlib.Core.Logic.{◌⊎◌, ⊎_elim}
+use mathlib.Core.Logic.{⊎_elim}
 use mathlib.Core.Bool.{Bool, true, false}
 use mathlib.Core.List.{[], ◌∷◌}
 use native.Mathlib.Decide.{dec_lt}
@@ -18,7 +18,6 @@ use Rattle.build_reading_laws.specs.Read.{Stops, skips_ahead, no_room, long_word
 use Rattle.build_reading_laws.proofs.Readings.{refused_number}
 use Rattle.promises_builder.specs.Own.{own_number, own_refusal}
 use Rattle.promises_builder.specs.Refusals.{AllThere, AllLedTo, BuilderLacks, no_successor, no_predecessor, not_reached}
-use Rattle.promises_builder.proofs.Outcome.{lacking}
 
 -- No number that is read is N itself, so that N elements are never passed, and there is room: 5 cannot come.
 module _ (own : ℕ → ℕ → ℕ) (n room N : ℕ) (lo : 1 ≤ N) (hi : N ≤ room) where
@@ -46,7 +45,7 @@ module _ (own : ℕ → ℕ → ℕ) (n room N : ℕ) (lo : 1 ≤ N) (hi : N ≤
     by false = ⊎_elim (λ q. rw q) (λ a. ⊎_elim (λ q. absurd (never_5 F q)) (λ q. rw q) a) (refused_number F)
 
 -- Without generators only the identity is reached.
-pub alone : {n x g c : ℕ} {src : ℕ → ℕ → ℕ} → n ≡ 0 → Known n src x g c → c ≡ 1
+pub alone : {n : ℕ} {src : ℕ → ℕ → ℕ} {x g c : ℕ} → n ≡ 0 → Known n src x g c → c ≡ 1
 alone z start = refl
 alone z (old K h l) = absurd (omega arith)
 alone z (new K h l) = absurd (omega arith)

@@ -8,8 +8,8 @@ use Rattle.egg.specs.Answers.{numbered}
 use Rattle.builder_rereading.specs.Own.{stored_at, copied}
 
 -- What stands for the step from e by g of a builder: one more than its number, or 0 where it is missing.
-abbrev pub field_own : List ℕ → Factor → ℕ → ℕ → ℕ
-field_own t f = stored_at (stretch t f) f.generators
+abbrev pub own_at : List ℕ → Factor → ℕ → ℕ → ℕ
+own_at t f = stored_at (stretch t f) f.generators
 
 -- The number that is read: a missing step is passed over, as one to the identity would be, which is known from the start; what is no element's number lies
 -- beyond every count.
@@ -26,5 +26,5 @@ own_rows t f = map (λ x. x - 1) (copied f.elements (stretch t f) f.generators 0
 
 -- Every step of the builder is there and leads to one of its elements.
 pub record Filled (t : List ℕ) (f : Factor) : Type 0 where
-  pub there : {e g : ℕ} → e < f.elements → g < f.generators → 0 < field_own t f e g
-  pub inside : {e g : ℕ} → e < f.elements → g < f.generators → field_own t f e g ≤ f.elements
+  pub there : {e g : ℕ} → e < f.elements → g < f.generators → 0 < own_at t f e g
+  pub inside : {e g : ℕ} → e < f.elements → g < f.generators → own_at t f e g ≤ f.elements

@@ -111,7 +111,7 @@ module _ {n N : ℕ} {m : ℕ → ℕ → ℕ} {word : ℕ → List ℕ} {next :
 
     walked : {e : ℕ} {u : List ℕ} → e < M → Word n u → Equiv n m (word (elt e) ++ u) (word (elt (walk step e u)))
     walked e empty = rw append-nil same
-    walked {e} he (letter {g} {w} hg hw) = join (rw append_assoc at (append_right (stepped he hg) w)) (walked (closed he hg) hw)
+    walked {e} he (letter {g} {w} hg hw) = join (rw append_assoc at (append_right (stepped he hg) w)) (walked {e = step e g} (closed he hg) hw)
 
     equal_once : {d e : ℕ} → d < M → e < M → Equiv n m (word (elt d)) (word (elt e)) → d ≡ e
     equal_once {d} {e} hd he q =

@@ -1,5 +1,5 @@
 -- Of a product of accepted factors every answer is the direct product's, and no other group's.
-use Prim.Native.Nat.{ℕ, zero, suc, ◌+◌, ◌-◌, ◌≤◌, ◌<◌}
+use Prim.Native.Nat.{ℕ, zero, suc, ◌≤◌, ◌<◌}
 use mathlib.Core.Path.{◌≡◌, refl, sym, ap, ◌∙◌, subst}
 use mathlib.Core.Bool.{true}
 use mathlib.Core.List.{List, [], ◌∷◌, ◌++◌}
@@ -21,8 +21,7 @@ use Rattle.theory_products.proofs.ProductLaws.{product_group}
 use Rattle.theory_products.proofs.WordLaws.{product_worded, product_only}
 use Rattle.group_handles.specs.declared.Group.{Group}
 use Rattle.group_handles.specs.Handles.{handles, sizes, elements_of, generators_of, all_fit, admits}
-use Rattle.group_digits.specs.Digits.{composes, inverts}
-use Rattle.group_words.specs.Words.{spells}
+use Rattle.group_digits.specs.Digits.{inverts}
 use Rattle.group.specs.Questions.{count_answer, generators_answer, generator_answer, step_answer, project_answer, inject_answer, split_answer, split_leaves, join_answer}
 use Rattle.group_digits.specs.Splits.{split_tail, digit_right, digits_right, fewer, join_tail}
 use Rattle.group.specs.Questions.{compose_answer, inverse_answer, conjugate_answer, powi_answer, period_answer, length_answer, write_answer, written, word_part}

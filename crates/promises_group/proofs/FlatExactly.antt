@@ -1,7 +1,7 @@
 -- `flatten` of a product of accepted factors, with right arguments: accepted exactly when the product's numbers follow the numbering rule within the room and
 -- with words to 4,096; refused exactly by 7, 5 and 6, at the first place that cannot be read. 8 to 12 never come, since the product is a group whose generators
 -- are distinct and none of which is the identity, and neither does 17, since every step of an accepted factor can be read.
-use Prim.Native.Nat.{ℕ, ◌+◌, ◌*◌, ◌≤◌, ◌<◌}
+use Prim.Native.Nat.{ℕ, ◌+◌, ◌≤◌, ◌<◌}
 use mathlib.Core.Path.{◌≡◌, refl, sym, ap, ◌∙◌, subst}
 use mathlib.Core.Logic.{◌↔◌}
 use mathlib.Core.Bool.{true}

@@ -32,7 +32,7 @@ use Rattle.group_words.specs.Words.{lengths, readables, writes_by, writes, leave
 use Rattle.group.specs.Questions.{count_answer, generators_answer, generator_answer, step_answer, walk_answer, project_answer, inject_answer, split_answer, split_leaves, join_answer}
 use Rattle.factor_walk.specs.Walked.{letter_right, letters_right}
 use Rattle.group_walk.specs.Walked.{follows, admits_walk}
-use Rattle.group_digits.specs.Splits.{split_tail, digits_left, digit_right, digits_right, fewer, join_tail}
+use Rattle.group_digits.specs.Splits.{split_tail, digits_left, digit_right, digits_right, join_tail}
 use Rattle.group.specs.Questions.{compose_answer, inverse_answer, conjugate_answer, powi_answer, period_answer, length_answer, write_answer, written, word_part}
 use Rattle.promises_group.specs.Refuses.{ProductRefuses}
 

@@ -1,14 +1,12 @@
 -- What a product answers depends on its factors' stretches only; so a build elsewhere in the same buffer leaves it as it is, accepted or refused.
-use Prim.Native.Nat.{ℕ, ◌+◌, ◌-◌, ◌/◌, ◌%◌}
-use mathlib.Core.Path.{◌≡◌, refl, sym, ap, ◌∙◌, fun_ext}
-use mathlib.Core.Bool.{true}
-use mathlib.Core.List.{List, [], ◌∷◌}
+use Prim.Native.Nat.{ℕ, ◌-◌, ◌/◌, ◌%◌}
+use mathlib.Core.Path.{◌≡◌, refl, fun_ext}
+use mathlib.Core.List.{List}
 use lib.ListN.{length}
 use lib.IntN.{ℤ}
 use Rattle.egg.specs.declared.Factor.{Factor}
 use Rattle.egg.specs.declared.GroupElementId.{GroupElementId}
 use Rattle.egg.specs.declared.GeneratorId.{GeneratorId}
-use Rattle.egg.specs.declared.Reached.{Reached}
 use Rattle.egg.specs.declared.Counted.{Counted}
 use Rattle.egg.specs.declared.Counted.TheVariants.{Count, Refused}
 use Rattle.factor_laws.specs.Unaltered.{Unaltered}
@@ -16,10 +14,9 @@ use Rattle.promises.specs.Leaves.{Lent}
 use Rattle.promises.specs.Unaltered.{Wrote}
 use Rattle.promises.proofs.Unaltered.{kept}
 use Rattle.group_handles.specs.declared.Group.{Group}
-use Rattle.group_handles.specs.Handles.{handles, all_fit, admits}
+use Rattle.group_handles.specs.Handles.{handles, admits}
 use Rattle.group_digits.specs.Digits.{PartQuestion, Compose, Inverse, Conjugate, digit_of, digitwise, step_in, composes, inverts}
-use Rattle.group_powers.specs.Powers.{powers}
-use Rattle.group_periods.specs.Periods.{period_of, periods}
+use Rattle.group_periods.specs.Periods.{periods}
 use Rattle.group_words.specs.Words.{lengths, readables, spells, writes, leaves}
 use Rattle.group_flatten.specs.Flat.{flat_in, flat_into, flat}
 use Rattle.group.specs.Questions.{count_answer, generators_answer, generator_answer, step_answer, project_answer, inject_answer, split_answer, split_leaves, join_answer}

@@ -44,19 +44,19 @@ module _ {t : List ℕ} {g : Group} (A : AcceptedProduct t g) where
   live_walk : {e : ℕ} {u : List ℕ} → e < (direct t g).elements → Word (direct t g).generators u
       → live t g (record { 0 = e }) u ≡ reach (walk (direct t g).step e u)
   live_walk he empty = refl
-  live_walk he (letter hx hu) = rw (step_walks he hx) (live_walk (T.closed he hx) hu)
+  live_walk {e = e} he (letter {g = x} {w = w} hx hu) = rw (step_walks he hx) (live_walk {e = (direct t g).step e x} (T.closed he hx) hu)
 
   gathered_walk : {e : ℕ} {u : List ℕ} → e < (direct t g).elements → Word (direct t g).generators u
       → gathered t g (record { 0 = e }) u ≡ reach (walk (direct t g).step e u)
   gathered_walk he empty = refl
-  gathered_walk he (letter hx hu) = rw (Q.generators hx, compose_turns he (letter hx empty)) (gathered_walk (T.closed he hx) hu)
+  gathered_walk {e = e} he (letter {g = x} {w = w} hx hu) = rw (Q.generators hx, compose_turns he (letter hx empty)) (gathered_walk {e = (direct t g).step e x} (T.closed he hx) hu)
 
   -- One walk along all the turns.
   follows_walk : {e : ℕ} {u : List ℕ} → e < (direct t g).elements → Word (direct t g).generators u
       → follows t (handles g) e u ≡ reach (walk (direct t g).step e u)
   unfolding follows
   follows_walk he empty = refl
-  follows_walk he (letter hx hu) = rw (steps_are t A.factors _ _ he hx) (follows_walk (T.closed he hx) hu)
+  follows_walk {e = e} he (letter {g = x} {w = w} hx hu) = rw (steps_are t A.factors _ _ he hx) (follows_walk {e = (direct t g).step e x} (T.closed he hx) hu)
 
   walk_turns : {e : ℕ} {u : List ℕ} → e < (direct t g).elements → Word (direct t g).generators u
       → walk_answer t g (record { 0 = e }) u ≡ reach (walk (direct t g).step e u)
@@ -97,11 +97,11 @@ module _ {t : List ℕ} {g : Group} (A : AcceptedProduct t g) where
   watched_walk [] he hw = refl
   watched_walk {e} (one_by_one u ∷ l) he hw =
       let hu = word_left u (turns_of l) hw in
-      rw (live_walk he hu, walk_append (direct t g).step e u (turns_of l)) (watched_walk l (walk_closed T he hu) (word_right u (turns_of l) hw))
+      rw (live_walk he hu, walk_append (direct t g).step e u (turns_of l)) (watched_walk {e = walk (direct t g).step e u} l (walk_closed T he hu) (word_right u (turns_of l) hw))
   watched_walk {e} (at_once u ∷ l) he hw =
       let hu = word_left u (turns_of l) hw in
       rw (gathered_walk Q.group.identity hu, compose_turns he hu, walk_append (direct t g).step e u (turns_of l))
-      (watched_walk l (walk_closed T he hu) (word_right u (turns_of l) hw))
+      (watched_walk {e = walk (direct t g).step e u} l (walk_closed T he hu) (word_right u (turns_of l) hw))
 
   -- However often a viewer falls behind and catches up, he lands where the live viewer does.
   pub product_watched_lands : {e : ℕ} (l : List Batch) → e < (direct t g).elements → Word (direct t g).generators (turns_of l)

@@ -1,6 +1,6 @@
 -- This file defines what it is for a product that its factors' stretches were left alone. Document 01: "its handle and its needed stretch of table
 -- come unaltered from the call that accepted it, in a product for each factor".
-use Rattle.std.specs.Prelude.{ℕ, ◌≡◌, List, [], ◌∷◌, length, ℤ}
+use Rattle.std.specs.Prelude.{ℕ, ◌≡◌, List, [], ◌∷◌, ℤ}
 use Rattle.egg.specs.declared.Factor.{Factor}
 use Rattle.egg.specs.declared.GroupElementId.{GroupElementId}
 use Rattle.egg.specs.declared.GeneratorId.{GeneratorId}
@@ -8,7 +8,6 @@ use Rattle.factor_laws.specs.Unaltered.{Unaltered}
 use Rattle.promises.specs.Leaves.{Lent}
 use Rattle.promises.specs.Unaltered.{Apart}
 use Rattle.group_handles.specs.declared.Group.{Group}
-use Rattle.group_handles.specs.Handles.{joins}
 use Rattle.group_flatten.specs.Flat.{flat}
 use Rattle.group.specs.Questions.{count_answer, generators_answer, generator_answer, step_answer, project_answer, inject_answer, split_answer, split_leaves, join_answer}
 use Rattle.group.specs.Questions.{compose_answer, inverse_answer, conjugate_answer, powi_answer, period_answer, length_answer, write_answer, written, word_part}

@@ -11,7 +11,6 @@ use borrow.Author.Tests.{eq-eqb, ne_eqb, eqb-true, eqb-false, le-ltb, le-leb, lt
 use lib.Dec.{ltb, eqb}
 use lib.ListN.{length, drop, take, replicate, length-replicate}
 use Rattle.egg.specs.declared.Factor.{Factor}
-use Rattle.egg.specs.declared.Verdict.{Verdict}
 use Rattle.egg.specs.declared.Verdict.TheVariants as verdict
 use Rattle.egg.specs.declared.Counted.TheVariants.{Count, Refused}
 use Rattle.egg.specs.Table.{pick}

@@ -15,7 +15,7 @@ use Rattle.egg.specs.Table.{pick}
 use Rattle.egg.proofs.Rooms.{false_true, within_length}
 use Rattle.build_lending.specs.Lending.{table_need, work_need, lent_right, Making, making, refused_made}
 use Rattle.build_lending.proofs.Lending.{lent_table_lem, lent_enough}
-use Rattle.build_reading.specs.Reading.{Placed, read_all, composed_at}
+use Rattle.build_reading.specs.Reading.{read_all, composed_at}
 use Rattle.image_cells.specs.Cells.{halves}
 use Rattle.build_checks_laws.specs.Numbers.{member, RefusalIn}
 use Rattle.promises.specs.Composed.{RowsRight}

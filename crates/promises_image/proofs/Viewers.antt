@@ -25,7 +25,7 @@ module _ {l : List ℕ} (I : GroupImage l) where
   unfolding live
   live_walk he empty = refl
   live_walk {e} he (letter {g = g} {w = u} hg hu) =
-      ap (λ (x : ℕ). live l x u) (walk_group_image l e (g ∷ []) I he (letter hg empty)) ∙ live_walk ((image_table I).closed he hg) hu
+      ap (λ (x : ℕ). live l x u) (walk_group_image l e (g ∷ []) I he (letter hg empty)) ∙ live_walk {e = image_step l e g} ((image_table I).closed he hg) hu
 
 module _ (l : List ℕ) (B : Bytes l) (size : ℕ) (long : bytes_need (head_generators l) (head_elements l) ≤ size) (checked : image_number l size ≡ 0) where
   image : GroupImage l

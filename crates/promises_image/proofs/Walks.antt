@@ -46,7 +46,7 @@ follow_walk : (rows : List ℕ) (n N : ℕ) → Table n N (composed_at rows n) �
     → follow_rows rows n N e w ≡ walk (composed_at rows n) e w
 unfolding follow_rows
 follow_walk rows n N T he empty = refl
-follow_walk rows n N T he (letter hg w) = simp (lt-leb _ _ (T.closed he hg)) (follow_walk rows n N T (T.closed he hg) w)
+follow_walk rows n N T {e = e} he (letter {g = g} {w = w'} hg w) = simp (lt-leb _ _ (T.closed he hg)) (follow_walk rows n N T {e = composed_at rows n e g} (T.closed he hg) w)
 
 pub image_table : {l : List ℕ} → GroupImage l → Table (head_generators l) (head_elements l) (image_step l)
 image_table S = numbered_table S.taken.readable.by_rule

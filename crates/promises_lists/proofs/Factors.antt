@@ -15,7 +15,7 @@ use Rattle.factor_questions.specs.Walks.{compose_in, inverse_in}
 use Rattle.egg.specs.Answers.{numbered, if_reach}
 use Rattle.factor.specs.Questions.{compose_answer, inverse_answer}
 use Rattle.factor.proofs.Admits.{admits_first, admits_second, admits_fine}
-use Rattle.group_powers.specs.Powers.{powers, powi_alone}
+use Rattle.group_powers.specs.Powers.{powi_alone}
 use Rattle.theory.specs.Group.{integer_power}
 use Rattle.factor_laws.specs.Accepted.{Accepted, AnswersOf, reach}
 use Rattle.factor_laws.proofs.Answers.{accepted_answers}

@@ -96,6 +96,7 @@ module _ (s : List ℕ) (n N : ℕ) where
       let z : x' ≡ x = omega arith in leads_once p (subst (λ (v : ℕ). Leads stored N v w y) z p')
 
   leads_unread : {e x : ℕ} {w : List ℕ} → Leads stored N e w x → Unread stored N e w → ⊥
+  leads_unread (stays {e = e}) u = elim u [ ]
   leads_unread (goes q l p) (missing z) = omega arith
   leads_unread (goes q l p) (beyond z) = omega arith
   leads_unread (goes {x = x} {w = w} q l p) (later {x = x'} q' l' u) =

@@ -45,7 +45,7 @@ module _ {src : ℕ → ℕ → ℕ} {n room : ℕ} where
   at_6 : {x g c : ℕ} {r : Refusal} → ReadSoFar src n room x g c → g < n → Stops src n room x g c r → r.number ≡ 6 → Overlong src n room r.a r.b × (r.c ≡ 0)
   at_6 H hg (skips_ahead l) q = absurd (omega arith)
   at_6 H hg (no_room p f) q = absurd (omega arith)
-  at_6 {c = c} H hg (long_word p l f) q = (record { count = c; before = H; column = hg; needed = p; has_room_lem = l; full = f }, refl)
+  at_6 {c = c} H hg (long_word p l f) q = (record { count = c; before = H; column = hg; needed = p; has_room = l; full = f }, refl)
 
   at_7 : {x g c : ℕ} {r : Refusal} → ReadSoFar src n room x g c → g < n → Stops src n room x g c r → r.number ≡ 7 → SkipsAhead src n room r.a r.b r.c
   at_7 {c = c} H hg (skips_ahead l) q = record { count = c; before = H; column = hg; number = refl; ahead = l }

@@ -1,7 +1,7 @@
 -- A walk is answered by the steps exactly when its handle fits and its start and letters are in range; and 17, 14 and 15 come before, each exactly when. The tests
 -- are one scan over the list of all arguments, of which the code looks at the first by itself.
 use Prim.Native.Nat.{ℕ, zero, suc, ◌+◌, ◌<◌}
-use mathlib.Core.Path.{◌≡◌, refl, sym, ap, ◌∙◌, subst}
+use mathlib.Core.Path.{◌≡◌, refl, sym, ◌∙◌, subst}
 use mathlib.Core.Logic.{◌↔◌, inl, inr}
 use mathlib.Core.Bool.{Bool, true, false}
 use mathlib.Core.List.{List, [], ◌∷◌, map}
@@ -24,7 +24,7 @@ use Rattle.egg.proofs.Scans.{scan_fine}
 use Rattle.factor_questions.specs.Walks.{follow}
 use Rattle.factor_walk.specs.Walked.{shown, letter_right, letters_right, walk_in}
 use Rattle.factor.specs.Questions.{admits, walk_answer}
-use Rattle.promises_refusals.specs.Asked.{Argument, below, Outside, AllInside}
+use Rattle.promises_refusals.specs.Asked.{Argument, below, Outside}
 use Rattle.promises_refusals.specs.Walked.{walk_arguments, WalkAsked, no_handle, out_of_range, too_large, in_range}
 use Rattle.promises_refusals.proofs.Firsts.{Decides, decides_fine, first_found, first_refused_lem, first_fine}
 

@@ -1,6 +1,6 @@
 -- What the check against pair orders answers whatever the factor's stretch holds, altered or not. Document 01: "then 17 in what they read (13 or 17 as met)";
 -- "For each element it tests each generator doubled, then each pair's 2m steps in list order."
-use Rattle.std.specs.Prelude.{ℕ, suc, ◌+◌, ◌<◌, ◌≡◌, true, false, List, [], ◌∷◌, length}
+use Rattle.std.specs.Prelude.{ℕ, suc, ◌<◌, ◌≡◌, true, false, List, [], ◌∷◌, length}
 use Rattle.egg.specs.declared.Refusal.{Refusal}
 use Rattle.egg.specs.declared.Factor.{Factor}
 use Rattle.egg.specs.Factor.{Paper, refusal_paper, fits_in, stored_step}

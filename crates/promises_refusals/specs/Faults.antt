@@ -27,7 +27,7 @@ pub record Overlong (src : ℕ → ℕ → ℕ) (n room e g : ℕ) : Type 0 wher
   pub before : ReadSoFar src n room e g count
   pub column : g < n
   pub needed : src e g ≡ count
-  pub has_room_lem : count < room
+  pub has_room : count < room
   pub full : length (recorded n src e) ≡ 4096
 
 -- Refusal 7, "a composed number skips ahead", with the number, is due at (e, g): nothing is refused before, and its number v is more than the count.

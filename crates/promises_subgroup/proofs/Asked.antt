@@ -1,37 +1,31 @@
 -- The answers of the questions are those of the index formulas; a subgroup as it was made is known, and so is its product with a further group.
-use Prim.Native.Nat.{ℕ, ◌+◌, ◌*◌, ◌/◌, ◌%◌, ◌≤◌, ◌<◌}
+use Prim.Native.Nat.{ℕ, ◌*◌, ◌/◌, ◌%◌, ◌≤◌, ◌<◌}
 use mathlib.Core.Path.{◌≡◌, refl, sym, ap, ◌∙◌, subst}
 use mathlib.Core.Bool.{Bool, true, false, ◌&&◌}
-use mathlib.Core.List.{List, [], ◌++◌, append-nil}
-use native.Mathlib.Nat.{mul-one, one-mul}
-use native.Mathlib.Omega.{arith}
-use borrow.Author.Tests.{lt-ltb, le-leb, eq-eqb, ne_eqb, eqb-true, eqb-false, leb-true}
-use lib.Dec.{leb, ltb, eqb}
+use mathlib.Core.List.{List, ◌++◌}
+use borrow.Author.Tests.{lt-ltb, eq-eqb, ne_eqb, eqb-true, eqb-false}
+use lib.Dec.{eqb}
 use lib.ListN.{length, get_or}
-use Rattle.egg.specs.declared.Verdict.{Verdict}
-use Rattle.egg.specs.declared.Verdict.TheVariants.{Fine, Refused}
+use Rattle.egg.specs.declared.Verdict.TheVariants.{Fine}
 use Rattle.egg.specs.Table.{pick}
-use Rattle.egg.specs.Scan.{refused_of}
-use Rattle.egg.specs.Factor.{Paper, fits_in}
+use Rattle.egg.specs.Factor.{fits_in}
 use Rattle.egg.proofs.Rooms.{and_first, and_second}
 use Rattle.egg.proofs.Scans.{refused_fine}
 use Rattle.factor_laws.specs.Accepted.{reach}
 use Rattle.group_handles.specs.declared.Group.{Group}
-use Rattle.group_handles.specs.Handles.{handles, elements_of, all_fit, limited, capped, group_of}
-use Rattle.group_handles.proofs.Admitted.{few_factors_lem}
+use Rattle.group_handles.specs.Handles.{handles, elements_of, all_fit, capped}
 use Rattle.group_handles.proofs.Caps.{cap_small}
 use Rattle.group_handles.proofs.Joins.{fit_both, handles_of}
 use Rattle.build_numbering.specs.Renumber as appear
 use Rattle.build_numbering_laws.specs.Source.{answered}
 use Rattle.subgroup_build.specs.declared.Subgroup.{Subgroup}
 use Rattle.subgroup_build.specs.declared.Subgrouped.{Subgrouped}
-use Rattle.subgroup.specs.declared.Within.TheVariants as within
 use Rattle.subgroup.specs.Indices.{over_of, sub_of}
-use Rattle.subgroup_sides.specs.Sides.{over_side, sub_side, sides_fit, few_factors, sides_limited, admits_sides, put_left, put_right, refused_subgroup, if_limited, joinable, multiplied, left_product, right_product, stride_of}
-use Rattle.subgroup.specs.Questions.{within_paper, refused_within, carried_over, carried_back, to_over_answer, to_sub_answer}
+use Rattle.subgroup_sides.specs.Sides.{over_side, sub_side, sides_fit, sides_limited, admits_sides, put_left, put_right, refused_subgroup, if_limited, joinable, multiplied, left_product, right_product}
+use Rattle.subgroup.specs.Questions.{within_paper, carried_over, carried_back, to_over_answer, to_sub_answer}
 use Rattle.subgroup_sides.proofs.Counts.{over_count_lem, sub_count, second_small}
 use Rattle.subgroup.proofs.IndexLaws.{within_small}
-use Rattle.subgroup.proofs.Carries.{first_some, second_some, third_some}
+use Rattle.subgroup.proofs.Carries.{first_some, third_some}
 use Rattle.subgroup_sides.proofs.SideLaws.{fit_law, sides_fine, over_within, sub_within}
 use Rattle.promises_subgroup.specs.Carried.{MapsUndo}
 use Rattle.promises_subgroup.specs.Asked.{Askable, MapAnswers}

@@ -3,7 +3,6 @@ use Prim.Native.Nat.{ℕ, ◌<◌, ◌≤◌}
 use mathlib.Core.List.{List}
 use native.Mathlib.Omega.{arith}
 use lib.ListN.{get_or}
-use Rattle.egg.specs.declared.Reached.TheVariants as reached
 use Rattle.egg.specs.Table.{step_of, back_of}
 use Rattle.theory.specs.Group.{GroupOn}
 use Rattle.theory.specs.Regular.{compose, inverse}

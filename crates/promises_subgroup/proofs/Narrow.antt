@@ -1,12 +1,12 @@
 -- A build in a stretch that is longer than it needs: its first part, as long as is needed, holds the same by itself.
 use Prim.Native.Nat.{ℕ, ◌+◌, ◌*◌, ◌-◌, ◌≤◌}
 use mathlib.Core.Path.{◌≡◌, sym, ap, ◌∙◌}
-use mathlib.Core.List.{List, ◌++◌}
+use mathlib.Core.List.{List}
 use native.Mathlib.Nat.{le_refl}
 use lib.ListN.{length, take, replicate, length-replicate}
 use lib.Seq.{take_at}
 use Rattle.egg.specs.declared.Counted.TheVariants.{Count}
-use Rattle.build_lending.specs.Finish.{Built, built, finished_placed}
+use Rattle.build_lending.specs.Finish.{built, finished_placed}
 use Rattle.build_lending.specs.Lending.{table_need, work_need}
 use Rattle.build_reading.specs.Reading.{read_all}
 use Rattle.enumeration_run_laws.specs.Longer.{longer}

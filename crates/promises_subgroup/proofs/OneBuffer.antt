@@ -20,7 +20,7 @@ use Rattle.promises_group.proofs.Unaltered.{all_accepted}
 use Rattle.subgroup_build.specs.declared.Subgroup.{Subgroup}
 use Rattle.subgroup_sides.specs.Sides.{over_side, sub_side}
 use Rattle.subgroup_sides.proofs.SideLaws.{sub_within}
-use Rattle.subgroup.specs.Questions.{to_over_answer, generator_answer}
+use Rattle.subgroup.specs.Questions.{to_over_answer}
 use Rattle.promises_subgroup.specs.Beside.{sub_group, sub_direct, outward_of, Beside, InOneBuffer}
 use Rattle.promises_subgroup.proofs.Unaltered.{parts_same, each_of}
 use Rattle.promises_subgroup.proofs.Asked.{maps_answer, reach_once}

@@ -1,20 +1,20 @@
 -- The maps of the index formulas carry composition, in the direct product of what is below, the factor, and what is above. And the left and the right
 -- product of a pair of maps are the direct product's.
-use Prim.Native.Nat.{ℕ, ◌+◌, ◌*◌, ◌/◌, ◌%◌, ◌<◌, ◌≤◌}
-use mathlib.Core.Path.{◌≡◌, refl, sym, ◌∙◌, ap}
+use Prim.Native.Nat.{ℕ, ◌+◌, ◌*◌, ◌/◌, ◌%◌, ◌<◌}
+use mathlib.Core.Path.{◌≡◌, sym, ◌∙◌, ap}
 use mathlib.Core.List.{List, [], ◌∷◌, ◌++◌}
 use lib.Arith.{mod-mul}
-use native.Mathlib.Nat.{mod-add-div, mod-lt, add_comm, div-one, one-mul, zero-add, mul_comm, zero-mod, zero-div, mul-zero, mul_assoc, mul-add, add_assoc, div-div-eq-div-mul, mul_left_comm}
+use native.Mathlib.Nat.{mod-add-div, mod-lt, add_comm, div-one, one-mul, zero-add, mul_comm, zero-mod, zero-div, mul-zero, mul_assoc, mul-add, add_assoc, div-div-eq-div-mul}
 use native.Mathlib.Omega.{arith}
 use Rattle.build_numbering.specs.Renumber as appear
 use Rattle.theory_products.specs.Product.{Part, pair, product, Each, none, more, IsGroup}
-use Rattle.theory_radix.proofs.RadixLaws.{low, high, joined_small, low_small, high_small}
+use Rattle.theory_radix.proofs.RadixLaws.{low, high, joined_small}
 use Rattle.theory_products.proofs.ProductLaws.{product_group}
 use Rattle.theory_products.proofs.StepLaws.{WhichFactor, left, right, side, element_left, element_right}
-use Rattle.subgroup.specs.Indices.{Indices, factor_indices, unfactor_indices, with_within, over_of, sub_of}
+use Rattle.subgroup.specs.Indices.{factor_indices, with_within, over_of}
 use Rattle.promises_subgroup.specs.Carried.{MapsUndo, Homomorphic}
-use Rattle.subgroup.proofs.IndexLaws.{unfactor_is, below_small, within_small, above_small}
-use Rattle.promises_subgroup.proofs.Carrying.{over_small, over_below_is, over_within_is, over_above_is}
+use Rattle.subgroup.proofs.IndexLaws.{unfactor_is, below_small, within_small}
+use Rattle.promises_subgroup.proofs.Carrying.{over_below_is, over_within_is, over_above_is}
 
 parts : (B N e : ℕ) → e % B + B * (e / B % N + N * (e / B / N)) ≡ e
 parts B N e = rw (mod-add-div (e / B) N) (mod-add-div e B)

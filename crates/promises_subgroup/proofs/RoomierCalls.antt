@@ -1,11 +1,11 @@
 -- More room changes nothing: a subgroup that is accepted is accepted with at least that room in any buffers that are not short, with as many elements, the
 -- same numbers in its stretch, and the same maps.
 use Prim.Native.Nat.{ℕ, ◌+◌, ◌*◌, ◌-◌, ◌≤◌, ◌<◌}
-use mathlib.Core.Path.{◌≡◌, refl, sym, ap, ◌∙◌, subst}
+use mathlib.Core.Path.{◌≡◌, refl, sym, ap, ◌∙◌}
 use mathlib.Core.List.{List, []}
 use native.Mathlib.Nat.{le_refl, mul-le-mul}
 use native.Mathlib.Omega.{arith}
-use lib.ListN.{length, get_or, take, replicate, get_or-append}
+use lib.ListN.{length, get_or, take, replicate}
 use Rattle.egg.specs.declared.Reached.{Reached}
 use Rattle.egg.specs.declared.Verdict.TheVariants.{Fine}
 use Rattle.egg.specs.declared.Counted.TheVariants.{Count}
@@ -30,7 +30,7 @@ use Rattle.theory.proofs.Subgroups.{right_inside}
 use Rattle.build_numbering_laws.proofs.Builds.{built_of, renumber_built, renumber_filled}
 use Rattle.build_numbering_laws.proofs.RoomierMaps.{inward_same, outward_same}
 use Rattle.subgroup_build.specs.declared.Subgroup.{Subgroup}
-use Rattle.subgroup_build.specs.Lent.{Subgrouping, subgrouping, maps_back}
+use Rattle.subgroup_build.specs.Lent.{subgrouping, maps_back}
 use Rattle.subgroup_rows.specs.Rows.{product_by}
 use Rattle.subgroup_build.specs.Generated.{from_generators}
 use Rattle.promises_subgroup.specs.Generates.{Started, RoomierGenerates}

@@ -12,7 +12,7 @@ use Rattle.egg.specs.declared.Counted.TheVariants.{Count}
 use Rattle.egg.specs.declared.Verdict.TheVariants.{Fine}
 use Rattle.egg.specs.Table.{pick, put_at, start_of}
 use Rattle.egg.specs.Scan.{scan}
-use Rattle.egg.specs.Factor.{fits_in, has_room}
+use Rattle.egg.specs.Factor.{fits_in}
 use Rattle.egg.proofs.Rooms.{and_first, and_second}
 use Rattle.egg.proofs.Scans.{refused_fine}
 use Rattle.build_checks.specs.Checks.{missing_row, missing, check8, range_row, links_of, ranges, wrong_row, wrong, check_table, wiped, arrive_row, arrivals, counts_right, check_rest, check_group}
@@ -21,7 +21,7 @@ use Rattle.build_checks_inverses.specs.Inverses.{invert_from, fill_inverses, inv
 use Rattle.build_word_cells.specs.Hops.{hop_from, with_hops}
 use Rattle.build_reading.specs.Build.{set_step, set_word, adds}
 use Rattle.build_lending.specs.Finish.{finished}
-use Rattle.build_lending.specs.Lending.{lent_right, within, refused_made}
+use Rattle.build_lending.specs.Lending.{within, refused_made}
 use Rattle.build_numbering.specs.Renumber.{map_place, map_row, map_rows}
 use Rattle.build_numbering.specs.Build.{renumber_in}
 use Rattle.group_handles.specs.declared.Group.{Group}
@@ -31,7 +31,7 @@ use Rattle.group_handles.proofs.Sums.{both_length}
 use Rattle.group_handles.proofs.Joins.{handles_of}
 use Rattle.subgroup_build.specs.declared.Subgroup.{Subgroup}
 use Rattle.subgroup_build.specs.declared.Subgrouped.{Subgrouped}
-use Rattle.subgroup_build.specs.Lent.{maps_right, subgroup_of, Subgrouping, subgrouping}
+use Rattle.subgroup_build.specs.Lent.{maps_right, subgroup_of, subgrouping}
 use Rattle.subgroup_build.specs.Generated.{entries_right, small_enough, admits_generators, generated_into, from_generators}
 use Rattle.subgroup_sides.specs.Sides.{over_side, sub_side, sides_fit, sides_limited, joinable, multiplied, put_left, put_right, left_product, right_product}
 use Rattle.subgroup_sides.proofs.SideLaws.{over_within, multiplied_no}

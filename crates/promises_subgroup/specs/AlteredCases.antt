@@ -1,6 +1,6 @@
 -- This file states cases of overgroups that were altered, for each number by which a `from_generators` that has started may be refused, but for 6
 -- (a word over 4,096 is too long to be computed here). So no shorter list of numbers than `generators_after` would do.
-use Rattle.std.specs.Prelude.{ℕ, ◌+◌, ◌≡◌, List, [], ◌∷◌, ◌++◌, length, replicate}
+use Rattle.std.specs.Prelude.{ℕ, ◌≡◌, List, [], ◌∷◌, ◌++◌, length, replicate}
 use Rattle.egg.specs.Factor.{Paper}
 use Rattle.build_lending.specs.Lending.{table_need, work_need}
 use Rattle.promises_refusals.specs.Papers.{paper}

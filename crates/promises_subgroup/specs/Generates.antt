@@ -1,18 +1,16 @@
 -- This file states what `from_generators` gives where it is accepted, and when it is.
 use Rattle.std.specs.Prelude.{ℕ, ◌+◌, ◌*◌, ◌≤◌, ◌<◌, ◌≡◌, true, List, [], length, get_or, take, replicate}
-use Rattle.egg.specs.declared.Factor.{Factor}
 use Rattle.egg.specs.declared.Verdict.TheVariants.{Fine}
 use Rattle.egg.specs.Factor.{stretch}
 use Rattle.build_lending.specs.Lending.{table_need, work_need, within}
 use Rattle.theory.specs.Appearance.{recorded}
 use Rattle.theory.specs.Regular.{compose, inverse}
 use Rattle.factor_laws.specs.Accepted.{Accepted, factor_step, factor_back, factor_word}
-use Rattle.theory_products.specs.Product.{Part, product}
 use Rattle.group_handles.specs.declared.Group.{Group}
 use Rattle.group_handles.specs.Handles.{handles, elements_of, all_fit, group_of}
 use Rattle.promises_group.specs.Products.{direct}
 use Rattle.build_numbering.specs.Renumber as appear
-use Rattle.theory.specs.Orbit.{numbered_step, Appearing}
+use Rattle.theory.specs.Orbit.{numbered_step}
 use Rattle.theory.specs.Subgroup.{right_by, Generated, Proper}
 use Rattle.subgroup_build.specs.declared.Subgroup.{Subgroup}
 use Rattle.subgroup_build.specs.Lent.{Subgrouping, subgrouping, maps_right}

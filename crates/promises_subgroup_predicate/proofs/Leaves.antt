@@ -11,7 +11,6 @@ use lib.ListN.{length}
 use Rattle.egg.specs.declared.Refusal.{Refusal}
 use Rattle.egg.specs.declared.Verdict.{Verdict}
 use Rattle.egg.specs.declared.Verdict.TheVariants as verdict
-use Rattle.egg.specs.declared.Counted.TheVariants.{Refused}
 use Rattle.egg.proofs.Rooms.{false_true, and_first, and_second}
 use Rattle.egg.proofs.Scans.{refused_fine}
 use Rattle.egg.specs.Answers.{numbered}

@@ -1,6 +1,6 @@
 -- With more room, and longer stretches, the predicate form chooses the same elements and is accepted.
 use Prim.Native.Nat.{ℕ, ◌+◌, ◌*◌, ◌<◌, ◌≤◌}
-use mathlib.Core.Path.{◌≡◌, refl, sym, ◌∙◌, ap, subst}
+use mathlib.Core.Path.{◌≡◌, subst}
 use mathlib.Core.List.{List, []}
 use native.Mathlib.Nat.{add-zero}
 use native.Mathlib.Omega.{arith}
@@ -15,7 +15,7 @@ use Rattle.theory.specs.Subgroup.{right_by}
 use Rattle.build_numbering_laws.proofs.Order.{appearing}
 use Rattle.theory.proofs.Subgroups.{right_inside}
 use Rattle.build_numbering_laws.proofs.Builds.{renumber_holds, renumber_exactly}
-use Rattle.subgroup_predicate_choices.specs.Choices.{Picked, again_in}
+use Rattle.subgroup_predicate_choices.specs.Choices.{again_in}
 use Rattle.subgroup_predicate.specs.Predicate.{predicate_in}
 use Rattle.promises_subgroup_predicate.specs.Predicate.{Chosen}
 use Rattle.promises_subgroup_predicate.proofs.Choosing.{nothing_chosen}

@@ -1,5 +1,5 @@
 -- A subgroup that `from_predicate` makes depends on the stretches of its overgroup's factors only.
-use Prim.Native.Nat.{ℕ, ◌-◌}
+use Prim.Native.Nat.{ℕ}
 use mathlib.Core.Path.{◌≡◌, fun_ext}
 use mathlib.Core.Bool.{true}
 use mathlib.Core.List.{List}
