@@ -1,13 +1,16 @@
 // A program that makes the calls on products and subgroups as a puzzle author does, and prints their answers: of a product of two factors, of one factor
 // alone, of none, and of a product with more factors than there may be; of the two maps of a subgroup, its generators and its overgroup; and of the trivial
 // subgroup. What is past a range is asked too.
+#![tactic(auto)]
+
 use egg::{Counted, Factor, GeneratorId, GroupElementId, Reached, Verdict};
 use group_handles::{Group, Grouped};
+use std::io;
 use subgroup::Within;
 use subgroup_build::Subgroup;
 
 // What is asked. `Letter` asks for one letter of a word; `Over` and `Back` ask the two maps of a subgroup.
-#[derive(Drop)]
+#[derive(Clone, Copy)]
 enum Question {
     Elements,
     Generators,
@@ -112,76 +115,101 @@ fn ask(table: &[u32], g: Group, what: Question, a: u8, b: u8) -> Reached {
 }
 
 // Prints a space and a number.
-fn number(x: u32) {
-    io::write_all(1, b" ");
-    io::print_decimal(1, x as u64);
+fn number(rt: &impl Print, x: u32) -> io::Result<()> {
+    print!(rt; " {x}")
 }
 
-fn write_answer(answer: Reached) {
+fn write_answer(rt: &impl Print, answer: Reached) -> io::Result<()> {
     match answer {
-        Reached::Element(e) => number(e.0),
+        Reached::Element(e) => number(rt, e.0),
         Reached::Refused(why) => {
-            io::write_all(1, b" refused");
-            number(why.number)
+            rt.write_all(b" refused")?;
+            number(rt, why.number)
         }
     }
 }
 
 // Prints the answers for each b below `count`, and ends the line.
-fn write_answers(table: &[u32], g: Group, what: Question, a: u8, count: u8) {
-    io::write_all(1, b":");
-    let mut b: u8 = 0;
-    while b < count {
-        write_answer(ask(table, g, what, a, b));
-        b += 1;
+fn write_answers(
+    rt: &impl Print,
+    table: &[u32],
+    g: Group,
+    what: Question,
+    a: u8,
+    count: u8,
+) -> io::Result<()> {
+    rt.write_all(b":")?;
+    for b in 0..count {
+        write_answer(rt, ask(table, g, what, a, b))?;
     }
-    io::write_all(1, b"\n");
+    rt.write_all(b"\n")
 }
 
-fn write_line(name: &[u8], table: &[u32], g: Group, what: Question, count: u8) {
-    io::write_all(1, name);
-    write_answers(table, g, what, 0, count);
+fn write_line(
+    rt: &impl Print,
+    name: &[u8],
+    table: &[u32],
+    g: Group,
+    what: Question,
+    count: u8,
+) -> io::Result<()> {
+    rt.write_all(name)?;
+    write_answers(rt, table, g, what, 0, count)
 }
 
 // Prints a line for each a below `lines`.
-fn write_lines(name: &[u8], table: &[u32], g: Group, what: Question, lines: u8, count: u8) {
-    let mut a: u8 = 0;
-    while a < lines {
-        io::write_all(1, name);
-        number(a as u32);
-        write_answers(table, g, what, a, count);
-        a += 1;
+fn write_lines(
+    rt: &impl Print,
+    name: &[u8],
+    table: &[u32],
+    g: Group,
+    what: Question,
+    lines: u8,
+    count: u8,
+) -> io::Result<()> {
+    for a in 0..lines {
+        rt.write_all(name)?;
+        number(rt, a as u32)?;
+        write_answers(rt, table, g, what, a, count)?;
     }
+    Ok(())
 }
 
 // Asks a product everything: elements below `e`, generators below `n`.
-fn write_group(name: &[u8], table: &[u32], g: Group, e: u8, n: u8) {
-    io::write_all(1, name);
-    write_line(b"elements", table, g, Question::Elements, 1);
-    write_line(b"generators", table, g, Question::Generators, 1);
-    write_line(b"generator", table, g, Question::Generator, n);
-    write_line(b"inverse", table, g, Question::Inverse, e);
-    write_line(b"period", table, g, Question::Period, e);
-    write_line(b"length", table, g, Question::Length, e);
-    write_lines(b"step", table, g, Question::Step, e, n);
-    write_lines(b"compose", table, g, Question::Compose, e, e);
-    write_lines(b"conjugate", table, g, Question::Conjugate, e, e);
-    write_lines(b"power", table, g, Question::Power, e, 6);
-    write_lines(b"word", table, g, Question::Letter, e, 5);
+fn write_group(
+    rt: &impl Print,
+    name: &[u8],
+    table: &[u32],
+    g: Group,
+    e: u8,
+    n: u8,
+) -> io::Result<()> {
+    rt.write_all(name)?;
+    write_line(rt, b"elements", table, g, Question::Elements, 1)?;
+    write_line(rt, b"generators", table, g, Question::Generators, 1)?;
+    write_line(rt, b"generator", table, g, Question::Generator, n)?;
+    write_line(rt, b"inverse", table, g, Question::Inverse, e)?;
+    write_line(rt, b"period", table, g, Question::Period, e)?;
+    write_line(rt, b"length", table, g, Question::Length, e)?;
+    write_lines(rt, b"step", table, g, Question::Step, e, n)?;
+    write_lines(rt, b"compose", table, g, Question::Compose, e, e)?;
+    write_lines(rt, b"conjugate", table, g, Question::Conjugate, e, e)?;
+    write_lines(rt, b"power", table, g, Question::Power, e, 6)?;
+    write_lines(rt, b"word", table, g, Question::Letter, e, 5)
 }
 
 // The answers of two questions, and the line's end.
-fn write_both(name: &[u8], first: Reached, second: Reached) {
-    io::write_all(1, name);
-    write_answer(first);
-    write_answer(second);
-    io::write_all(1, b"\n");
+fn write_both(rt: &impl Print, name: &[u8], first: Reached, second: Reached) -> io::Result<()> {
+    rt.write_all(name)?;
+    write_answer(rt, first)?;
+    write_answer(rt, second)?;
+    rt.write_all(b"\n")
 }
 
-fn write_one(name: &[u8], answer: Reached) {
-    io::write_all(1, name);
-    write_answer(answer);
-    io::write_all(1, b"\n");
+fn write_one(rt: &impl Print, name: &[u8], answer: Reached) -> io::Result<()> {
+    rt.write_all(name)?;
+    write_answer(rt, answer)?;
+    rt.write_all(b"\n")
 }
 
 // What a call that makes a product answers: 0, or its refusal.
@@ -200,7 +228,13 @@ fn forged(f: Factor) -> Group {
 }
 
 // The overgroup where the subgroup's own table is short, and where a forged product stands above it.
-fn write_refused(table: &[u32], own: &[u32], s: Subgroup, z2: Factor) {
+fn write_refused(
+    rt: &impl Print,
+    table: &[u32],
+    own: &[u32],
+    s: Subgroup,
+    z2: Factor,
+) -> io::Result<()> {
     let below = s.below;
     let factor = s.factor;
     let over = s.over;
@@ -213,30 +247,38 @@ fn write_refused(table: &[u32], own: &[u32], s: Subgroup, z2: Factor) {
     };
     let none = grouped(subgroup::overgroup(table, &own[..0], s));
     let many = grouped(subgroup::overgroup(table, own, more));
-    write_both(b"refused:", none, many);
+    write_both(rt, b"refused:", none, many)
 }
 
 // How many generators a subgroup has, and how many with the group of two elements multiplied on below; and all questions to
 // the overgroup of that.
-fn write_overgroup(table: &[u32], own: &[u32], s: Subgroup, z2: Factor) {
+fn write_overgroup(
+    rt: &impl Print,
+    table: &[u32],
+    own: &[u32],
+    s: Subgroup,
+    z2: Factor,
+) -> io::Result<()> {
     write_one(
+        rt,
         b"generators:",
         counted(subgroup::generator_count(table, own, s)),
-    );
+    )?;
     let made = subgroup::product_left(table, own, group::of(z2), s);
     let left = made.subgroup;
     write_one(
+        rt,
         b"below:",
         counted(subgroup::generator_count(table, own, left)),
-    );
+    )?;
     let whole = subgroup::overgroup(table, own, left);
     let over = whole.group;
-    write_group(b"overgroup\n", table, over, 13, 4);
-    write_refused(table, own, left, z2);
+    write_group(rt, b"overgroup\n", table, over, 13, 4)?;
+    write_refused(rt, table, own, left, z2)
 }
 
 // The same of the subgroup that element 1 generates.
-fn write_subgroup(table: &[u32], s3: Group, z2: Factor) {
+fn write_subgroup(rt: &impl Print, table: &[u32], s3: Group, z2: Factor) -> io::Result<()> {
     let mut own = [0u32; 12];
     let mut work = [0u32; 20];
     let mut inn = [0u32; 6];
@@ -253,57 +295,65 @@ fn write_subgroup(table: &[u32], s3: Group, z2: Factor) {
         2,
     );
     let s = made.subgroup;
-    write_overgroup(table, &own, s, z2);
+    write_overgroup(rt, table, &own, s, z2)
 }
 
 // The maps of the trivial subgroup, how many generators it has, and how many elements its overgroup has.
-fn write_maps(none: &[u32], own: &[u32], inn: &[u32], outw: &[u32], s: Subgroup) {
+fn write_maps(
+    rt: &impl Print,
+    none: &[u32],
+    own: &[u32],
+    inn: &[u32],
+    outw: &[u32],
+    s: Subgroup,
+) -> io::Result<()> {
     let first = GroupElementId(0);
     let second = GroupElementId(1);
     let over = subgroup::to_overgroup(none, own, s, outw, first);
     let past = subgroup::to_overgroup(none, own, s, outw, second);
-    write_both(b"trivial\nover:", over, past);
+    write_both(rt, b"trivial\nover:", over, past)?;
     let back = inside(subgroup::to_subgroup(none, own, s, inn, first));
     let beyond = inside(subgroup::to_subgroup(none, own, s, inn, second));
-    write_both(b"back:", back, beyond);
+    write_both(rt, b"back:", back, beyond)?;
     write_one(
+        rt,
         b"generators:",
         counted(subgroup::generator_count(none, own, s)),
-    );
+    )?;
     let whole = subgroup::overgroup(none, own, s);
     let g = whole.group;
-    write_one(b"overgroup:", counted(group::element_count(none, g)));
+    write_one(rt, b"overgroup:", counted(group::element_count(none, g)))
 }
 
 // The buffers of the trivial subgroup hold something else before it is made.
-fn write_trivial() {
+fn write_trivial(rt: &impl Print) -> io::Result<()> {
     let mut own = [9u32; 4];
     let mut work = [9u32; 1];
     let mut inn = [9u32; 1];
     let mut outw = [9u32; 1];
     let made = subgroup::trivial(&mut own, 0, &mut work, &mut inn, &mut outw);
     let s = made.subgroup;
-    write_maps(&[], &own, &inn, &outw, s);
+    write_maps(rt, &[], &own, &inn, &outw, s)
 }
 
 // Each range is asked up to the first number past it.
-fn write_groups(table: &[u32], s3: Group, z2: Factor) {
+fn write_groups(rt: &impl Print, table: &[u32], s3: Group, z2: Factor) -> io::Result<()> {
     let pair = group::product(table, s3, group::of(z2));
-    write_group(b"product\n", table, pair.group, 13, 4);
-    write_group(b"alone\n", table, s3, 7, 3);
-    write_group(b"none\n", table, group::trivial(), 2, 1);
-    write_group(b"forged\n", table, forged(z2), 1, 1);
-    write_line(b"subgroup\nover", table, s3, Question::Over, 3);
-    write_line(b"back", table, s3, Question::Back, 7);
-    write_subgroup(table, s3, z2);
-    write_trivial();
+    write_group(rt, b"product\n", table, pair.group, 13, 4)?;
+    write_group(rt, b"alone\n", table, s3, 7, 3)?;
+    write_group(rt, b"none\n", table, group::trivial(), 2, 1)?;
+    write_group(rt, b"forged\n", table, forged(z2), 1, 1)?;
+    write_line(rt, b"subgroup\nover", table, s3, Question::Over, 3)?;
+    write_line(rt, b"back", table, s3, Question::Back, 7)?;
+    write_subgroup(rt, table, s3, z2)?;
+    write_trivial(rt)
 }
 
 // Enumerates S3 and the group of two elements into one table, and asks.
-fn main() {
+fn main(rt: HostRuntime) -> io::Result<()> {
     let mut table = [0u32; 60];
     let mut work = [0u32; 192];
     let first = enumeration::enumerate(&mut table, 0, &mut work, &[3], 2, 6);
     let second = enumeration::enumerate(&mut table, 48, &mut work, &[], 1, 2);
-    write_groups(&table, group::of(first.factor), second.factor);
+    write_groups(&rt, &table, group::of(first.factor), second.factor)
 }

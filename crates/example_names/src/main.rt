@@ -1,56 +1,64 @@
 // A program that names factors as the caption desk does, however they are made, and prints the joined names of products of them; and what is refused.
+#![tactic(auto)]
+
 use builder::Builder;
 use egg::{Counted, Factor, GeneratorId, GroupElementId, Verdict};
 use names_values::{Name, Named, NamedBuilder, NamedGroup, NamedMade};
+use std::io;
 
-fn write_number(x: u32) {
-    io::write_all(1, b" ");
-    io::print_decimal(1, x as u64);
+fn write_number(rt: &impl Print, x: u32) -> io::Result<()> {
+    print!(rt; " {x}")
 }
 
-fn write_count(answer: Counted) {
+fn write_count(rt: &impl Print, answer: Counted) -> io::Result<()> {
     match answer {
-        Counted::Count(k) => write_number(k),
+        Counted::Count(k) => write_number(rt, k),
         Counted::Refused(why) => {
-            io::write_all(1, b" refused");
-            write_number(why.number)
+            rt.write_all(b" refused")?;
+            write_number(rt, why.number)
         }
     }
 }
 
 // What a call that makes something answers: 0, or its refusal.
-fn write_verdict(label: &[u8], answer: Verdict) {
-    io::write_all(1, label);
+fn write_verdict(rt: &impl Print, label: &[u8], answer: Verdict) -> io::Result<()> {
+    rt.write_all(label)?;
     match answer {
-        Verdict::Fine => write_number(0),
+        Verdict::Fine => write_number(rt, 0)?,
         Verdict::Refused(why) => {
-            io::write_all(1, b" refused");
-            write_number(why.number)
+            rt.write_all(b" refused")?;
+            write_number(rt, why.number)?;
         }
     }
-    io::write_all(1, b"\n");
+    rt.write_all(b"\n")
 }
 
-fn write_made(label: &[u8], made: NamedMade) {
+fn write_made(rt: &impl Print, label: &[u8], made: NamedMade) -> io::Result<()> {
     let answer = made.answer;
-    write_verdict(label, answer);
+    write_verdict(rt, label, answer)
 }
 
 // Writes the joined name of a product into a buffer: prints what is answered and what the buffer holds then, and the part that is handed back.
-fn write_name(label: &[u8], table: &[u32], g: NamedGroup, out: &mut [u8]) {
-    io::write_all(1, label);
-    write_count(names::write_joined(table, g, out));
-    io::write_all(1, b" [");
-    io::write_all(1, &out[..]);
-    io::write_all(1, b"] [");
+fn write_name(
+    rt: &impl Print,
+    label: &[u8],
+    table: &[u32],
+    g: NamedGroup,
+    out: &mut [u8],
+) -> io::Result<()> {
+    rt.write_all(label)?;
+    write_count(rt, names::write_joined(table, g, out))?;
+    rt.write_all(b" [")?;
+    rt.write_all(&out[..])?;
+    rt.write_all(b"] [")?;
     let part = names::joined(table, g, out);
-    io::write_all(1, &part[..]);
-    io::write_all(1, b"]\n");
+    rt.write_all(&part[..])?;
+    rt.write_all(b"]\n")
 }
 
-fn write_factor(label: &[u8], table: &[u32], f: Named) {
+fn write_factor(rt: &impl Print, label: &[u8], table: &[u32], f: Named) -> io::Result<()> {
     let mut buffer = [46u8; 8];
-    write_name(label, table, names::of(f), &mut buffer);
+    write_name(rt, label, table, names::of(f), &mut buffer)
 }
 
 // A product of two, as it is given on: where it is refused, its handle fits no buffer.
@@ -69,52 +77,59 @@ fn forged(f: Named, length: u8) -> Named {
 }
 
 // The joined names of products: into just its length, one byte less, and more; of none, of eight, of nine; with an empty name between; and forged.
-fn write_products(table: &[u32], s3: Named, z2: Named, z3: Named) {
+fn write_products(
+    rt: &impl Print,
+    table: &[u32],
+    s3: Named,
+    z2: Named,
+    z3: Named,
+) -> io::Result<()> {
     let pair = times(table, names::of(s3), names::of(z2));
     let mut long = [46u8; 9];
-    write_name(b"longer", table, pair, &mut long);
+    write_name(rt, b"longer", table, pair, &mut long)?;
     let mut right = [46u8; 7];
-    write_name(b"right", table, pair, &mut right);
+    write_name(rt, b"right", table, pair, &mut right)?;
     let mut short = [46u8; 6];
-    write_name(b"short", table, pair, &mut short);
-    write_name(b"none", table, names::trivial(), &mut []);
+    write_name(rt, b"short", table, pair, &mut short)?;
+    write_name(rt, b"none", table, names::trivial(), &mut [])?;
     let handle = z2.factor;
     let gap = times(table, pair, names::of(names::unnamed(handle)));
     let mut between = [46u8; 16];
     write_name(
+        rt,
         b"between",
         table,
         times(table, gap, names::of(z3)),
         &mut between,
-    );
+    )?;
     let two = times(table, names::of(z2), names::of(z2));
     let four = times(table, two, two);
     let eight = times(table, four, four);
     let mut many = [46u8; 37];
-    write_name(b"eight", table, eight, &mut many);
+    write_name(rt, b"eight", table, eight, &mut many)?;
     let nine = names::product(table, eight, names::of(z2));
     let answer = nine.answer;
-    write_verdict(b"nine", answer);
-    write_name(b"nine", table, nine.product, &mut many);
-    write_factor(b"thirty-two", table, forged(s3, 32));
-    write_factor(b"thirty-three", table, forged(s3, 33));
+    write_verdict(rt, b"nine", answer)?;
+    write_name(rt, b"nine", table, nine.product, &mut many)?;
+    write_factor(rt, b"thirty-two", table, forged(s3, 32))?;
+    write_factor(rt, b"thirty-three", table, forged(s3, 33))
 }
 
 // A factor read from the image of another, one flattened, and a subgroup's: all with the empty name.
-fn write_unnamed(table: &[u32], s3: Named) {
+fn write_unnamed(rt: &impl Print, table: &[u32], s3: Named) -> io::Result<()> {
     let handle = s3.factor;
     let mut bytes = [0u8; 32];
     let mut own = [0u32; 48];
     let mut work = [0u32; 192];
     image::write(table, handle, &mut bytes);
     let read = names::read(&bytes, &mut own, 0, &mut work);
-    write_factor(b"read", &own, read.named);
+    write_factor(rt, b"read", &own, read.named)?;
     let flat = names::flatten(table, names::of(s3), &mut own, 0, &mut work, 6);
-    write_factor(b"flattened", &own, flat.named);
-    write_part(table, handle);
+    write_factor(rt, b"flattened", &own, flat.named)?;
+    write_part(rt, table, handle)
 }
 
-fn write_part(table: &[u32], handle: Factor) {
+fn write_part(rt: &impl Print, table: &[u32], handle: Factor) -> io::Result<()> {
     let mut own = [0u32; 12];
     let mut work = [0u32; 20];
     let mut inn = [0u32; 6];
@@ -131,7 +146,7 @@ fn write_part(table: &[u32], handle: Factor) {
         2,
     );
     let s = made.subgroup;
-    write_factor(b"subgroup", &own, names::unnamed(s.factor));
+    write_factor(rt, b"subgroup", &own, names::unnamed(s.factor))
 }
 
 // The steps of the group of three elements.
@@ -155,47 +170,65 @@ fn built(table: &mut [u32], work: &mut [u32]) -> Named {
 }
 
 // A name of 32 bytes, and a longer one: refused before the build.
-fn write_long(table: &mut [u32], work: &mut [u32], long: &[u8]) {
+fn write_long(rt: &impl Print, table: &mut [u32], work: &mut [u32], long: &[u8]) -> io::Result<()> {
     let most = b"a name of just thirty-two bytes!";
-    write_made(b"most", names::enumerate(table, 0, work, &[3], 2, 6, most));
-    write_made(b"long", names::enumerate(table, 0, work, &[3], 2, 6, long));
+    write_made(
+        rt,
+        b"most",
+        names::enumerate(table, 0, work, &[3], 2, 6, most),
+    )?;
+    write_made(
+        rt,
+        b"long",
+        names::enumerate(table, 0, work, &[3], 2, 6, long),
+    )
 }
 
 // With the longer name more generators than there may be, and rows that no group has.
-fn write_longer(table: &mut [u32], work: &mut [u32], long: &[u8]) {
-    write_made(b"many", names::enumerate(table, 0, work, &[3], 9, 6, long));
+fn write_longer(
+    rt: &impl Print,
+    table: &mut [u32],
+    work: &mut [u32],
+    long: &[u8],
+) -> io::Result<()> {
     write_made(
+        rt,
+        b"many",
+        names::enumerate(table, 0, work, &[3], 9, 6, long),
+    )?;
+    write_made(
+        rt,
         b"wrong",
         names::from_composed(table, 0, work, &[1, 1], 1, 2, long),
-    );
+    )
 }
 
 // With the longer name no room.
-fn write_unbegun(table: &mut [u32], long: &[u8]) {
+fn write_unbegun(rt: &impl Print, table: &mut [u32], long: &[u8]) -> io::Result<()> {
     let begun = names::begin(table, 0, 0, 1, long);
     let answer = begun.answer;
-    write_verdict(b"begun", answer);
+    write_verdict(rt, b"begun", answer)
 }
 
-fn write_refused(table: &mut [u32], work: &mut [u32]) {
+fn write_refused(rt: &impl Print, table: &mut [u32], work: &mut [u32]) -> io::Result<()> {
     let long = b"a name of more than thirty-two by";
-    write_long(table, work, long);
-    write_longer(table, work, long);
-    write_unbegun(table, long);
+    write_long(rt, table, work, long)?;
+    write_longer(rt, table, work, long)?;
+    write_unbegun(rt, table, long)
 }
 
-fn main() {
+fn main(rt: HostRuntime) -> io::Result<()> {
     let mut table = [0u32; 78];
     let mut work = [0u32; 192];
-    write_refused(&mut table, &mut work);
+    write_refused(&rt, &mut table, &mut work)?;
     let first = names::enumerate(&mut table, 0, &mut work, &[3], 2, 6, b"S3");
     let second = names::from_composed(&mut table, 48, &mut work, &[1, 0], 1, 2, b"Z2");
     let z3 = built(&mut table, &mut work);
     let s3 = first.named;
     let z2 = second.named;
-    write_factor(b"orders", &table, s3);
-    write_factor(b"rows", &table, z2);
-    write_factor(b"built", &table, z3);
-    write_unnamed(&table, s3);
-    write_products(&table, s3, z2, z3);
+    write_factor(&rt, b"orders", &table, s3)?;
+    write_factor(&rt, b"rows", &table, z2)?;
+    write_factor(&rt, b"built", &table, z3)?;
+    write_unnamed(&rt, &table, s3)?;
+    write_products(&rt, &table, s3, z2, z3)
 }
