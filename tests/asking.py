@@ -1,7 +1,7 @@
 #!/usr/bin/env python3
 """What crates/example_calls, crates/example_names and crates/example_lists have to print, by the original Rust: each question
 goes to the oracle, one for each place of a list, and where an argument is past its range, the product is forged or a name is too
-long, which the Rust does not refuse, the answer is document 01's or that of order 1 or 2. With `--check` each text is compared with the file `stdout` of its crate, which `rt check` holds the
+long, which the Rust does not refuse, the answer is document 01's or that of order 1 or 2. With `--check` each text is compared with the file `stdout` of its crate, which `rt ci` holds the
 program to."""
 
 import pathlib

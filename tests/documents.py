@@ -12,20 +12,20 @@ import re
 import sys
 
 # Names that are none of ours: of the compiler's and the prover's own.
-FOREIGN = {"nonnull", "noundef", "noalias", "dereferenceable", "nm", "sub-t11", "cast-t19", "struct-known"}
+FOREIGN = {"nonnull", "noundef", "noalias", "dereferenceable", "nm", "clang", "overflow_cast-x", "if-not-f", "in-A", "post-is", "struct-known"}
 
 
 def words_of_sources():
-    words = set(re.findall(r"\w+", open("crates.txt", encoding="utf-8").read()))
+    words = FOREIGN | set(re.findall(r"\w+", open("crates.txt", encoding="utf-8").read()))
     for root in ("crates", "host", "tests", "tools", "oracle", "docs/src"):
         for folder, folders, files in os.walk(root):
-            folders[:] = [f for f in folders if f != "target"]
+            folders[:] = [f for f in folders if f not in ("target", "out", "__pycache__")]
             words.update(folders)
             for file in files:
                 words.update((file, os.path.splitext(file)[0]))
                 if file.endswith((".rt", ".antt", ".rs", ".h", ".c", ".py", ".sh", ".edit", ".toml")) or "." not in file:
                     text = open(os.path.join(folder, file), encoding="utf-8").read()
-                    words.update(re.findall(r"\w+", text) + re.findall(r"[\w′'-]+", text))
+                    words.update(re.findall(r"\w+", text) + re.findall(r"[\w'-]+", text))
     return words
 
 
@@ -44,13 +44,13 @@ for page in pages:
             bad.append(f"{page} names {path}, which is not there")
     for name, path in re.findall(r"`([\w-]+)`,? (?:in |of |\()`((?:crates|host|tests)/[\w./-]+\.\w+)`(?=[),.;])", text):
         seen += 1
-        if os.path.isfile(path) and name not in re.findall(r"[\w′'-]+", open(path, encoding="utf-8").read()):
+        if os.path.isfile(path) and name not in re.findall(r"[\w'-]+", open(path, encoding="utf-8").read()):
             bad.append(f"{page}: {name} does not stand in {path}")
     # The documents that decide speak of what is to be built as well.
     if page in ("docs/01-scope.md", "docs/02-change-requests.md"):
         continue
     prose = re.findall(r"`([^`\n]+)`", re.sub(r"(?ms)^ *```.*?^ *```$", "", text))
-    for name in {s for s in prose if re.fullmatch(r"[A-Za-z][\w-]*(?:(?:::|\.)[\w-]+)*(?:\(\))?\*?", s)} - FOREIGN:
+    for name in {s for s in prose if re.fullmatch(r"[A-Za-z][\w-]*(?:(?:::|\.)[\w-]+)*(?:\(\))?\*?", s)}:
         for part in re.split(r"::|\.", name.removesuffix("()")):
             seen += 1
             if part not in words and not (part.endswith("*") and any(w.startswith(part[:-1]) for w in words)):

@@ -1,10 +1,10 @@
 #!/bin/sh
 # The listing program on the inputs of tests/listing: each NAME.in on standard input must print NAME.out, byte for byte.
-# `rt check listing` builds the program. The groups' outputs are the original Rust's answers, laid out as document 01 says.
+# `rt ci` builds the program, and so does ./list. The groups' outputs are the original Rust's answers, laid out as document 01 says.
 cd "$(dirname "$0")/.." || exit 1
 . tools/machine.sh
 to_run
-program="$emulator target/bin/listing"
+program="$emulator crates/listing/out/listing"
 got=$(mktemp) || exit 1
 trap 'rm -f "$got"' EXIT
 same=0

@@ -1,8 +1,8 @@
 #!/usr/bin/env python3
 """header.py [--check]: writes the prototypes of host/hypergroup.h from the exported functions of the crates.
 
-What stands above and below the two marked lines is kept. Each `pub extern "C" fn` under crates/ gives one prototype,
-with the comment that stands over it; a slice is a pointer and a length. With --check nothing is written, and the
+What stands above and below the two marked lines is kept. Each export of a static library crates/NAME_c gives one
+prototype, with the comment that stands over the function of its name in crates/NAME; a slice is a pointer and a length. With --check nothing is written, and the
 status is 1 where the header is not what the crates say, or Rust declares a function otherwise than they do."""
 import pathlib
 import re
@@ -11,7 +11,9 @@ import textwrap
 
 HEADER = pathlib.Path("host/hypergroup.h")
 FIRST, LAST = "/* The functions. tools/header.py writes them. */", "/* End of the functions. */"
-FUNCTION = re.compile(r'((?:^//[^\n]*\n)*)^#\[no_mangle\]\npub extern "C" fn (\w+)\((.*?)\)(?: -> (\w+))?\n', re.M | re.S)
+FUNCTION = re.compile(r'^#\[unsafe\(no_mangle\)\]\npub extern "C" fn (\w+)\((.*?)\)(?: -> (\w+))?\n', re.M | re.S)
+# Between the comment and the function may stand what names the laws of its proof.
+COMMENT = re.compile(r"((?:^//[^\n]*\n)*)(?:^#\[[^\n]*\n)*^pub fn (\w+)\(", re.M)
 NUMBERS = {"usize": "size_t", "u8": "uint8_t", "u16": "uint16_t", "u32": "uint32_t", "u64": "uint64_t", "i32": "int32_t", "i64": "int64_t", "bool": "bool"}
 # The files in Rust that declare them, and whether all of them; and the names that stand for types there.
 DECLARING = {"host/hypergroup/src/ffi.rs": True, "host/hypergroup/tests/short_out.rs": False}
@@ -45,12 +47,12 @@ def prototype(comment, name, parameters, answer):
 
 
 def exported():
-    # By name: the order of crates.txt follows the times of the checks, and is no reason to move a prototype.
-    for crate in sorted(path.name for path in pathlib.Path("crates").iterdir()):
-        for source in sorted(pathlib.Path(f"crates/{crate}/src").rglob("*.rt")):
-            found = [m.groups() for m in FUNCTION.finditer(source.read_text())]
-            if found:
-                yield crate, found
+    # By name: the order of crates.txt is no reason to move a prototype.
+    listed = re.findall(r"(?m)^(\w+)_c staticlib:", pathlib.Path("crates.txt").read_text())
+    for crate in sorted(listed):
+        comments = {name: comment for comment, name in COMMENT.findall(pathlib.Path(f"crates/{crate}/src/lib.rt").read_text())}
+        found = FUNCTION.findall(pathlib.Path(f"crates/{crate}_c/src/lib.rt").read_text())
+        yield crate, [(comments.get(name, ""), name, parameters, answer) for name, parameters, answer in found]
 
 
 def functions():

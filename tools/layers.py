@@ -4,7 +4,8 @@
 The first word of a crate's name is its layer. A crate may name crates of its own layer and of those that stand beside its
 layer below, and no others; so theorems about a layer are named from that layer on and no lower, and nothing but a promise
 names a promise. A crate without code is called `theory`, `theory_..`, `.._laws`, `promises` or `promises_..`, and no crate
-with code is. Prints each break; exit status 1 where there is one."""
+with code is. A static library is called `capi_.._c`, and no other crate is. Prints each break; exit status 1 where there
+is one."""
 import glob
 import os
 import re
@@ -27,8 +28,8 @@ MAY_NAME = {
     "capi": "theory egg build factor enumeration group subgroup image names lists",
     "promises": "theory egg build factor enumeration group subgroup image names lists listing capi",
 }
-# The toolchain's own libraries, which any crate may name.
-KIT = {"io", "libc", "os", "bytes", "check"}
+# The toolchain's own libraries that a crate may name; std is never named. None is needed.
+KIT = set()
 
 
 def layer(crate):
@@ -47,13 +48,15 @@ def breaks(root):
     for line in open(os.path.join(root, "crates.txt"), encoding="utf-8"):
         if line.startswith("#") or ":" not in line:
             continue
-        crate, named = line.split(":")
+        (crate, *kind), named = line.split(":")[0].split(), line.split(":")[1]
         if layer(crate) not in MAY_NAME:
             yield f"{crate}: no layer is called {layer(crate)}"
             continue
         without = layer(crate) in ("theory", "promises") or crate.endswith("_laws")
         if has_code(root, crate) == without:
             yield f"{crate} {'has code' if without else 'has no code'}, and its name says otherwise"
+        if ("staticlib" in kind) != (layer(crate) == "capi" and crate.endswith("_c")):
+            yield f"{crate} is {'a' if 'staticlib' in kind else 'no'} static library, and its name says otherwise"
         allowed = {layer(crate), *MAY_NAME[layer(crate)].split()}
         for below in named.split():
             if below not in KIT and layer(below) not in allowed:

@@ -2,7 +2,7 @@
 """surface.py [ROOT]: lists each public function that stands in no module named `inner` and has a `requires`, or has no
 `ensures`.
 
-A public call refuses bad input instead of asking its caller to check first (demand 1), and its contract determines its
+A public call refuses bad input instead of asking its caller to check first, and its contract determines its
 answer. Only the layers above call what stands in `inner`. Exit status 1 where there is one."""
 import glob
 import os

@@ -1,16 +1,17 @@
 #!/usr/bin/env python3
 """unique.py [ROOT]: lists each public call whose answer is not proved to be unique.
 
-The rule: every public call (each `pub fn` outside modules named `inner`, and each `pub extern "C" fn`) has a theorem over
-its own contract, `NAME-unique : Unique ..` (crates/promises/specs/Unique.antt), in a crate of promises: any two outcomes
+The rule: every public call (each `pub fn` outside modules named `inner`) has a theorem over its own contract,
+`NAME_unique : Unique ..` (crates/promises/specs/Unique.antt), in a crate of promises: any two outcomes
 that meet the contract for the same arguments have the same answer and leave the same in the lent buffers. A theorem counts
 for a call only if the kinds and the contract that it is over (`Kinds` and `Reads`) are that call's, and if what it says to
 be the same is the answer, where there is one, and each buffer that the call is lent to write to. A call that hands a part
 of such a buffer back uses it up, and no contract can say more of it than what that part holds (docs/DECISIONS.md): there
 the part is the answer, and stands for its buffer.
 
-Programs' `main`, re-exports and the empty function of a crate without code are no calls. Exit status 1 where a call has no
-such theorem, or a theorem of that name is over no public call."""
+Programs' `main`, re-exports and the empty function of a crate without code are no calls. The exports of a static library
+have the contracts of the functions that they call (tools/exports.py), and those have the theorems. Exit status 1 where a
+call has no such theorem, or a theorem of that name is over no public call."""
 import glob
 import os
 import re
@@ -18,12 +19,13 @@ import sys
 
 from surface import FUNCTION, outside_inner
 
-# `use Rattle·CRATE.proofs.FN.Reads as NAME`, with the modules between if FN stands in one.
-USE = re.compile(r"(?m)^use Rattle·(\w+)(?:·proofs)?\.proofs\.([\w.]+)\.(Kinds|Reads) as ([\w-]+)$")
-SPEC = re.compile(r"(?m)^use Rattle·promises(?:·specs)?\.specs\.Unique\.\{Unique\}$")
+# `use Rattle.CRATE.proofs.FN.Reads as NAME`, with the modules between if FN stands in one.
+USE = re.compile(r"(?m)^use Rattle\.(\w+)\.proofs\.([\w.]+)\.(Kinds|Reads) as ([\w-]+)$")
+SPEC = re.compile(r"(?m)^use Rattle\.promises\.specs\.Unique\.\{Unique\}$")
 STATED = re.compile(
-    r"(?ms)^pub ([\w-]+)-unique : Unique \d+ ([\w-]+)\.ps ([\w-]+)\.r ([\w-]+)\.Post\s+(?:\{A = [^}]*\} )?\(λ κs a x\. (.*?)\)\n\1-unique ="
+    r"(?ms)^pub (\w+)_unique : Unique \d+ ([\w-]+)\.ps ([\w-]+)\.r ([\w-]+)\.Post\s+(?:\{A = [^}]*\} )?\(λ κs a x\. (.*?)\)\n\1_unique ="
 )
+STATIC = re.compile(r"(?m)^(\w+) staticlib:")
 
 
 def parameters(text):
@@ -40,9 +42,10 @@ def parameters(text):
 
 def calls(root):
     """Each public call as (crate, function with its modules), with what its theorem has to name: whether it answers, and which of its parameters it writes to."""
+    static = STATIC.findall(open(os.path.join(root, "crates.txt"), encoding="utf-8").read())
     for path in sorted(glob.glob(os.path.join(root, "crates/*/src/**/*.rt"), recursive=True)):
         crate, _, *modules = os.path.relpath(path, root).split(os.sep)[1:]
-        if "inner" in modules or "inner.rt" in modules:
+        if crate in static or "inner" in modules or "inner.rt" in modules:
             continue
         for found in FUNCTION.finditer(outside_inner(open(path, encoding="utf-8").read())):
             if found.group(3):
@@ -68,9 +71,9 @@ def theorems(root):
             crate, fn, kind = used.get(post, ("", "", ""))
             right = kind == "Reads" and used.get(ps) == used.get(r) == (crate, fn, "Kinds")
             answers = bool(re.search(r"(?<![\w.])a\b", seen))
-            # The place of a lent buffer among the parameters: `x .0` is the first, `x .1 .0` the second.
-            places = {ones.count(".1") for ones in re.findall(r"\bx((?: \.1)*) \.0 \.now\b", seen)}
-            yield f"{os.path.relpath(path, root)}: {name}-unique", name, (crate, fn) if right else None, answers, places
+            # The place of a lent buffer among the parameters: `x.0` is the first, `x.1.0` the second.
+            places = {ones.count(".1") for ones in re.findall(r"\bx((?:\.1)*)\.0\.now\b", seen)}
+            yield f"{os.path.relpath(path, root)}: {name}_unique", name, (crate, fn) if right else None, answers, places
 
 
 def lacking(root):
@@ -80,7 +83,7 @@ def lacking(root):
     for where, name, call, answers, places in theorems(root):
         if call not in known:
             bad.append(f"{where} is over the contract of no public call")
-        elif name != call[1].split(".")[-1].replace("_", "-"):
+        elif name != call[1].split(".")[-1]:
             bad.append(f"{where} is over the contract of {call[0]}::{call[1]}")
         elif (answers, places) != known[call]:
             bad.append(f"{where} does not name the answer and the buffers that {call[0]}::{call[1]} writes to, and nothing else")
