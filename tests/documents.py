@@ -12,11 +12,11 @@ import re
 import sys
 
 # Names that are none of ours: of the compiler's and the prover's own.
-FOREIGN = {"nonnull", "noundef", "noalias", "dereferenceable", "nm", "clang", "overflow_cast-x", "if-not-f", "in-A", "post-is", "struct-known"}
+FOREIGN = {"nonnull", "noundef", "noalias", "dereferenceable", "nm", "clang", "overflow_cast-x", "c.if-not-f", "c.in-A.k", "c.in-A.ensures"}
 
 
 def words_of_sources():
-    words = FOREIGN | set(re.findall(r"\w+", open("crates.txt", encoding="utf-8").read()))
+    words = set(re.findall(r"\w+", open("crates.txt", encoding="utf-8").read()))
     for root in ("crates", "host", "tests", "tools", "oracle", "docs/src"):
         for folder, folders, files in os.walk(root):
             folders[:] = [f for f in folders if f not in ("target", "out", "__pycache__")]
@@ -50,7 +50,7 @@ for page in pages:
     if page in ("docs/01-scope.md", "docs/02-change-requests.md"):
         continue
     prose = re.findall(r"`([^`\n]+)`", re.sub(r"(?ms)^ *```.*?^ *```$", "", text))
-    for name in {s for s in prose if re.fullmatch(r"[A-Za-z][\w-]*(?:(?:::|\.)[\w-]+)*(?:\(\))?\*?", s)}:
+    for name in {s for s in prose if re.fullmatch(r"[A-Za-z][\w-]*(?:(?:::|\.)[\w-]+)*(?:\(\))?\*?", s)} - FOREIGN:
         for part in re.split(r"::|\.", name.removesuffix("()")):
             seen += 1
             if part not in words and not (part.endswith("*") and any(w.startswith(part[:-1]) for w in words)):

@@ -15,6 +15,7 @@ from surface import outside_inner
 
 EXPORT = re.compile(r'^#\[unsafe\(no_mangle\)\]\npub extern "C" fn (\w+)(\(.*?)^\{\n(.*?)^\}$', re.S | re.M)
 FUNCTION = re.compile(r"^pub fn (\w+)(\(.*?)^\{$", re.S | re.M)
+STATIC = re.compile(r"(?m)^(\w+) staticlib:")
 GHOST_USE = re.compile(r"^ghost use ([\w.]+?)(?:\.\{([^}]*)\}| as (\w+));\n", re.M)
 
 
@@ -34,9 +35,9 @@ def breaks(root):
         path = os.path.join(root, *parts)
         return open(path, encoding="utf-8").read() if os.path.isfile(path) else ""
 
-    static = {m[1]: m[2].split() for m in re.finditer(r"(?m)^(\w+) staticlib:(.*)$", read("crates.txt"))}
+    static = set(STATIC.findall(read("crates.txt")))
     archives = read("host/hypergroup/archives.txt").split()
-    for crate in sorted(static.keys() ^ {f"{name}_c" for name in archives}):
+    for crate in sorted(static ^ {f"{name}_c" for name in archives}):
         yield f"{crate} is {'of no archive' if crate in static else 'no static library'}"
     for name in sorted(name for name in archives if f"{name}_c" in static):
         crate, library = f"{name}_c", read("crates", name, "src/lib.rt")

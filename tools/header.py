@@ -9,6 +9,8 @@ import re
 import sys
 import textwrap
 
+from exports import STATIC
+
 HEADER = pathlib.Path("host/hypergroup.h")
 FIRST, LAST = "/* The functions. tools/header.py writes them. */", "/* End of the functions. */"
 FUNCTION = re.compile(r'^#\[unsafe\(no_mangle\)\]\npub extern "C" fn (\w+)\((.*?)\)(?: -> (\w+))?\n', re.M | re.S)
@@ -48,8 +50,8 @@ def prototype(comment, name, parameters, answer):
 
 def exported():
     # By name: the order of crates.txt is no reason to move a prototype.
-    listed = re.findall(r"(?m)^(\w+)_c staticlib:", pathlib.Path("crates.txt").read_text())
-    for crate in sorted(listed):
+    static = STATIC.findall(pathlib.Path("crates.txt").read_text())
+    for crate in sorted(name.removesuffix("_c") for name in static):
         comments = {name: comment for comment, name in COMMENT.findall(pathlib.Path(f"crates/{crate}/src/lib.rt").read_text())}
         found = FUNCTION.findall(pathlib.Path(f"crates/{crate}_c/src/lib.rt").read_text())
         yield crate, [(comments.get(name, ""), name, parameters, answer) for name, parameters, answer in found]

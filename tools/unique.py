@@ -17,6 +17,7 @@ import os
 import re
 import sys
 
+from exports import STATIC
 from surface import FUNCTION, outside_inner
 
 # `use Rattle.CRATE.proofs.FN.Reads as NAME`, with the modules between if FN stands in one.
@@ -25,7 +26,6 @@ SPEC = re.compile(r"(?m)^use Rattle\.promises\.specs\.Unique\.\{Unique\}$")
 STATED = re.compile(
     r"(?ms)^pub (\w+)_unique : Unique \d+ ([\w-]+)\.ps ([\w-]+)\.r ([\w-]+)\.Post\s+(?:\{A = [^}]*\} )?\(λ κs a x\. (.*?)\)\n\1_unique ="
 )
-STATIC = re.compile(r"(?m)^(\w+) staticlib:")
 
 
 def parameters(text):
