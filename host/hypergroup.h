@@ -119,7 +119,7 @@
  *   new step, 0 for a known one, or a refusal as of a question.
  * - A product is a list of handles, five numbers each (the lower and the higher half of `start`, then
  *   `room`, `n`, elements), and their count. hg_product: the verdict, and how many factors there are
- *   (1, a handle that fits no buffer, after a refusal).
+ *   (1 after a refusal).
  * - A subgroup is 128 numbers: the handle of its factor, how many factors are below, over and above it,
  *   and 40 numbers of handles for each of these three. hg_subgroup and hg_subgroup_predicate: as a
  *   build, the sixth number being how many generators it has. hg_subgroup_back: HG_NOT_A_MEMBER where

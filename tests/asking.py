@@ -135,7 +135,7 @@ def names():
     yield shown("between", label(S3, Z2, ("", Z2[1]), Z3), 16)
     eight = label(*[Z2] * 8)
     yield shown("eight", eight, len(eight))
-    # The value beside the refusal of nine fits no buffer; the buffer has what the eight left there.
+    # A factor whose handle fits no buffer; the buffer for its name has what the eight left there.
     yield "nine " + FACTORS
     yield "nine refused 17 [%s] []" % eight
     # Forged lengths: 32 is longer than the buffer, and 33 is no name's.

@@ -12,7 +12,8 @@ import re
 import sys
 
 # Names that are none of ours: of the compiler's and the prover's own.
-FOREIGN = {"nonnull", "noundef", "noalias", "dereferenceable", "nm", "clang", "overflow_cast-x", "c.if-not-f", "c.in-A.k", "c.in-A.ensures"}
+FOREIGN = {"nonnull", "noundef", "noalias", "dereferenceable", "nm", "clang", "overflow_cast-x", "c.if-not-f", "c.in-A.k", "c.in-A.ensures", "c.in_ok-f", "c.in_err-f", "c.in_err-f.field-0.0",
+           "returns-in_err-f", "c.from_residual-in_err-f.result"}
 
 
 def words_of_sources():

@@ -47,9 +47,12 @@ def calls(root):
         crate, _, *modules = os.path.relpath(path, root).split(os.sep)[1:]
         if crate in static or "inner" in modules or "inner.rt" in modules:
             continue
-        for found in FUNCTION.finditer(outside_inner(open(path, encoding="utf-8").read())):
+        text = outside_inner(open(path, encoding="utf-8").read())
+        for found in FUNCTION.finditer(text):
             if found.group(3):
                 continue
+            # A method's proof lies in a folder of its type's name.
+            block = re.search(r"(?ms).*^impl (\w+) \{(?!.*^\})", text[: found.start()])
             given, answer = parameters(found.group(2))
             part = re.match(r"&\s*('\w+)?\s*mut\b", answer)
             lent = {i for i, p in enumerate(given) if re.search(r":\s*&\s*(?:'\w+\s+)?mut\b", p)}
@@ -57,6 +60,7 @@ def calls(root):
                 back = {i for i in lent if not part.group(1) or part.group(1) in given[i]}
                 lent -= back
             inside = [m.removesuffix(".rt") for m in modules if m not in ("lib.rt", "main.rt")]
+            inside += [block.group(1)] if block else []
             yield (crate, ".".join([*inside, found.group(1)])), bool(answer), lent
 
 

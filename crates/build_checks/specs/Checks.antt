@@ -1,8 +1,8 @@
 -- Refusals 8 to 12 on a table of n generators and `count` elements, in document 01's order: "Reading ends before 8; then 8 to 13 in order. Places are
 -- the first in element order, then generator order; for 8 successors are searched before predecessors."
 use Rattle.std.specs.Prelude.{ℕ, zero, suc, ◌+◌, ◌*◌, List, get_or, eqb, ltb, leb}
-use Rattle.egg.specs.declared.Verdict.{Verdict}
-use Rattle.egg.specs.declared.Verdict.TheVariants.{Fine, Refused}
+use Rattle.egg.specs.Answers.{Verdict, fine}
+use Rattle.std.specs.Prelude.{Ok, Err}
 use Rattle.egg.specs.Table.{pick, put_at, start_of, parent_of, last_of, length_of, step_of}
 use Rattle.egg.specs.Scan.{refused_of, and_then, scan}
 use Rattle.build_checks_inverses.specs.Inverses.{fill_inverses, inverses_right}
@@ -11,7 +11,7 @@ use Rattle.build_checks_group.specs.Lefts.{check_steps, Lefts, left, lefts}
 -- Refusal 8, "a successor or predecessor missing", at one place: what stands there is still 0. With shift 0 it is a successor, with shift n a
 -- predecessor, since these stand n places later.
 abbrev pub missing_at : (t : List ℕ) (n shift e g : ℕ) → Verdict
-missing_at t n shift e g = pick (eqb (get_or t (start_of n e + shift + g) 0) 0) (refused_of 8 e g 0) Fine
+missing_at t n shift e g = pick (eqb (get_or t (start_of n e + shift + g) 0) 0) (refused_of 8 e g 0) fine
 
 -- The first such place of a row.
 unfoldable pub missing_row : List ℕ → ℕ → ℕ → ℕ → Verdict
@@ -28,7 +28,7 @@ check8 t n count = and_then (missing t n count 0) (missing t n count n)
 -- Refusal 17, "a number read from it is out of range", for a stored step or step back beyond the elements. 17 is tested after 8 and before 9, so that
 -- all tests below read numbers in range. No reading and no enumeration leaves a table that fails here; the checks do not rest on that.
 abbrev pub range_at : (t : List ℕ) (n count e k : ℕ) → Verdict
-range_at t n count e k = pick (ltb count (get_or t (start_of n e + 0 + k) 0)) (refused_of 17 0 0 0) Fine
+range_at t n count e k = pick (ltb count (get_or t (start_of n e + 0 + k) 0)) (refused_of 17 0 0 0) fine
 
 -- The same for all steps and steps back of a row.
 unfoldable pub range_row : List ℕ → ℕ → ℕ → ℕ → Verdict
@@ -39,9 +39,9 @@ range_row t n count e = scan (2 * n) (λ k. range_at t n count e k) 0
 unfoldable pub links_of : List ℕ → ℕ → ℕ → Verdict
 links_of t n e =
     pick (ltb 4096 (length_of t n e)) (refused_of 17 0 0 0)
-    (pick (eqb e 0) Fine
+    (pick (eqb e 0) fine
     (pick (leb e (parent_of t n e)) (refused_of 17 0 0 0)
-    (pick (leb n (last_of t n e)) (refused_of 17 0 0 0) Fine)))
+    (pick (leb n (last_of t n e)) (refused_of 17 0 0 0) fine)))
 
 -- Refusal 17 in the whole table, row by row.
 unfoldable pub ranges : List ℕ → ℕ → ℕ → Verdict
@@ -52,7 +52,7 @@ ranges t n count = scan count (λ e. and_then (range_row t n count e) (links_of 
 abbrev pub wrong_at : List ℕ → ℕ → ℕ → ℕ → Verdict
 wrong_at t n e g =
     pick (eqb (step_of t n e g) e) (refused_of 9 e g 0)
-    (pick (eqb e 0) Fine (pick (eqb (step_of t n e g) (step_of t n 0 g)) (refused_of 9 e g 0) Fine))
+    (pick (eqb e 0) fine (pick (eqb (step_of t n e g) (step_of t n 0 g)) (refused_of 9 e g 0) fine))
 
 -- The first such place of a row.
 unfoldable pub wrong_row : List ℕ → ℕ → ℕ → Verdict
@@ -83,7 +83,7 @@ arrivals (suc k) t n w e = arrivals k t n (arrive_row n t n e w 0) (e + 1)
 
 -- Refusal 9, "or count (003)": the arrivals at each element, over all generators together, must be n. "For a count the element and n."
 unfoldable pub counts_right : List ℕ → ℕ → ℕ → Verdict
-counts_right w n count = scan count (λ e. pick (eqb (get_or w e 0) n) Fine (refused_of 9 e n 0)) 0
+counts_right w n count = scan count (λ e. pick (eqb (get_or w e 0) n) fine (refused_of 9 e n 0)) 0
 
 -- What the checks come to: the verdict, and what table and work hold then.
 pub data Checked : Type 0 where
@@ -95,8 +95,8 @@ verdict_of (checked v t w) = v
 
 -- What comes after a verdict: c where it is fine, else the refusal with table and work as they stand.
 abbrev pub then_checked : Verdict → List ℕ → List ℕ → Checked → Checked
-then_checked Fine t w c = c
-then_checked (Refused r) t w c = checked (Refused r) t w
+then_checked (Ok _) t w c = c
+then_checked (Err r) t w c = checked (Err r) t w
 
 -- What the last part of 12 comes to, with the table beside it, which that part does not change.
 abbrev pub with_table : List ℕ → Lefts → Checked

@@ -1,86 +1,74 @@
 // Each check looks at the places in document 01's order and answers the first refusal; all are total on any contents.
 ghost use Rattle.std.specs.Prelude.{true, ◌≡◌};
+ghost use Rattle.egg.specs.Answers.{fine};
 ghost use Rattle.egg.specs.Table.{back_of};
 ghost use Rattle.build_checks_group.specs.Lefts.{identity_row, columns_row, spelled_row, spelled, left_of, fill_left, goes_row, all_go, Lefts, lefts, check_steps};
 
-use egg::{GeneratorId, GroupElementId, Verdict};
+use egg::{GeneratorId, GroupElementId, Refusal};
 
 // Refusal 11: the first generator at which the identity row is not 1..n.
-fn identity_row(t: &[u32], n: u8) -> Verdict
+fn identity_row(t: &[u32], n: u8) -> Result<(), Refusal>
     ensures { result ≡ identity_row t.now n }
 {
-    let mut g: u8 = 0;
-    while g < n {
+    for g in 0..n {
         if egg::inner::step(t, n, GroupElementId(0), GeneratorId(g)).0 != (g as u32) + 1 {
-            return egg::inner::refused(11, g as u32, 0, 0);
+            return Err(Refusal::IdentityRowDiffers(GeneratorId(g)));
         }
-        g += 1;
     }
-    Verdict::Fine
+    Ok(())
 }
 
 // The step back of a table with nothing missing.
 fn back(t: &[u32], n: u8, e: GroupElementId, g: GeneratorId) -> GroupElementId
     ensures { result.0 ≡ back_of t.now n e.0 g.0 }
 {
-    let k = g.0;
-    egg::inner::element(egg::inner::cell(t, n, e, n, k as u32))
+    egg::inner::element(egg::inner::cell(t, n, e, n, g.0 as u32))
 }
 
 // The first part of 12, in one row: each step back is undone by the step, so that the columns are permutations.
-fn columns_row(t: &[u32], n: u8, e: GroupElementId) -> Verdict
+fn columns_row(t: &[u32], n: u8, e: GroupElementId) -> Result<(), Refusal>
     ensures { result ≡ columns_row t.now n e.0 }
 {
-    let mut g: u8 = 0;
-    while g < n {
+    for g in 0..n {
         let from = back(t, n, e, GeneratorId(g));
         if egg::inner::step(t, n, from, GeneratorId(g)).0 != e.0 {
-            return egg::inner::refused(12, 0, 0, 0);
+            return Err(Refusal::NoGroup);
         }
-        g += 1;
     }
-    Verdict::Fine
+    Ok(())
 }
 
 // The second part of 12, for one element: its recorded word leads to it, and has the recorded length.
-fn spelled_row(t: &[u32], n: u8, e: GroupElementId) -> Verdict
+fn spelled_row(t: &[u32], n: u8, e: GroupElementId) -> Result<(), Refusal>
     ensures { result ≡ spelled_row t.now n e.0 }
 {
     let len = egg::inner::word_length(t, n, e);
     if e.0 == 0 {
         if len != 0 {
-            return egg::inner::refused(12, 0, 0, 0);
+            return Err(Refusal::NoGroup);
         }
-        return Verdict::Fine;
+        return Ok(());
     }
     let p = GroupElementId(egg::inner::parent(t, n, e));
     if egg::inner::step_last(t, n, p, e).0 != e.0 {
-        return egg::inner::refused(12, 0, 0, 0);
+        return Err(Refusal::NoGroup);
     }
     let before = egg::inner::word_length(t, n, p);
     if (len as usize) != (before as usize) + 1 {
-        return egg::inner::refused(12, 0, 0, 0);
+        return Err(Refusal::NoGroup);
     }
-    Verdict::Fine
+    Ok(())
 }
 
 // Both parts for all elements.
-fn spelled(t: &[u32], n: u8, count: u32) -> Verdict
+fn spelled(t: &[u32], n: u8, count: u32) -> Result<(), Refusal>
     ensures { result ≡ spelled t.now n count }
 {
-    let mut e: u32 = 0;
-    while e < count {
-        let v = columns_row(t, n, GroupElementId(e));
-        let Verdict::Fine = v else {
-            return v;
-        };
-        let u = spelled_row(t, n, GroupElementId(e));
-        let Verdict::Fine = u else {
-            return u;
-        };
-        e += 1;
+    for e in 0..count {
+        columns_row(t, n, GroupElementId(e))?;
+        spelled_row(t, n, GroupElementId(e))?;
     }
-    Verdict::Fine
+    Ok(())
 }
 
 // The product s·x, where the work has s times each element before x: it goes on from the parent of x.
@@ -99,11 +87,9 @@ fn left_of(t: &[u32], w: &[u32], n: u8, s: GeneratorId, x: GroupElementId) -> Gr
 fn fill_left(t: &[u32], w: &mut [u32], n: u8, count: u32, s: GeneratorId)
     ensures { w.new ≡ fill_left count t.now n s.0 w.old 0 }
 {
-    let mut x: u32 = 0;
-    while x < count {
-        let y = left_of(t, &w[..], n, s, GroupElementId(x)).0;
+    for x in 0..count {
+        let y = left_of(t, w, n, s, GroupElementId(x)).0;
         egg::inner::put(w, x as usize, y as usize);
-        x += 1;
     }
 }
 
@@ -111,7 +97,7 @@ fn fill_left(t: &[u32], w: &mut [u32], n: u8, count: u32, s: GeneratorId)
 // rows that it reads, and one for each number that leads into the work; false may only mean that a number is out of
 // range, and then `goes_with_care` has the answer.
 fn goes_at_once(t: &[u32], w: &[u32], n: u8, x: GroupElementId) -> bool
-    ensures { result ≡ true → goes_row t.now w.now n x.0 ≡ Verdict.Fine }
+    ensures { result ≡ true → goes_row t.now w.now n x.0 ≡ fine }
 {
     let left = GroupElementId(egg::inner::get(w, x.0 as usize));
     let from = egg::inner::start(n, x);
@@ -123,8 +109,7 @@ fn goes_at_once(t: &[u32], w: &[u32], n: u8, x: GroupElementId) -> bool
     if t.len() < to + far {
         return false;
     }
-    let mut g: usize = 0;
-    while g < far {
+    for g in 0..far {
         let y = egg::inner::read(t, from + g) as usize;
         if y == 0 {
             return false;
@@ -136,76 +121,60 @@ fn goes_at_once(t: &[u32], w: &[u32], n: u8, x: GroupElementId) -> bool
         if after + 1 != (egg::inner::read(t, to + g) as usize) {
             return false;
         }
-        g += 1;
     }
     true
 }
 
 // The third part of 12 at x, with every number looked at.
-fn goes_with_care(t: &[u32], w: &[u32], n: u8, x: GroupElementId) -> Verdict
+fn goes_with_care(t: &[u32], w: &[u32], n: u8, x: GroupElementId) -> Result<(), Refusal>
     ensures { result ≡ goes_row t.now w.now n x.0 }
 {
     let left = GroupElementId(egg::inner::get(w, x.0 as usize));
-    let mut g: u8 = 0;
-    while g < n {
+    for g in 0..n {
         let y = egg::inner::step(t, n, x, GeneratorId(g)).0;
         if egg::inner::get(w, y as usize) != egg::inner::step(t, n, left, GeneratorId(g)).0 {
-            return egg::inner::refused(12, 0, 0, 0);
+            return Err(Refusal::NoGroup);
         }
-        g += 1;
     }
-    Verdict::Fine
+    Ok(())
 }
 
 // The third part of 12 at x: multiplication on the left, as the work has it, commutes with every step from x.
-fn goes_row(t: &[u32], w: &[u32], n: u8, x: GroupElementId) -> Verdict
+fn goes_row(t: &[u32], w: &[u32], n: u8, x: GroupElementId) -> Result<(), Refusal>
     ensures { result ≡ goes_row t.now w.now n x.0 }
 {
     if goes_at_once(t, w, n, x) {
-        return Verdict::Fine;
+        return Ok(());
     }
     goes_with_care(t, w, n, x)
 }
 
 // The third part of 12 at all elements, for the generator whose products the work has.
-fn all_go(t: &[u32], w: &[u32], n: u8, count: u32) -> Verdict
+fn all_go(t: &[u32], w: &[u32], n: u8, count: u32) -> Result<(), Refusal>
     ensures { result ≡ all_go t.now w.now n count }
 {
-    let mut x: u32 = 0;
-    while x < count {
-        let v = goes_row(t, w, n, GroupElementId(x));
-        let Verdict::Fine = v else {
-            return v;
-        };
-        x += 1;
+    for x in 0..count {
+        goes_row(t, w, n, GroupElementId(x))?;
     }
-    Verdict::Fine
+    Ok(())
 }
 
 // The third part of 12 for each generator in turn.
-pub fn check12(t: &[u32], w: &mut [u32], n: u8, count: u32) -> Verdict
+pub fn check12(t: &[u32], w: &mut [u32], n: u8, count: u32) -> Result<(), Refusal>
     ensures { Lefts.left result w.new ≡ lefts n t.now n count w.old 0 }
 {
-    let mut s: u8 = 0;
-    while s < n {
+    for s in 0..n {
         fill_left(t, w, n, count, GeneratorId(s));
-        let v = all_go(t, &w[..], n, count);
-        let Verdict::Fine = v else {
-            return v;
-        };
-        s += 1;
+        all_go(t, w, n, count)?;
     }
-    Verdict::Fine
+    Ok(())
 }
 
 // Refusal 11, then the first two parts of 12: the columns are permutations, and the recorded words lead to their
 // elements.
-pub fn check_steps(t: &[u32], n: u8, count: u32) -> Verdict
+pub fn check_steps(t: &[u32], n: u8, count: u32) -> Result<(), Refusal>
     ensures { result ≡ check_steps t.now n count }
 {
-    let v = identity_row(t, n);
-    let Verdict::Fine = v else {
-        return v;
-    };
+    identity_row(t, n)?;
     spelled(t, n, count)
 }

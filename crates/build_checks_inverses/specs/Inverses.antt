@@ -1,7 +1,6 @@
 -- The inverses of a table of n generators and `count` elements, and refusal 10 over them.
 use Rattle.std.specs.Prelude.{ℕ, zero, suc, ◌+◌, ◌*◌, List, eqb}
-use Rattle.egg.specs.declared.Verdict.{Verdict}
-use Rattle.egg.specs.declared.Verdict.TheVariants.{Fine}
+use Rattle.egg.specs.Answers.{Verdict, fine}
 use Rattle.egg.specs.Table.{pick, put_at, start_of, parent_of, last_of, length_of, inverse_of, back_of}
 use Rattle.egg.specs.Scan.{refused_of, scan}
 
@@ -23,7 +22,7 @@ fill_inverses (suc k) t n e = fill_inverses k (put_at t (start_of n e + 2 * n + 
 -- Refusal 10, "inverse of inverse differs", at e, with its places "element, inverse, its inverse".
 abbrev pub inverse_at : List ℕ → ℕ → ℕ → Verdict
 inverse_at t n e =
-    pick (eqb (inverse_of t n (inverse_of t n e)) e) Fine (refused_of 10 e (inverse_of t n e) (inverse_of t n (inverse_of t n e)))
+    pick (eqb (inverse_of t n (inverse_of t n e)) e) fine (refused_of 10 e (inverse_of t n e) (inverse_of t n (inverse_of t n e)))
 
 -- Refusal 10 at the first such element.
 unfoldable pub inverses_right : List ℕ → ℕ → ℕ → Verdict

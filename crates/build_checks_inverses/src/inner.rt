@@ -4,7 +4,7 @@ ghost use Rattle.egg.specs.Table.{back_of, last_of};
 ghost use Rattle.build_checks_inverses.specs.Inverses.{invert_of, fill_inverses, inverses_right};
 ghost use Rattle.build_checks_inverses.specs.Hints.{Packs, Follows, Hint, Hints, inverse_by, Hinted, CountedAgain};
 
-use egg::{GroupElementId, Verdict};
+use egg::{GroupElementId, Refusal};
 
 // The step back from x by the last letter of the word of e, as `step_last` of egg.
 fn back_last(t: &[u32], n: u8, x: GroupElementId, e: GroupElementId) -> GroupElementId
@@ -19,11 +19,9 @@ fn invert(t: &[u32], n: u8, e: GroupElementId) -> GroupElementId
 {
     let mut x = 0;
     let mut at = e.0;
-    let mut left = egg::inner::word_length(t, n, e);
-    while 0 < left {
+    for _ in 0..egg::inner::word_length(t, n, e) {
         x = back_last(t, n, GroupElementId(x), GroupElementId(at)).0;
         at = egg::inner::parent(t, n, GroupElementId(at));
-        left -= 1;
     }
     GroupElementId(x)
 }
@@ -93,11 +91,9 @@ fn hint_of(t: &[u32], w: &[u32], n: u8, e: GroupElementId) -> u32
 pub fn fill_hints(t: &[u32], w: &mut [u32], n: u8, count: u32)
     ensures { Hinted t.now w.old w.new n count }
 {
-    let mut e: u32 = 0;
-    while e < count {
-        let h = hint_of(t, &w[..], n, GroupElementId(e));
+    for e in 0..count {
+        let h = hint_of(t, w, n, GroupElementId(e));
         egg::inner::put(w, e as usize, h as usize);
-        e += 1;
     }
 }
 
@@ -119,12 +115,10 @@ pub fn fill_inverses(t: &mut [u32], w: &[u32], n: u8, count: u32)
     requires { Hints t.old w.now n count }
     ensures { t.new ≡ fill_inverses count t.old n 0 }
 {
-    let mut e: u32 = 0;
-    while e < count {
+    for e in 0..count {
         let h = egg::inner::get(w, e as usize);
-        let x = inverse_by(&t[..], n, GroupElementId(e), h).0;
+        let x = inverse_by(t, n, GroupElementId(e), h).0;
         egg::inner::put(t, egg::inner::inverse_at(n, GroupElementId(e)), x as usize);
-        e += 1;
     }
 }
 
@@ -132,25 +126,25 @@ pub fn fill_inverses(t: &mut [u32], w: &[u32], n: u8, count: u32)
 pub fn count_again(w: &mut [u32], n: u8, count: u32)
     ensures { CountedAgain w.old w.new n count count }
 {
-    let mut e: u32 = 0;
-    while e < count {
+    for e in 0..count {
         egg::inner::put(w, e as usize, n as usize);
-        e += 1;
     }
 }
 
 // Refusal 10: the first element that is not the inverse of its inverse.
-pub fn inverses_right(t: &[u32], n: u8, count: u32) -> Verdict
+pub fn inverses_right(t: &[u32], n: u8, count: u32) -> Result<(), Refusal>
     ensures { result ≡ inverses_right t.now n count }
 {
-    let mut e: u32 = 0;
-    while e < count {
+    for e in 0..count {
         let i = egg::inner::get(t, egg::inner::inverse_at(n, GroupElementId(e)));
         let j = egg::inner::get(t, egg::inner::inverse_at(n, GroupElementId(i)));
         if j != e {
-            return egg::inner::refused(10, e, i, j);
+            return Err(Refusal::InverseDiffers(
+                GroupElementId(e),
+                GroupElementId(i),
+                GroupElementId(j),
+            ));
         }
-        e += 1;
     }
-    Verdict::Fine
+    Ok(())
 }

@@ -5,9 +5,8 @@ use mathlib.Core.List.{List, [], ◌∷◌}
 use native.Mathlib.Decide.{dec_le}
 use native.Mathlib.Omega.{arith}
 use lib.ListN.{length, get_or, length-append, get_or-eq_default}
-use Rattle.egg.specs.declared.Verdict.{Verdict}
-use Rattle.egg.specs.declared.Verdict.TheVariants.{Fine, Refused}
-use Rattle.egg.specs.declared.Reached.TheVariants.{Element}
+use Rattle.egg.specs.Answers.{Verdict, fine}
+use Rattle.std.specs.Prelude.{Ok, Err}
 use Rattle.egg.specs.Factor.{read_step}
 use Rattle.egg.specs.Table.{start_of, parent_of, last_of, length_of, step_of, back_of}
 use Rattle.build_checks.specs.Checks.{check_table, counted, counts_right, Checked, checked, then_checked, with_table, check_rest, check_group}
@@ -31,21 +30,21 @@ use Rattle.build_checks_laws.proofs.Lefts.{lefts_sound}
 
 -- The parts of an acceptance.
 record Passed (t w : List ℕ) (n N : ℕ) (t₁ w₁ : List ℕ) : Type 0 where
-  table : check_table t n N ≡ Fine
-  counts : counts_right (counted t w n N) n N ≡ Fine
-  inverses : inverses_right t₁ n N ≡ Fine
-  steps : check_steps t₁ n N ≡ Fine
-  all : lefts n t₁ n N (counted t w n N) 0 ≡ left Fine w₁
+  table : check_table t n N ≡ fine
+  counts : counts_right (counted t w n N) n N ≡ fine
+  inverses : inverses_right t₁ n N ≡ fine
+  steps : check_steps t₁ n N ≡ fine
+  all : lefts n t₁ n N (counted t w n N) 0 ≡ left fine w₁
   filled : fill_inverses N t n 0 ≡ t₁
 
-then_checked_lem : (v : Verdict) (t w : List ℕ) (c : Checked) (t₁ w₁ : List ℕ) → then_checked v t w c ≡ checked Fine t₁ w₁ → (v ≡ Fine) × (c ≡ checked Fine t₁ w₁)
-then_checked_lem Fine t w c t₁ w₁ h = (refl, h)
-then_checked_lem (Refused r) t w c t₁ w₁ h = absurd (refused_fine {r = r} (cc))
+then_checked_lem : (v : Verdict) (t w : List ℕ) (c : Checked) (t₁ w₁ : List ℕ) → then_checked v t w c ≡ checked fine t₁ w₁ → (v ≡ fine) × (c ≡ checked fine t₁ w₁)
+then_checked_lem (Ok _) t w c t₁ w₁ h = (refl, h)
+then_checked_lem (Err r) t w c t₁ w₁ h = absurd (refused_fine {r = r} (cc))
 
-with_table_lem : (t : List ℕ) (l : Lefts) (t₁ w₁ : List ℕ) → with_table t l ≡ checked Fine t₁ w₁ → (l ≡ left Fine w₁) × (t ≡ t₁)
+with_table_lem : (t : List ℕ) (l : Lefts) (t₁ w₁ : List ℕ) → with_table t l ≡ checked fine t₁ w₁ → (l ≡ left fine w₁) × (t ≡ t₁)
 with_table_lem t (left v w) t₁ w₁ h = (cc, cc)
 
-passed : (t w : List ℕ) (n N : ℕ) (t₁ w₁ : List ℕ) → check_group t w n N ≡ checked Fine t₁ w₁ → Passed t w n N t₁ w₁
+passed : (t w : List ℕ) (n N : ℕ) (t₁ w₁ : List ℕ) → check_group t w n N ≡ checked fine t₁ w₁ → Passed t w n N t₁ w₁
 unfolding check_group check_rest
 passed t w n N t₁ w₁ h =
     let f = fill_inverses N t n 0 in
@@ -58,7 +57,7 @@ passed t w n N t₁ w₁ h =
     record { table = a.0; counts = b.0; inverses = rw l.1 at d.0; steps = rw l.1 at e.0; all = rw l.1 at l.0; filled = l.1 }
 
 -- The accepted table is the given one with the inverses filled in.
-pub accepted_filled : (t w : List ℕ) (n N : ℕ) {t₁ w₁ : List ℕ} → check_group t w n N ≡ checked Fine t₁ w₁ → fill_inverses N t n 0 ≡ t₁
+pub accepted_filled : (t w : List ℕ) (n N : ℕ) {t₁ w₁ : List ℕ} → check_group t w n N ≡ checked fine t₁ w₁ → fill_inverses N t n 0 ≡ t₁
 accepted_filled t w n N h = (passed t w n N _ _ h).filled
 
 -- What 8 and the ranges say of the cells.
@@ -68,7 +67,7 @@ record Ranged (t : List ℕ) (n N : ℕ) : Type 0 where
   links : (e : ℕ) → 0 < e → e < N → (parent_of t n e < e) × (last_of t n e < n)
   short : (e : ℕ) → e < N → length_of t n e ≤ 4096
 
-ranged : (t : List ℕ) (n N : ℕ) → check_table t n N ≡ Fine → Ranged t n N
+ranged : (t : List ℕ) (n N : ℕ) → check_table t n N ≡ fine → Ranged t n N
 ranged t n N h =
     let a = (table_fine t n N).0 h in
     let m = (check8_fine t n N).0 a.0 in
@@ -91,7 +90,7 @@ ranged_kept {n = n} K r = record {
 }
 
 -- A table in its ranges whose columns and words have passed their tests.
-module _ (t : List ℕ) (n N : ℕ) (origin : 1 ≤ N) (r : Ranged t n N) (steps : check_steps t n N ≡ Fine) where
+module _ (t : List ℕ) (n N : ℕ) (origin : 1 ≤ N) (r : Ranged t n N) (steps : check_steps t n N ≡ fine) where
   first : (g : ℕ) → g < n → step_of t n 0 g ≡ g + 1
   first = (identity_fine t n N).0 ((steps_fine t n N).0 steps).0
 
@@ -157,7 +156,7 @@ work_room w n N origin pos h = go (dec_le N (length w)) where
   go (yes p) = p
   go (no d) = absurd (omega (arith, h (N - 1) (omega arith), get_or-eq_default w 0 {n = N - 1} (omega arith)))
 
-pub checks_sound : (t w : List ℕ) (n N : ℕ) {t₁ w₁ : List ℕ} → check_group t w n N ≡ checked Fine t₁ w₁ → 1 ≤ N → N ≤ 65535 → N * (2 * n + 4) ≤ length t
+pub checks_sound : (t w : List ℕ) (n N : ℕ) {t₁ w₁ : List ℕ} → check_group t w n N ≡ checked fine t₁ w₁ → 1 ≤ N → N ≤ 65535 → N * (2 * n + 4) ≤ length t
     → Sound t₁ n N
 checks_sound t w n N {t₁} {w₁} h origin small room =
     let p = passed t w n N t₁ w₁ h in
@@ -192,8 +191,8 @@ abbrev table_of : Checked → List ℕ
 table_of (checked v t w) = t
 
 either_table : (Q : List ℕ → Type 0) (v : Verdict) (t w : List ℕ) (c : Checked) → Q t → Q (table_of c) → Q (table_of (then_checked v t w c))
-either_table Q Fine t w c here later = later
-either_table Q (Refused r) t w c here later = here
+either_table Q (Ok _) t w c here later = later
+either_table Q (Err r) t w c here later = here
 
 same_table : (Q : List ℕ → Type 0) (t : List ℕ) (l : Lefts) → Q t → Q (table_of (with_table t l))
 same_table Q t (left v w) here = here
@@ -229,7 +228,7 @@ module _ {t : List ℕ} {n N : ℕ} (S : Sound t n N) where
   }
 
   -- A step that is read is the table's own.
-  pub read_step_lem : {e g : ℕ} → e < N → g < n → read_step t n N e g ≡ Element (record { 0 = step_of t n e g })
+  pub read_step_lem : {e g : ℕ} → e < N → g < n → read_step t n N e g ≡ Ok (record { 0 = step_of t n e g })
   read_step_lem {e} {g} he hg =
       let q = S.stored.successor he hg in
       sym (read_element t n N e g refl (omega arith) (omega (arith, S.table.closed he hg)))

@@ -11,8 +11,8 @@ use native.Mathlib.Omega.{arith}
 use lib.Dec.{ltb}
 use lib.ListN.{length, get_or, set}
 use lib.Seq.{get_or-set_same, get_or-set_other, set_out}
-use Rattle.egg.specs.declared.Verdict.{Verdict}
-use Rattle.egg.specs.declared.Verdict.TheVariants.{Fine, Refused}
+use Rattle.egg.specs.Answers.{Verdict, fine}
+use Rattle.std.specs.Prelude.{Ok, Err}
 use Rattle.egg.specs.Table.{pick, put_at, start_of, parent_of, step_of}
 use Rattle.egg.specs.Scan.{scan}
 use Rattle.egg.proofs.Cells.{put_other, put_length}
@@ -136,10 +136,10 @@ abbrev LeftLike : Lefts → Lefts → Type 0
 LeftLike (left v w) (left v' w') = v ≡ v'
 
 then_left_like : (v v' : Verdict) (w w' : List ℕ) (l l' : Lefts) → v ≡ v' → LeftLike l l' → LeftLike (then_left v w l) (then_left v' w' l')
-then_left_like Fine Fine w w' l l' e L = L
-then_left_like Fine (Refused r) w w' l l' e L = absurd (refused_fine (sym e))
-then_left_like (Refused r) Fine w w' l l' e L = absurd (refused_fine e)
-then_left_like (Refused r) (Refused r') w w' l l' e L = e
+then_left_like (Ok _) (Ok _) w w' l l' e L = L
+then_left_like (Ok _) (Err r) w w' l l' e L = absurd (refused_fine (sym e))
+then_left_like (Err r) (Ok _) w w' l l' e L = absurd (refused_fine e)
+then_left_like (Err r) (Err r') w w' l l' e L = e
 
 -- Where every step and every parent is an element, the tests of 12 read nothing but those numbers.
 module _ (t : List ℕ) (n N : ℕ) (closed : (e g : ℕ) → e < N → g < n → step_of t n e g < N) (parents : (e : ℕ) → 0 < e → e < N → parent_of t n e < N) where
@@ -174,11 +174,11 @@ abbrev pub Like : Checked → Checked → Type 0
 Like (checked v t w) (checked v' t' w') = (v ≡ v') × (t ≡ t')
 
 -- What comes after a verdict need be alike only where that is fine.
-then_like : (v : Verdict) {v' : Verdict} (t w w' : List ℕ) (c c' : Checked) → v ≡ v' → (v ≡ Fine → Like c c') → Like (then_checked v t w c) (then_checked v' t w' c')
+then_like : (v : Verdict) {v' : Verdict} (t w w' : List ℕ) (c c' : Checked) → v ≡ v' → (v ≡ fine → Like c c') → Like (then_checked v t w c) (then_checked v' t w' c')
 then_like v {v'} t w w' c c' e L = rw (← e) (by v refl) where
   by : (u : Verdict) → v ≡ u → Like (then_checked u t w c) (then_checked u t w' c')
-  by Fine q = L q
-  by (Refused r) q = (refl, refl)
+  by (Ok _) q = L q
+  by (Err r) q = (refl, refl)
 
 table_like : (t : List ℕ) (l l' : Lefts) → LeftLike l l' → Like (with_table t l) (with_table t l')
 table_like t (left v w) (left v' w') L = (L, refl)

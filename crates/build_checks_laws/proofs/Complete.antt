@@ -6,7 +6,7 @@ use mathlib.Core.List.{List}
 use native.Mathlib.Decide.{dec_lt}
 use native.Mathlib.Omega.{arith}
 use lib.ListN.{length, get_or}
-use Rattle.egg.specs.declared.Verdict.TheVariants.{Fine}
+use Rattle.egg.specs.Answers.{fine}
 use Rattle.egg.specs.Table.{start_of, parent_of, last_of, length_of, inverse_of, step_of}
 use Rattle.build_checks.specs.Checks.{check8, ranges, wrong, counted, checked, check_rest, check_group}
 use Rattle.build_checks_inverses.specs.Inverses.{fill_inverses, inverses_right}
@@ -26,10 +26,10 @@ use Rattle.build_checks_laws.proofs.Arrivals.{counted_length, arrivals_right}
 module _ {n N : ℕ} {step back : ℕ → ℕ → ℕ} {parent last : ℕ → ℕ} {word : ℕ → List ℕ} {t : List ℕ}
     (S : StoredTable t n N step back parent last word) (T : Table n N step) (P : Parents n N step parent last) (R : Recorded N parent last word)
     (C : Columns n N step back) where
-  pub present : check8 t n N ≡ Fine
+  pub present : check8 t n N ≡ fine
   present = (check8_fine t n N).1 (λ e he g hg z. omega (arith, S.successor he hg), λ e he g hg z. omega (arith, S.predecessor he hg))
 
-  pub in_range : ((e : ℕ) → e < N → length (word e) ≤ 4096) → ranges t n N ≡ Fine
+  pub in_range : ((e : ℕ) → e < N → length (word e) ≤ 4096) → ranges t n N ≡ fine
   in_range short = (ranges_fine t n N).1 (λ e he. (
     λ k hk. cell e k he hk (dec_lt k n),
     (rw (S.lengths he) (short e he), λ pos. rw (S.parents pos he, S.letters pos he) (P.earlier pos he, P.generator pos he)),
@@ -42,7 +42,7 @@ module _ {n N : ℕ} {step back : ℕ → ℕ → ℕ} {parent last : ℕ → �
         rw q (omega (arith, S.predecessor he g, C.closed he g))
 
   -- "a fixed point or wrong generator row": in a group neither is there, where no generator is the identity.
-  none_wrong : ((g : ℕ) → g < n → step 0 g ≡ suc g) → RightRegular n N step → wrong t n N ≡ Fine
+  none_wrong : ((g : ℕ) → g < n → step 0 g ≡ suc g) → RightRegular n N step → wrong t n N ≡ fine
   none_wrong first G = (wrong_fine t n N).1 (λ e he g hg. (
     λ q. let z : step 0 g ≡ 0 = no_fixed_point G.group G.steps he hg (sym (step_is S he hg) ∙ q) in omega (arith, first g hg),
     λ pos q.
@@ -51,7 +51,7 @@ module _ {n N : ℕ} {step back : ℕ → ℕ → ℕ} {parent last : ℕ → �
   ))
 
   -- The recorded words lead to their elements.
-  pub words_right : spelled t n N ≡ Fine
+  pub words_right : spelled t n N ≡ fine
   words_right = (spelled_fine t n N).1 (λ e he. (
     λ g hg. rw (back_is S he hg) (step_is S (C.closed he hg) hg ∙ C.step_back he hg),
     (λ z. rw z (S.lengths T.origin ∙ ap length R.start), λ pos. links_right e pos he),
@@ -62,7 +62,7 @@ module _ {n N : ℕ} {step back : ℕ → ℕ → ℕ} {parent last : ℕ → �
         rw (S.parents pos he, S.letters pos he)
         (step_is S m (P.generator pos he) ∙ P.arrives pos he, omega (arith, S.lengths he, S.lengths m, length_grow R pos he))
 
-  right_steps : ((g : ℕ) → g < n → step 0 g ≡ suc g) → check_steps t n N ≡ Fine
+  right_steps : ((g : ℕ) → g < n → step 0 g ≡ suc g) → check_steps t n N ≡ fine
   right_steps first = (steps_fine t n N).1 ((identity_fine t n N).1 (λ g hg. omega (arith, step_is S T.origin hg, first g hg)), words_right)
 
 module _ {n N : ℕ} {step back : ℕ → ℕ → ℕ} {parent last : ℕ → ℕ} {word : ℕ → List ℕ} {t : List ℕ}
@@ -73,7 +73,7 @@ module _ {n N : ℕ} {step back : ℕ → ℕ → ℕ} {parent last : ℕ → �
   inverse_is e he = fill_inverse T P R C small N t room S 0 (omega arith) e (omega arith) (omega arith)
 
   -- 10 passes just where the inverse of an inverse is the element.
-  pub inverses_exactly : inverses_right (fill_inverses N t n 0) n N ≡ Fine ↔ ((e : ℕ) → e < N → inverse back word (inverse back word e) ≡ e)
+  pub inverses_exactly : inverses_right (fill_inverses N t n 0) n N ≡ fine ↔ ((e : ℕ) → e < N → inverse back word (inverse back word e) ≡ e)
   inverses_exactly =
       let f = fill_inverses N t n 0 in
       let twice : (e : ℕ) → e < N → inverse_of f n (inverse_of f n e) ≡ inverse back word (inverse back word e) = λ e he.
@@ -83,7 +83,7 @@ module _ {n N : ℕ} {step back : ℕ → ℕ → ℕ} {parent last : ℕ → �
       )
 
   pub checks_complete : (w : List ℕ) → (0 < n → N ≤ length w) → ((g : ℕ) → g < n → step 0 g ≡ suc g) → RightRegular n N step
-      → (t₁ : List ℕ) × (w₁ : List ℕ) × (check_group t w n N ≡ checked Fine t₁ w₁)
+      → (t₁ : List ℕ) × (w₁ : List ℕ) × (check_group t w n N ≡ checked fine t₁ w₁)
   unfolding check_group check_rest
   checks_complete w work first G =
       let f = fill_inverses N t n 0 in

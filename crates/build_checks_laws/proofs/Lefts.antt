@@ -6,8 +6,8 @@ use mathlib.Core.List.{List}
 use native.Mathlib.Omega.{arith}
 use borrow.Author.Tests.{lt-ltb}
 use lib.ListN.{length, get_or}
-use Rattle.egg.specs.declared.Verdict.{Verdict}
-use Rattle.egg.specs.declared.Verdict.TheVariants.{Fine, Refused}
+use Rattle.egg.specs.Answers.{Verdict, fine}
+use Rattle.std.specs.Prelude.{Ok, Err}
 use Rattle.egg.specs.Table.{put_at, step_of}
 use Rattle.build_checks_group.specs.Lefts.{left_of, fill_left, all_go, Lefts, left, then_left, lefts}
 use Rattle.theory.specs.Table.{Table}
@@ -27,9 +27,9 @@ unfolding fill_left
 left_length zero t n s w x = refl
 left_length (suc k) t n s w x = left_length k t n s _ (x + 1) ∙ put_length w x (left_of t n s w x)
 
-then_fine : (v : Verdict) (w : List ℕ) (l : Lefts) (w₁ : List ℕ) → then_left v w l ≡ left Fine w₁ → (v ≡ Fine) × (l ≡ left Fine w₁)
-then_fine Fine w l w₁ h = (refl, h)
-then_fine (Refused r) w l w₁ h = absurd (refused_fine {r = r} (cc))
+then_fine : (v : Verdict) (w : List ℕ) (l : Lefts) (w₁ : List ℕ) → then_left v w l ≡ left fine w₁ → (v ≡ fine) × (l ≡ left fine w₁)
+then_fine (Ok _) w l w₁ h = (refl, h)
+then_fine (Err r) w l w₁ h = absurd (refused_fine {r = r} (cc))
 
 module _ {n N : ℕ} {step back : ℕ → ℕ → ℕ} {parent last : ℕ → ℕ} {word : ℕ → List ℕ} {t : List ℕ} (small : N ≤ 65535)
     (S : StoredTable t n N step back parent last word) (T : Table n N step) (P : Parents n N step parent last) (R : Recorded N parent last word) where
@@ -61,7 +61,7 @@ module _ {n N : ℕ} {step back : ℕ → ℕ → ℕ} {parent last : ℕ → �
   abbrev pub Commutes : ℕ → Type 0
   Commutes s = (x : ℕ) → x < N → (g : ℕ) → g < n → regular.left step word s (step x g) ≡ step (regular.left step word s x) g
 
-  go_is : (s : ℕ) (w : List ℕ) → s < n → N ≤ length w → all_go t (fill_left N t n s w 0) n N ≡ Fine ↔ Commutes s
+  go_is : (s : ℕ) (w : List ℕ) → s < n → N ≤ length w → all_go t (fill_left N t n s w 0) n N ≡ fine ↔ Commutes s
   go_is s w hs room = (
     λ h x hx g hg. sym (to x hx g hg) ∙ (all_go_fine t n N v).0 h x hx g hg ∙ from x hx g hg,
     λ c. (all_go_fine t n N v).1 (λ x hx g hg. to x hx g hg ∙ c x hx g hg ∙ sym (from x hx g hg)),
@@ -79,7 +79,7 @@ module _ {n N : ℕ} {step back : ℕ → ℕ → ℕ} {parent last : ℕ → �
     from x hx g hg = rw (is x hx) (step_is S (left_small hs hx) hg)
 
   -- The loop over the generators. It needs the work only where there is a generator.
-  pub lefts_sound : (k : ℕ) (w : List ℕ) (s : ℕ) (w₁ : List ℕ) → s + k ≤ n → (0 < n → N ≤ length w) → lefts k t n N w s ≡ left Fine w₁
+  pub lefts_sound : (k : ℕ) (w : List ℕ) (s : ℕ) (w₁ : List ℕ) → s + k ≤ n → (0 < n → N ≤ length w) → lefts k t n N w s ≡ left fine w₁
       → (r : ℕ) → s ≤ r → r < s + k → Commutes r
   unfolding lefts
   lefts_sound zero w s w₁ end room h r l m = absurd (omega arith)
@@ -90,7 +90,7 @@ module _ {n N : ℕ} {step back : ℕ → ℕ → ℕ} {parent last : ℕ → �
       (λ p. lefts_sound k v (s + 1) w₁ (omega arith) (λ pos. omega (arith, room pos, left_length N t n s w 0)) both.1 r (omega arith) (omega arith))
 
   pub lefts_complete : (k : ℕ) (w : List ℕ) (s : ℕ) → s + k ≤ n → (0 < n → N ≤ length w) → Check n N step word
-      → (w₁ : List ℕ) × (lefts k t n N w s ≡ left Fine w₁)
+      → (w₁ : List ℕ) × (lefts k t n N w s ≡ left fine w₁)
   unfolding lefts
   lefts_complete zero w s end room c = (w, refl)
   lefts_complete (suc k) w s end room c =

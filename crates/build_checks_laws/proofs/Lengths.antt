@@ -3,8 +3,8 @@ use Prim.Native.Nat.{ℕ, zero, suc, ◌+◌}
 use mathlib.Core.Path.{◌≡◌, refl, ap, ◌∙◌, subst}
 use mathlib.Core.List.{List}
 use lib.ListN.{length}
-use Rattle.egg.specs.declared.Verdict.{Verdict}
-use Rattle.egg.specs.declared.Verdict.TheVariants.{Fine, Refused}
+use Rattle.egg.specs.Answers.{Verdict}
+use Rattle.std.specs.Prelude.{Ok, Err}
 use Rattle.build_checks_group.specs.Lefts.{fill_left, all_go, Lefts, left, then_left, lefts, check_steps}
 use Rattle.build_checks.specs.Checks.{Checked, checked, then_checked, with_table, counted, check_rest, check_group, check_table, counts_right}
 use Rattle.build_checks_inverses.specs.Inverses.{fill_inverses, inverses_right}
@@ -18,8 +18,8 @@ abbrev work_of : Checked → List ℕ
 work_of (checked v t w) = w
 
 either_left : (k : ℕ) (v : Verdict) (w : List ℕ) (l : Lefts) → length w ≡ k → length (left_work l) ≡ k → length (left_work (then_left v w l)) ≡ k
-either_left k Fine w l here later = later
-either_left k (Refused r) w l here later = here
+either_left k (Ok _) w l here later = later
+either_left k (Err r) w l here later = here
 
 lefts_length : (k : ℕ) (t : List ℕ) (n N : ℕ) (w : List ℕ) (s : ℕ) → length (left_work (lefts k t n N w s)) ≡ length w
 unfolding lefts
@@ -30,8 +30,8 @@ lefts_length (suc k) t n N w s =
     either_left (length w) (all_go t f n N) f _ h (lefts_length k t n N f (s + 1) ∙ h)
 
 either_work : (k : ℕ) (v : Verdict) (t w : List ℕ) (c : Checked) → length w ≡ k → length (work_of c) ≡ k → length (work_of (then_checked v t w c)) ≡ k
-either_work k Fine t w c here later = later
-either_work k (Refused r) t w c here later = here
+either_work k (Ok _) t w c here later = later
+either_work k (Err r) t w c here later = here
 
 with_work_lem : (t : List ℕ) (l : Lefts) → work_of (with_table t l) ≡ left_work l
 with_work_lem t (left v w) = refl

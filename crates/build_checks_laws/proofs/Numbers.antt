@@ -6,8 +6,9 @@ use mathlib.Core.List.{List, [], ◌∷◌}
 use borrow.Author.Tests.{eqb-true}
 use lib.Dec.{eqb}
 use Rattle.egg.specs.declared.Refusal.{Refusal}
-use Rattle.egg.specs.declared.Verdict.{Verdict}
-use Rattle.egg.specs.declared.Verdict.TheVariants.{Fine, Refused}
+use Rattle.egg.specs.Answers.{Verdict, fine}
+use Rattle.egg.specs.Refusals.{refusal_paper}
+use Rattle.std.specs.Prelude.{Err}
 use Rattle.egg.specs.Table.{pick}
 use Rattle.egg.specs.Scan.{refused_of}
 use Rattle.egg.specs.Pairs.{orders_right}
@@ -34,10 +35,10 @@ pub none_of : (k : ℕ) (l m : List ℕ) → every (λ x. pick (member x m) fals
 none_of k l m a h q = false_true (rw q at (each_in (λ x. pick (member x m) false true) k l a h))
 
 pub says_widen : (l m : List ℕ) → every (λ x. member x m) l ≡ true → (v : Verdict) → Says (RefusalIn l) v → Says (RefusalIn m) v
-says_widen l m a v p = record { of = λ r h. each_in (λ x. member x m) r.number l a (p.of r h) }
+says_widen l m a v p = record { of = λ r h. each_in (λ x. member x m) (refusal_paper r).number l a (p.of r h) }
 
-refuses : (k a b c : ℕ) → member k late_numbers ≡ true → Says (RefusalIn late_numbers) (refused_of k a b c)
-refuses k a b c h = says_refused h
+refuses : (r : Refusal) → member (refusal_paper r).number late_numbers ≡ true → Says (RefusalIn late_numbers) (Err r)
+refuses r h = says_refused h
 
 refuses_8 : (a b c : ℕ) → Says (RefusalIn (8 ∷ [])) (refused_of 8 a b c)
 refuses_8 a b c = says_refused refl
@@ -72,13 +73,13 @@ module _ (t : List ℕ) (n N : ℕ) where
   all_go_numbers w = search numbers
 
   -- Where all numbers are in range, the checks of the table alone give 8 or 9; with nothing missing, 9.
-  pub ranged_numbers : ranges t n N ≡ Fine → Says (RefusalIn (8 ∷ late_numbers)) (check_table t n N)
+  pub ranged_numbers : ranges t n N ≡ fine → Says (RefusalIn (8 ∷ late_numbers)) (check_table t n N)
   unfolding check_table
   ranged_numbers q =
       rw q (says_then (check8 t n N) (wrong t n N) (says_widen (8 ∷ []) (8 ∷ late_numbers) refl (check8 t n N) missing_number)
       (says_widen late_numbers (8 ∷ late_numbers) refl (wrong t n N) wrong_numbers))
 
-  pub full_numbers : check8 t n N ≡ Fine → ranges t n N ≡ Fine → Says (RefusalIn late_numbers) (check_table t n N)
+  pub full_numbers : check8 t n N ≡ fine → ranges t n N ≡ fine → Says (RefusalIn late_numbers) (check_table t n N)
   unfolding check_table
   full_numbers p q = rw (p, q) wrong_numbers
 
@@ -102,16 +103,16 @@ module _ (l : List ℕ) (late : every (λ x. member x l) late_numbers ≡ true) 
       (table_says f (lefts n f n N c 0) (says_widen late_numbers l late (left_verdict (lefts n f n N c 0)) (lefts_numbers n f n N c 0))))))
 
   -- What the checks of the table alone may give, or 9 to 12.
-  pub checks_number : {r : Refusal} {t₁ w₁ : List ℕ} → check_group t w n N ≡ checked (Refused r) t₁ w₁ → member r.number l ≡ true
+  pub checks_number : {r : Refusal} {t₁ w₁ : List ℕ} → check_group t w n N ≡ checked (Err r) t₁ w₁ → member (refusal_paper r).number l ≡ true
   checks_number {r} h = group_numbers.of r (ap verdict_of h)
 
 -- 2 or 3, where the orders are not right.
-refuses_orders : (k a b c : ℕ) → member k (2 ∷ 3 ∷ []) ≡ true → Says (RefusalIn (2 ∷ 3 ∷ [])) (refused_of k a b c)
-refuses_orders k a b c h = says_refused h
+refuses_orders : (r : Refusal) → member (refusal_paper r).number (2 ∷ 3 ∷ []) ≡ true → Says (RefusalIn (2 ∷ 3 ∷ [])) (Err r)
+refuses_orders r h = says_refused h
 
 ruleset orders = (says_then, says_scan, says_pick, says_fine, refuses_orders)
 
-pub orders_number : (o : List ℕ) (n : ℕ) {r : Refusal} → orders_right o n ≡ Refused r → member r.number (2 ∷ 3 ∷ []) ≡ true
+pub orders_number : (o : List ℕ) (n : ℕ) {r : Refusal} → orders_right o n ≡ Err r → member (refusal_paper r).number (2 ∷ 3 ∷ []) ≡ true
 unfolding orders_right
 orders_number o n {r} h = says.of r h where
   says : Says (RefusalIn (2 ∷ 3 ∷ [])) (orders_right o n)

@@ -9,8 +9,9 @@ use borrow.Author.Tests.{eqb-false}
 use lib.Dec.{eqb}
 use lib.ListN.{length}
 use Rattle.egg.specs.declared.Refusal.{Refusal}
-use Rattle.egg.specs.declared.Verdict.{Verdict}
-use Rattle.egg.specs.declared.Verdict.TheVariants.{Fine, Refused}
+use Rattle.egg.specs.Answers.{Verdict, fine}
+use Rattle.egg.specs.Refusals.{numbered, refusal_paper}
+use Rattle.std.specs.Prelude.{Ok, Err}
 use Rattle.egg.specs.Scan.{refused_of, and_then}
 use Rattle.build_checks.specs.Checks.{missing, missing_row, check8, ranges, range_row, links_of, wrong, wrong_row, check_table, counted, counts_right}
 use Rattle.build_checks_inverses.specs.Inverses.{fill_inverses, inverses_right}
@@ -33,10 +34,10 @@ use Rattle.build_checks_laws.proofs.Complete.{present, in_range, inverses_exactl
 
 -- Every check before those of 12 refuses with another number.
 abbrev Earlier : Refusal → Type 0
-Earlier r = r.number ≡ 12 → ⊥
+Earlier r = (refusal_paper r).number ≡ 12 → ⊥
 
-refuses : (k a b c : ℕ) → eqb k 12 ≡ false → Says Earlier (refused_of k a b c)
-refuses k a b c h = says_refused (eqb-false k 12 h)
+refuses : (r : Refusal) → eqb (refusal_paper r).number 12 ≡ false → Says Earlier (Err r)
+refuses r h = says_refused (eqb-false (refusal_paper r).number 12 h)
 
 ruleset earlier = (says_then, says_scan, says_pick, says_fine, refuses)
 
@@ -59,24 +60,24 @@ module _ (t : List ℕ) (n N : ℕ) where
 
 -- 8 to 11 have passed, as the definitions test them; the table has its inverses from 10 on.
 pub record Before12 (t w : List ℕ) (n N : ℕ) : Type 0 where
-  pub table : check_table t n N ≡ Fine
-  pub counts : counts_right (counted t w n N) n N ≡ Fine
-  pub inverses : inverses_right (fill_inverses N t n 0) n N ≡ Fine
-  pub identity : identity_row (fill_inverses N t n 0) n ≡ Fine
+  pub table : check_table t n N ≡ fine
+  pub counts : counts_right (counted t w n N) n N ≡ fine
+  pub inverses : inverses_right (fill_inverses N t n 0) n N ≡ fine
+  pub identity : identity_row (fill_inverses N t n 0) n ≡ fine
 
 -- A check that did not refuse so was passed.
-passed_then : (v : Verdict) (t w : List ℕ) (c : Checked) {r : Refusal} {t₁ w₁ : List ℕ} → Says Earlier v → r.number ≡ 12
-    → then_checked v t w c ≡ checked (Refused r) t₁ w₁ → (v ≡ Fine) × (c ≡ checked (Refused r) t₁ w₁)
-passed_then Fine t w c s q h = (refl, h)
-passed_then (Refused s) t w c {r} p q h = absurd (p.of r (cc) q)
+passed_then : (v : Verdict) (t w : List ℕ) (c : Checked) {r : Refusal} {t₁ w₁ : List ℕ} → Says Earlier v → (refusal_paper r).number ≡ 12
+    → then_checked v t w c ≡ checked (Err r) t₁ w₁ → (v ≡ fine) × (c ≡ checked (Err r) t₁ w₁)
+passed_then (Ok _) t w c s q h = (refl, h)
+passed_then (Err s) t w c {r} p q h = absurd (p.of r (cc) q)
 
-passed_first : (v : Verdict) (t w : List ℕ) (u : Verdict) (c : Checked) {r : Refusal} {t₁ w₁ : List ℕ} → Says Earlier v → r.number ≡ 12
-    → then_checked (and_then v u) t w c ≡ checked (Refused r) t₁ w₁ → v ≡ Fine
-passed_first Fine t w u c p q h = refl
-passed_first (Refused s) t w u c {r} p q h = absurd (p.of r (cc) q)
+passed_first : (v : Verdict) (t w : List ℕ) (u : Verdict) (c : Checked) {r : Refusal} {t₁ w₁ : List ℕ} → Says Earlier v → (refusal_paper r).number ≡ 12
+    → then_checked (and_then v u) t w c ≡ checked (Err r) t₁ w₁ → v ≡ fine
+passed_first (Ok _) t w u c p q h = refl
+passed_first (Err s) t w u c {r} p q h = absurd (p.of r (cc) q)
 
 -- 12 comes after 11.
-pub before_12 : (t w : List ℕ) (n N : ℕ) {r : Refusal} {t₁ w₁ : List ℕ} → check_group t w n N ≡ checked (Refused r) t₁ w₁ → r.number ≡ 12
+pub before_12 : (t w : List ℕ) (n N : ℕ) {r : Refusal} {t₁ w₁ : List ℕ} → check_group t w n N ≡ checked (Err r) t₁ w₁ → (refusal_paper r).number ≡ 12
     → Before12 t w n N
 unfolding check_group check_rest check_steps
 before_12 t w n N h q =
@@ -94,7 +95,7 @@ before_12 t w n N h q =
 
 -- After 11 only 12 is given, and its places are zero.
 abbrev pub Twelve : Refusal → Type 0
-Twelve r = r ≡ record { number = 12; a = 0; b = 0; c = 0 }
+Twelve r = r ≡ numbered 12 0 0 0
 
 twelve : Says Twelve (refused_of 12 0 0 0)
 twelve = says_refused refl
@@ -111,12 +112,12 @@ module _ (t : List ℕ) (n N : ℕ) where
   all_go_late w = search late
 
 pub left_says : {Q : Refusal → Type 0} (v : Verdict) (w : List ℕ) (l : Lefts) → Says Q v → Says Q (left_verdict l) → Says Q (left_verdict (then_left v w l))
-left_says Fine w l p q = q
-left_says (Refused r) w l p q = p
+left_says (Ok _) w l p q = q
+left_says (Err r) w l p q = p
 
 pub checked_says : {Q : Refusal → Type 0} (v : Verdict) (t w : List ℕ) (c : Checked) → Says Q v → Says Q (verdict_of c) → Says Q (verdict_of (then_checked v t w c))
-checked_says Fine t w c p q = q
-checked_says (Refused r) t w c p q = p
+checked_says (Ok _) t w c p q = q
+checked_says (Err r) t w c p q = p
 
 pub table_says : {Q : Refusal → Type 0} (t : List ℕ) (l : Lefts) → Says Q (left_verdict l) → Says Q (verdict_of (with_table t l))
 table_says t (left v w) p = p
@@ -137,8 +138,8 @@ after_11 t w n N B =
     (checked_says (spelled f n N) f c _ (spelled_late f n N) (table_says f (lefts n f n N c 0) (lefts_late n f n N c 0)))
 
 -- So a refusal by 12 has no places.
-pub places_12 : (t w : List ℕ) (n N : ℕ) {r : Refusal} {t₁ w₁ : List ℕ} → check_group t w n N ≡ checked (Refused r) t₁ w₁ → r.number ≡ 12
-    → r ≡ record { number = 12; a = 0; b = 0; c = 0 }
+pub places_12 : (t w : List ℕ) (n N : ℕ) {r : Refusal} {t₁ w₁ : List ℕ} → check_group t w n N ≡ checked (Err r) t₁ w₁ → (refusal_paper r).number ≡ 12
+    → r ≡ numbered 12 0 0 0
 places_12 t w n N {r} h q = (after_11 t w n N (before_12 t w n N h q)).of r (ap verdict_of h)
 
 pub regular_same : {n N : ℕ} {step step' : ℕ → ℕ → ℕ} → Table n N step → ((e g : ℕ) → e < N → g < n → step e g ≡ step' e g) → RightRegular n N step
@@ -157,11 +158,11 @@ module _ {n N : ℕ} {step back : ℕ → ℕ → ℕ} {parent last : ℕ → �
     (few : n ≤ 8) (small : N ≤ 65535) (room : N * (2 * n + 4) ≤ length t) (S : StoredTable t n N step back parent last word)
     (T : Table n N step) (P : Parents n N step parent last) (R : Recorded N parent last word) (C : Columns n N step back)
     (short : (e : ℕ) → e < N → length (word e) ≤ 4096) (w : List ℕ) (work : 0 < n → N ≤ length w) where
-  pub refused_no_group : {r : Refusal} {t₁ w₁ : List ℕ} → check_group t w n N ≡ checked (Refused r) t₁ w₁ → ((g : ℕ) → g < n → step 0 g ≡ suc g)
+  pub refused_no_group : {r : Refusal} {t₁ w₁ : List ℕ} → check_group t w n N ≡ checked (Err r) t₁ w₁ → ((g : ℕ) → g < n → step 0 g ≡ suc g)
       → RightRegular n N step → ⊥
   refused_no_group {r} h first G =
       let a = checks_complete few small room S T P R C short w work first G in
-      let q : checked (Refused r) _ _ ≡ checked Fine _ _ = sym h ∙ a.2 in
+      let q : checked (Err r) _ _ ≡ checked fine _ _ = sym h ∙ a.2 in
       refused_fine {r = r} (cc)
 
   -- What it means that 8 to 11 pass.
@@ -197,7 +198,7 @@ module _ {n N : ℕ} {step back : ℕ → ℕ → ℕ} {parent last : ℕ → �
         },
       )
 
-  pub accepted_exactly : ((t₁ : List ℕ) × (w₁ : List ℕ) × (check_group t w n N ≡ checked Fine t₁ w₁))
+  pub accepted_exactly : ((t₁ : List ℕ) × (w₁ : List ℕ) × (check_group t w n N ≡ checked fine t₁ w₁))
       ↔ (RightRegular n N step × ((g : ℕ) → g < n → step 0 g ≡ suc g))
   accepted_exactly = (
     λ a.
@@ -208,13 +209,13 @@ module _ {n N : ℕ} {step back : ℕ → ℕ → ℕ} {parent last : ℕ → �
   )
 
   -- 12, "no group has these right steps": given exactly when 8 to 11 pass and none has.
-  pub refused_12 : ((r : Refusal) × (t₁ : List ℕ) × (w₁ : List ℕ) × (check_group t w n N ≡ checked (Refused r) t₁ w₁) × (r.number ≡ 12))
+  pub refused_12 : ((r : Refusal) × (t₁ : List ℕ) × (w₁ : List ℕ) × (check_group t w n N ≡ checked (Err r) t₁ w₁) × ((refusal_paper r).number ≡ 12))
       ↔ (Until12 n N step back word × (RightRegular n N step → ⊥))
   refused_12 = (
     λ a. let U = until_12.0 (before_12 t w n N a.3 a.4) in (U, refused_no_group a.3 U.identity_row_lem),
     λ b. go b.1 (check_group t w n N) refl (after_11 t w n N (until_12.1 b.0)),
   ) where
     go : (RightRegular n N step → ⊥) → (c : Checked) → check_group t w n N ≡ c → Says Twelve (verdict_of c)
-        → (r : Refusal) × (t₁ : List ℕ) × (w₁ : List ℕ) × (check_group t w n N ≡ checked (Refused r) t₁ w₁) × (r.number ≡ 12)
-    go none (checked Fine t₁ w₁) q s = absurd (none (accepted_exactly.0 (t₁, w₁, q)).0)
-    go none (checked (Refused r) t₁ w₁) q s = (r, t₁, w₁, q, ap (λ (x : Refusal). x.number) (s.of r refl))
+        → (r : Refusal) × (t₁ : List ℕ) × (w₁ : List ℕ) × (check_group t w n N ≡ checked (Err r) t₁ w₁) × ((refusal_paper r).number ≡ 12)
+    go none (checked (Ok _) t₁ w₁) q s = absurd (none (accepted_exactly.0 (t₁, w₁, q)).0)
+    go none (checked (Err r) t₁ w₁) q s = (r, t₁, w₁, q, ap (λ (x : Refusal). (refusal_paper x).number) (s.of r refl))

@@ -1,4 +1,5 @@
 -- Which numbers a refusal may have: lists of refusal numbers, and that a refusal's is among them.
+use Rattle.egg.specs.Refusals.{refusal_paper}
 use Rattle.std.specs.Prelude.{ℕ, ◌≡◌, Bool, true, false, List, [], ◌∷◌, eqb}
 use Rattle.egg.specs.declared.Refusal.{Refusal}
 use Rattle.egg.specs.Table.{pick}
@@ -15,7 +16,7 @@ every p (x ∷ l) = pick (p x) (every p l) false
 
 -- The refusal's number is in the list.
 abbrev pub RefusalIn : List ℕ → Refusal → Type 0
-RefusalIn l r = member r.number l ≡ true
+RefusalIn l r = member (refusal_paper r).number l ≡ true
 
 -- The numbers of the refusals that are checked after 8.
 abbrev pub late_numbers : List ℕ

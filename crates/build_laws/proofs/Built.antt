@@ -5,8 +5,8 @@ use mathlib.Core.List.{List}
 use native.Mathlib.Nat.{mul-le-mul, le_refl}
 use native.Mathlib.Omega.{arith}
 use lib.ListN.{length, replicate}
-use Rattle.egg.specs.declared.Verdict.TheVariants as verdict
-use Rattle.egg.specs.declared.Counted.TheVariants.{Count, Refused}
+use Rattle.egg.specs.Answers.{fine}
+use Rattle.std.specs.Prelude.{Ok, Err}
 use Rattle.egg.specs.Table.{start_of, step_of}
 use Rattle.build_word_cells.specs.Hops.{with_hops}
 use Rattle.build_checks.specs.Checks.{checked, check_group}
@@ -32,22 +32,22 @@ use Rattle.build_laws.specs.Taken.{Taken, Holding}
 -- An accepted count, and then an accepted end of the build.
 pub record Passed (p : Placed) (n N : ℕ) (w t w₁ : List ℕ) : Type 0 where
   pub before : List ℕ
-  pub count : p ≡ placed (Count N) before
+  pub count : p ≡ placed (Ok N) before
   pub end : Settled n N (check_group before w n N) t w₁
 
-pub passed : (p : Placed) (n : ℕ) (w : List ℕ) {N : ℕ} {t w₁ : List ℕ} → finished_placed p n w ≡ built (Count N) t w₁ → Passed p n N w t w₁
+pub passed : (p : Placed) (n : ℕ) (w : List ℕ) {N : ℕ} {t w₁ : List ℕ} → finished_placed p n w ≡ built (Ok N) t w₁ → Passed p n N w t w₁
 unfolding finished
-passed (placed (Count c) t₀) n w {N} {t} {w₁} q =
+passed (placed (Ok c) t₀) n w {N} {t} {w₁} q =
     let b = by_check (check_group t₀ w n c) q in
     record {
       before = t₀;
-      count = ap (λ (k : ℕ). placed (Count k) t₀) b.0;
+      count = ap (λ (k : ℕ). placed (Ok k) t₀) b.0;
       end = subst (λ (k : ℕ). Settled n N (check_group t₀ w n k) t w₁) b.0 b.1;
     }
-passed (placed (Refused r) t₀) n w q = absurd (refused_counted q)
+passed (placed (Err r) t₀) n w q = absurd (refused_counted q)
 
-pub passes : {p : Placed} (n : ℕ) {N : ℕ} (w : List ℕ) {t₀ t w₁ : List ℕ} → p ≡ placed (Count N) t₀ → Settled n N (check_group t₀ w n N) t w₁
-    → finished_placed p n w ≡ built (Count N) t w₁
+pub passes : {p : Placed} (n : ℕ) {N : ℕ} (w : List ℕ) {t₀ t w₁ : List ℕ} → p ≡ placed (Ok N) t₀ → Settled n N (check_group t₀ w n N) t w₁
+    → finished_placed p n w ≡ built (Ok N) t w₁
 unfolding finished
 passes n w a E = rw (a, E.checks, E.lettered, E.wiped)
 
@@ -91,7 +91,7 @@ module _ (src : ℕ → ℕ → ℕ) (n room size : ℕ) (w : List ℕ) (few : n
         }
 
     -- And a group's rows are accepted.
-    pub taken_checked : Taken src n room N → (t : List ℕ) × (w₁ : List ℕ) × (check_group t₀ w n N ≡ checked verdict.Fine t w₁)
+    pub taken_checked : Taken src n room N → (t : List ℕ) × (w₁ : List ℕ) × (check_group t₀ w n N ≡ checked fine t w₁)
     taken_checked G =
         let r = any_carrier.0 G.group in
         let C = columns r.group r.steps in
@@ -99,16 +99,16 @@ module _ (src : ℕ → ℕ → ℕ) (n room size : ℕ) (w : List ℕ) (few : n
         (first_parents R.appearance) (word_of_recorded (first_parents R.appearance)) C
         (λ e he. rw (read_words R e he) (G.readable.short he)) w (work_enough R.within) G.identity_row_lem r
 
-  pub built_holds : {N : ℕ} {t w₁ : List ℕ} → finished_placed (read_all src n room (replicate size 0)) n w ≡ built (Count N) t w₁ → Holding src n room size N t
+  pub built_holds : {N : ℕ} {t w₁ : List ℕ} → finished_placed (read_all src n room (replicate size 0)) n w ≡ built (Ok N) t w₁ → Holding src n room size N t
   built_holds q =
       let p = passed (read_all src n room (replicate size 0)) n w q in
       settled_holds (accepted_read src n room size few lo hi fits p.count) p.end
 
   -- Then the work is zero.
-  pub built_work : {N : ℕ} {t w₁ : List ℕ} → finished_placed (read_all src n room (replicate size 0)) n w ≡ built (Count N) t w₁ → w₁ ≡ replicate (length w) 0
+  pub built_work : {N : ℕ} {t w₁ : List ℕ} → finished_placed (read_all src n room (replicate size 0)) n w ≡ built (Ok N) t w₁ → w₁ ≡ replicate (length w) 0
   built_work q = let p = passed (read_all src n room (replicate size 0)) n w q in settled_work p.before w p.end
 
-  pub taken_built : {N : ℕ} → Taken src n room N → (t : List ℕ) × (w₁ : List ℕ) × (finished_placed (read_all src n room (replicate size 0)) n w ≡ built (Count N) t w₁)
+  pub taken_built : {N : ℕ} → Taken src n room N → (t : List ℕ) × (w₁ : List ℕ) × (finished_placed (read_all src n room (replicate size 0)) n w ≡ built (Ok N) t w₁)
   taken_built {N} G =
       let a = readable_accepted src n room size few lo hi fits G.readable in
       let R = accepted_read src n room size few lo hi fits a.1 in

@@ -1,4 +1,5 @@
 -- What a call lends and gets back: a stretch of the table buffer and one of the work. What holds of the build in its stretches holds of the call.
+use Rattle.egg.specs.Answers.{answer_of}
 use Prim.Native.Nat.{ℕ, ◌+◌, ◌-◌, ◌≤◌, ◌<◌}
 use mathlib.Core.Path.{◌≡◌, refl, sym, ap, ◌∙◌}
 use mathlib.Core.Logic.{◌⊎◌, inl, inr}
@@ -11,13 +12,12 @@ use lib.ListN.{length, get_or, take, drop, length-append, length-take, length-dr
 use lib.Seq.{length-take-le, take_at, drop_at, get_or-take, get_or-drop, get_or-append-add, ext_get_or}
 use Rattle.egg.specs.declared.Refusal.{Refusal}
 use Rattle.egg.specs.declared.Factor.{Factor}
-use Rattle.egg.specs.declared.Made.{Made}
-use Rattle.egg.specs.declared.Verdict.TheVariants as verdict
-use Rattle.egg.specs.declared.Counted.TheVariants.{Count, Refused}
+use Rattle.egg.specs.Answers.{Made, fine}
+use Rattle.std.specs.Prelude.{Ok, Err}
 use Rattle.egg.specs.Factor.{has_room, fits_in, stretch}
 use Rattle.egg.proofs.Rooms.{within_length}
 use Rattle.build_lending.specs.Finish.{Built, built}
-use Rattle.build_lending.specs.Lending.{table_need, work_need, lent_right, within, no_factor, made_of, making, lent_back}
+use Rattle.build_lending.specs.Lending.{table_need, work_need, lent_right, within, making, lent_back}
 use Rattle.build_lending.proofs.Lending.{lent_enough}
 
 -- Past the end of the first list.
@@ -107,34 +107,33 @@ module _ (table : List ℕ) (start n room : ℕ) (has : has_room (length table) 
   fits_still one most = rw (within_long table start (table_need n room) end_fits s size) (simp (le-leb _ _ one, le-leb _ _ most, has))
 
 -- A verdict that is a refusal is no acceptance.
-pub refused_making_lem : {r : Refusal} {f f' : Factor} {t t' w w' : List ℕ}
-    → making (record { answer = verdict.Refused r; factor = f }) t w ≡ making (record { answer = verdict.Fine; factor = f' }) t' w' → ⊥
-refused_making_lem {r} {f} {f'} h =
-    let m : ◌≡◌ {A = Made} (record { answer = verdict.Refused r; factor = f }) (record { answer = verdict.Fine; factor = f' }) = cc in
-    let a : verdict.Refused r ≡ verdict.Fine = ap (λ (x : Made). x.answer) m in
+pub refused_making_lem : {r : Refusal} {f : Factor} {t t' w w' : List ℕ} → making (Err r) t w ≡ making (Ok f) t' w' → ⊥
+refused_making_lem {r} {f} h =
+    let m : ◌≡◌ {A = Made} (Err r) (Ok f) = cc in
+    let a : Err r ≡ fine = ap (λ (x : Made). answer_of x) m in
     let z : ◌≡◌ {A = ℕ} 0 1 = cc in
     omega arith
 
 module _ (table : List ℕ) (start : ℕ) (work : List ℕ) (n room : ℕ) where
   -- An accepted call is an accepted build.
   pub by_build : (b : Built) {f : Factor} {t w : List ℕ}
-      → lent_back table start work n room b ≡ making (record { answer = verdict.Fine; factor = f }) t w
+      → lent_back table start work n room b ≡ making (Ok f) t w
       → (N : ℕ) × (s : List ℕ) × (v : List ℕ)
-      × ((b ≡ built (Count N) s v) × ((f ≡ handle start n room N)
+      × ((b ≡ built (Ok N) s v) × ((f ≡ handle start n room N)
       × ((t ≡ within table start (start + table_need n room) s) × (w ≡ within work 0 (work_need n room) v))))
-  by_build (built (Count N) s v) {f} q =
-      let m : made_of start room n (Count N) ≡ record { answer = verdict.Fine; factor = f } = cc in
-      (N, s, v, (refl, (sym (ap (λ (x : Made). x.factor) m), (cc, cc))))
-  by_build (built (Refused r) s v) q = absurd (refused_making_lem q)
+  by_build (built (Ok N) s v) {f} q =
+      let m : ◌≡◌ {A = Made} (Ok (handle start n room N)) (Ok f) = cc in
+      let e : f ≡ handle start n room N = cc in
+      (N, s, v, (refl, (e, (cc, cc))))
+  by_build (built (Err r) s v) q = absurd (refused_making_lem q)
 
   -- And a refused call whose stretches were lent is a refused build.
-  pub by_refused : (b : Built) {r : Refusal} {f : Factor} {t w : List ℕ}
-      → lent_back table start work n room b ≡ making (record { answer = verdict.Refused r; factor = f }) t w
-      → (s : List ℕ) × (v : List ℕ) × (b ≡ built (Refused r) s v) × (f ≡ no_factor)
+  pub by_refused : (b : Built) {r : Refusal} {t w : List ℕ}
+      → lent_back table start work n room b ≡ making (Err r) t w
+      → (s : List ℕ) × (v : List ℕ) × (b ≡ built (Err r) s v)
       × (t ≡ within table start (start + table_need n room) s) × (w ≡ within work 0 (work_need n room) v)
-  by_refused (built (Count N) s v) q = absurd (refused_making_lem (sym q))
-  by_refused (built (Refused s) t₁ v) {r} {f} q =
-      let m : ◌≡◌ {A = Made} (record { answer = verdict.Refused s; factor = no_factor }) (record { answer = verdict.Refused r; factor = f }) = cc in
-      let a : verdict.Refused s ≡ verdict.Refused r = ap (λ (x : Made). x.answer) m in
+  by_refused (built (Ok N) s v) q = absurd (refused_making_lem (sym q))
+  by_refused (built (Err s) t₁ v) {r} q =
+      let m : ◌≡◌ {A = Made} (Err s) (Err r) = cc in
       let e : s ≡ r = cc in
-      (t₁, v, ap (λ (x : Refusal). built (Refused x) t₁ v) e, sym (ap (λ (x : Made). x.factor) m), cc, cc)
+      (t₁, v, ap (λ (x : Refusal). built (Err x) t₁ v) e, cc, cc)

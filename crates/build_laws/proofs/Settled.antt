@@ -3,9 +3,8 @@ use Prim.Native.Nat.{ℕ, ◌+◌, ◌*◌, ◌≤◌, ◌<◌}
 use mathlib.Core.Path.{◌≡◌, refl, ap, ◌∙◌, subst}
 use mathlib.Core.List.{List}
 use lib.ListN.{length, replicate}
-use Rattle.egg.specs.declared.Verdict.TheVariants as verdict
-use Rattle.egg.specs.declared.Counted.{Counted}
-use Rattle.egg.specs.declared.Counted.TheVariants.{Count, Refused}
+use Rattle.egg.specs.Answers.{Counted, fine}
+use Rattle.std.specs.Prelude.{Ok, Err}
 use Rattle.build_word_cells.specs.Hops.{with_hops, Hops}
 use Rattle.build_word_cells.proofs.Hops.{hops_there}
 use Rattle.build_checks.specs.Checks.{Checked, checked, check_group}
@@ -22,24 +21,24 @@ use Rattle.build_checks_laws.proofs.Lengths.{checks_work}
 pub record Settled (n N : ℕ) (k : Checked) (t w : List ℕ) : Type 0 where
   pub table : List ℕ
   pub work : List ℕ
-  pub checks : k ≡ checked verdict.Fine table work
+  pub checks : k ≡ checked fine table work
   pub lettered : t ≡ with_hops N table n
   pub wiped : w ≡ zeroed work
 
-pub settle : {n N : ℕ} {k : Checked} {t w : List ℕ} → k ≡ checked verdict.Fine t w → Settled n N k (with_hops N t n) (zeroed w)
+pub settle : {n N : ℕ} {k : Checked} {t w : List ℕ} → k ≡ checked fine t w → Settled n N k (with_hops N t n) (zeroed w)
 settle {t = t} {w} h = record { table = t; work = w; checks = h; lettered = refl; wiped = refl }
 
-pub by_check : {n c N : ℕ} {t w : List ℕ} (k : Checked) → settled_by n c k ≡ built (Count N) t w → (c ≡ N) × Settled n N k t w
-by_check {n} {c} {N} {t} {w} (checked verdict.Fine t₁ w₁) q = (cc, record { table = t₁; work = w₁; checks = refl; lettered = cc; wiped = cc })
-by_check (checked (verdict.Refused r) t₁ w₁) q = absurd (refused_counted q)
+pub by_check : {n c N : ℕ} {t w : List ℕ} (k : Checked) → settled_by n c k ≡ built (Ok N) t w → (c ≡ N) × Settled n N k t w
+by_check {n} {c} {N} {t} {w} (checked (Ok _) t₁ w₁) q = (cc, record { table = t₁; work = w₁; checks = refl; lettered = cc; wiped = cc })
+by_check (checked (Err r) t₁ w₁) q = absurd (refused_counted q)
 
-pub by_count : (c : Counted) (n : ℕ) (s v : List ℕ) {N : ℕ} {t w : List ℕ} → finished c n s v ≡ built (Count N) t w
-    → (c ≡ Count N) × Settled n N (check_group s v n N) t w
+pub by_count : (c : Counted) (n : ℕ) (s v : List ℕ) {N : ℕ} {t w : List ℕ} → finished c n s v ≡ built (Ok N) t w
+    → (c ≡ Ok N) × Settled n N (check_group s v n N) t w
 unfolding finished
-by_count (Count c) n s v {N} {t} {w} q =
+by_count (Ok c) n s v {N} {t} {w} q =
     let b = by_check (check_group s v n c) q in
-    (ap Count b.0, subst (λ (k : ℕ). Settled n N (check_group s v n k) t w) b.0 b.1)
-by_count (Refused r) n s v q = absurd (refused_counted q)
+    (ap Ok b.0, subst (λ (k : ℕ). Settled n N (check_group s v n k) t w) b.0 b.1)
+by_count (Err r) n s v q = absurd (refused_counted q)
 
 module _ (t₀ w₀ : List ℕ) {n N : ℕ} {t w : List ℕ} (E : Settled n N (check_group t₀ w₀ n N) t w) where
   pub settled_kept : Kept t₀ t n N

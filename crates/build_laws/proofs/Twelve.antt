@@ -6,8 +6,8 @@ use mathlib.Core.List.{List}
 use native.Mathlib.Omega.{arith}
 use lib.ListN.{length, replicate}
 use Rattle.egg.specs.declared.Refusal.{Refusal}
-use Rattle.egg.specs.declared.Verdict.TheVariants as verdict
-use Rattle.egg.specs.declared.Counted.TheVariants.{Count, Refused}
+use Rattle.egg.specs.Refusals.{numbered, refusal_paper}
+use Rattle.std.specs.Prelude.{Ok, Err}
 use Rattle.egg.specs.Table.{back_of}
 use Rattle.build_checks.specs.Checks.{Checked, checked, check_group}
 use Rattle.build_lending.specs.Finish.{built, zeroed, settled_by, finished, finished_placed}
@@ -32,26 +32,26 @@ use Rattle.build_laws.proofs.Built.{work_enough, rows_fit}
 -- A refused build has a refused reading or a refused check.
 abbrev pub CheckRefused : Placed → ℕ → List ℕ → Refusal → Type 0
 CheckRefused p n w r =
-    (N : ℕ) × (t₀ : List ℕ) × (t₁ : List ℕ) × (w₁ : List ℕ) × (p ≡ placed (Count N) t₀) × (check_group t₀ w n N ≡ checked (verdict.Refused r) t₁ w₁)
+    (N : ℕ) × (t₀ : List ℕ) × (t₁ : List ℕ) × (w₁ : List ℕ) × (p ≡ placed (Ok N) t₀) × (check_group t₀ w n N ≡ checked (Err r) t₁ w₁)
 
-pub check_refused : (n c : ℕ) {r : Refusal} {t w₁ : List ℕ} (k : Checked) → settled_by n c k ≡ built (Refused r) t w₁
-    → (t₁ : List ℕ) × (w₂ : List ℕ) × (k ≡ checked (verdict.Refused r) t₁ w₂)
-check_refused n c (checked verdict.Fine t₁ w₂) q = absurd (refused_counted (sym q))
-check_refused n c {r} (checked (verdict.Refused s) t₁ w₂) q = let e : s ≡ r = cc in (t₁, w₂, cc)
+pub check_refused : (n c : ℕ) {r : Refusal} {t w₁ : List ℕ} (k : Checked) → settled_by n c k ≡ built (Err r) t w₁
+    → (t₁ : List ℕ) × (w₂ : List ℕ) × (k ≡ checked (Err r) t₁ w₂)
+check_refused n c (checked (Ok _) t₁ w₂) q = absurd (refused_counted (sym q))
+check_refused n c {r} (checked (Err s) t₁ w₂) q = let e : s ≡ r = cc in (t₁, w₂, cc)
 
-pub build_refused : (p : Placed) (n : ℕ) (w : List ℕ) {r : Refusal} {t w₁ : List ℕ} → finished_placed p n w ≡ built (Refused r) t w₁
-    → ((t₀ : List ℕ) × (p ≡ placed (Refused r) t₀)) ⊎ CheckRefused p n w r
+pub build_refused : (p : Placed) (n : ℕ) (w : List ℕ) {r : Refusal} {t w₁ : List ℕ} → finished_placed p n w ≡ built (Err r) t w₁
+    → ((t₀ : List ℕ) × (p ≡ placed (Err r) t₀)) ⊎ CheckRefused p n w r
 unfolding finished
-build_refused (placed (Count c) t₀) n w q = let b = check_refused n c (check_group t₀ w n c) q in inr (c, t₀, b.0, b.1, refl, b.2)
-build_refused (placed (Refused s) t₀) n w {r} q = let e : s ≡ r = cc in inl (t₀, ap (λ (x : Refusal). placed (Refused x) t₀) e)
+build_refused (placed (Ok c) t₀) n w q = let b = check_refused n c (check_group t₀ w n c) q in inr (c, t₀, b.0, b.1, refl, b.2)
+build_refused (placed (Err s) t₀) n w {r} q = let e : s ≡ r = cc in inl (t₀, ap (λ (x : Refusal). placed (Err x) t₀) e)
 
-pub refused_build : {p : Placed} (n : ℕ) {N : ℕ} (w : List ℕ) {r : Refusal} {t₀ t₁ w₁ : List ℕ} → p ≡ placed (Count N) t₀
-    → check_group t₀ w n N ≡ checked (verdict.Refused r) t₁ w₁ → finished_placed p n w ≡ built (Refused r) (zeroed t₁) (zeroed w₁)
+pub refused_build : {p : Placed} (n : ℕ) {N : ℕ} (w : List ℕ) {r : Refusal} {t₀ t₁ w₁ : List ℕ} → p ≡ placed (Ok N) t₀
+    → check_group t₀ w n N ≡ checked (Err r) t₁ w₁ → finished_placed p n w ≡ built (Err r) (zeroed t₁) (zeroed w₁)
 unfolding finished
 refused_build n w a b = rw (a, b)
 
-pub refused_reading : {p : Placed} (n : ℕ) (w : List ℕ) {r : Refusal} {t₀ : List ℕ} → p ≡ placed (Refused r) t₀
-    → finished_placed p n w ≡ built (Refused r) (zeroed t₀) (zeroed w)
+pub refused_reading : {p : Placed} (n : ℕ) (w : List ℕ) {r : Refusal} {t₀ : List ℕ} → p ≡ placed (Err r) t₀
+    → finished_placed p n w ≡ built (Err r) (zeroed t₀) (zeroed w)
 unfolding finished
 refused_reading n w a = rw a
 
@@ -65,7 +65,7 @@ module _ (src : ℕ → ℕ → ℕ) (n room size : ℕ) (w : List ℕ) (few : n
     (work : work_need n room ≤ length w) where
   -- The checks' 12 after this reading.
   read_12 : {N : ℕ} {t₀ : List ℕ} {back : ℕ → ℕ → ℕ} → Read src n room size N t₀ → Columns n N src back
-      → ((r : Refusal) × (t₁ : List ℕ) × (w₁ : List ℕ) × (check_group t₀ w n N ≡ checked (verdict.Refused r) t₁ w₁) × (r.number ≡ 12))
+      → ((r : Refusal) × (t₁ : List ℕ) × (w₁ : List ℕ) × (check_group t₀ w n N ≡ checked (Err r) t₁ w₁) × ((refusal_paper r).number ≡ 12))
       ↔ (Until12 n N src back (recorded n src) × (RightRegular n N src → ⊥))
   read_12 R C =
       refused_12 few (omega (arith, R.within)) (rows_fit src n room size w few least most fits work R.within R.whole) (words_stored R C)
@@ -74,8 +74,8 @@ module _ (src : ℕ → ℕ → ℕ) (n room size : ℕ) (w : List ℕ) (few : n
 
   -- So what they refused by 12 is no group's.
   checked_12 : {N : ℕ} {t₀ : List ℕ} {r : Refusal} {t₁ w₁ : List ℕ} → Read src n room size N t₀
-      → check_group t₀ w n N ≡ checked (verdict.Refused r) t₁ w₁ → r.number ≡ 12
-      → (r ≡ record { number = 12; a = 0; b = 0; c = 0 }) × Groupless src n room N
+      → check_group t₀ w n N ≡ checked (Err r) t₁ w₁ → (refusal_paper r).number ≡ 12
+      → (r ≡ numbered 12 0 0 0) × Groupless src n room N
   checked_12 {N} {t₀} {r} {t₁} {w₁} R h number =
       let B = before_12 t₀ w n N h number in
       let C = read_columns R ((check8_fine t₀ n N).0 ((table_fine t₀ n N).0 B.table).0).1 in
@@ -86,19 +86,19 @@ module _ (src : ℕ → ℕ → ℕ) (n room size : ℕ) (w : List ℕ) (few : n
 
   -- And reading refuses by no 12.
   either_12 : {r : Refusal}
-      → ((t₀ : List ℕ) × (read_all src n room (replicate size 0) ≡ placed (Refused r) t₀))
+      → ((t₀ : List ℕ) × (read_all src n room (replicate size 0) ≡ placed (Err r) t₀))
       ⊎ CheckRefused (read_all src n room (replicate size 0)) n w r
-      → r.number ≡ 12 → (r ≡ record { number = 12; a = 0; b = 0; c = 0 }) × ((N : ℕ) × Groupless src n room N)
+      → (refusal_paper r).number ≡ 12 → (r ≡ numbered 12 0 0 0) × ((N : ℕ) × Groupless src n room N)
   either_12 (inl (t₀, q)) number = absurd (reading_earlier (refused_number (refused_read src n room size few least most fits q)) number)
   either_12 (inr (N, t₀, t₁, w₁, q, h)) number =
       let a = checked_12 (accepted_read src n room size few least most fits q) h number in (a.0, (N, a.1))
 
-  pub built_12 : {r : Refusal} {t w₁ : List ℕ} → finished_placed (read_all src n room (replicate size 0)) n w ≡ built (Refused r) t w₁ → r.number ≡ 12
-      → (r ≡ record { number = 12; a = 0; b = 0; c = 0 }) × ((N : ℕ) × Groupless src n room N)
+  pub built_12 : {r : Refusal} {t w₁ : List ℕ} → finished_placed (read_all src n room (replicate size 0)) n w ≡ built (Err r) t w₁ → (refusal_paper r).number ≡ 12
+      → (r ≡ numbered 12 0 0 0) × ((N : ℕ) × Groupless src n room N)
   built_12 q number = either_12 (build_refused (read_all src n room (replicate size 0)) n w q) number
 
   pub groupless_built : {N : ℕ} → Groupless src n room N
-      → (t : List ℕ) × (w₁ : List ℕ) × (finished_placed (read_all src n room (replicate size 0)) n w ≡ built (Refused (record { number = 12; a = 0; b = 0; c = 0 })) t w₁)
+      → (t : List ℕ) × (w₁ : List ℕ) × (finished_placed (read_all src n room (replicate size 0)) n w ≡ built (Err (numbered 12 0 0 0)) t w₁)
   groupless_built {N} G =
       let a = readable_accepted src n room size few least most fits G.readable in
       let R = accepted_read src n room size few least most fits a.1 in
@@ -106,5 +106,5 @@ module _ (src : ℕ → ℕ → ℕ) (n room size : ℕ) (w : List ℕ) (few : n
       let e = places_12 a.0 w n N b.3 b.4 in (
         zeroed b.1,
         zeroed b.2,
-        refused_build n w a.1 (subst (λ (r : Refusal). check_group a.0 w n N ≡ checked (verdict.Refused r) b.1 b.2) e b.3),
+        refused_build n w a.1 (subst (λ (r : Refusal). check_group a.0 w n N ≡ checked (Err r) b.1 b.2) e b.3),
       )

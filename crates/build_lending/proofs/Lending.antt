@@ -8,8 +8,7 @@ use borrow.Rule.Slice.PartMut.{mid_of, put_mid, Post-is, mid_len}
 use lib.Dec.{leb}
 use lib.ListN.{length, take, drop}
 use Rattle.egg.specs.declared.Factor.{Factor}
-use Rattle.egg.specs.declared.Made.{Made}
-use Rattle.egg.specs.declared.Counted.{Counted}
+use Rattle.egg.specs.Answers.{Counted, Made}
 use Rattle.egg.specs.Factor.{has_room, stretch}
 use Rattle.egg.proofs.Rooms.{and_first, and_second}
 use Rattle.build_lending.specs.Finish.{Built, built}

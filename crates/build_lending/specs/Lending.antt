@@ -1,13 +1,11 @@
 -- What a build needs of the lent buffers, and how what it leaves in its stretches stands in them. Document 01: "Longer buffers are taken and the excess
 -- is untouched. A factor may be built into any stretch of a longer table buffer."
+use Rattle.egg.specs.Refusals.{numbered}
 use Rattle.std.specs.Prelude.{ℕ, ◌+◌, ◌*◌, ◌≤◌, ◌≡◌, List, ◌++◌, Bool, ◌&&◌, take, drop, leb}
 use Rattle.egg.specs.declared.Factor.{Factor}
-use Rattle.egg.specs.declared.Made.{Made}
-use Rattle.egg.specs.declared.Verdict.TheVariants as verdict
-use Rattle.egg.specs.declared.Counted.{Counted}
-use Rattle.egg.specs.declared.Counted.TheVariants.{Count, Refused}
+use Rattle.egg.specs.Answers.{Counted, Made}
+use Rattle.std.specs.Prelude.{Ok, Err}
 use Rattle.egg.specs.Factor.{has_room}
-use Rattle.egg.specs.Scan.{refused_of}
 use Rattle.egg.specs.Table.{work_of}
 use Rattle.build_lending.specs.Finish.{Built, built}
 
@@ -37,19 +35,19 @@ within l a b p = take a l ++ (p ++ drop b l)
 pub data Making : Type 0 where
   making : Made → List ℕ → List ℕ → Making
 
--- The handle that stands beside a refusal: it fits no buffer.
+-- A handle that fits no buffer, for the places of a list that hold none.
 abbrev pub no_factor : Factor
 no_factor = record { start = 0; room = 0; generators = 0; elements = 0 }
 
 -- The answer for a build that counted its elements, with the handle of its stretch; a refused build has no factor.
 abbrev pub made_of : ℕ → ℕ → ℕ → Counted → Made
-made_of start room n (Count count) =
-    record { answer = verdict.Fine; factor = record { start = start; room = room; generators = n; elements = count } }
-made_of start room n (Refused r) = record { answer = verdict.Refused r; factor = no_factor }
+made_of start room n (Ok count) =
+    Ok (record { start = start; room = room; generators = n; elements = count })
+made_of start room n (Err r) = Err r
 
 -- The answer of a call that is refused before its build starts.
 abbrev pub refused_made : ℕ → ℕ → Made
-refused_made number a = record { answer = refused_of number a 0 0; factor = no_factor }
+refused_made number a = Err (numbered number a 0 0)
 
 -- A build's outcome put back into the buffers that its stretches were lent from.
 abbrev pub lent_back : List ℕ → ℕ → List ℕ → ℕ → ℕ → Built → Making

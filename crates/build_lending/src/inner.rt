@@ -2,31 +2,36 @@
 ghost use Rattle.std.specs.Prelude.{◌≡◌, true};
 ghost use Rattle.egg.specs.Factor.{has_room};
 ghost use Rattle.build_lending.specs.Finish.{Built, finished};
-ghost use Rattle.build_lending.specs.Lending.{table_need, work_need, lent_right, StretchEnd, no_factor, made_of, refused_made};
+ghost use Rattle.build_lending.specs.Lending.{table_need, work_need, lent_right, StretchEnd, no_factor, made_of};
 
-use egg::{Counted, Factor, Made, Verdict};
+use egg::{Factor, Refusal};
 
 // The end of every build, after a reading or an enumeration that left a count or a refusal: checks 8 to 12, and leaves
 // the stretches as document 01 wants them. An accepted table gets its words by five letters in a cell.
-pub fn finish(t: &mut [u32], w: &mut [u32], n: u8, read: Counted) -> Counted
+pub fn finish(
+    t: &mut [u32],
+    w: &mut [u32],
+    n: u8,
+    read: Result<u32, Refusal>,
+) -> Result<u32, Refusal>
     ensures { Built.built result t.new w.new ≡ finished read n t.old w.old }
 {
     match read {
-        Counted::Refused(why) => {
+        Err(why) => {
             egg::inner::clear(t);
             egg::inner::clear(w);
-            Counted::Refused(why)
+            Err(why)
         }
-        Counted::Count(count) => match build_checks::inner::check_group(t, w, n, count) {
-            Verdict::Refused(why) => {
+        Ok(count) => match build_checks::inner::check_group(t, w, n, count) {
+            Err(why) => {
                 egg::inner::clear(t);
                 egg::inner::clear(w);
-                Counted::Refused(why)
+                Err(why)
             }
-            Verdict::Fine => {
+            Ok(()) => {
                 build_word_cells::inner::fill_hops(t, n, count);
                 egg::inner::clear(w);
-                Counted::Count(count)
+                Ok(count)
             }
         },
     }
@@ -64,7 +69,7 @@ pub fn stretch_end(len: usize, start: usize, room: u32, n: u8) -> usize
     start + table_need(n, room)
 }
 
-// The handle that stands beside a refusal: it fits no buffer.
+// A handle that fits no buffer, for the places of a list that hold none.
 pub fn no_factor() -> Factor
     ensures { result ≡ no_factor }
 {
@@ -76,33 +81,15 @@ pub fn no_factor() -> Factor
     }
 }
 
-// The answer of a call that was refused before its build started.
-pub fn refused_made(number: u32, a: u32) -> Made
-    ensures { result ≡ refused_made number a }
-{
-    Made {
-        answer: egg::inner::refused(number, a, 0, 0),
-        factor: no_factor(),
-    }
-}
-
 // The answer of a call whose build came to this: the handle of what was built, or the refusal.
-pub fn made(start: usize, room: u32, n: u8, count: Counted) -> Made
+pub fn made(start: usize, room: u32, n: u8, count: Result<u32, Refusal>) -> Result<Factor, Refusal>
     ensures { result ≡ made_of start room n count }
 {
-    match count {
-        Counted::Refused(why) => Made {
-            answer: Verdict::Refused(why),
-            factor: no_factor(),
-        },
-        Counted::Count(elements) => Made {
-            answer: Verdict::Fine,
-            factor: Factor {
-                start,
-                room,
-                generators: n,
-                elements,
-            },
-        },
-    }
+    let elements = count?;
+    Ok(Factor {
+        start,
+        room,
+        generators: n,
+        elements,
+    })
 }

@@ -3,8 +3,7 @@ use Prim.Native.Nat.{ℕ}
 use mathlib.Core.Path.{◌≡◌, ap, ◌∙◌}
 use mathlib.Core.List.{List}
 use lib.ListN.{replicate}
-use Rattle.egg.specs.declared.Reached.{Reached}
-use Rattle.egg.specs.declared.Counted.{Counted}
+use Rattle.egg.specs.Answers.{Counted, Reached}
 use Rattle.egg.specs.Table.{put_at}
 use Rattle.build_lending.specs.Finish.{Built, built, finished}
 use Rattle.build_reading.specs.Reading.{placed}

@@ -2,9 +2,8 @@
 -- needed stretch of table and work, and subgroup maps, zero. After acceptance, rows and map places beyond the last element and the whole needed work
 -- stretch are zero."
 use Rattle.std.specs.Prelude.{ℕ, List, replicate}
-use Rattle.egg.specs.declared.Reached.{Reached}
-use Rattle.egg.specs.declared.Counted.{Counted}
-use Rattle.egg.specs.declared.Counted.TheVariants.{Count, Refused}
+use Rattle.egg.specs.Answers.{Counted, Reached}
+use Rattle.std.specs.Prelude.{Ok, Err}
 use Rattle.build_lending.specs.Finish.{Built, built, zeroed, finished_placed}
 use Rattle.build_numbering.specs.Renumber.{Mapped, mapped, map_all}
 
@@ -14,8 +13,8 @@ pub data Renumbering : Type 0 where
 
 -- What a map holds after a build: it stays where the build was counted, and is zero where it was refused.
 abbrev pub kept_after : Counted → List ℕ → List ℕ
-kept_after (Count c) l = l
-kept_after (Refused r) l = zeroed l
+kept_after (Ok c) l = l
+kept_after (Err r) l = zeroed l
 
 -- What a build comes to, with both maps left so.
 abbrev pub settled_maps : Built → List ℕ → List ℕ → Renumbering

@@ -7,7 +7,7 @@ ghost use Rattle.build_reading.specs.Reading.{Placed};
 ghost use Rattle.build_numbering.specs.Renumber.{no_number, Mapped, map_place};
 ghost use Rattle.build_numbering.specs.Build.{kept_after};
 
-use egg::{Counted, GeneratorId, GroupElementId, Reached};
+use egg::{GeneratorId, GroupElementId, Refusal};
 
 // Numbers what stands at one place: x is the outside element to which g leads from e. It has a number, which is set, or
 // gets the next. Refuses 5 where that is beyond the room, then 6 where its word would pass 4,096.
@@ -21,57 +21,47 @@ pub fn place(
     e: GroupElementId,
     g: GeneratorId,
     x: GroupElementId,
-) -> Counted
+) -> Result<u32, Refusal>
     ensures { Mapped.mapped (Placed.placed result t.new) inn.new outw.new ≡ map_place t.old inn.old outw.old n room count e.0 g.0 x.0 }
 {
-    let outside = x.0;
-    let v = egg::inner::get(&inn[..], outside as usize);
+    let v = egg::inner::get(inn, x.0 as usize);
     if v != 4294967295 {
         build_reading::inner::set_successor(t, n, e, g, GroupElementId(v));
-        return Counted::Count(count);
+        return Ok(count);
     }
-    match build_reading::inner::add_successor(t, n, room, count, e, g) {
-        Reached::Refused(why) => Counted::Refused(why),
-        Reached::Element(_) => {
-            egg::inner::put(inn, outside as usize, count as usize);
-            egg::inner::put(outw, count as usize, outside as usize);
-            Counted::Count(count + 1)
-        }
-    }
+    build_reading::inner::add_successor(t, n, room, count, e, g)?;
+    egg::inner::put(inn, x.0 as usize, count as usize);
+    egg::inner::put(outw, count as usize, x.0 as usize);
+    Ok(count + 1)
 }
 
 // Fills a map with 4,294,967,295, which is no element number.
 fn mark(s: &mut [u32])
     ensures { s.new ≡ replicate (length s.old) no_number }
 {
-    let mut i = 0;
-    while i < s.len() {
-        s[i] = 4294967295;
-        i += 1;
-    }
+    s.fill(4294967295);
 }
 
 // Sets the maps as they are before a numbering: of the outside elements x alone has a number, 0.
 pub fn start(inn: &mut [u32], outw: &mut [u32], x: GroupElementId)
     ensures { (inn.new ≡ put_at (replicate (length inn.old) no_number) x.0 0) × (outw.new ≡ put_at (replicate (length outw.old) 0) 0 x.0) }
 {
-    let outside = x.0;
     mark(inn);
     egg::inner::clear(outw);
-    egg::inner::put(inn, outside as usize, 0);
-    egg::inner::put(outw, 0, outside as usize);
+    egg::inner::put(inn, x.0 as usize, 0);
+    egg::inner::put(outw, 0, x.0 as usize);
 }
 
 // Leaves the maps as document 01 wants them: zero after a refusal.
-pub fn settle(inn: &mut [u32], outw: &mut [u32], made: Counted) -> Counted
+pub fn settle(inn: &mut [u32], outw: &mut [u32], made: Result<u32, Refusal>) -> Result<u32, Refusal>
     ensures { (result ≡ made) × ((inn.new ≡ kept_after made inn.old) × (outw.new ≡ kept_after made outw.old)) }
 {
     match made {
-        Counted::Refused(why) => {
+        Err(why) => {
             egg::inner::clear(inn);
             egg::inner::clear(outw);
-            Counted::Refused(why)
+            Err(why)
         }
-        Counted::Count(count) => Counted::Count(count),
+        Ok(count) => Ok(count),
     }
 }

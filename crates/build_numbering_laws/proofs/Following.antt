@@ -7,9 +7,8 @@ use native.Mathlib.Decide.{dec_lt}
 use native.Mathlib.Omega.{arith}
 use borrow.Author.Tests.{lt-ltb, le-ltb}
 use lib.ListN.{get_or, replicate, length-replicate, get_or-replicate}
-use Rattle.egg.specs.declared.Reached.{Reached}
-use Rattle.egg.specs.declared.Reached.TheVariants as reached
-use Rattle.egg.specs.declared.Counted.TheVariants.{Count, Refused}
+use Rattle.egg.specs.Answers.{Reached}
+use Rattle.std.specs.Prelude.{Ok, Err}
 use Rattle.egg.specs.Table.{put_at}
 use Rattle.egg.proofs.Cells.{put_same, put_other, put_length}
 use Rattle.build_reading.specs.Build.{adds}
@@ -32,13 +31,13 @@ use Rattle.build_reading_laws.proofs.Runs.{zeros}
 
 -- A numbering came to the same as a reading; after a count B holds of the maps.
 abbrev pub Agree : (ℕ → List ℕ → List ℕ → Type 0) → Placed → Mapped → Type 0
-Agree B p (mapped (placed (Count c) t) inn outw) = (p ≡ placed (Count c) t) × B c inn outw
-Agree B p (mapped (placed (Refused r) t) inn outw) = p ≡ placed (Refused r) t
+Agree B p (mapped (placed (Ok c) t) inn outw) = (p ≡ placed (Ok c) t) × B c inn outw
+Agree B p (mapped (placed (Err r) t) inn outw) = p ≡ placed (Err r) t
 
 then_agree : (B C : ℕ → List ℕ → List ℕ → Type 0) (p : Placed) (m : Mapped) (f : ℕ → List ℕ → Placed) (h : ℕ → List ℕ → List ℕ → List ℕ → Mapped)
     → Agree B p m → ((c : ℕ) (t inn outw : List ℕ) → B c inn outw → Agree C (f c t) (h c t inn outw)) → Agree C (then_placed p f) (then_mapped m h)
-then_agree B C p (mapped (placed (Count c) t) inn outw) f h a k = rw a.0 (k c t inn outw a.1)
-then_agree B C p (mapped (placed (Refused r) t) inn outw) f h a k = rw a
+then_agree B C p (mapped (placed (Ok c) t) inn outw) f h a k = rw a.0 (k c t inn outw a.1)
+then_agree B C p (mapped (placed (Err r) t) inn outw) f h a k = rw a
 
 module _ {n M : ℕ} {out : ℕ → ℕ → ℕ} {x₀ N : ℕ} {elt : ℕ → ℕ} (A : Appearing n M out x₀ N elt) (small : M ≤ 4294967295)
     (room K : ℕ) (limited : room ≤ 65535) (lent : room ≤ K) where
@@ -122,11 +121,11 @@ module _ {n M : ℕ} {out : ℕ → ℕ → ℕ} {x₀ N : ℕ} {elt : ℕ → �
     place_follows t hx = go (dec_lt (src e g) c) where
       fresh : src e g ≡ c → no_number ≡ get_or inn (out (elt e) g) 0 → (a : Reached) → a ≡ (adds t n room c (record { 0 = e }) (record { 0 = g })).answer
           → Agree (Before e (suc g)) (read_place t n room c e g (src e g)) (map_place t inn outw n room c e g (out (elt e) g))
-      fresh is k (reached.Refused r) q = rw (
+      fresh is k (Err r) q = rw (
         ← (map_refused t inn outw n room c e g (out (elt e) g) k refl q refl refl),
         ← (place_refused t n room c e g (src e g) (omega arith) (omega arith) q refl refl),
       ) refl
-      fresh is k (reached.Element y) q =
+      fresh is k (Ok y) q =
           let h : c < room = added_within t n room c (record { 0 = e }) (record { 0 = g }) q refl in
           rw (
             ← (map_new t inn outw n room c e g (out (elt e) g) k refl q refl refl),

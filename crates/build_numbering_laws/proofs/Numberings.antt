@@ -7,8 +7,8 @@ use native.Mathlib.Decide.{dec_lt}
 use native.Mathlib.Omega.{arith}
 use lib.ListN.{get_or}
 use Rattle.egg.specs.declared.Refusal.{Refusal}
-use Rattle.egg.specs.declared.Reached.{Reached}
-use Rattle.egg.specs.declared.Counted.TheVariants.{Count, Refused}
+use Rattle.egg.specs.Answers.{Reached}
+use Rattle.std.specs.Prelude.{Ok, Err}
 use Rattle.egg.specs.Answers.{numbered}
 use Rattle.build_reading.specs.Reading.{Placed, placed, read_all}
 use Rattle.theory.specs.Appearance.{row}
@@ -25,8 +25,8 @@ use Rattle.build_numbering_laws.proofs.Order.{number_found, number_at_most, step
 use Rattle.build_numbering_laws.proofs.Following.{Agree, all_follows}
 
 agree_placed : (B : ℕ → List ℕ → List ℕ → Type 0) (p : Placed) (m : Mapped) → Agree B p m → placed_of m ≡ p
-agree_placed B p (mapped (placed (Count c) t) inn outw) a = sym a.0
-agree_placed B p (mapped (placed (Refused r) t) inn outw) a = sym a
+agree_placed B p (mapped (placed (Ok c) t) inn outw) a = sym a.0
+agree_placed B p (mapped (placed (Err r) t) inn outw) a = sym a
 
 -- The numbering itself, with no list.
 pub appearing_renumbered : {n M : ℕ} {out : ℕ → ℕ → ℕ} {x₀ N : ℕ} {elt : ℕ → ℕ} → Appearing n M out x₀ N elt
@@ -94,7 +94,7 @@ module _ {n M : ℕ} {out : ℕ → ℕ → ℕ} {x₀ N : ℕ} {elt : ℕ → �
   numbering_placed t = agree_placed _ _ (map_all source n room M K x₀ t) (all_follows A small room K hi lent I source answering lo t)
 
   -- The maps of an accepted numbering.
-  pub numbering_filled : (t₀ : List ℕ) {c : ℕ} {t inn outw : List ℕ} → map_all source n room M K x₀ t₀ ≡ mapped (placed (Count c) t) inn outw
+  pub numbering_filled : (t₀ : List ℕ) {c : ℕ} {t inn outw : List ℕ} → map_all source n room M K x₀ t₀ ≡ mapped (placed (Ok c) t) inn outw
       → (c ≡ N) × MapsFilled M room K elt c inn outw
   numbering_filled t₀ q =
       (subst (Agree (λ c inn outw. (c ≡ N) × MapsFilled M room K elt c inn outw) (read_all (numbered_step N elt out) n room t₀)) q

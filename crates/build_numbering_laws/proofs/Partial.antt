@@ -13,9 +13,9 @@ use lib.Dec.{leb, ltb}
 use Rattle.egg.specs.declared.Refusal.{Refusal}
 use Rattle.egg.specs.declared.GroupElementId.{GroupElementId}
 use Rattle.egg.specs.declared.GeneratorId.{GeneratorId}
-use Rattle.egg.specs.declared.Reached.{Reached}
-use Rattle.egg.specs.declared.Reached.TheVariants as reached
-use Rattle.egg.specs.declared.Counted.TheVariants.{Count, Refused}
+use Rattle.egg.specs.Answers.{Reached}
+use Rattle.egg.specs.Refusals.{refusal_paper}
+use Rattle.std.specs.Prelude.{Ok, Err}
 use Rattle.egg.specs.Table.{pick, length_of}
 use Rattle.build_reading.specs.Build.{Adds, adds}
 use Rattle.egg.specs.Answers.{numbered}
@@ -37,53 +37,53 @@ use Rattle.build_numbering_laws.proofs.Following.{Agree, Before, inside, place_f
 module _ {n M : ℕ} {source : ℕ → ℕ → Reached} (R : Ranged n M source) (x₀ : ℕ) (here : x₀ < M) where
   pub ranged_inside : Inside n M (out_of x₀ source) x₀
   ranged_inside = record { here = here; closed = λ {x} {g} hx hg. go (source x g) (λ y q. R.ranged {y = y} hx hg q) } where
-    go : (r : Reached) → ((y : GroupElementId) → r ≡ reached.Element y → y.0 < M) → answered x₀ r < M
-    go (reached.Element y) f = f y refl
-    go (reached.Refused r) f = here
+    go : (r : Reached) → ((y : GroupElementId) → r ≡ Ok y → y.0 < M) → answered x₀ r < M
+    go (Ok y) f = f y refl
+    go (Err r) f = here
 
 pub total_answering : (n M : ℕ) (source : ℕ → ℕ → Reached) (x₀ : ℕ) → Answering n M (out_of x₀ source) (total source x₀)
 total_answering n M source x₀ = record { answers = λ hx hg. refl }
 
 -- A refusal while a place is read has that place's element and generator.
-adds_at : (t : List ℕ) (n room count : ℕ) (e : GroupElementId) (g : GeneratorId) {r : Refusal} → (adds t n room count e g).answer ≡ reached.Refused r
-    → (r.a ≡ e.0) × (r.b ≡ g.0)
+adds_at : (t : List ℕ) (n room count : ℕ) (e : GroupElementId) (g : GeneratorId) {r : Refusal} → (adds t n room count e g).answer ≡ Err r
+    → ((refusal_paper r).a ≡ e.0) × ((refusal_paper r).b ≡ g.0)
 unfolding adds
 adds_at t n room count e g {r} q = go (leb room count) (leb 4096 (length_of t n e.0)) _ _ q where
   go : (a b : Bool) (x : GroupElementId) (l : List ℕ)
-      → (pick {A = Adds} a (record { answer = reached.Refused (numbered 5 e.0 g.0 0); table = t })
-      (pick b (record { answer = reached.Refused (numbered 6 e.0 g.0 0); table = t }) (record { answer = reached.Element x; table = l }))).answer
-      ≡ reached.Refused r → (r.a ≡ e.0) × (r.b ≡ g.0)
+      → (pick {A = Adds} a (record { answer = Err (numbered 5 e.0 g.0 0); table = t })
+      (pick b (record { answer = Err (numbered 6 e.0 g.0 0); table = t }) (record { answer = Ok x; table = l }))).answer
+      ≡ Err r → ((refusal_paper r).a ≡ e.0) × ((refusal_paper r).b ≡ g.0)
   go true b x l q = let i : numbered 5 e.0 g.0 0 ≡ r = cc in rw (← i) (refl, refl)
   go false true x l q = let i : numbered 6 e.0 g.0 0 ≡ r = cc in rw (← i) (refl, refl)
   go false false x l q = let z : ◌≡◌ {A = ℕ} 0 1 = cc in absurd (omega arith)
 
-place_at_lem : (t : List ℕ) (n room c e g v : ℕ) {r : Refusal} {t' : List ℕ} → read_place t n room c e g v ≡ placed (Refused r) t' → (r.a ≡ e) × (r.b ≡ g)
+place_at_lem : (t : List ℕ) (n room c e g v : ℕ) {r : Refusal} {t' : List ℕ} → read_place t n room c e g v ≡ placed (Err r) t' → ((refusal_paper r).a ≡ e) × ((refusal_paper r).b ≡ g)
 unfolding read_place
 place_at_lem t n room c e g v {r} {t'} q =
     go (ltb c v) (ltb v c) (adds t n room c (record { 0 = e }) (record { 0 = g })) _ (λ h. adds_at t n room c (record { 0 = e }) (record { 0 = g }) h) q
   where
-    by : (x : Adds) → (x.answer ≡ reached.Refused r → (r.a ≡ e) × (r.b ≡ g)) → (y : Reached) → x.answer ≡ y
-        → on_adds c y x.table ≡ placed (Refused r) t' → (r.a ≡ e) × (r.b ≡ g)
-    by x f (reached.Element y) p h = let z : ◌≡◌ {A = ℕ} 0 1 = cc in absurd (omega arith)
-    by x f (reached.Refused s) p h = let i : s ≡ r = cc in f (p ∙ ap reached.Refused i)
+    by : (x : Adds) → (x.answer ≡ Err r → ((refusal_paper r).a ≡ e) × ((refusal_paper r).b ≡ g)) → (y : Reached) → x.answer ≡ y
+        → on_adds c y x.table ≡ placed (Err r) t' → ((refusal_paper r).a ≡ e) × ((refusal_paper r).b ≡ g)
+    by x f (Ok y) p h = let z : ◌≡◌ {A = ℕ} 0 1 = cc in absurd (omega arith)
+    by x f (Err s) p h = let i : s ≡ r = cc in f (p ∙ ap Err i)
 
-    go : (a b : Bool) (x : Adds) (l : List ℕ) → (x.answer ≡ reached.Refused r → (r.a ≡ e) × (r.b ≡ g))
-        → pick a (placed (Refused (numbered 7 e g v)) t) (pick b (placed (Count c) l) (on_adds c x.answer x.table)) ≡ placed (Refused r) t'
-        → (r.a ≡ e) × (r.b ≡ g)
+    go : (a b : Bool) (x : Adds) (l : List ℕ) → (x.answer ≡ Err r → ((refusal_paper r).a ≡ e) × ((refusal_paper r).b ≡ g))
+        → pick a (placed (Err (numbered 7 e g v)) t) (pick b (placed (Ok c) l) (on_adds c x.answer x.table)) ≡ placed (Err r) t'
+        → ((refusal_paper r).a ≡ e) × ((refusal_paper r).b ≡ g)
     go true b x l f h = let i : numbered 7 e g v ≡ r = cc in rw (← i) (refl, refl)
     go false true x l f h = let z : ◌≡◌ {A = ℕ} 0 1 = cc in absurd (omega arith)
     go false false x l f h = by x f x.answer refl h
 
-stops_at : {src : ℕ → ℕ → ℕ} {n room x g c : ℕ} {r : Refusal} → Stops src n room x g c r → (r.a ≡ x) × (r.b ≡ g)
+stops_at : {src : ℕ → ℕ → ℕ} {n room x g c : ℕ} {r : Refusal} → Stops src n room x g c r → ((refusal_paper r).a ≡ x) × ((refusal_paper r).b ≡ g)
 stops_at (skips_ahead l) = (refl, refl)
 stops_at (no_room p q) = (refl, refl)
 stops_at (long_word p q w) = (refl, refl)
 
-answered_so : (x₀ : ℕ) (r : Reached) {y : GroupElementId} → r ≡ reached.Element y → r ≡ reached.Element (record { 0 = answered x₀ r })
+answered_so : (x₀ : ℕ) (r : Reached) {y : GroupElementId} → r ≡ Ok y → r ≡ Ok (record { 0 = answered x₀ r })
 answered_so x₀ r q = rw q refl
 
 ends : (k : ℕ) (source : ℕ → ℕ → Reached) (n room e c : ℕ) (t inn outw : List ℕ) → c ≤ e
-    → map_rows k source n room e c t inn outw ≡ mapped (placed (Count c) t) inn outw
+    → map_rows k source n room e c t inn outw ≡ mapped (placed (Ok c) t) inn outw
 unfolding map_rows
 ends zero source n room e c t inn outw h = refl
 ends (suc k) source n room e c t inn outw h = rw (le-ltb e c h)
@@ -102,11 +102,11 @@ module _ {n M : ℕ} (source : ℕ → ℕ → Reached) (x₀ : ℕ) {N : ℕ} {
 
   -- The reading of the source m, and that of its steps m': they come to the same, with all places answered until there; or the source was met refusing.
   data Came (B : ℕ → List ℕ → List ℕ → List ℕ → Type 0) (m m' : Mapped) : Type 0 where
-    counts : {c : ℕ} {t inn outw : List ℕ} → m ≡ mapped (placed (Count c) t) inn outw → m' ≡ mapped (placed (Count c) t) inn outw → B c t inn outw
+    counts : {c : ℕ} {t inn outw : List ℕ} → m ≡ mapped (placed (Ok c) t) inn outw → m' ≡ mapped (placed (Ok c) t) inn outw → B c t inn outw
         → Came B m m'
-    stops : {r : Refusal} {t inn outw : List ℕ} → m ≡ mapped (placed (Refused r) t) inn outw → m' ≡ mapped (placed (Refused r) t) inn outw
+    stops : {r : Refusal} {t inn outw : List ℕ} → m ≡ mapped (placed (Err r) t) inn outw → m' ≡ mapped (placed (Err r) t) inn outw
         → AllAnswered source x₀ n room N elt → Came B m m'
-    breaks : {r : Refusal} {t inn outw : List ℕ} → m ≡ mapped (placed (Refused r) t) inn outw → RefusedAt source x₀ n room N elt r → Came B m m'
+    breaks : {r : Refusal} {t inn outw : List ℕ} → m ≡ mapped (placed (Err r) t) inn outw → RefusedAt source x₀ n room N elt r → Came B m m'
 
   then_came : {B C : ℕ → List ℕ → List ℕ → List ℕ → Type 0} (m m' : Mapped) (f h : ℕ → List ℕ → List ℕ → List ℕ → Mapped) → Came B m m'
       → ((c : ℕ) (t inn outw : List ℕ) → B c t inn outw → Came C (f c t inn outw) (h c t inn outw)) → Came C (then_mapped m f) (then_mapped m' h)
@@ -118,7 +118,7 @@ module _ {n M : ℕ} (source : ℕ → ℕ → Reached) (x₀ : ℕ) {N : ℕ} {
     before : Before A small room K hi lent e g c inn outw
     before = record { known = H.state.held.known; filled = H.filled }
 
-    more_answered : {y : GroupElementId} → source (elt e) g ≡ reached.Element y → AnsweredTo source x₀ n elt e (suc g)
+    more_answered : {y : GroupElementId} → source (elt e) g ≡ Ok y → AnsweredTo source x₀ n elt e (suc g)
     more_answered q = record {
       answers = λ hh a. ⊎_elim
           (λ p. rw (p.0, p.1) (answered_so x₀ (source (elt e) g) q))
@@ -126,7 +126,7 @@ module _ {n M : ℕ} (source : ℕ → ℕ → Reached) (x₀ : ℕ) {N : ℕ} {
           (ahead_column a);
     }
 
-    until_here : {r : Refusal} {t' : List ℕ} → read_place t n room c e g (src e g) ≡ placed (Refused r) t' → (F : ReadingRefused src n room r)
+    until_here : {r : Refusal} {t' : List ℕ} → read_place t n room c e g (src e g) ≡ placed (Err r) t' → (F : ReadingRefused src n room r)
         → AnsweredTo source x₀ n elt e (suc g) → AllAnswered source x₀ n room N elt
     until_here q F a =
         let (x, y) = place_at_lem t n room c e g (src e g) q in
@@ -135,27 +135,27 @@ module _ {n M : ℕ} (source : ℕ → ℕ → Reached) (x₀ : ℕ) {N : ℕ} {
 
     settled : (m : Mapped) → Agree (Before A small room K hi lent e (suc g)) (read_place t n room c e g (src e g)) m → AnsweredTo source x₀ n elt e (suc g)
         → Came (Here e (suc g)) m m
-    settled (mapped (placed (Count c') t') inn' outw') (q, S) a =
+    settled (mapped (placed (Ok c') t') inn' outw') (q, S) a =
         counts refl refl (record {
           state = subst (On (ReadingState src n room size e (suc g)) (ReadingRefused src n room)) q (read_place_lem few hi fits H.state hg);
           filled = S.filled;
           answered_to = a;
         })
-    settled (mapped (placed (Refused r) t') inn' outw') q a =
+    settled (mapped (placed (Err r) t') inn' outw') q a =
         stops refl refl (until_here q (subst (On (ReadingState src n room size e (suc g)) (ReadingRefused src n room)) q (read_place_lem few hi fits H.state hg)) a)
 
     place_came : Came (Here e (suc g)) (map_from (source (get_or outw e 0) g) t inn outw n room c e g)
         (map_from (total source x₀ (get_or outw e 0) g) t inn outw n room c e g)
     place_came = rw (H.filled.elements (row_known H.state.held.known)) (go (source (elt e) g) refl) where
       go : (r : Reached) → source (elt e) g ≡ r
-          → Came (Here e (suc g)) (map_from r t inn outw n room c e g) (map_from (reached.Element (record { 0 = answered x₀ r })) t inn outw n room c e g)
-      go (reached.Element y) q =
+          → Came (Here e (suc g)) (map_from r t inn outw n room c e g) (map_from (Ok (record { 0 = answered x₀ r })) t inn outw n room c e g)
+      go (Ok y) q =
           let z : answered x₀ (source (elt e) g) ≡ y.0 = ap (answered x₀) q in
           settled (map_place t inn outw n room c e g y.0)
           (subst (λ (v : ℕ). Agree (Before A small room K hi lent e (suc g)) (read_place t n room c e g (src e g)) (map_place t inn outw n room c e g v)) z
           (place_follows A small room K hi lent before hg t (I.closed (inside A small room K hi lent before hg) hg)))
           (more_answered q)
-      go (reached.Refused r) q = breaks refl (record {
+      go (Err r) q = breaks refl (record {
         row = e;
         column = g;
         count = c;
@@ -227,14 +227,14 @@ module _ {n M : ℕ} (source : ℕ → ℕ → Reached) (x₀ : ℕ) {N : ℕ} {
   pub partial_build : (w : List ℕ)
       → ((renumber_in size w source n room M K x₀ ≡ renumber_in size w (total source x₀) n room M K x₀) × AllAnswered source x₀ n room N elt)
       ⊎ ((r : Refusal) × RefusedAt source x₀ n room N elt r × (t : List ℕ) × (inn : List ℕ) × (outw : List ℕ)
-      × (renumber_in size w source n room M K x₀ ≡ renumbering (built (Refused r) (zeroed t) (zeroed w)) (zeroed inn) (zeroed outw)))
+      × (renumber_in size w source n room M K x₀ ≡ renumbering (built (Err r) (zeroed t) (zeroed w)) (zeroed inn) (zeroed outw)))
   unfolding renumber_in finished
   partial_build w = go all_came where
     go : Came Ended (map_all source n room M K x₀ (replicate size 0)) (map_all (total source x₀) n room M K x₀ (replicate size 0))
         → ((finished_mapped (map_all source n room M K x₀ (replicate size 0)) n w ≡ finished_mapped (map_all (total source x₀) n room M K x₀ (replicate size 0)) n w)
         × AllAnswered source x₀ n room N elt)
         ⊎ ((r : Refusal) × RefusedAt source x₀ n room N elt r × (t : List ℕ) × (inn : List ℕ) × (outw : List ℕ)
-        × (finished_mapped (map_all source n room M K x₀ (replicate size 0)) n w ≡ renumbering (built (Refused r) (zeroed t) (zeroed w)) (zeroed inn) (zeroed outw)))
+        × (finished_mapped (map_all source n room M K x₀ (replicate size 0)) n w ≡ renumbering (built (Err r) (zeroed t) (zeroed w)) (zeroed inn) (zeroed outw)))
     go (counts p q a) = inl (ap (λ (m : Mapped). finished_mapped m n w) (p ∙ sym q), a)
     go (stops p q a) = inl (ap (λ (m : Mapped). finished_mapped m n w) (p ∙ sym q), a)
     go (breaks {r} {t} {inn} {outw} p b) = inr (r, b, t, inn, outw, ap (λ (m : Mapped). finished_mapped m n w) p)

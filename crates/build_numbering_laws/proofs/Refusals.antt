@@ -7,7 +7,7 @@ use native.Mathlib.Numerals.{add-one}
 use native.Mathlib.Omega.{arith}
 use borrow.Author.Tests.{eq-eqb, ne_eqb}
 use lib.ListN.{length}
-use Rattle.egg.specs.declared.Verdict.TheVariants.{Fine}
+use Rattle.egg.specs.Answers.{fine}
 use Rattle.egg.specs.Table.{step_of, parent_of, last_of}
 use Rattle.egg.specs.Scan.{refused_of}
 use Rattle.build_checks.specs.Checks.{wrong, wrong_row, check_table, check8, ranges, counted, checked, check_rest, check_group}
@@ -50,10 +50,10 @@ module _ {src : ℕ → ℕ → ℕ} {n room size N : ℕ} {t : List ℕ} (R : R
   short : (e : ℕ) → e < N → length (word_of t n e) ≤ 4096
   short e he = rw (read_words R e he) ((read_readable R).short he)
 
-  eight : check8 t n N ≡ Fine
+  eight : check8 t n N ≡ fine
   eight = present S (numbered_table R.by_rule) P W C
 
-  ranged : ranges t n N ≡ Fine
+  ranged : ranges t n N ≡ fine
   ranged = in_range S (numbered_table R.by_rule) P W C short
 
   first_step : {g : ℕ} → g < n → step_of t n 0 g ≡ src 0 g
@@ -74,7 +74,7 @@ module _ {src : ℕ → ℕ → ℕ} {n room size N : ℕ} {t : List ℕ} (R : R
 
     -- 11: the first generator whose element is not its number and one.
     module _ (moves : (h : ℕ) → h < n → ¬ (src 0 h ≡ 0)) where
-      none_wrong : wrong t n N ≡ Fine
+      none_wrong : wrong t n N ≡ fine
       none_wrong = (wrong_fine t n N).1 (λ e he h hh. (
         λ q. moves h hh (no_fixed_point G.group G.steps he hh (sym (step_is S he hh) ∙ q)),
         λ pos q.

@@ -5,9 +5,8 @@ use mathlib.Core.Bool.{Bool, true, false}
 use mathlib.Core.List.{List}
 use lib.ListN.{length, get_or, replicate, length-replicate}
 use lib.Dec.{eqb, ltb}
-use Rattle.egg.specs.declared.Reached.{Reached}
-use Rattle.egg.specs.declared.Reached.TheVariants as reached
-use Rattle.egg.specs.declared.Counted.TheVariants.{Count, Refused}
+use Rattle.egg.specs.Answers.{Reached}
+use Rattle.std.specs.Prelude.{Ok, Err}
 use Rattle.egg.specs.Table.{pick}
 use Rattle.egg.proofs.Cells.{put_length}
 use Rattle.build_reading.specs.Build.{adds}
@@ -21,13 +20,13 @@ module _ (k l : ℕ) where
 
   then_long : (m : Mapped) (f : ℕ → List ℕ → List ℕ → List ℕ → Mapped) → Long m
       → ((c : ℕ) (t inn outw : List ℕ) → length inn ≡ k → length outw ≡ l → Long (f c t inn outw)) → Long (then_mapped m f)
-  then_long (mapped (placed (Count c) t) inn outw) f h g = g c t inn outw h.0 h.1
-  then_long (mapped (placed (Refused r) t) inn outw) f h g = h
+  then_long (mapped (placed (Ok c) t) inn outw) f h g = g c t inn outw h.0 h.1
+  then_long (mapped (placed (Err r) t) inn outw) f h g = h
 
   module _ (inn outw : List ℕ) (a : length inn ≡ k) (b : length outw ≡ l) where
     new_long : (r : Reached) (t : List ℕ) (count x : ℕ) → Long (on_new r t inn outw count x)
-    new_long (reached.Element e) t count x = (put_length inn x count ∙ a, put_length outw count x ∙ b)
-    new_long (reached.Refused r) t count x = (a, b)
+    new_long (Ok e) t count x = (put_length inn x count ∙ a, put_length outw count x ∙ b)
+    new_long (Err r) t count x = (a, b)
 
     pick_long : (c : Bool) (u v : Mapped) → Long u → Long v → Long (pick c u v)
     pick_long true u v p q = p
@@ -35,9 +34,9 @@ module _ (k l : ℕ) where
 
     from_long : (r : Reached) (t : List ℕ) (n room count e g : ℕ) → Long (map_from r t inn outw n room count e g)
     unfolding map_place
-    from_long (reached.Element x) t n room count e g =
+    from_long (Ok x) t n room count e g =
         pick_long (eqb (get_or inn x.0 0) no_number) _ _ (new_long (adds t n room count (record { 0 = e }) (record { 0 = g })).answer _ count x.0) (a, b)
-    from_long (reached.Refused r) t n room count e g = (a, b)
+    from_long (Err r) t n room count e g = (a, b)
 
   module _ (source : ℕ → ℕ → Reached) (n room : ℕ) where
     row_long : (j e g count : ℕ) (t inn outw : List ℕ) → length inn ≡ k → length outw ≡ l → Long (map_row j source n room e g count t inn outw)

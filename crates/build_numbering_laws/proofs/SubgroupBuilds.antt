@@ -7,9 +7,8 @@ use mathlib.Core.List.{List}
 use native.Mathlib.Omega.{arith}
 use lib.ListN.{length, replicate}
 use Rattle.egg.specs.declared.Refusal.{Refusal}
-use Rattle.egg.specs.declared.Reached.{Reached}
-use Rattle.egg.specs.declared.Verdict.TheVariants as verdict
-use Rattle.egg.specs.declared.Counted.TheVariants.{Count, Refused}
+use Rattle.egg.specs.Answers.{Reached}
+use Rattle.std.specs.Prelude.{Ok, Err}
 use Rattle.build_checks.specs.Checks.{checked, check_group}
 use Rattle.egg.specs.Answers.{numbered}
 use Rattle.build_lending.specs.Finish.{Built, built, zeroed}
@@ -74,7 +73,7 @@ module _ {M : ℕ} {op : ℕ → ℕ → ℕ} {inv : ℕ → ℕ} (G : GroupOn M
 
     -- Accepted exactly when.
     pub subgroup_exactly : ((t : List ℕ) × (w₁ : List ℕ) × (inn : List ℕ) × (outw : List ℕ)
-        × (renumber_in size w source n room M K 0 ≡ renumbering (built (Count N) t w₁) inn outw))
+        × (renumber_in size w source n room M K 0 ≡ renumbering (built (Ok N) t w₁) inn outw))
         ↔ ((N ≤ room) × (((e : ℕ) → e < N → length (recorded n (numbered_step N elt (right_by op gen)) e) ≤ 4096) × Proper n gen))
     subgroup_exactly =
         let E = renumber_exactly A (right_inside G gens) small source answering room K lo hi lent size w few fits work in (
@@ -87,7 +86,7 @@ module _ {M : ℕ} {op : ℕ → ℕ → ℕ} {inv : ℕ → ℕ} (G : GroupOn M
         )
 
     module _ (within : N ≤ room) (short : (e : ℕ) → e < N → length (recorded n (numbered_step N elt (right_by op gen)) e) ≤ 4096) where
-      read : (t : List ℕ) × (read_all src n room (replicate size 0) ≡ placed (Count N) t)
+      read : (t : List ℕ) × (read_all src n room (replicate size 0) ≡ placed (Ok N) t)
       read = readable_accepted src n room size few lo hi fits (record { by_rule = A.by_rule; within = within; short = λ {e} h. short e h })
 
       is_read : Read src n room size N read.0
@@ -99,8 +98,8 @@ module _ {M : ℕ} {op : ℕ → ℕ → ℕ} {inv : ℕ → ℕ} (G : GroupOn M
       enough : 0 < n → N ≤ length w
       enough = work_enough src n room size w few lo hi fits work within
 
-      refused : {r : Refusal} {t₁ w₁ : List ℕ} → check_group read.0 w n N ≡ checked (verdict.Refused r) t₁ w₁
-          → (t : List ℕ) × (w₁ : List ℕ) × (inn : List ℕ) × (outw : List ℕ) × (build ≡ renumbering (built (Refused r) t w₁) inn outw)
+      refused : {r : Refusal} {t₁ w₁ : List ℕ} → check_group read.0 w n N ≡ checked (Err r) t₁ w₁
+          → (t : List ℕ) × (w₁ : List ℕ) × (inn : List ℕ) × (outw : List ℕ) × (build ≡ renumbering (built (Err r) t w₁) inn outw)
       refused {r} {t₁} {w₁} c =
           let b = renumber_built A (right_inside G gens) small source answering room K lo hi lent size w few fits work ∙ refused_build n w read.1 c in
           let m = with_maps build b in
@@ -109,14 +108,14 @@ module _ {M : ℕ} {op : ℕ → ℕ → ℕ} {inv : ℕ → ℕ} (G : GroupOn M
       -- "An identity generator is 9."
       pub subgroup_9 : {g : ℕ} → FirstIdentity n gen g
           → (t : List ℕ) × (w₁ : List ℕ) × (inn : List ℕ) × (outw : List ℕ)
-          × (renumber_in size w source n room M K 0 ≡ renumbering (built (Refused (numbered 9 0 g 0)) t w₁) inn outw)
+          × (renumber_in size w source n room M K 0 ≡ renumbering (built (Err (numbered 9 0 g 0)) t w₁) inn outw)
       subgroup_9 {g} F = refused (check_9 is_read subgroup_regular few hi inside w enough F.place (identity_zero F.place F.identity)
           (λ h l q. F.before l (zero_identity (omega (arith, F.place)) q)))
 
       -- A generator that is as an earlier one is 11.
       pub subgroup_11 : {g : ℕ} → FirstRepeat n gen g
           → (t : List ℕ) × (w₁ : List ℕ) × (inn : List ℕ) × (outw : List ℕ)
-          × (renumber_in size w source n room M K 0 ≡ renumbering (built (Refused (numbered 11 g 0 0)) t w₁) inn outw)
+          × (renumber_in size w source n room M K 0 ≡ renumbering (built (Err (numbered 11 g 0 0)) t w₁) inn outw)
       subgroup_11 {g} F =
           let so_far : (h : ℕ) → h < g → src 0 h ≡ suc h = row_so_far n src g (omega (arith, F.place))
           (λ h l q. F.moves (omega (arith, F.place)) (zero_identity (omega (arith, F.place)) q))
@@ -125,7 +124,7 @@ module _ {M : ℕ} {op : ℕ → ℕ → ℕ} {inv : ℕ → ℕ} (G : GroupOn M
           (λ q. omega (arith, F.sooner, so_far F.earlier F.sooner, same_number (omega (arith, F.sooner, F.place)) F.place F.same)) so_far)
 
     -- And these are all refusals: 5 or 6 as the numbering meets it, or, where that ends, 9 or 11.
-    pub subgroup_refused : {r : Refusal} {t w₁ inn outw : List ℕ} → renumber_in size w source n room M K 0 ≡ renumbering (built (Refused r) t w₁) inn outw
+    pub subgroup_refused : {r : Refusal} {t w₁ inn outw : List ℕ} → renumber_in size w source n room M K 0 ≡ renumbering (built (Err r) t w₁) inn outw
         → ReadingRefused (numbered_step N elt (right_by op gen)) n room r
         ⊎ (((g : ℕ) × FirstIdentity n gen g × (r ≡ numbered 9 0 g 0)) ⊎ ((g : ℕ) × FirstRepeat n gen g × (r ≡ numbered 11 g 0 0)))
     subgroup_refused {r} {t} {w₁} {inn} {outw} q = go (read_all src n room (replicate size 0)) refl where
@@ -138,11 +137,11 @@ module _ {M : ℕ} {op : ℕ → ℕ → ℕ} {inv : ℕ → ℕ} (G : GroupOn M
 
       go : (p : Placed) → read_all src n room (replicate size 0) ≡ p
           → ReadingRefused src n room r ⊎ (((g : ℕ) × FirstIdentity n gen g × (r ≡ numbered 9 0 g 0)) ⊎ ((g : ℕ) × FirstRepeat n gen g × (r ≡ numbered 11 g 0 0)))
-      go (placed (Refused s) t₀) z =
-          let b : built (Refused r) t w₁ ≡ built (Refused s) (zeroed t₀) (zeroed w) = sym (ap built_of q) ∙ renumber_built A (right_inside G gens) small source answering room K lo hi lent size w few fits work ∙ refused_reading n w z in
+      go (placed (Err s) t₀) z =
+          let b : built (Err r) t w₁ ≡ built (Err s) (zeroed t₀) (zeroed w) = sym (ap built_of q) ∙ renumber_built A (right_inside G gens) small source answering room K lo hi lent size w few fits work ∙ refused_reading n w z in
           let e : s ≡ r = cc in
           inl (subst (ReadingRefused src n room) e (refused_read src n room size few lo hi fits z))
-      go (placed (Count c) t₀) z =
+      go (placed (Ok c) t₀) z =
           let L = read_readable (accepted_read src n room size few lo hi fits z) in
           let e : c ≡ N = numbered_once L.by_rule A.by_rule in
           by (subst (Readable src n room) e L) (generators_are n gen)

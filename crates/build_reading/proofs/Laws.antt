@@ -7,8 +7,8 @@ use lib.ListN.{get_or}
 use lib.Dec.{eqb}
 use Rattle.egg.specs.declared.GroupElementId.{GroupElementId}
 use Rattle.egg.specs.declared.GeneratorId.{GeneratorId}
-use Rattle.egg.specs.declared.Reached.{Reached}
-use Rattle.egg.specs.declared.Reached.TheVariants.{Element, Refused}
+use Rattle.egg.specs.Answers.{Reached}
+use Rattle.std.specs.Prelude.{Ok, Err}
 use Rattle.egg.specs.Table.{put_at, start_of, succ_at, pred_at, length_of}
 use Rattle.build_reading.specs.Build.{is_new, set_step, set_word, Adds, adds}
 use Rattle.egg.specs.Answers.{numbered}
@@ -26,17 +26,17 @@ module _ (t : List ℕ) (n : ℕ) (e : GroupElementId) (g : GeneratorId) where
   word_stored new len q a b z = rw (z, b, a, q)
 
 module _ (t : List ℕ) (n room count : ℕ) (e : GroupElementId) (g : GeneratorId) where
-  pub adds_full : room ≤ count → adds t n room count e g ≡ record { answer = Refused (numbered 5 e.0 g.0 0); table = t }
+  pub adds_full : room ≤ count → adds t n room count e g ≡ record { answer = Err (numbered 5 e.0 g.0 0); table = t }
   unfolding adds
   adds_full h = simp (le-leb _ _ h)
 
-  pub adds_long : count < room → 4096 ≤ length_of t n e.0 → adds t n room count e g ≡ record { answer = Refused (numbered 6 e.0 g.0 0); table = t }
+  pub adds_long : count < room → 4096 ≤ length_of t n e.0 → adds t n room count e g ≡ record { answer = Err (numbered 6 e.0 g.0 0); table = t }
   unfolding adds
   adds_long h k = simp (lt-leb _ _ h, le-leb _ _ k)
 
   pub adds_new : {len : ℕ} {t₁ t₂ : List ℕ} → count < room → len ≡ length_of t n e.0 → len < 4096
       → t₁ ≡ set_word t n (record { 0 = count }) e g (len + 1) → t₂ ≡ set_step t₁ n e g (record { 0 = count })
-      → adds t n room count e g ≡ record { answer = Element (record { 0 = count }); table = t₂ }
+      → adds t n room count e g ≡ record { answer = Ok (record { 0 = count }); table = t₂ }
   unfolding adds
   adds_new {len} h q k a b =
       let z : length_of t n e.0 < 4096 = rw (← q) k in

@@ -3,8 +3,8 @@
 use Rattle.std.specs.Prelude.{ℕ, ◌+◌, ◌*◌, List, Bool, get_or, leb, eqb}
 use Rattle.egg.specs.declared.GroupElementId.{GroupElementId}
 use Rattle.egg.specs.declared.GeneratorId.{GeneratorId}
-use Rattle.egg.specs.declared.Reached.{Reached}
-use Rattle.egg.specs.declared.Reached.TheVariants.{Element, Refused}
+use Rattle.egg.specs.Answers.{Reached}
+use Rattle.std.specs.Prelude.{Ok, Err}
 use Rattle.egg.specs.Answers.{numbered}
 use Rattle.egg.specs.Table.{pick, put_at, start_of, succ_at, pred_at, length_of}
 
@@ -31,9 +31,9 @@ pub record Adds : Type 0 where
 -- pass 4,096".
 unfoldable pub adds : (t : List ℕ) (n room count : ℕ) (e : GroupElementId) (g : GeneratorId) → Adds
 adds t n room count e g =
-    pick (leb room count) (record { answer = Refused (numbered 5 e.0 g.0 0); table = t })
-    (pick (leb 4096 (length_of t n e.0)) (record { answer = Refused (numbered 6 e.0 g.0 0); table = t })
+    pick (leb room count) (record { answer = Err (numbered 5 e.0 g.0 0); table = t })
+    (pick (leb 4096 (length_of t n e.0)) (record { answer = Err (numbered 6 e.0 g.0 0); table = t })
     (record {
-      answer = Element (record { 0 = count });
+      answer = Ok (record { 0 = count });
       table = set_step (set_word t n (record { 0 = count }) e g (length_of t n e.0 + 1)) n e g (record { 0 = count });
     }))

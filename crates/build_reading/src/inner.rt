@@ -5,7 +5,7 @@ ghost use Rattle.std.specs.Prelude.{◌≡◌};
 ghost use Rattle.build_reading.specs.Build.{is_new, set_step, set_word, adds};
 ghost use Rattle.build_reading.specs.Reading.{Placed, read_place};
 
-use egg::{Counted, GeneratorId, GroupElementId, Reached, Refusal};
+use egg::{GeneratorId, GroupElementId, Refusal};
 
 // Sets the step from e by g to r and the step back; answers whether the step was not known before.
 pub fn set_successor(
@@ -19,11 +19,9 @@ pub fn set_successor(
 {
     let at = egg::inner::successor_at(n, e, g);
     let back = egg::inner::predecessor_at(n, r, g);
-    let old = egg::inner::get(&t[..], at);
-    let from = e.0;
-    let to = r.0;
-    egg::inner::put(t, at, (to as usize) + 1);
-    egg::inner::put(t, back, (from as usize) + 1);
+    let old = egg::inner::get(t, at);
+    egg::inner::put(t, at, (r.0 as usize) + 1);
+    egg::inner::put(t, back, (e.0 as usize) + 1);
     old == 0
 }
 
@@ -39,10 +37,8 @@ pub fn record_word(
     ensures { t.new ≡ set_word t.old n new e g len }
 {
     let at = egg::inner::start(n, new) + 2 * (n as usize);
-    let x = e.0;
-    let k = g.0;
-    egg::inner::put(t, at, x as usize);
-    egg::inner::put(t, at + 1, k as usize);
+    egg::inner::put(t, at, e.0 as usize);
+    egg::inner::put(t, at + 1, g.0 as usize);
     egg::inner::put(t, at + 2, len as usize);
 }
 
@@ -55,32 +51,20 @@ pub fn add_successor(
     count: u32,
     e: GroupElementId,
     g: GeneratorId,
-) -> Reached
+) -> Result<GroupElementId, Refusal>
     ensures { (result ≡ (adds t.old n room count e g).answer) × (t.new ≡ (adds t.old n room count e g).table) }
 {
-    let x = e.0;
-    let k = g.0;
     if count >= room {
-        return Reached::Refused(Refusal {
-            number: 5,
-            a: x,
-            b: k as u32,
-            c: 0,
-        });
+        return Err(Refusal::BeyondRoom(e, g));
     }
-    let len = egg::inner::word_length(&t[..], n, e);
+    let len = egg::inner::word_length(t, n, e);
     if len >= 4096 {
-        return Reached::Refused(Refusal {
-            number: 6,
-            a: x,
-            b: k as u32,
-            c: 0,
-        });
+        return Err(Refusal::WordTooLong(e, g));
     }
     let new = GroupElementId(count);
     record_word(t, n, new, e, g, len + 1);
     set_successor(t, n, e, g, new);
-    Reached::Element(new)
+    Ok(new)
 }
 
 // Reads one place, whose number is v: a number below the count is set, the count itself is a new element. Refuses 7
@@ -93,25 +77,16 @@ pub fn place(
     e: GroupElementId,
     g: GeneratorId,
     v: u32,
-) -> Counted
+) -> Result<u32, Refusal>
     ensures { Placed.placed result t.new ≡ read_place t.old n room count e.0 g.0 v }
 {
     if count < v {
-        let x = e.0;
-        let k = g.0;
-        return Counted::Refused(Refusal {
-            number: 7,
-            a: x,
-            b: k as u32,
-            c: v,
-        });
+        return Err(Refusal::SkipsAhead(e, g, v));
     }
     if v < count {
         set_successor(t, n, e, g, GroupElementId(v));
-        return Counted::Count(count);
+        return Ok(count);
     }
-    match add_successor(t, n, room, count, e, g) {
-        Reached::Refused(why) => Counted::Refused(why),
-        Reached::Element(_) => Counted::Count(count + 1),
-    }
+    add_successor(t, n, room, count, e, g)?;
+    Ok(count + 1)
 }

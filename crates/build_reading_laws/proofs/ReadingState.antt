@@ -12,7 +12,7 @@ use borrow.Author.Tests.{lt-ltb, le-ltb, le-leb, lt-leb}
 use lib.ListN.{length, get_or}
 use Rattle.egg.specs.Table.{start_of, length_of}
 use Rattle.egg.specs.declared.Refusal.{Refusal}
-use Rattle.egg.specs.declared.Counted.TheVariants.{Count, Refused}
+use Rattle.std.specs.Prelude.{Ok, Err}
 use Rattle.build_reading.specs.Build.{adds}
 use Rattle.egg.specs.Answers.{numbered}
 use Rattle.build_reading.specs.Reading.{Placed, placed, read_place}
@@ -36,30 +36,30 @@ pub record ReadingState (src : ℕ → ℕ → ℕ) (n room size x g c : ℕ) (t
 
 -- What a reading came to: what is so after a count, and what is so after a refusal.
 abbrev pub On : (ℕ → List ℕ → Type 0) → (Refusal → Type 0) → Placed → Type 0
-On A R (placed (Count c) t) = A c t
-On A R (placed (Refused r) t) = R r
+On A R (placed (Ok c) t) = A c t
+On A R (placed (Err r) t) = R r
 
 -- The five ways of one place.
 module _ (t : List ℕ) (n room c x g v : ℕ) where
-  pub place_skip : c < v → read_place t n room c x g v ≡ placed (Refused (numbered 7 x g v)) t
+  pub place_skip : c < v → read_place t n room c x g v ≡ placed (Err (numbered 7 x g v)) t
   unfolding read_place
   place_skip h = simp (lt-ltb c v h)
 
-  pub place_old : v < c → read_place t n room c x g v ≡ placed (Count c) (stepped t n x g v)
+  pub place_old : v < c → read_place t n room c x g v ≡ placed (Ok c) (stepped t n x g v)
   unfolding read_place
   place_old h = simp (le-ltb c v (omega arith), lt-ltb v c h)
 
   module _ (is : v ≡ c) where
-    place_full : room ≤ c → read_place t n room c x g v ≡ placed (Refused (numbered 5 x g 0)) t
+    place_full : room ≤ c → read_place t n room c x g v ≡ placed (Err (numbered 5 x g 0)) t
     unfolding read_place adds
     place_full h = simp (le-ltb c v (omega arith), le-ltb v c (omega arith), le-leb room c h)
 
-    pub place_long : c < room → 4096 ≤ length_of t n x → read_place t n room c x g v ≡ placed (Refused (numbered 6 x g 0)) t
+    pub place_long : c < room → 4096 ≤ length_of t n x → read_place t n room c x g v ≡ placed (Err (numbered 6 x g 0)) t
     unfolding read_place adds
     place_long h l = simp (le-ltb c v (omega arith), le-ltb v c (omega arith), lt-leb room c h, le-leb 4096 (length_of t n x) l)
 
     pub place_new : c < room → length_of t n x < 4096
-        → read_place t n room c x g v ≡ placed (Count (suc c)) (stepped (worded t n c x g (suc (length_of t n x))) n x g c)
+        → read_place t n room c x g v ≡ placed (Ok (suc c)) (stepped (worded t n c x g (suc (length_of t n x))) n x g c)
     unfolding read_place adds
     place_new h l = simp (le-ltb c v (omega arith), le-ltb v c (omega arith), lt-leb room c h, lt-leb 4096 (length_of t n x) l, add-one)
 

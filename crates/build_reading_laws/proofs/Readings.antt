@@ -8,7 +8,8 @@ use native.Mathlib.Omega.{arith}
 use lib.ListN.{length, replicate}
 use Rattle.egg.specs.Table.{parent_of, last_of, length_of, step_of}
 use Rattle.egg.specs.declared.Refusal.{Refusal}
-use Rattle.egg.specs.declared.Counted.TheVariants.{Count, Refused}
+use Rattle.egg.specs.Refusals.{refusal_paper}
+use Rattle.std.specs.Prelude.{Ok, Err}
 use Rattle.build_reading.specs.Reading.{Placed, placed, read_all}
 use Rattle.theory.specs.Words.{word_of_lem}
 use Rattle.theory.specs.Numbering.{Numbered}
@@ -59,41 +60,41 @@ module _ (src : ℕ → ℕ → ℕ) (n room size : ℕ) (hn : n ≤ 8) (lo : 1 
   comes_to = read_all_lem src n room size hn hi fits lo
 
   -- What an accepted reading leaves.
-  pub accepted_read : {N : ℕ} {t : List ℕ} → read_all src n room (replicate size 0) ≡ placed (Count N) t → Read src n room size N t
+  pub accepted_read : {N : ℕ} {t : List ℕ} → read_all src n room (replicate size 0) ≡ placed (Ok N) t → Read src n room size N t
   accepted_read q = subst (On (Read src n room size) (ReadingRefused src n room)) q comes_to
 
   -- What a refused reading has met.
-  pub refused_read : {r : Refusal} {t : List ℕ} → read_all src n room (replicate size 0) ≡ placed (Refused r) t → ReadingRefused src n room r
+  pub refused_read : {r : Refusal} {t : List ℕ} → read_all src n room (replicate size 0) ≡ placed (Err r) t → ReadingRefused src n room r
   refused_read q = subst (On (Read src n room size) (ReadingRefused src n room)) q comes_to
 
   -- What reading takes.
-  pub readable_accepted : {N : ℕ} → Readable src n room N → (t : List ℕ) × (read_all src n room (replicate size 0) ≡ placed (Count N) t)
+  pub readable_accepted : {N : ℕ} → Readable src n room N → (t : List ℕ) × (read_all src n room (replicate size 0) ≡ placed (Ok N) t)
   readable_accepted {N} R = go (read_all src n room (replicate size 0)) refl comes_to where
     go : (p : Placed) → read_all src n room (replicate size 0) ≡ p → On (Read src n room size) (ReadingRefused src n room) p
-        → (t : List ℕ) × (read_all src n room (replicate size 0) ≡ placed (Count N) t)
-    go (placed (Count c) t) q a = (t, q ∙ ap (λ k. placed (Count k) t) (numbered_once a.by_rule R.by_rule))
-    go (placed (Refused r) t) q a = absurd (readable_not_refused R a)
+        → (t : List ℕ) × (read_all src n room (replicate size 0) ≡ placed (Ok N) t)
+    go (placed (Ok c) t) q a = (t, q ∙ ap (λ k. placed (Ok k) t) (numbered_once a.by_rule R.by_rule))
+    go (placed (Err r) t) q a = absurd (readable_not_refused R a)
 
   -- What it refuses, and how.
-  pub refuses_refused : {r : Refusal} → ReadingRefused src n room r → (t : List ℕ) × (read_all src n room (replicate size 0) ≡ placed (Refused r) t)
+  pub refuses_refused : {r : Refusal} → ReadingRefused src n room r → (t : List ℕ) × (read_all src n room (replicate size 0) ≡ placed (Err r) t)
   refuses_refused {r} F = go (read_all src n room (replicate size 0)) refl comes_to where
     go : (p : Placed) → read_all src n room (replicate size 0) ≡ p → On (Read src n room size) (ReadingRefused src n room) p
-        → (t : List ℕ) × (read_all src n room (replicate size 0) ≡ placed (Refused r) t)
-    go (placed (Count c) t) q a = absurd (readable_not_refused (read_readable a) F)
-    go (placed (Refused s) t) q a = (t, q ∙ ap (λ k. placed (Refused k) t) (refuses_once a F))
+        → (t : List ℕ) × (read_all src n room (replicate size 0) ≡ placed (Err r) t)
+    go (placed (Ok c) t) q a = absurd (readable_not_refused (read_readable a) F)
+    go (placed (Err s) t) q a = (t, q ∙ ap (λ k. placed (Err k) t) (refuses_once a F))
 
   -- Both at once, as equivalences.
-  pub accepts_exactly : (N : ℕ) → ((t : List ℕ) × (read_all src n room (replicate size 0) ≡ placed (Count N) t)) ↔ Readable src n room N
+  pub accepts_exactly : (N : ℕ) → ((t : List ℕ) × (read_all src n room (replicate size 0) ≡ placed (Ok N) t)) ↔ Readable src n room N
   accepts_exactly N = (λ p. read_readable (accepted_read p.1), readable_accepted)
 
-  pub refuses_exactly : (r : Refusal) → ((t : List ℕ) × (read_all src n room (replicate size 0) ≡ placed (Refused r) t)) ↔ ReadingRefused src n room r
+  pub refuses_exactly : (r : Refusal) → ((t : List ℕ) × (read_all src n room (replicate size 0) ≡ placed (Err r) t)) ↔ ReadingRefused src n room r
   refuses_exactly r = (λ p. refused_read p.1, refuses_refused)
 
 module _ {src : ℕ → ℕ → ℕ} {n room : ℕ} where
   -- Only 7, 5 and 6 are given.
-  pub refused_number : {r : Refusal} → ReadingRefused src n room r → (r.number ≡ 7) ⊎ ((r.number ≡ 5) ⊎ (r.number ≡ 6))
+  pub refused_number : {r : Refusal} → ReadingRefused src n room r → ((refusal_paper r).number ≡ 7) ⊎ (((refusal_paper r).number ≡ 5) ⊎ ((refusal_paper r).number ≡ 6))
   refused_number F = go F.stops where
-    go : {x g c : ℕ} {r : Refusal} → Stops src n room x g c r → (r.number ≡ 7) ⊎ ((r.number ≡ 5) ⊎ (r.number ≡ 6))
+    go : {x g c : ℕ} {r : Refusal} → Stops src n room x g c r → ((refusal_paper r).number ≡ 7) ⊎ (((refusal_paper r).number ≡ 5) ⊎ ((refusal_paper r).number ≡ 6))
     go (skips_ahead l) = inl refl
     go (no_room p q) = inr (inl refl)
     go (long_word p q w) = inr (inr refl)

@@ -8,7 +8,7 @@ use borrow.Author.Tests.{lt-ltb, le-ltb}
 use lib.ListN.{length, get_or, replicate, length-replicate, get_or-replicate, get_or-eq_default}
 use Rattle.egg.specs.Table.{start_of, parent_of, hop_of, last_of, length_of}
 use Rattle.egg.specs.declared.Refusal.{Refusal}
-use Rattle.egg.specs.declared.Counted.TheVariants.{Count, Refused}
+use Rattle.std.specs.Prelude.{Ok, Err}
 use Rattle.build_reading.specs.Reading.{Placed, placed, then_placed, read_place, read_row, read_from, read_all}
 use Rattle.theory.specs.Numbering.{start, next_row}
 use Rattle.theory.specs.Appearance.{Ahead, row, parent_of_lem, last_of_lem, recorded}
@@ -23,8 +23,8 @@ use Rattle.build_reading_laws.proofs.ReadingState.{ReadingState, On, read_place_
 -- What follows a count follows on what is so there; a refusal stands.
 then_on : (A B : ℕ → List ℕ → Type 0) (R : Refusal → Type 0) (p : Placed) (f : ℕ → List ℕ → Placed)
     → On A R p → ((c : ℕ) (t : List ℕ) → A c t → On B R (f c t)) → On B R (then_placed p f)
-then_on A B R (placed (Count c) t) f a k = k c t a
-then_on A B R (placed (Refused r) t) f a k = a
+then_on A B R (placed (Ok c) t) f a k = k c t a
+then_on A B R (placed (Err r) t) f a k = a
 
 pub zeros : (size i : ℕ) → get_or (replicate {A = ℕ} size 0) i 0 ≡ 0
 zeros size i = go (dec_lt i size) where
@@ -119,7 +119,7 @@ module _ (src : ℕ → ℕ → ℕ) (n room size : ℕ) where
           beyond = λ {i} l. S.blank i l;
         }
 
-  ends_here : (k x c : ℕ) (t : List ℕ) → c ≤ x → read_from k src n room x c t ≡ placed (Count c) t
+  ends_here : (k x c : ℕ) (t : List ℕ) → c ≤ x → read_from k src n room x c t ≡ placed (Ok c) t
   unfolding read_from
   ends_here zero x c t h = refl
   ends_here (suc k) x c t h = simp (le-ltb x c h)

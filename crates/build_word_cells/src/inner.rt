@@ -27,10 +27,8 @@ fn hop_of(t: &[u32], n: u8, e: GroupElementId) -> usize
 pub fn fill_hops(t: &mut [u32], n: u8, count: u32)
     ensures { t.new ≡ with_hops count t.old n }
 {
-    let mut e = count;
-    while 0 < e {
-        e -= 1;
-        let h = hop_of(&t[..], n, GroupElementId(e));
+    for e in (0..count).rev() {
+        let h = hop_of(t, n, GroupElementId(e));
         egg::inner::put(t, egg::inner::hop_at(n, GroupElementId(e)), h);
     }
 }

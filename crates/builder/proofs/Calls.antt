@@ -13,19 +13,13 @@ use Rattle.egg.specs.declared.GroupElementId.{GroupElementId}
 use Rattle.egg.specs.declared.GeneratorId.{GeneratorId}
 use Rattle.egg.specs.declared.Refusal.{Refusal}
 use Rattle.egg.specs.declared.Factor.{Factor}
-use Rattle.egg.specs.declared.Made.{Made}
-use Rattle.egg.specs.declared.Verdict.{Verdict}
-use Rattle.egg.specs.declared.Verdict.TheVariants as verdict
-use Rattle.egg.specs.declared.Reached.{Reached}
-use Rattle.egg.specs.declared.Reached.TheVariants as reached
-use Rattle.egg.specs.declared.Counted.{Counted}
+use Rattle.egg.specs.Answers.{Counted, Made, Reached, Verdict, fine}
+use Rattle.std.specs.Prelude.{Ok, Err}
 use Rattle.egg.specs.Factor.{has_room, fits_in, stretch, refused_reach}
 use Rattle.egg.proofs.Rooms.{room_enough}
 use Rattle.builder.specs.declared.Builder.{Builder}
-use Rattle.builder.specs.declared.Begun.{Begun}
 use Rattle.builder.specs.declared.Grown.{Grown}
 use Rattle.builder.specs.declared.Stored.{Stored}
-use Rattle.builder.specs.declared.Stored.TheVariants as stored
 use Rattle.builder_arguments.specs.Places.{placed, storable, over_long}
 use Rattle.build_reading.specs.Build.{is_new, set_step, adds}
 use Rattle.build_lending.specs.Finish.{built}
@@ -35,73 +29,73 @@ use Rattle.builder.specs.Calls.{Leaving, leaving, builder_of, refused_begun, beg
 use Rattle.build_lending.proofs.Lending.{part_length, part_back, stretch_lent, build_back}
 
 module _ (table : List ℕ) (start room n : ℕ) where
-  pub begin_many : {x : Begun} → x ≡ refused_begun 1 n → 8 < n → leaving x table ≡ begins table start room n
+  pub begin_many : 8 < n → leaving (refused_begun 1 n) table ≡ begins table start room n
   unfolding begins
-  begin_many q h = rw q (simp (lt-ltb _ _ h))
+  begin_many h = simp (lt-ltb _ _ h)
 
-  pub begin_short : {x : Begun} → x ≡ refused_begun 4 0 → n ≤ 8 → has_room (length table) start room n ≡ false → leaving x table ≡ begins table start room n
+  pub begin_short : n ≤ 8 → has_room (length table) start room n ≡ false → leaving (refused_begun 4 0) table ≡ begins table start room n
   unfolding begins
-  begin_short q h k = rw (q, k) (simp (le-ltb _ _ h))
+  begin_short h k = rw k (simp (le-ltb _ _ h))
 
   pub begin_done : {e : ℕ} {p : List ℕ} → n ≤ 8 → has_room (length table) start room n ≡ true → StretchEnd e start (table_need n room) (length table)
       → p ≡ replicate (length (mid_of start (e - start) table)) 0
-      → leaving (record { answer = verdict.Fine; builder = builder_of start room n 1 }) (put_mid start (e - start) table p) ≡ begins table start room n
+      → leaving (Ok (builder_of start room n 1)) (put_mid start (e - start) table p) ≡ begins table start room n
   unfolding begins
   begin_done {e} {p} h k q z =
-      ap (λ (l : List ℕ). leaving (record { answer = verdict.Fine; builder = builder_of start room n 1 }) l)
+      ap (λ (l : List ℕ). leaving (Ok (builder_of start room n 1)) l)
       (part_back table start (table_need n room) q p ∙ ap (λ (l : List ℕ). within table start (start + table_need n room) l)
       (z ∙ ap (λ (m : ℕ). replicate m 0) (part_length table start (table_need n room) q)))
       ∙ rw k (simp (le-ltb _ _ h))
 
 module _ (s : List ℕ) (f : Factor) (e : GroupElementId) (g : GeneratorId) {long : Bool} (o : long ≡ over_long s f e) where
-  pub grow_altered : {x : Reached} {s₁ : List ℕ} {none : Factor} → long ≡ true → s₁ ≡ replicate (length s) 0 → x ≡ refused_reach 17 0 → none ≡ no_factor
-      → leaving (record { answer = x; builder = record { 0 = none } }) s₁ ≡ grown s f e g
+  pub grow_altered : {s₁ : List ℕ} {none : Factor} → long ≡ true → s₁ ≡ replicate (length s) 0 → none ≡ no_factor
+      → leaving (record { answer = refused_reach 17 0; builder = record { 0 = none } }) s₁ ≡ grown s f e g
   unfolding grown
-  grow_altered h z q k = rw (← o, h, z, q, k)
+  grow_altered h z k = rw (← o, h, z, k)
 
   module _ {x : Reached} {s₁ : List ℕ} (h : long ≡ false)
       (a : (x ≡ (adds s f.generators f.room f.elements e g).answer) × (s₁ ≡ (adds s f.generators f.room f.elements e g).table)) where
-    pub grow_refused : {why : Refusal} {s₂ : List ℕ} {none : Factor} → x ≡ reached.Refused why → s₂ ≡ replicate (length s₁) 0 → none ≡ no_factor
-        → leaving (record { answer = reached.Refused why; builder = record { 0 = none } }) s₂ ≡ grown s f e g
+    pub grow_refused : {why : Refusal} {s₂ : List ℕ} {none : Factor} → x ≡ Err why → s₂ ≡ replicate (length s₁) 0 → none ≡ no_factor
+        → leaving (record { answer = Err why; builder = record { 0 = none } }) s₂ ≡ grown s f e g
     unfolding grown
     grow_refused p z k = rw (← o, h, ← a.0, ← a.1, p, z, k)
 
-    pub grow_new : {y : GroupElementId} → x ≡ reached.Element y
-        → leaving (record { answer = reached.Element y; builder = builder_of f.start f.room f.generators (f.elements + 1) }) s₁ ≡ grown s f e g
+    pub grow_new : {y : GroupElementId} → x ≡ Ok y
+        → leaving (record { answer = Ok y; builder = builder_of f.start f.room f.generators (f.elements + 1) }) s₁ ≡ grown s f e g
     unfolding grown
     grow_new p = rw (← o, h, ← a.0, ← a.1, p)
 
 module _ (t : List ℕ) (b : Builder) (e : GroupElementId) (g : GeneratorId) {v : Verdict} where
   module _ (q : v ≡ placed (length t) b.0 e g) where
-    pub grows_refused : {why : Refusal} → v ≡ verdict.Refused why → leaving (record { answer = reached.Refused why; builder = b }) t ≡ grows t b e g
+    pub grows_refused : {why : Refusal} → v ≡ Err why → leaving (record { answer = Err why; builder = b }) t ≡ grows t b e g
     unfolding grows
     grows_refused h = rw (← q, h)
 
-    pub grows_new : {x : Grown} {s : List ℕ} {d : ℕ} → v ≡ verdict.Fine → StretchEnd d b.0.start (table_need b.0.generators b.0.room) (length t)
+    pub grows_new : {x : Grown} {s : List ℕ} {d : ℕ} → v ≡ fine → StretchEnd d b.0.start (table_need b.0.generators b.0.room) (length t)
         → leaving x s ≡ grown (mid_of b.0.start (d - b.0.start) t) b.0 e g
         → leaving x (put_mid b.0.start (d - b.0.start) t s) ≡ grows t b e g
     unfolding grows
     grows_new {x} {s} h p k =
         ap (λ (l : List ℕ). leaving x l) (part_back t b.0.start (table_need b.0.generators b.0.room) p s)
         ∙ rw (← q, h)
-        (ap (λ (l : Leaving Grown). grows_by t b.0 verdict.Fine l) (k ∙ ap (λ (l : List ℕ). grown l b.0 e g) (stretch_lent t b.0 p)))
+        (ap (λ (l : Leaving Grown). grows_by t b.0 fine l) (k ∙ ap (λ (l : List ℕ). grown l b.0 e g) (stretch_lent t b.0 p)))
 
   module _ (r : GroupElementId) (q : v ≡ storable t b.0 e g r) where
-    pub stores_refused : {why : Refusal} → v ≡ verdict.Refused why → leaving (stored.Refused why) t ≡ stores t b e g r
+    pub stores_refused : {why : Refusal} → v ≡ Err why → leaving (Err why) t ≡ stores t b e g r
     unfolding stores
     stores_refused h = rw (← q, h)
 
-    pub stores_done : {new : Bool} {s : List ℕ} {d : ℕ} {x : Stored} → v ≡ verdict.Fine
+    pub stores_done : {new : Bool} {s : List ℕ} {d : ℕ} {x : Stored} → v ≡ fine
         → StretchEnd d b.0.start (table_need b.0.generators b.0.room) (length t)
         → (new ≡ is_new (mid_of b.0.start (d - b.0.start) t) b.0.generators e g)
         × (s ≡ set_step (mid_of b.0.start (d - b.0.start) t) b.0.generators e g r)
-        → x ≡ new_or new → leaving x (put_mid b.0.start (d - b.0.start) t s) ≡ stores t b e g r
+        → x ≡ new_or new → leaving (Ok x) (put_mid b.0.start (d - b.0.start) t s) ≡ stores t b e g r
     unfolding stores
     stores_done {new} {s} {d} {x} h p k z =
         let m : mid_of b.0.start (d - b.0.start) t ≡ stretch t b.0 = stretch_lent t b.0 p in
         let y : s ≡ set_step (stretch t b.0) b.0.generators e g r = k.1 ∙ ap (λ (l : List ℕ). set_step l b.0.generators e g r) m in
         let u : new ≡ is_new (stretch t b.0) b.0.generators e g = k.0 ∙ ap (λ (l : List ℕ). is_new l b.0.generators e g) m in
-        ap (λ (l : List ℕ). leaving x l) (part_back t b.0.start (table_need b.0.generators b.0.room) p s) ∙ rw (← q, h, z, ← u, ← y)
+        ap (λ (l : List ℕ). leaving (Ok x) l) (part_back t b.0.start (table_need b.0.generators b.0.room) p s) ∙ rw (← q, h, z, ← u, ← y)
 
 -- A work that is long enough for a build has a number for each successor.
 pub work_copies : (len : ℕ) (f : Factor) (w : List ℕ) {d : ℕ} → fits_in len f ≡ true → d ≡ work_need f.generators f.room → d ≤ length w
@@ -112,14 +106,14 @@ work_copies len f w {d} h q k =
     omega (arith, length-take-le d w k, mul-le-mul (room_enough len f h) a)
 
 module _ (t : List ℕ) (b : Builder) (w : List ℕ) where
-  pub builds_handle : {m : Made} → m ≡ refused_made 17 0 → fits_in (length t) b.0 ≡ false → making m t w ≡ builds t b w
+  pub builds_handle : fits_in (length t) b.0 ≡ false → making (refused_made 17 0) t w ≡ builds t b w
   unfolding builds
-  builds_handle q h = rw (q, h)
+  builds_handle h = rw h
 
   module _ {d : ℕ} (fits : fits_in (length t) b.0 ≡ true) (k : d ≡ work_need b.0.generators b.0.room) where
-    pub builds_short : {m : Made} → m ≡ refused_made 4 0 → length w < d → making m t w ≡ builds t b w
+    pub builds_short : length w < d → making (refused_made 4 0) t w ≡ builds t b w
     unfolding builds
-    builds_short q h = rw (q, fits, ← k) (simp (lt-leb _ _ h))
+    builds_short h = rw (fits, ← k) (simp (lt-leb _ _ h))
 
     pub builds_done : {x : ℕ} {c : Counted} {t₁ w₁ : List ℕ} {m : Made} → d ≤ length w
         → StretchEnd x b.0.start (table_need b.0.generators b.0.room) (length t)

@@ -5,7 +5,7 @@ ghost use Rattle.std.specs.Prelude.{◌≡◌};
 ghost use Rattle.build_lending.specs.Lending.{Making};
 ghost use Rattle.builder.specs.Calls.{Leaving, begins, grows, stores, builds};
 
-use egg::{Factor, GeneratorId, GroupElementId, Made, Reached, Refusal, Verdict};
+use egg::{Factor, GeneratorId, GroupElementId, Refusal};
 
 pub mod inner;
 
@@ -14,17 +14,10 @@ pub mod inner;
 #[derive(Clone, Copy)]
 pub struct Builder(pub Factor);
 
-// What beginning answers: a verdict, and the handle, which fits no buffer where the call was refused.
-#[derive(Clone, Copy)]
-pub struct Begun {
-    pub answer: Verdict,
-    pub builder: Builder,
-}
-
 // What adding an element answers: the element, and the builder that knows it.
 #[derive(Clone, Copy)]
 pub struct Grown {
-    pub answer: Reached,
+    pub answer: Result<GroupElementId, Refusal>,
     pub builder: Builder,
 }
 
@@ -33,31 +26,27 @@ pub struct Grown {
 pub enum Stored {
     New,
     Known,
-    Refused(Refusal),
 }
 
 // Begins a build in the stretch of `table` that starts at `start`, with the identity alone. Refuses 1 for more than 8
 // generators, then 4 for a room that is 0 or above 65,535 or a table that is too short.
-pub fn begin(table: &mut [u32], start: usize, room: u32, n: u8) -> Begun
+pub fn begin(table: &mut [u32], start: usize, room: u32, n: u8) -> Result<Builder, Refusal>
     ensures { Leaving.leaving result table.new ≡ begins table.old start room n }
 {
     if 8 < n {
-        return inner::refused_begun(1, n as u32);
+        return Err(Refusal::TooManyGenerators(n as u32));
     }
     if !egg::has_room(table.len(), start, room, n) {
-        return inner::refused_begun(4, 0);
+        return Err(Refusal::TooShort);
     }
     let end = build_lending::inner::stretch_end(table.len(), start, room, n);
     egg::inner::clear(&mut table[start..end]);
-    Begun {
-        answer: Verdict::Fine,
-        builder: Builder(Factor {
-            start,
-            room,
-            generators: n,
-            elements: 1,
-        }),
-    }
+    Ok(Builder(Factor {
+        start,
+        room,
+        generators: n,
+        elements: 1,
+    }))
 }
 
 // Adds a new element, reached from e by g, and answers it with the builder that knows it. Refuses in this order: 17 for
@@ -68,15 +57,14 @@ pub fn add_successor(table: &mut [u32], b: Builder, e: GroupElementId, g: Genera
     ensures { Leaving.leaving result table.new ≡ grows table.old b e g }
 {
     let f = b.0;
-    match builder_arguments::inner::place(&table[..], f, e, g) {
-        Verdict::Refused(why) => Grown {
-            answer: Reached::Refused(why),
+    match builder_arguments::inner::place(table, f, e, g) {
+        Err(why) => Grown {
+            answer: Err(why),
             builder: b,
         },
-        Verdict::Fine => {
-            let a = f.start;
-            let end = build_lending::inner::stretch_end(table.len(), a, f.room, f.generators);
-            inner::grow(&mut table[a..end], f, e, g)
+        Ok(()) => {
+            let end = build_lending::inner::stretch_end(table.len(), f.start, f.room, f.generators);
+            inner::grow(&mut table[f.start..end], f, e, g)
         }
     }
 }
@@ -90,21 +78,16 @@ pub fn set_successor(
     e: GroupElementId,
     g: GeneratorId,
     r: GroupElementId,
-) -> Stored
+) -> Result<Stored, Refusal>
     ensures { Leaving.leaving result table.new ≡ stores table.old b e g r }
 {
     let f = b.0;
-    match builder_arguments::inner::storable(&table[..], f, e, g, r) {
-        Verdict::Refused(why) => Stored::Refused(why),
-        Verdict::Fine => {
-            let a = f.start;
-            let end = build_lending::inner::stretch_end(table.len(), a, f.room, f.generators);
-            if build_reading::inner::set_successor(&mut table[a..end], f.generators, e, g, r) {
-                Stored::New
-            } else {
-                Stored::Known
-            }
-        }
+    builder_arguments::inner::storable(table, f, e, g, r)?;
+    let end = build_lending::inner::stretch_end(table.len(), f.start, f.room, f.generators);
+    if build_reading::inner::set_successor(&mut table[f.start..end], f.generators, e, g, r) {
+        Ok(Stored::New)
+    } else {
+        Ok(Stored::Known)
     }
 }
 
@@ -112,25 +95,24 @@ pub fn set_successor(
 // rows are, since steps may have been overwritten. Refuses in this order: 17 for a handle that does not fit, 4 for a
 // work buffer that is too short; then, leaving both stretches zero, what the reading refuses (7 or 6, or 17 for a
 // number that is no element's), and 8 to 12.
-pub fn build(table: &mut [u32], b: Builder, work: &mut [u32]) -> Made
+pub fn build(table: &mut [u32], b: Builder, work: &mut [u32]) -> Result<Factor, Refusal>
     ensures { Making.making result table.new work.new ≡ builds table.old b work.old }
 {
     let f = b.0;
-    if !egg::fits(&table[..], f) {
-        return build_lending::inner::refused_made(17, 0);
+    if !egg::fits(table, f) {
+        return Err(Refusal::Unreadable);
     }
     let need = build_lending::inner::work_need(f.generators, f.room);
     if work.len() < need {
-        return build_lending::inner::refused_made(4, 0);
+        return Err(Refusal::TooShort);
     }
-    let a = f.start;
-    let end = build_lending::inner::stretch_end(table.len(), a, f.room, f.generators);
+    let end = build_lending::inner::stretch_end(table.len(), f.start, f.room, f.generators);
     let count = builder_rereading::inner::complete(
-        &mut table[a..end],
+        &mut table[f.start..end],
         &mut work[..need],
         f.generators,
         f.room,
         f.elements,
     );
-    build_lending::inner::made(a, f.room, f.generators, count)
+    build_lending::inner::made(f.start, f.room, f.generators, count)
 }

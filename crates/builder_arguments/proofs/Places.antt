@@ -11,8 +11,8 @@ use Rattle.egg.specs.declared.GroupElementId.{GroupElementId}
 use Rattle.egg.specs.declared.GeneratorId.{GeneratorId}
 use Rattle.egg.specs.declared.Refusal.{Refusal}
 use Rattle.egg.specs.declared.Factor.{Factor}
-use Rattle.egg.specs.declared.Verdict.{Verdict}
-use Rattle.egg.specs.declared.Verdict.TheVariants as verdict
+use Rattle.egg.specs.Answers.{Verdict, fine}
+use Rattle.std.specs.Prelude.{Err}
 use Rattle.egg.specs.Scan.{refused_of}
 use Rattle.egg.proofs.Scans.{and_then_fine}
 use Rattle.egg.specs.Table.{succ_at, length_of, Place}
@@ -33,46 +33,46 @@ module _ (len : ℕ) (f : Factor) (e : GroupElementId) (g : GeneratorId) where
     unfolding placed
     place_generator h k = rw fits (simp (lt-leb _ _ h, le-leb _ _ k))
 
-    pub place_fine : e.0 < f.elements → g.0 < f.generators → verdict.Fine ≡ placed len f e g
+    pub place_fine : e.0 < f.elements → g.0 < f.generators → fine ≡ placed len f e g
     unfolding placed
     place_fine h k = rw fits (simp (lt-leb _ _ h, lt-leb _ _ k))
 
   -- A place was found in a handle that fits.
-  pub place_fits : {v : Verdict} → v ≡ placed len f e g → v ≡ verdict.Fine → fits_in len f ≡ true
+  pub place_fits : {v : Verdict} → v ≡ placed len f e g → v ≡ fine → fits_in len f ≡ true
   place_fits {v} q h = by (fits_in len f) refl where
     by : (b : Bool) → fits_in len f ≡ b → fits_in len f ≡ true
     by true p = p
     by false p = let w : refused_of 17 0 0 0 ≡ placed len f e g = place_handle p in let z : ◌≡◌ {A = ℕ} 0 1 = cc in absurd (omega arith)
 
   module _ (r : GroupElementId) {v : Verdict} (q : v ≡ placed len f e g) where
-    pub end_refused : {why : Refusal} → v ≡ verdict.Refused why → v ≡ placed_step len f e g r
+    pub end_refused : {why : Refusal} → v ≡ Err why → v ≡ placed_step len f e g r
     unfolding placed_step
     end_refused h = rw (← q, h)
 
-    pub end_out : v ≡ verdict.Fine → f.elements ≤ r.0 → refused_of 14 2 0 0 ≡ placed_step len f e g r
+    pub end_out : v ≡ fine → f.elements ≤ r.0 → refused_of 14 2 0 0 ≡ placed_step len f e g r
     unfolding placed_step
     end_out h k = rw (← q, h) (simp (le-leb _ _ k))
 
-    pub end_fine : v ≡ verdict.Fine → r.0 < f.elements → verdict.Fine ≡ placed_step len f e g r
+    pub end_fine : v ≡ fine → r.0 < f.elements → fine ≡ placed_step len f e g r
     unfolding placed_step
     end_fine h k = rw (← q, h) (simp (lt-leb _ _ k))
 
 pub end_fits : (len : ℕ) (f : Factor) (e : GroupElementId) (g : GeneratorId) (r : GroupElementId) {v : Verdict}
-    → v ≡ placed_step len f e g r → v ≡ verdict.Fine → fits_in len f ≡ true
+    → v ≡ placed_step len f e g r → v ≡ fine → fits_in len f ≡ true
 unfolding placed_step
 end_fits len f e g r q h = place_fits len f e g refl ((and_then_fine (placed len f e g) _).0 (sym q ∙ h)).0
 
 module _ (t : List ℕ) (f : Factor) (e : GroupElementId) (g : GeneratorId) (r : GroupElementId) where
   module _ {v : Verdict} (q : v ≡ placed_step (length t) f e g r) where
-    pub store_refused : {why : Refusal} → v ≡ verdict.Refused why → v ≡ storable t f e g r
+    pub store_refused : {why : Refusal} → v ≡ Err why → v ≡ storable t f e g r
     unfolding storable
     store_refused h = rw (← q, h)
 
-    pub store_altered : v ≡ verdict.Fine → f.elements < stored_step t f e.0 g.0 → refused_of 17 0 0 0 ≡ storable t f e g r
+    pub store_altered : v ≡ fine → f.elements < stored_step t f e.0 g.0 → refused_of 17 0 0 0 ≡ storable t f e g r
     unfolding storable
     store_altered h k = rw (← q, h) (simp (lt-ltb _ _ k))
 
-    pub store_fine : v ≡ verdict.Fine → stored_step t f e.0 g.0 ≤ f.elements → verdict.Fine ≡ storable t f e g r
+    pub store_fine : v ≡ fine → stored_step t f e.0 g.0 ≤ f.elements → fine ≡ storable t f e g r
     unfolding storable
     store_fine h k = rw (← q, h) (simp (le-ltb _ _ k))
 
@@ -81,11 +81,11 @@ module _ (t : List ℕ) (f : Factor) (e : GroupElementId) (g : GeneratorId) (r :
   step_read_lem p a z = rw (z, p, a.at)
 
   -- What is storable has passed 17 in the handle and 14.
-  pub store_placed : storable t f e g r ≡ verdict.Fine → placed_step (length t) f e g r ≡ verdict.Fine
+  pub store_placed : storable t f e g r ≡ fine → placed_step (length t) f e g r ≡ fine
   unfolding storable
   store_placed h = ((and_then_fine (placed_step (length t) f e g r) _).0 h).0
 
-  pub store_fits : {v : Verdict} → v ≡ storable t f e g r → v ≡ verdict.Fine → fits_in (length t) f ≡ true
+  pub store_fits : {v : Verdict} → v ≡ storable t f e g r → v ≡ fine → fits_in (length t) f ≡ true
   store_fits q h = end_fits (length t) f e g r refl (store_placed (sym q ∙ h))
 
 module _ (s : List ℕ) (f : Factor) (e : GroupElementId) where

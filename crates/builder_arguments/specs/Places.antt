@@ -3,8 +3,7 @@ use Rattle.std.specs.Prelude.{ℕ, List, Bool, ◌&&◌, ltb, leb, length}
 use Rattle.egg.specs.declared.GroupElementId.{GroupElementId}
 use Rattle.egg.specs.declared.GeneratorId.{GeneratorId}
 use Rattle.egg.specs.declared.Factor.{Factor}
-use Rattle.egg.specs.declared.Verdict.{Verdict}
-use Rattle.egg.specs.declared.Verdict.TheVariants as verdict
+use Rattle.egg.specs.Answers.{Verdict, fine}
 use Rattle.egg.specs.Table.{pick, length_of}
 use Rattle.egg.specs.Scan.{refused_of, and_then}
 use Rattle.egg.specs.Factor.{fits_in, stored_step}
@@ -13,17 +12,17 @@ use Rattle.egg.specs.Factor.{fits_in, stored_step}
 unfoldable pub placed : ℕ → Factor → GroupElementId → GeneratorId → Verdict
 placed len f e g =
     pick (fits_in len f)
-    (pick (leb f.elements e.0) (refused_of 14 0 0 0) (pick (leb f.generators g.0) (refused_of 14 1 0 0) verdict.Fine))
+    (pick (leb f.elements e.0) (refused_of 14 0 0 0) (pick (leb f.generators g.0) (refused_of 14 1 0 0) fine))
     (refused_of 17 0 0 0)
 
 -- The same, then 14 for a second element (place 2).
 unfoldable pub placed_step : (len : ℕ) (f : Factor) (e : GroupElementId) (g : GeneratorId) (r : GroupElementId) → Verdict
-placed_step len f e g r = and_then (placed len f e g) (pick (leb f.elements r.0) (refused_of 14 2 0 0) verdict.Fine)
+placed_step len f e g r = and_then (placed len f e g) (pick (leb f.elements r.0) (refused_of 14 2 0 0) fine)
 
 -- The same, "then 17 in what they read": the step that would be overwritten is read, to say whether the place was new, and it is out of range where it
 -- leads beyond the elements of the build.
 unfoldable pub storable : (t : List ℕ) (f : Factor) (e : GroupElementId) (g : GeneratorId) (r : GroupElementId) → Verdict
-storable t f e g r = and_then (placed_step (length t) f e g r) (pick (ltb f.elements (stored_step t f e.0 g.0)) (refused_of 17 0 0 0) verdict.Fine)
+storable t f e g r = and_then (placed_step (length t) f e g r) (pick (ltb f.elements (stored_step t f e.0 g.0)) (refused_of 17 0 0 0) fine)
 
 -- True where 17 is due, "a number read from it is out of range": there is room, since 5 comes before, and the recorded word of e is longer than any
 -- word may be.

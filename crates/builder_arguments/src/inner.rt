@@ -3,23 +3,23 @@
 ghost use Rattle.std.specs.Prelude.{◌≡◌, length};
 ghost use Rattle.builder_arguments.specs.Places.{placed, placed_step, storable, over_long};
 
-use egg::{Factor, GeneratorId, GroupElementId, Verdict};
+use egg::{Factor, GeneratorId, GroupElementId, Refusal};
 
 // Refuses 17 for a handle that does not fit, then 14 for an element (place 0) or a generator (place 1) that the build
 // does not have.
-pub fn place(table: &[u32], f: Factor, e: GroupElementId, g: GeneratorId) -> Verdict
+pub fn place(table: &[u32], f: Factor, e: GroupElementId, g: GeneratorId) -> Result<(), Refusal>
     ensures { result ≡ placed (length table.now) f e g }
 {
     if !egg::fits(table, f) {
-        return egg::inner::refused(17, 0, 0, 0);
+        return Err(Refusal::Unreadable);
     }
     if f.elements <= e.0 {
-        return egg::inner::refused(14, 0, 0, 0);
+        return Err(Refusal::ArgumentOutside(0));
     }
     if f.generators <= g.0 {
-        return egg::inner::refused(14, 1, 0, 0);
+        return Err(Refusal::ArgumentOutside(1));
     }
-    Verdict::Fine
+    Ok(())
 }
 
 // The same, then refuses 14 for the element that the step leads to (place 2).
@@ -29,17 +29,14 @@ pub fn place_step(
     e: GroupElementId,
     g: GeneratorId,
     r: GroupElementId,
-) -> Verdict
+) -> Result<(), Refusal>
     ensures { result ≡ placed_step (length table.now) f e g r }
 {
-    let v = place(table, f, e, g);
-    let Verdict::Fine = v else {
-        return v;
-    };
+    place(table, f, e, g)?;
     if f.elements <= r.0 {
-        return egg::inner::refused(14, 2, 0, 0);
+        return Err(Refusal::ArgumentOutside(2));
     }
-    Verdict::Fine
+    Ok(())
 }
 
 // The same, then refuses 17 for a stored step that leads beyond the elements of the build.
@@ -49,19 +46,16 @@ pub fn storable(
     e: GroupElementId,
     g: GeneratorId,
     r: GroupElementId,
-) -> Verdict
+) -> Result<(), Refusal>
     ensures { result ≡ storable table.now f e g r }
 {
-    let v = place_step(table, f, e, g, r);
-    let Verdict::Fine = v else {
-        return v;
-    };
+    place_step(table, f, e, g, r)?;
     let s = egg::inner::part(table, f);
     let old = egg::inner::get(s, egg::inner::successor_at(f.generators, e, g));
     if f.elements < old {
-        return egg::inner::refused(17, 0, 0, 0);
+        return Err(Refusal::Unreadable);
     }
-    Verdict::Fine
+    Ok(())
 }
 
 // True where 17 is due for a recorded length: there is room, since 5 comes first, and the word of e is longer than any

@@ -8,10 +8,8 @@ use borrow.Author.Tests.{eq-eqb, ne_eqb, lt-ltb, le-ltb, le-leb, lt-leb}
 use lib.Dec.{ltb}
 use lib.ListN.{length}
 use Rattle.egg.specs.declared.Refusal.{Refusal}
-use Rattle.egg.specs.declared.Verdict.{Verdict}
-use Rattle.egg.specs.declared.Verdict.TheVariants as verdict
-use Rattle.egg.specs.declared.Counted.{Counted}
-use Rattle.egg.specs.declared.Counted.TheVariants.{Count, Refused}
+use Rattle.egg.specs.Answers.{Counted, Verdict, fine}
+use Rattle.std.specs.Prelude.{Ok, Err}
 use Rattle.egg.specs.Table.{pick}
 use Rattle.build_checks.specs.Checks.{check8}
 use Rattle.egg.specs.Answers.{numbered}
@@ -22,11 +20,11 @@ use Rattle.builder_rereading.specs.Own.{stored_at, copied_step, copied, own_plac
 use Rattle.builder_rereading.proofs.Copying.{copied_at}
 
 module _ (t : List ℕ) (n room elements count e g x : ℕ) where
-  pub own_missing : x ≡ 0 → placed (Count count) t ≡ own_place t n room elements count e g x
+  pub own_missing : x ≡ 0 → placed (Ok count) t ≡ own_place t n room elements count e g x
   unfolding own_place
   own_missing h = simp (eq-eqb x 0 h)
 
-  pub own_outside : (x ≡ 0 → ⊥) → elements < x → placed (Refused (numbered 17 0 0 0)) t ≡ own_place t n room elements count e g x
+  pub own_outside : (x ≡ 0 → ⊥) → elements < x → placed (Err (numbered 17 0 0 0)) t ≡ own_place t n room elements count e g x
   unfolding own_place
   own_outside h k = simp (ne_eqb x 0 h, lt-ltb _ _ k)
 
@@ -36,58 +34,58 @@ module _ (t : List ℕ) (n room elements count e g x : ℕ) where
 
 module _ (own : ℕ → ℕ → ℕ) (n room elements e g count : ℕ) (t : List ℕ) where
   module _ (h : g < n) {x : ℕ} (w : x ≡ own e g) {c : Counted} {l : List ℕ} (s : placed c l ≡ own_place t n room elements count e g x) where
-    pub own_row_next : {k : ℕ} → c ≡ Count k → own_row (n - g) own n room elements e g count t ≡ own_row (n - (g + 1)) own n room elements e (g + 1) k l
+    pub own_row_next : {k : ℕ} → c ≡ Ok k → own_row (n - g) own n room elements e g count t ≡ own_row (n - (g + 1)) own n room elements e (g + 1) k l
     unfolding own_row
     own_row_next q = let d : n - g ≡ suc (n - (g + 1)) = omega arith in rw (d, ← w, ← s, q)
 
-    pub own_row_stop : {r : Refusal} → c ≡ Refused r → placed c l ≡ own_row (n - g) own n room elements e g count t
+    pub own_row_stop : {r : Refusal} → c ≡ Err r → placed c l ≡ own_row (n - g) own n room elements e g count t
     unfolding own_row
     own_row_stop q = let d : n - g ≡ suc (n - (g + 1)) = omega arith in rw (d, ← w, ← s, q)
 
-  pub own_row_end : n ≤ g → placed (Count count) t ≡ own_row (n - g) own n room elements e g count t
+  pub own_row_end : n ≤ g → placed (Ok count) t ≡ own_row (n - g) own n room elements e g count t
   unfolding own_row
   own_row_end h = let d : n - g ≡ 0 = omega arith in rw d
 
 module _ (own : ℕ → ℕ → ℕ) (n room elements e count : ℕ) (t : List ℕ) where
   module _ (h : e < elements) where
-    pub own_done : count ≤ e → placed (Count count) t ≡ own_from (elements - e) own n room elements e count t
+    pub own_done : count ≤ e → placed (Ok count) t ≡ own_from (elements - e) own n room elements e count t
     unfolding own_from
     own_done z = let d : elements - e ≡ suc (elements - (e + 1)) = omega arith in rw d (simp (le-ltb _ _ z))
 
     module _ (z : e < count) {c : Counted} {l : List ℕ} (s : placed c l ≡ own_row n own n room elements e 0 count t) where
-      pub own_next : {k : ℕ} → c ≡ Count k → own_from (elements - e) own n room elements e count t ≡ own_from (elements - (e + 1)) own n room elements (e + 1) k l
+      pub own_next : {k : ℕ} → c ≡ Ok k → own_from (elements - e) own n room elements e count t ≡ own_from (elements - (e + 1)) own n room elements (e + 1) k l
       unfolding own_from
       own_next q = let d : elements - e ≡ suc (elements - (e + 1)) = omega arith in rw d (simp (lt-ltb _ _ z) (rw (← s, q)))
 
-      pub own_stop : {r : Refusal} → c ≡ Refused r → placed c l ≡ own_from (elements - e) own n room elements e count t
+      pub own_stop : {r : Refusal} → c ≡ Err r → placed c l ≡ own_from (elements - e) own n room elements e count t
       unfolding own_from
       own_stop q = let d : elements - e ≡ suc (elements - (e + 1)) = omega arith in rw d (simp (lt-ltb _ _ z) (rw (← s, q)))
 
-  pub own_end : elements ≤ e → placed (Count count) t ≡ own_from (elements - e) own n room elements e count t
+  pub own_end : elements ≤ e → placed (Ok count) t ≡ own_from (elements - e) own n room elements e count t
   unfolding own_from
   own_end h = let d : elements - e ≡ 0 = omega arith in rw d
 
 -- Each answer of the test whether all elements are reached.
 module _ (t : List ℕ) (n elements : ℕ) {read : Counted} where
-  pub reached_refused : {r : Refusal} → read ≡ Refused r → placed read t ≡ reaches_all n elements (placed read t)
+  pub reached_refused : {r : Refusal} → read ≡ Err r → placed read t ≡ reaches_all n elements (placed read t)
   reached_refused q = rw q
 
-  module _ {count : ℕ} (q : read ≡ Count count) where
-    pub reached_whole : elements ≤ count → placed (Count count) t ≡ reaches_all n elements (placed read t)
+  module _ {count : ℕ} (q : read ≡ Ok count) where
+    pub reached_whole : elements ≤ count → placed (Ok count) t ≡ reaches_all n elements (placed read t)
     unfolding all_reached
     reached_whole h = rw q (simp (le-leb _ _ h))
 
     module _ (h : count < elements) where
-      pub reached_none : n ≡ 0 → placed (Refused (numbered 17 0 0 0)) t ≡ reaches_all n elements (placed read t)
+      pub reached_none : n ≡ 0 → placed (Err (numbered 17 0 0 0)) t ≡ reaches_all n elements (placed read t)
       unfolding all_reached
       reached_none z = rw q (simp (lt-leb _ _ h, eq-eqb n 0 z))
 
       module _ (z : n ≡ 0 → ⊥) {v : Verdict} (s : v ≡ check8 t n elements) where
-        pub reached_missing : {r : Refusal} → v ≡ verdict.Refused r → placed (Refused r) t ≡ reaches_all n elements (placed read t)
+        pub reached_missing : {r : Refusal} → v ≡ Err r → placed (Err r) t ≡ reaches_all n elements (placed read t)
         unfolding all_reached
         reached_missing p = rw q (simp (lt-leb _ _ h, ne_eqb n 0 z) (rw (← s, p)))
 
-        pub reached_fine : v ≡ verdict.Fine → placed (Count count) t ≡ reaches_all n elements (placed read t)
+        pub reached_fine : v ≡ fine → placed (Ok count) t ≡ reaches_all n elements (placed read t)
         unfolding all_reached
         reached_fine p = rw q (simp (lt-leb _ _ h, ne_eqb n 0 z) (rw (← s, p)))
 
@@ -105,7 +103,7 @@ module _ (own own' : ℕ → ℕ → ℕ) (n room elements : ℕ) where
   unfolding own_from
   own_agrees same zero e count t q = refl
   own_agrees same (suc k) e count t q =
-      ap (λ (p : Placed). pick (ltb e count) p (placed (Count count) t))
+      ap (λ (p : Placed). pick (ltb e count) p (placed (Ok count) t))
       (ap (λ (p : Placed). then_placed p (λ c l. own_from k own n room elements (e + 1) c l)) (row_agrees e (λ g h. same e g (omega arith) h) n 0 count t (omega arith))
       ∙ then_same (own_row n own' n room elements e 0 count t) (λ c l. own_agrees same k (e + 1) c l (omega arith)))
 

@@ -5,7 +5,7 @@ ghost use Rattle.build_reading.specs.Reading.{Placed};
 ghost use Rattle.build_lending.specs.Finish.{Built};
 ghost use Rattle.builder_rereading.specs.Own.{own_place, own_row, own_all, reaches_all, own_in, copied_step, copied_row, copied};
 
-use egg::{Counted, GeneratorId, GroupElementId, Refusal, Verdict};
+use egg::{GeneratorId, GroupElementId, Refusal};
 
 // Stores x at i; does nothing past the end.
 fn keep(w: &mut [u32], i: usize, x: u32)
@@ -20,12 +20,10 @@ fn keep(w: &mut [u32], i: usize, x: u32)
 fn copy_row(t: &[u32], w: &mut [u32], n: u8, e: GroupElementId)
     ensures { w.new ≡ copied_row n t.now n e.0 0 w.old }
 {
-    let mut g: u8 = 0;
-    while g < n {
+    for g in 0..n {
         let at = egg::inner::successor_at(n, e, GeneratorId(g));
         let x = egg::inner::get(t, at);
         keep(w, (e.0 as usize) * (n as usize) + (g as usize), x);
-        g += 1;
     }
 }
 
@@ -33,10 +31,8 @@ fn copy_row(t: &[u32], w: &mut [u32], n: u8, e: GroupElementId)
 fn copy_rows(t: &[u32], w: &mut [u32], n: u8, elements: u32)
     ensures { w.new ≡ copied elements t.now n 0 w.old }
 {
-    let mut e: u32 = 0;
-    while e < elements {
+    for e in 0..elements {
         copy_row(t, w, n, GroupElementId(e));
-        e += 1;
     }
 }
 
@@ -51,19 +47,14 @@ fn own_place(
     e: GroupElementId,
     g: GeneratorId,
     x: u32,
-) -> Counted
+) -> Result<u32, Refusal>
     ensures { Placed.placed result t.new ≡ own_place t.old n room elements count e.0 g.0 x }
 {
     if x == 0 {
-        return Counted::Count(count);
+        return Ok(count);
     }
     if elements < x {
-        return Counted::Refused(Refusal {
-            number: 17,
-            a: 0,
-            b: 0,
-            c: 0,
-        });
+        return Err(Refusal::Unreadable);
     }
     build_reading::inner::place(t, n, room, count, e, g, x - 1)
 }
@@ -77,76 +68,61 @@ fn own_row(
     elements: u32,
     e: GroupElementId,
     first: u32,
-) -> Counted
+) -> Result<u32, Refusal>
     ensures { Placed.placed result t.new ≡ own_row n (copied_step w.now n) n room elements e.0 0 first t.old }
 {
-    let mut g: u8 = 0;
     let mut count = first;
-    while g < n {
+    for g in 0..n {
         let x = egg::inner::get(w, (e.0 as usize) * (n as usize) + (g as usize));
-        let c = own_place(t, n, room, elements, count, e, GeneratorId(g), x);
-        let Counted::Count(k) = c else {
-            return c;
-        };
-        count = k;
-        g += 1;
+        count = own_place(t, n, room, elements, count, e, GeneratorId(g), x)?;
     }
-    Counted::Count(count)
+    Ok(count)
 }
 
 // Reads the rows in the order of their elements, as long as there is a next element that is known.
-fn own_rows(t: &mut [u32], w: &[u32], n: u8, room: u32, elements: u32) -> Counted
+fn own_rows(t: &mut [u32], w: &[u32], n: u8, room: u32, elements: u32) -> Result<u32, Refusal>
     ensures { Placed.placed result t.new ≡ own_all (copied_step w.now n) n room elements t.old }
 {
-    let mut e: u32 = 0;
-    let mut count: u32 = 1;
-    while e < elements {
+    let mut count = 1;
+    for e in 0..elements {
         if count <= e {
-            return Counted::Count(count);
+            return Ok(count);
         }
-        let c = own_row(t, w, n, room, elements, GroupElementId(e), count);
-        let Counted::Count(k) = c else {
-            return c;
-        };
-        count = k;
-        e += 1;
+        count = own_row(t, w, n, room, elements, GroupElementId(e), count)?;
     }
-    Counted::Count(count)
+    Ok(count)
 }
 
 // Refusal 8 where an element was not reached: its row was not read, so that its successors are missing.
-fn reached_all(t: &[u32], n: u8, elements: u32, read: Counted) -> Counted
+fn reached_all(t: &[u32], n: u8, elements: u32, read: Result<u32, Refusal>) -> Result<u32, Refusal>
     ensures { Placed.placed result t.now ≡ reaches_all n elements (Placed.placed read t.now) }
 {
-    let Counted::Count(count) = read else {
-        return read;
-    };
+    let count = read?;
     if elements <= count {
-        return Counted::Count(count);
+        return Ok(count);
     }
     if n == 0 {
-        return Counted::Refused(Refusal {
-            number: 17,
-            a: 0,
-            b: 0,
-            c: 0,
-        });
+        return Err(Refusal::Unreadable);
     }
-    match build_checks::inner::check8(t, n, elements) {
-        Verdict::Refused(why) => Counted::Refused(why),
-        Verdict::Fine => Counted::Count(count),
-    }
+    build_checks::inner::check8(t, n, elements)?;
+    Ok(count)
 }
 
 // Ends a build by steps, which may have been overwritten: makes the table afresh from its successors, and then does as
 // every build ends.
-pub fn complete(t: &mut [u32], w: &mut [u32], n: u8, room: u32, elements: u32) -> Counted
+pub fn complete(
+    t: &mut [u32],
+    w: &mut [u32],
+    n: u8,
+    room: u32,
+    elements: u32,
+) -> Result<u32, Refusal>
     requires { elements * n ≤ length w.old }
     ensures { Built.built result t.new w.new ≡ own_in t.old w.old n room elements }
 {
-    copy_rows(&t[..], w, n, elements);
+    copy_rows(t, w, n, elements);
     egg::inner::clear(t);
-    let read = own_rows(t, &w[..], n, room, elements);
-    let whole = reached_all(&t[..], n, elements, read);
+    let read = own_rows(t, w, n, room, elements);
+    let whole = reached_all(t, n, elements, read);
     build_lending::inner::finish(t, w, n, whole)
 }

@@ -3,41 +3,41 @@
 #![tactic(auto)]
 
 ghost use Rattle.std.specs.Prelude.{◌≡◌, [], ◌∷◌};
+ghost use Rattle.egg.specs.Answers.{answer_of};
 ghost use Rattle.egg.specs.Factor.{verdict_paper, reached_paper};
 ghost use Rattle.builder.specs.Calls.{Leaving, begins, grows, stores, builds};
 ghost use Rattle.capi_values.specs.Bridge.{handle, telling, in_out, bridged};
 ghost use Rattle.capi_builder.specs.Answers.{stored_code, reached_into, begun_into, grown_into, begun_told, grown_told, stored_told};
 
-use builder::{Begun, Builder, Grown, Stored};
+use builder::{Builder, Grown, Stored};
 use capi_values::inner;
-use egg::{GeneratorId, GroupElementId, Made, Reached};
+use egg::{GeneratorId, GroupElementId, Refusal};
 
 // The builder with this handle.
 fn builder_of(start: usize, room: u32, n: u8, count: u32) -> Builder
     ensures { result ≡ record { 0 = handle start room n count } }
 {
-    let f = inner::factor_of(start, room, n, count);
-    Builder(f)
+    Builder(inner::factor_of(start, room, n, count))
 }
 
 // Says whether a stored step was new, 1 or 0, or gives the refusal's number.
-fn stored_code(s: Stored) -> u64
+fn stored_code(s: Result<Stored, Refusal>) -> u64
     ensures { result ≡ stored_code s }
 {
     match s {
-        Stored::New => 1,
-        Stored::Known => 0,
-        Stored::Refused(why) => inner::refusal_code(why),
+        Ok(Stored::New) => 1,
+        Ok(Stored::Known) => 0,
+        Err(why) => inner::refusal_code(why),
     }
 }
 
 // Writes 0 and the element that was asked for, or the refusal, and hands the number back.
-fn write_reached(out: &mut [u32], r: Reached) -> u32
+fn write_reached(out: &mut [u32], r: Result<GroupElementId, Refusal>) -> u32
     ensures { (result ≡ (reached_paper r).number) × (out.new ≡ reached_into r out.old) }
 {
     match r {
-        Reached::Refused(why) => inner::write_refusal(out, why),
-        Reached::Element(e) => {
+        Err(why) => inner::write_refusal(out, why),
+        Ok(e) => {
             egg::inner::put(out, 0, 0);
             egg::inner::put(out, 1, e.0 as usize);
             egg::inner::put(out, 2, 0);
@@ -48,24 +48,21 @@ fn write_reached(out: &mut [u32], r: Reached) -> u32
 }
 
 // Writes the verdict, and after it how many elements the builder knows: 0 where there is none. Hands the verdict's number back.
-fn write_begun(out: &mut [u32], b: Begun) -> u32
-    ensures { (result ≡ (verdict_paper b.answer).number) × (out.new ≡ begun_into b out.old) }
+fn write_begun(out: &mut [u32], b: Result<Builder, Refusal>) -> u32
+    ensures { (result ≡ (verdict_paper (answer_of b)).number) × (out.new ≡ begun_into b out.old) }
 {
-    let answer = b.answer;
-    let h = b.builder;
-    let factor = h.0;
-    inner::write_made(out, Made { answer, factor })
+    match b {
+        Err(why) => inner::write_made(out, Err(why)),
+        Ok(b) => inner::write_made(out, Ok(b.0)),
+    }
 }
 
 // Writes the new element or the refusal, and after it how many elements the builder knows. Hands the number back.
 fn write_grown(out: &mut [u32], g: Grown) -> u32
     ensures { (result ≡ (reached_paper g.answer).number) × (out.new ≡ grown_into g out.old) }
 {
-    let r = g.answer;
-    let h = g.builder;
-    let f = h.0;
-    let number = write_reached(out, r);
-    egg::inner::put(out, 4, f.elements as usize);
+    let number = write_reached(out, g.answer);
+    egg::inner::put(out, 4, g.builder.0.elements as usize);
     number
 }
 

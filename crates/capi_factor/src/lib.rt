@@ -78,6 +78,8 @@ pub fn hg_check(
     if out.len() < 4 {
         return 4;
     }
-    let v = factor::check(table, factor_of(start, room, n, count), orders);
-    write_verdict(out, v)
+    write_verdict(
+        out,
+        factor::check(table, factor_of(start, room, n, count), orders),
+    )
 }

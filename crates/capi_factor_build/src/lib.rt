@@ -7,7 +7,7 @@ ghost use Rattle.factor.specs.Composed.{composed};
 ghost use Rattle.enumeration.specs.Calls.{enumerates};
 ghost use Rattle.capi_values.specs.Bridge.{telling, in_out, bridged};
 
-use capi_values::inner;
+use capi_values::inner::write_made;
 
 // Builds a factor from composed rows, n numbers for each element. Refuses in this order: 4 for an out shorter than 5, 1 for more than 8 generators, 4
 // for a room out of range or a short buffer, 7, 5 or 6 while it reads, then 8 to 12.
@@ -25,8 +25,10 @@ pub fn hg_composed(
     if out.len() < 5 {
         return 4;
     }
-    let m = factor::from_composed(table, start, work, rows, n, room);
-    inner::write_made(out, m)
+    write_made(
+        out,
+        factor::from_composed(table, start, work, rows, n, room),
+    )
 }
 
 // Builds the group that the pair orders present; they come in the order (0,1),(0,2),(1,2),(0,3).. Refuses in this order: 4 for an out
@@ -46,6 +48,8 @@ pub fn hg_enumerate(
     if out.len() < 5 {
         return 4;
     }
-    let m = enumeration::enumerate(table, start, work, orders, n, room);
-    inner::write_made(out, m)
+    write_made(
+        out,
+        enumeration::enumerate(table, start, work, orders, n, room),
+    )
 }

@@ -6,7 +6,7 @@ use lib.IntN.{ℤ}
 use mir.Syntax.{w32}
 use mir.Val.{SFits}
 use Rattle.egg.specs.declared.GroupElementId.{GroupElementId}
-use Rattle.egg.specs.declared.Reached.{Reached}
+use Rattle.egg.specs.Answers.{Reached}
 use Rattle.group_handles.specs.declared.Group.{Group}
 use Rattle.group.specs.Questions.{powi_answer}
 use Rattle.group_powers.proofs.Signs.{read, read_is}

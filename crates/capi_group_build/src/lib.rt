@@ -5,6 +5,7 @@
 
 ghost use Rattle.std.specs.Prelude.{◌≡◌, [], ◌∷◌, length};
 ghost use Rattle.capi_values.specs.Bridge.{reached_code, counted_code, telling, in_out, bridged};
+ghost use Rattle.egg.specs.Answers.{answer_of};
 ghost use Rattle.egg.specs.Factor.{verdict_paper};
 ghost use Rattle.group_handles.specs.Handles.{joins};
 ghost use Rattle.group.specs.Questions.{split_answer, split_leaves, join_answer, length_answer, write_answer, written};
@@ -12,18 +13,25 @@ ghost use Rattle.group_flatten.specs.Flat.{flat};
 ghost use Rattle.capi_handles.specs.Product.{product_of};
 ghost use Rattle.capi_group_build.specs.Product.{grouped_into, grouped};
 
-use egg::GroupElementId;
-use group_handles::Grouped;
+use egg::{GroupElementId, Refusal};
+use group_handles::Group;
 
-// Writes the verdict, and after it how many factors the product has. Hands the verdict's number back.
-fn write_grouped(out: &mut [u32], g: Grouped) -> u32
-    ensures { (result ≡ (verdict_paper g.answer).number) × (out.new ≡ grouped_into g out.old) }
+// Writes the verdict, and after it how many factors the product has, which is 1 where it is a refusal. Hands the verdict's number back.
+fn write_grouped(out: &mut [u32], made: Result<Group, Refusal>) -> u32
+    ensures { (result ≡ (verdict_paper (answer_of made)).number) × (out.new ≡ grouped_into made out.old) }
 {
-    let v = g.answer;
-    let p = g.group;
-    let number = capi_values::inner::write_verdict(out, v);
-    egg::inner::put(out, 4, p.count as usize);
-    number
+    match made {
+        Err(why) => {
+            let number = capi_values::inner::write_refusal(out, why);
+            egg::inner::put(out, 4, 1);
+            number
+        }
+        Ok(g) => {
+            let number = capi_values::inner::write_verdict(out, Ok(()));
+            egg::inner::put(out, 4, g.count as usize);
+            number
+        }
+    }
 }
 
 // Writes the verdict on the product of two into out, and how many factors it has: those of the first and then those of the second. Refuses in this

@@ -4,7 +4,7 @@ use mathlib.Core.Path.{◌≡◌, refl, ap}
 use mathlib.Core.Bool.{true}
 use mathlib.Core.List.{List}
 use lib.Dec.{leb}
-use Rattle.egg.specs.declared.Verdict.{Verdict}
+use Rattle.egg.specs.Answers.{Verdict}
 use Rattle.group_handles.specs.declared.inner.Seen.{Seen}
 use Rattle.group_handles.specs.declared.inner.Limit.{Limit}
 use Rattle.group_handles.specs.declared.inner.Limit.TheVariants.{Elements, Generators, Number}

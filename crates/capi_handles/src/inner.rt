@@ -29,11 +29,12 @@ pub fn handle_at(l: &[u32], at: u32) -> Factor
     if l.len() < k + 5 {
         return capi_values::inner::factor_of(0, 0, 0, 0);
     }
-    let start = start_of(l[k], l[k + 1]);
-    let room = l[k + 2];
-    let n = byte_of(l[k + 3]);
-    let count = l[k + 4];
-    capi_values::inner::factor_of(start, room, n, count)
+    capi_values::inner::factor_of(
+        start_of(l[k], l[k + 1]),
+        l[k + 2],
+        byte_of(l[k + 3]),
+        l[k + 4],
+    )
 }
 
 // Reads the product whose handles stand from place `at` on.
@@ -74,16 +75,14 @@ pub fn look_at(from: &[u32], l: &[u32], at: u32, count: u8) -> Seen
     ensures { result ≡ seen (length from.now) (handles (product_at l.now at count)) }
 {
     let c = listed(count);
-    let mut f: u32 = 0;
     let mut fit = true;
     let mut elements: u64 = 1;
     let mut generators: u32 = 0;
-    while f < c {
+    for f in 0..c {
         let h = handle_at(l, at + f * 5);
         fit = both(fit, egg::fits(from, h));
         elements = times(elements, h.elements);
         generators += h.generators as u32;
-        f += 1;
     }
     Seen {
         fit,

@@ -9,8 +9,8 @@ use lib.ListN.{length, drop}
 use Rattle.egg.specs.declared.Factor.{Factor}
 use Rattle.egg.specs.declared.Refusal.{Refusal}
 use Rattle.egg.specs.declared.GroupElementId.{GroupElementId}
-use Rattle.egg.specs.declared.Reached.{Reached}
-use Rattle.egg.specs.declared.Reached.TheVariants.{Element, Refused}
+use Rattle.egg.specs.Answers.{Reached}
+use Rattle.std.specs.Prelude.{Ok, Err}
 use Rattle.egg.specs.Factor.{fits_in}
 use Rattle.egg.proofs.Rooms.{some}
 use Rattle.group_handles.specs.Handles.{elements_of, all_fit}
@@ -41,10 +41,10 @@ module _ {k : PartQuestion} {t : List ℕ} {hs : List Factor} {a b f s sum x y :
     stride_small = omega (arith, w.few, stride_fits w.gathers.walks d (positive (length t) hs w.fits))
 
     module _ {r : Reached} (q : r ≡ digit_of k t h (x % h.elements) (y % h.elements)) where
-      pub composes_stop : {why : Refusal} → r ≡ Refused why → r ≡ digitwise (digit_of k t) hs a b
+      pub composes_stop : {why : Refusal} → r ≡ Err why → Err why ≡ digitwise (digit_of k t) hs a b
       composes_stop p = gathers_stop w.gathers d q p
 
-      module _ {e : GroupElementId} (p : r ≡ Element e) where
+      module _ {e : GroupElementId} (p : r ≡ Ok e) where
         in_range : e.0 < h.elements
         in_range = below_element (digit_below k t h (x % h.elements) (y % h.elements) (mod-lt x some_there)) q p
 
@@ -55,5 +55,5 @@ module _ {k : PartQuestion} {t : List ℕ} {hs : List Factor} {a b f s sum x y :
         composes_on = record { gathers = gathers_on w.gathers d q p in_range; fits = w.fits; few = w.few }
 
 pub composes_end : {k : PartQuestion} {t : List ℕ} {hs : List Factor} {a b f s sum x y : ℕ} → Composing k t hs a b f s sum x y → drop f hs ≡ []
-    → Element (record { 0 = sum }) ≡ digitwise (digit_of k t) hs a b
+    → Ok (record { 0 = sum }) ≡ digitwise (digit_of k t) hs a b
 composes_end w d = gathers_end w.gathers d

@@ -7,11 +7,11 @@ ghost use Rattle.group.specs.Questions.{two_elements, compose_answer, conjugate_
 ghost use Rattle.capi_handles.specs.Product.{product_of};
 
 use capi_handles::inner::{handle_at, listed, look_at};
-use egg::{GroupElementId, Reached, Verdict};
+use egg::{GroupElementId, Refusal};
 use group_handles::inner::{Limit, admit_seen};
 
 // Refuses as `group_handles::inner::admit` does for two elements of the product.
-fn admit(table: &[u32], l: &[u32], count: u8, a: u32, b: u32) -> Verdict
+fn admit(table: &[u32], l: &[u32], count: u8, a: u32, b: u32) -> Result<(), Refusal>
     ensures { result ≡ two_elements (length table.now) (product_of l.now count) a b }
 {
     let s = look_at(table, l, 0, count);
@@ -25,50 +25,49 @@ fn compose_listed(
     count: u8,
     a: GroupElementId,
     b: GroupElementId,
-) -> Reached
+) -> Result<GroupElementId, Refusal>
     requires { (all_fit (length table.now) (handles (product_of l.now count)) ≡ true) × (elements_of (handles (product_of l.now count)) ≤ 4294967295) }
     ensures { result ≡ digitwise (digit_of PartQuestion.Compose table.now) (handles (product_of l.now count)) a.0 b.0 }
 {
     let c = listed(count);
-    let mut f: u32 = 0;
     let mut stride: u32 = 1;
     let mut sum: u32 = 0;
     let mut x = a.0;
     let mut y = b.0;
-    while f < c {
+    for f in 0..c {
         let h = handle_at(l, f * 5);
         let n = h.elements;
         let s = egg::inner::part(table, h);
-        let r = factor_compose::inner::compose_elements(
+        let d = factor_compose::inner::compose_elements(
             s,
             h.generators,
             n,
             GroupElementId(x % n),
             GroupElementId(y % n),
-        );
-        let Reached::Element(d) = r else {
-            return r;
-        };
+        )?;
         sum += stride * d.0;
         stride *= n;
         x /= n;
         y /= n;
-        f += 1;
     }
-    Reached::Element(GroupElementId(sum))
+    Ok(GroupElementId(sum))
 }
 
 // Answers a·b: as `group::compose` of the product.
-pub fn compose(table: &[u32], l: &[u32], count: u8, a: GroupElementId, b: GroupElementId) -> Reached
+pub fn compose(
+    table: &[u32],
+    l: &[u32],
+    count: u8,
+    a: GroupElementId,
+    b: GroupElementId,
+) -> Result<GroupElementId, Refusal>
     ensures { result ≡ compose_answer table.now (product_of l.now count) a b }
 {
     if count == 1 {
         return factor::compose(table, handle_at(l, 0), a, b);
     }
-    match admit(table, l, count, a.0, b.0) {
-        Verdict::Refused(why) => Reached::Refused(why),
-        Verdict::Fine => compose_listed(table, l, count, a, b),
-    }
+    admit(table, l, count, a.0, b.0)?;
+    compose_listed(table, l, count, a, b)
 }
 
 // Does what `group_digits::inner::conjugate_digits` does for the product.
@@ -78,37 +77,32 @@ fn conjugate_listed(
     count: u8,
     a: GroupElementId,
     b: GroupElementId,
-) -> Reached
+) -> Result<GroupElementId, Refusal>
     requires { (all_fit (length table.now) (handles (product_of l.now count)) ≡ true) × (elements_of (handles (product_of l.now count)) ≤ 4294967295) }
     ensures { result ≡ digitwise (digit_of PartQuestion.Conjugate table.now) (handles (product_of l.now count)) a.0 b.0 }
 {
     let c = listed(count);
-    let mut f: u32 = 0;
     let mut stride: u32 = 1;
     let mut sum: u32 = 0;
     let mut outer = a.0;
     let mut middle = b.0;
-    while f < c {
+    for f in 0..c {
         let h = handle_at(l, f * 5);
         let n = h.elements;
         let s = egg::inner::part(table, h);
-        let r = factor_compose::inner::conjugate_elements(
+        let d = factor_compose::inner::conjugate_elements(
             s,
             h.generators,
             n,
             GroupElementId(outer % n),
             GroupElementId(middle % n),
-        );
-        let Reached::Element(d) = r else {
-            return r;
-        };
+        )?;
         sum += stride * d.0;
         stride *= n;
         outer /= n;
         middle /= n;
-        f += 1;
     }
-    Reached::Element(GroupElementId(sum))
+    Ok(GroupElementId(sum))
 }
 
 // Answers a·b·a⁻¹: as `group::conjugate` of the product.
@@ -118,14 +112,12 @@ pub fn conjugate(
     count: u8,
     a: GroupElementId,
     b: GroupElementId,
-) -> Reached
+) -> Result<GroupElementId, Refusal>
     ensures { result ≡ conjugate_answer table.now (product_of l.now count) a b }
 {
     if count == 1 {
         return factor::conjugate(table, handle_at(l, 0), a, b);
     }
-    match admit(table, l, count, a.0, b.0) {
-        Verdict::Refused(why) => Reached::Refused(why),
-        Verdict::Fine => conjugate_listed(table, l, count, a, b),
-    }
+    admit(table, l, count, a.0, b.0)?;
+    conjugate_listed(table, l, count, a, b)
 }

@@ -6,10 +6,8 @@ use mathlib.Core.List.{List}
 use borrow.Author.Tests.{not-true, not-false}
 use lib.ListN.{length}
 use Rattle.egg.specs.declared.Refusal.{Refusal}
-use Rattle.egg.specs.declared.Verdict.{Verdict}
-use Rattle.egg.specs.declared.Verdict.TheVariants as verdict
-use Rattle.egg.specs.declared.Reached.{Reached}
-use Rattle.egg.specs.declared.Reached.TheVariants.{Element, Refused}
+use Rattle.egg.specs.Answers.{Reached, Verdict, fine}
+use Rattle.std.specs.Prelude.{Ok, Err}
 use Rattle.egg.specs.Factor.{refused_reach}
 use Rattle.factor.proofs.Admits.{reach_refused, reach_fine}
 use Rattle.group_handles.specs.declared.inner.Limit.TheVariants.{Elements, Number}
@@ -28,11 +26,11 @@ module _ {t l : List ℕ} {count a : ℕ} {p : DigitInverses} (w : Inverted t l 
     inverse_verdict : v ≡ admits (length t) (product_of l count) a (elements_of (handles (product_of l count))) 0 1
     inverse_verdict = one_element l count w.looked b q
 
-    pub inverse_refused : {why : Refusal} → v ≡ verdict.Refused why → Refused why ≡ inverse_answer t (product_of l count) (record { 0 = a })
+    pub inverse_refused : {why : Refusal} → v ≡ Err why → Err why ≡ inverse_answer t (product_of l count) (record { 0 = a })
     unfolding inverse_answer
     inverse_refused o = reach_refused inverse_verdict _ o
 
-    module _ (o : v ≡ verdict.Fine) where
+    module _ (o : v ≡ fine) where
       inverse_goes : Goes (length t) (product_of l count) a (elements_of (handles (product_of l count))) 0 1
       inverse_goes = goes_on (length t) (product_of l count) a _ 0 1 inverse_verdict o
 
@@ -53,5 +51,5 @@ module _ {t l : List ℕ} {count a : ℕ} {p : DigitInverses} (w : Inverted t l 
         pub inverse_small : p.sum < 4294967296
         inverse_small = w.small inverse_fit inverse_few (not-false _ m)
 
-        pub inverse_found : Element (record { 0 = p.sum }) ≡ inverse_answer t (product_of l count) (record { 0 = a })
+        pub inverse_found : Ok (record { 0 = p.sum }) ≡ inverse_answer t (product_of l count) (record { 0 = a })
         inverse_found = inverse_fine (w.found inverse_fit inverse_few (not-false _ m))

@@ -9,7 +9,7 @@ use borrow.Author.Tests.{ltb-true, ltb-false, le-leb, lt-leb}
 use lib.ListN.{length, drop}
 use lib.Dec.{ltb}
 use Rattle.egg.specs.declared.Factor.{Factor}
-use Rattle.egg.specs.declared.Reached.TheVariants.{Element}
+use Rattle.std.specs.Prelude.{Ok}
 use Rattle.egg.specs.Table.{pick, inverse_of}
 use Rattle.egg.specs.Factor.{fits_in, stretch, refused_reach}
 use Rattle.egg.proofs.Rooms.{false_true}
@@ -38,7 +38,7 @@ inverting t hs a = record {
 }
 
 module _ (t : List ℕ) (h : Factor) (a b : ℕ) {i : ℕ} (q : i ≡ inverse_of (stretch t h) h.generators a) where
-  digit_there : i < h.elements → Element (record { 0 = i }) ≡ digit_of Inverse t h a b
+  digit_there : i < h.elements → Ok (record { 0 = i }) ≡ digit_of Inverse t h a b
   unfolding inverse_in
   digit_there k = rw (← q) (simp (lt-leb _ _ k))
 

@@ -1,7 +1,7 @@
 -- This file defines what one pass over the handles of a product has to show of the inverse of an element. Document 01: "Calls on handles check 17 in
 -- the handle, then 14, then 15, then 1 to 4, then 17 in what they read", and "First factor is the fastest digit: strides 1, N0, N0-as-N1..".
 use Rattle.std.specs.Prelude.{ℕ, ◌≤◌, ◌<◌, ◌≡◌, true, false, List, length}
-use Rattle.egg.specs.declared.Reached.TheVariants.{Element}
+use Rattle.std.specs.Prelude.{Ok}
 use Rattle.egg.specs.Factor.{refused_reach}
 use Rattle.group_handles.specs.Handles.{handles, elements_of, Looked}
 use Rattle.group_digits.specs.Digits.{inverts}
@@ -15,4 +15,4 @@ pub record Inverted (t l : List ℕ) (count a : ℕ) (p : DigitInverses) : Type 
   pub lost : p.seen.fit ≡ true → elements_of (handles (product_of l count)) ≤ 4294967295 → p.right ≡ false → refused_reach 17 0 ≡ inverts t (handles (product_of l count)) a
   pub small : p.seen.fit ≡ true → elements_of (handles (product_of l count)) ≤ 4294967295 → p.right ≡ true → p.sum < 4294967296
   pub found : p.seen.fit ≡ true → elements_of (handles (product_of l count)) ≤ 4294967295 → p.right ≡ true
-      → Element (record { 0 = p.sum }) ≡ inverts t (handles (product_of l count)) a
+      → Ok (record { 0 = p.sum }) ≡ inverts t (handles (product_of l count)) a

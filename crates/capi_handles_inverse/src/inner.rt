@@ -7,7 +7,7 @@ ghost use Rattle.capi_handles_inverse.specs.Inverted.{Inverted};
 
 use capi_handles::inner::{handle_at, listed};
 use egg::inner::chosen;
-use egg::{GroupElementId, Reached, Verdict};
+use egg::{GroupElementId, Refusal};
 use group_handles::inner::{Limit, Seen, admit_seen, both, times};
 
 // What the pass shows for an inverse: all that the handles have together but their generators, whether each digit's inverse is in range, and the sum
@@ -24,20 +24,22 @@ fn invert_digits(table: &[u32], l: &[u32], count: u8, a: u32) -> DigitInverses
     ensures { Inverted table.now l.now count a result }
 {
     let c = listed(count);
-    let mut f: u32 = 0;
     let mut elements: u64 = 1;
     let mut right = true;
     let mut sum: u64 = 0;
     let mut x = a;
-    while f < c {
+    for f in 0..c {
         let h = handle_at(l, f * 5);
         if !egg::fits(table, h) {
-            let seen = Seen {
-                fit: false,
-                elements,
-                generators: 0,
+            return DigitInverses {
+                seen: Seen {
+                    fit: false,
+                    elements,
+                    generators: 0,
+                },
+                right,
+                sum,
             };
-            return DigitInverses { seen, right, sum };
         }
         let n = h.elements;
         let i = egg::inner::get(
@@ -49,38 +51,35 @@ fn invert_digits(table: &[u32], l: &[u32], count: u8, a: u32) -> DigitInverses
         sum += elements * (chosen(known, i, 0) as u64);
         elements = times(elements, n);
         x /= n;
-        f += 1;
     }
-    let seen = Seen {
-        fit: true,
-        elements,
-        generators: 0,
-    };
-    DigitInverses { seen, right, sum }
+    DigitInverses {
+        seen: Seen {
+            fit: true,
+            elements,
+            generators: 0,
+        },
+        right,
+        sum,
+    }
 }
 
 // Answers the inverse of a: as `group::inverse` of the product. `admit_seen` has 0 below 1 for the second argument that is not there: by
 // `admit_one_seen` what was seen is copied once more, 3 instructions.
-pub fn inverse(table: &[u32], l: &[u32], count: u8, a: GroupElementId) -> Reached
+pub fn inverse(
+    table: &[u32],
+    l: &[u32],
+    count: u8,
+    a: GroupElementId,
+) -> Result<GroupElementId, Refusal>
     ensures { result ≡ inverse_answer table.now (product_of l.now count) a }
 {
     if count == 1 {
         return factor::inverse(table, handle_at(l, 0), a);
     }
-    let whole = a.0;
-    let p = invert_digits(table, l, count, whole);
-    if let Verdict::Refused(why) = admit_seen(
-        p.seen,
-        count,
-        whole,
-        Limit::Elements,
-        0,
-        Limit::Number(1),
-    ) {
-        return Reached::Refused(why);
-    }
+    let p = invert_digits(table, l, count, a.0);
+    admit_seen(p.seen, count, a.0, Limit::Elements, 0, Limit::Number(1))?;
     if !p.right {
-        return egg::inner::refuse(17, 0);
+        return Err(Refusal::Unreadable);
     }
-    Reached::Element(GroupElementId(p.sum as u32))
+    Ok(GroupElementId(p.sum as u32))
 }

@@ -7,10 +7,8 @@ use native.Mathlib.Omega.{arith}
 use lib.ListN.{length, get_or, take}
 use Rattle.egg.specs.declared.Factor.{Factor}
 use Rattle.egg.specs.declared.Refusal.{Refusal}
-use Rattle.egg.specs.declared.Verdict.{Verdict}
-use Rattle.egg.specs.declared.Verdict.TheVariants as verdict
-use Rattle.egg.specs.declared.Reached.{Reached}
-use Rattle.egg.specs.declared.Reached.TheVariants.{Refused}
+use Rattle.egg.specs.Answers.{Reached, Verdict, fine}
+use Rattle.std.specs.Prelude.{Err}
 use Rattle.build_lending.specs.Lending.{no_factor}
 use Rattle.factor.proofs.Admits.{reach_refused, reach_fine}
 use Rattle.theory_radix.specs.Radix.{stride}
@@ -86,11 +84,11 @@ module _ {t l : List ℕ} {count x : ℕ} {p : Spot} (w : Spotted t l count x p)
     step_verdict : v ≡ admits (length t) (product_of l count) e (elements_of (handles (product_of l count))) x (generators_of (handles (product_of l count)))
     step_verdict = element_letter l count w.looked w.letters x b q
 
-    pub step_refused : {why : Refusal} → v ≡ verdict.Refused why → Refused why ≡ step_answer t (product_of l count) (record { 0 = e }) (record { 0 = x })
+    pub step_refused : {why : Refusal} → v ≡ Err why → Err why ≡ step_answer t (product_of l count) (record { 0 = e }) (record { 0 = x })
     unfolding step_answer
     step_refused o = reach_refused step_verdict _ o
 
-    module _ (o : v ≡ verdict.Fine) where
+    module _ (o : v ≡ fine) where
       pub step_fine : {r : Reached} → r ≡ step_in t (handles (product_of l count)) e x → r ≡ step_answer t (product_of l count) (record { 0 = e }) (record { 0 = x })
       unfolding step_answer
       step_fine z = z ∙ reach_fine step_verdict _ o
@@ -103,11 +101,11 @@ module _ {t l : List ℕ} {count x : ℕ} {p : Spot} (w : Spotted t l count x p)
   letter_verdict : v ≡ admits (length t) (product_of l count) x (generators_of (handles (product_of l count))) 0 1
   letter_verdict = one_letter l count w.looked w.letters x q
 
-  pub generator_refused : {why : Refusal} → v ≡ verdict.Refused why → Refused why ≡ generator_answer t (product_of l count) (record { 0 = x })
+  pub generator_refused : {why : Refusal} → v ≡ Err why → Err why ≡ generator_answer t (product_of l count) (record { 0 = x })
   unfolding generator_answer
   generator_refused o = reach_refused letter_verdict _ o
 
-  module _ (o : v ≡ verdict.Fine) where
+  module _ (o : v ≡ fine) where
     pub generator_fine : {r : Reached} → r ≡ step_in t (handles (product_of l count)) 0 x → r ≡ generator_answer t (product_of l count) (record { 0 = x })
     unfolding generator_answer
     generator_fine z = z ∙ reach_fine letter_verdict _ o

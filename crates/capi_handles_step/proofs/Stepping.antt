@@ -9,8 +9,8 @@ use lib.ListN.{length, get_or, take}
 use Rattle.egg.specs.declared.Factor.{Factor}
 use Rattle.egg.specs.declared.Refusal.{Refusal}
 use Rattle.egg.specs.declared.GroupElementId.{GroupElementId}
-use Rattle.egg.specs.declared.Reached.{Reached}
-use Rattle.egg.specs.declared.Reached.TheVariants.{Element, Refused}
+use Rattle.egg.specs.Answers.{Reached}
+use Rattle.std.specs.Prelude.{Ok, Err}
 use Rattle.egg.specs.Factor.{fits_in, stretch, read_step}
 use Rattle.egg.proofs.Rooms.{some}
 use Rattle.build_lending.specs.Lending.{no_factor}
@@ -33,7 +33,7 @@ pub record Ready (t : List ℕ) (hs : List Factor) (h : Factor) (e x s before : 
   pub up : (y : ℕ) → y < h.elements → e - e / s % h.elements * s + y * s < 4294967296
   pub same : step_in t hs e x
       ≡ on_reached (read_step (stretch t h) h.generators h.elements (e / s % h.elements) (x - before))
-      (λ y. Element (record { 0 = e - e / s % h.elements * s + y * s }))
+      (λ y. Ok (record { 0 = e - e / s % h.elements * s + y * s }))
 
 -- At a place of any list.
 module _ (t : List ℕ) (hs : List Factor) (f e x : ℕ) (a : all_fit (length t) hs ≡ true) (m : elements_of hs ≤ 4294967295) (l : f < length hs) (k : e < elements_of hs)
@@ -61,20 +61,20 @@ module _ {t : List ℕ} {hs : List Factor} {h : Factor} {e x s before : ℕ} (w 
       read : r ≡ read_step (stretch t h) h.generators h.elements (e / s % h.elements) (x - before)
       read = q ∙ rw (u, z)
 
-      reached_small : {y : GroupElementId} → r ≡ Element y → y.0 < h.elements
+      reached_small : {y : GroupElementId} → r ≡ Ok y → y.0 < h.elements
       reached_small p = below_element (step_below (stretch t h) h.generators h.elements (e / s % h.elements) (x - before)) read p
 
-      pub reached_fits : {y : GroupElementId} → r ≡ Element y → (d * s ≤ e) × (e - d * s + y.0 * s < 4294967296)
+      pub reached_fits : {y : GroupElementId} → r ≡ Ok y → (d * s ≤ e) × (e - d * s + y.0 * s < 4294967296)
       reached_fits {y} p = rw z (w.down, w.up y.0 (reached_small p))
 
-      pub reached_refused : {why : Refusal} → r ≡ Refused why → r ≡ step_in t hs e x
+      pub reached_refused : {why : Refusal} → r ≡ Err why → Err why ≡ step_in t hs e x
       reached_refused p =
-          p ∙ sym (w.same ∙ ap (λ (v : Reached). on_reached v (λ y. Element (record { 0 = e - e / s % h.elements * s + y * s }))) (sym read ∙ p))
+          sym (w.same ∙ ap (λ (v : Reached). on_reached v (λ y. Ok (record { 0 = e - e / s % h.elements * s + y * s }))) (sym read ∙ p))
 
-      pub reached_found : {y : GroupElementId} → r ≡ Element y → {v : ℕ} → v ≡ e - d * s + y.0 * s → Element (record { 0 = v }) ≡ step_in t hs e x
+      pub reached_found : {y : GroupElementId} → r ≡ Ok y → {v : ℕ} → v ≡ e - d * s + y.0 * s → Ok (record { 0 = v }) ≡ step_in t hs e x
       reached_found {y} p o =
-          ap (λ (v : ℕ). Element (record { 0 = v })) (o ∙ ap (λ (v : ℕ). e - v * s + y.0 * s) z)
-          ∙ sym (w.same ∙ ap (λ (v : Reached). on_reached v (λ y. Element (record { 0 = e - e / s % h.elements * s + y * s }))) (sym read ∙ p))
+          ap (λ (v : ℕ). Ok (record { 0 = v })) (o ∙ ap (λ (v : ℕ). e - v * s + y.0 * s) z)
+          ∙ sym (w.same ∙ ap (λ (v : Reached). on_reached v (λ y. Ok (record { 0 = e - e / s % h.elements * s + y * s }))) (sym read ∙ p))
 
 -- From the identity, whose digits are 0.
 module _ {t : List ℕ} {hs : List Factor} {h : Factor} {x s before : ℕ} (w : Ready t hs h 0 x s before) where
@@ -82,13 +82,13 @@ module _ {t : List ℕ} {hs : List Factor} {h : Factor} {x s before : ℕ} (w : 
   digit_none = simp (zero-div, zero-mod)
 
   module _ {part : List ℕ} (u : part ≡ stretch t h) {r : Reached} (q : r ≡ read_step part h.generators h.elements 0 (x - before)) where
-    pub generated_refused : {why : Refusal} → r ≡ Refused why → r ≡ step_in t hs 0 x
+    pub generated_refused : {why : Refusal} → r ≡ Err why → Err why ≡ step_in t hs 0 x
     generated_refused p = reached_refused w digit_none u q p
 
-    pub generated_small : {y : GroupElementId} → r ≡ Element y → y.0 * s < 4294967296
+    pub generated_small : {y : GroupElementId} → r ≡ Ok y → y.0 * s < 4294967296
     generated_small {y} p =
         let k : 0 - 0 / s % h.elements * s + y.0 * s < 4294967296 = w.up y.0 (reached_small w digit_none u q p) in
         omega (arith, k)
 
-    pub generated_found : {y : GroupElementId} → r ≡ Element y → Element (record { 0 = y.0 * s }) ≡ step_in t hs 0 x
+    pub generated_found : {y : GroupElementId} → r ≡ Ok y → Ok (record { 0 = y.0 * s }) ≡ step_in t hs 0 x
     generated_found {y} p = let z : y.0 * s ≡ 0 - 0 * s + y.0 * s = omega arith in reached_found w digit_none u q p z

@@ -9,7 +9,7 @@ ghost use Rattle.capi_handles_step.specs.Spots.{Spotted};
 
 use capi_handles::inner::{handle_at, listed};
 use egg::inner::chosen;
-use egg::{GeneratorId, GroupElementId, Reached, Verdict};
+use egg::{GeneratorId, GroupElementId, Refusal};
 use group_handles::inner::{Limit, Seen, admit_seen, times};
 
 // The one or the other without a branch, as `chosen` of egg, for 64 bits.
@@ -34,22 +34,20 @@ fn find(table: &[u32], l: &[u32], count: u8, x: u32) -> Spot
     ensures { Spotted table.now l.now count x result }
 {
     let c = listed(count);
-    let mut f: u32 = 0;
     let mut elements: u64 = 1;
     let mut generators: u32 = 0;
     let mut at: u32 = 0;
     let mut stride: u64 = 1;
     let mut before: u32 = 0;
-    while f < c {
+    for f in 0..c {
         let h = handle_at(l, f * 5);
         if !egg::fits(table, h) {
-            let seen = Seen {
-                fit: false,
-                elements,
-                generators,
-            };
             return Spot {
-                seen,
+                seen: Seen {
+                    fit: false,
+                    elements,
+                    generators,
+                },
                 at,
                 stride,
                 before,
@@ -62,15 +60,13 @@ fn find(table: &[u32], l: &[u32], count: u8, x: u32) -> Spot
         before = chosen(here, generators, before);
         elements = next;
         generators += h.generators as u32;
-        f += 1;
     }
-    let seen = Seen {
-        fit: true,
-        elements,
-        generators,
-    };
     Spot {
-        seen,
+        seen: Seen {
+            fit: true,
+            elements,
+            generators,
+        },
         at,
         stride,
         before,
@@ -94,75 +90,73 @@ fn replaced(e: u32, d: u32, y: u32, s: u32) -> u32
 }
 
 // Answers the step from e by x: as `group::step` of the product.
-pub fn step(table: &[u32], l: &[u32], count: u8, e: GroupElementId, x: GeneratorId) -> Reached
+pub fn step(
+    table: &[u32],
+    l: &[u32],
+    count: u8,
+    e: GroupElementId,
+    x: GeneratorId,
+) -> Result<GroupElementId, Refusal>
     ensures { result ≡ step_answer table.now (product_of l.now count) e x }
 {
     if count == 1 {
         return egg::step(table, handle_at(l, 0), e, x);
     }
-    let whole = e.0;
-    let letter = x.0;
-    let p = find(table, l, count, letter as u32);
-    if let Verdict::Refused(why) = admit_seen(
+    let p = find(table, l, count, x.0 as u32);
+    admit_seen(
         p.seen,
         count,
-        whole,
+        e.0,
         Limit::Elements,
-        letter as u32,
+        x.0 as u32,
         Limit::Generators,
-    ) {
-        return Reached::Refused(why);
-    }
+    )?;
     let h = handle_at(l, p.at * 5);
     let s = p.stride as u32;
-    let d = digit(whole, s, h.elements);
-    let own = (letter as u32) - p.before;
-    let r = egg::inner::next(
+    let d = digit(e.0, s, h.elements);
+    let own = (x.0 as u32) - p.before;
+    let y = egg::inner::next(
         egg::inner::part(table, h),
         h.generators,
         h.elements,
         GroupElementId(d),
         GeneratorId(own as u8),
-    );
-    let Reached::Element(y) = r else {
-        return r;
-    };
-    Reached::Element(GroupElementId(replaced(whole, d, y.0, s)))
+    )?;
+    Ok(GroupElementId(replaced(e.0, d, y.0, s)))
 }
 
 // Answers the step from the identity, with the refusals of a call whose only argument is the generator. Its end is that of `step` with 0 for the
 // element; as one function for both, which is put in line, it took 13 instructions more in a step and 17 here. For the same reason `admit_seen` has the
 // second argument that is not there, 0 below 1.
-pub fn generator(table: &[u32], l: &[u32], count: u8, x: GeneratorId) -> Reached
+pub fn generator(
+    table: &[u32],
+    l: &[u32],
+    count: u8,
+    x: GeneratorId,
+) -> Result<GroupElementId, Refusal>
     ensures { result ≡ generator_answer table.now (product_of l.now count) x }
 {
     if count == 1 {
         return factor::generator(table, handle_at(l, 0), x);
     }
-    let letter = x.0;
-    let p = find(table, l, count, letter as u32);
-    if let Verdict::Refused(why) = admit_seen(
+    let p = find(table, l, count, x.0 as u32);
+    admit_seen(
         p.seen,
         count,
-        letter as u32,
+        x.0 as u32,
         Limit::Generators,
         0,
         Limit::Number(1),
-    ) {
-        return Reached::Refused(why);
-    }
+    )?;
     let h = handle_at(l, p.at * 5);
     let s = p.stride as u32;
-    let own = (letter as u32) - p.before;
-    let r = egg::inner::next(
+    let own = (x.0 as u32) - p.before;
+    let y = egg::inner::next(
         egg::inner::part(table, h),
         h.generators,
         h.elements,
         GroupElementId(0),
         GeneratorId(own as u8),
-    );
-    let Reached::Element(y) = r else {
-        return r;
-    };
-    Reached::Element(GroupElementId(y.0 * s))
+    )?;
+    Ok(GroupElementId(y.0 * s))
 }

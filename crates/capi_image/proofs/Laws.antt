@@ -3,7 +3,7 @@ use Prim.Native.Nat.{ℕ}
 use mathlib.Core.Path.{◌≡◌, ◌∙◌}
 use mathlib.Core.List.{List, [], ◌∷◌}
 use lib.ListN.{length}
-use Rattle.egg.specs.declared.Verdict.{Verdict}
+use Rattle.egg.specs.Answers.{Verdict}
 use Rattle.egg.specs.Factor.{verdict_paper}
 use Rattle.image.specs.Image.{image_work}
 use Rattle.image.specs.Checked.{image_verdict}

@@ -38,8 +38,7 @@ pub fn hg_image_verdict(image: &[u8], work: &mut [u8], out: &mut [u32]) -> u32
     if out.len() < 4 {
         return 4;
     }
-    let v = image::verdict(image, work);
-    inner::write_verdict(out, v)
+    inner::write_verdict(out, image::verdict(image, work))
 }
 
 // Walks a word of generators from an element and answers the element reached, or 65,536 + the refusal's number. Refuses in this order: 16 or 1 for
@@ -80,6 +79,5 @@ pub fn hg_image_read(
     if out.len() < 5 {
         return 4;
     }
-    let m = image::read(bytes, table, start, work);
-    inner::write_made(out, m)
+    inner::write_made(out, image::read(bytes, table, start, work))
 }

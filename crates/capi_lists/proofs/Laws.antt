@@ -3,24 +3,39 @@ use Prim.Native.Nat.{ℕ}
 use mathlib.Core.Path.{◌≡◌, refl, ap, ◌∙◌}
 use mathlib.Core.Bool.{true}
 use mathlib.Core.List.{List, [], ◌∷◌}
-use Rattle.egg.specs.declared.Reached.{Reached}
-use Rattle.egg.specs.declared.Verdict.{Verdict}
+use Rattle.std.specs.Prelude.{Ok, Err}
+use Rattle.egg.specs.declared.Refusal.{Refusal}
+use Rattle.egg.specs.Refusals.{refusal_paper}
+use Rattle.egg.specs.Answers.{Reached, Verdict}
 use Rattle.egg.specs.Table.{put_at}
 use Rattle.egg.specs.Factor.{verdict_paper}
 use Rattle.capi_values.specs.Bridge.{paper_into, telling}
 use Rattle.capi_values.proofs.Laws.{told}
-use Rattle.lists.specs.declared.Listed.{Listed}
+use Rattle.lists.specs.declared.RefusedPlace.{RefusedPlace}
+use Rattle.lists.specs.declared.ListRefusal.{ListRefusal}
+use Rattle.lists.specs.declared.ListRefusal.TheVariants.{RefusedAt, ListsRefused}
+use Rattle.lists.specs.Answers.{Listed}
 use Rattle.lists.specs.Lists.{lengths_right, listed_paper, Answered, answered, each_place, over_lists}
 use Rattle.lists.proofs.Answers.{lists_right, only_place}
 use Rattle.capi_lists.specs.Told.{listed_into, listed_told}
 
 -- The verdict that a question's answer comes to, and the place after it.
-pub listed_written : (said : Listed) (v : Verdict) (place : ℕ) (l : List ℕ) {r : ℕ} {l₁ l₂ : List ℕ}
-    → listed_paper said ≡ record { place = place; refusal = verdict_paper v }
-    → (r ≡ (verdict_paper v).number) × (l₁ ≡ paper_into v l) → l₂ ≡ put_at l₁ 4 place
-    → (r ≡ (listed_paper said).refusal.number) × (l₂ ≡ listed_into said l)
-unfolding listed_into paper_into
-listed_written said v place l e (p, q) s = (rw e p, s ∙ rw (q, e))
+module _ (l : List ℕ) {r : ℕ} {l₁ : List ℕ} where
+  listed_written : (said : Listed) (v : Verdict) (place : ℕ) → listed_paper said ≡ record { place = place; refusal = verdict_paper v }
+      → (r ≡ (verdict_paper v).number) × (l₁ ≡ put_at (paper_into v l) 4 place) → (r ≡ (listed_paper said).refusal.number) × (l₁ ≡ listed_into said l)
+  unfolding listed_into paper_into
+  listed_written said v place e (p, q) = (rw e p, q ∙ rw e)
+
+  pub told_at : {why : ListRefusal} {at : RefusedPlace} → why ≡ RefusedAt at → (r ≡ (refusal_paper at.why).number) × (l₁ ≡ put_at (paper_into (Err at.why) l) 4 at.place)
+      → (r ≡ (listed_paper (Err why)).refusal.number) × (l₁ ≡ listed_into (Err why) l)
+  told_at {why} {at} q h = listed_written (Err why) (Err at.why) at.place (ap (λ (x : ListRefusal). listed_paper (Err x)) q) h
+
+  pub told_lists : {all : ListRefusal} {why : Refusal} → all ≡ ListsRefused why → (r ≡ (refusal_paper why).number) × (l₁ ≡ put_at (paper_into (Err why) l) 4 0)
+      → (r ≡ (listed_paper (Err all)).refusal.number) × (l₁ ≡ listed_into (Err all) l)
+  told_lists {all} {why} q h = listed_written (Err all) (Err why) 0 (ap (λ (x : ListRefusal). listed_paper (Err x)) q) h
+
+  pub told_fine : {said : Listed} → said ≡ Ok tt → (r ≡ 0) × (l₁ ≡ put_at (paper_into (Ok tt) l) 4 0) → (r ≡ (listed_paper said).refusal.number) × (l₁ ≡ listed_into said l)
+  told_fine {said} q h = listed_written said (Ok tt) 0 (ap listed_paper q) h
 
 pub listed_told_lem : {said : Listed} {out : List ℕ} {x : Answered} (l : List ℕ) {r : ℕ} {l₁ : List ℕ} → answered said out ≡ x
     → (r ≡ (listed_paper said).refusal.number) × (l₁ ≡ listed_into said l) → telling r l₁ (out ∷ []) ≡ listed_told x l

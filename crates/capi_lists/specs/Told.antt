@@ -4,7 +4,7 @@
 use Rattle.std.specs.Prelude.{ℕ, List, [], ◌∷◌}
 use Rattle.egg.specs.Table.{put_at}
 use Rattle.capi_values.specs.Bridge.{papered, Telling, telling, in_out}
-use Rattle.lists.specs.declared.Listed.{Listed}
+use Rattle.lists.specs.Answers.{Listed}
 use Rattle.lists.specs.Lists.{listed_paper, Answered, answered}
 
 -- The verdict, and after it the place of the lists; where they have none, 0.

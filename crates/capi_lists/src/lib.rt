@@ -80,9 +80,13 @@ pub fn hg_product_compose_each(
         return 4;
     }
     if lists::inner::one_place(a.len(), b.len(), out.len()) {
-        let x = a[0];
-        let y = b[0];
-        let said = compose(table, handles, count, GroupElementId(x), GroupElementId(y));
+        let said = compose(
+            table,
+            handles,
+            count,
+            GroupElementId(a[0]),
+            GroupElementId(b[0]),
+        );
         let listed = lists::inner::hand_over_one(said, out);
         return inner::write_listed(told, listed);
     }
@@ -106,8 +110,7 @@ pub fn hg_product_inverse_each(
         return 4;
     }
     if lists::inner::one_place(a.len(), a.len(), out.len()) {
-        let x = a[0];
-        let said = inverse(table, handles, count, GroupElementId(x));
+        let said = inverse(table, handles, count, GroupElementId(a[0]));
         let listed = lists::inner::hand_over_one(said, out);
         return inner::write_listed(told, listed);
     }

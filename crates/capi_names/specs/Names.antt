@@ -1,11 +1,11 @@
 -- This file defines how a C caller passes names: 33 bytes each in a lent list, those of the name, zeros behind them, and its length last.
 use Rattle.std.specs.Prelude.{ℕ, ◌+◌, ◌*◌, List, [], ◌∷◌, ◌++◌, length, get_or, take, drop, replicate, ltb}
-use Rattle.egg.specs.declared.Verdict.{Verdict}
-use Rattle.egg.specs.declared.Verdict.TheVariants.{Fine, Refused}
+use Rattle.std.specs.Prelude.{Ok, Err}
 use Rattle.egg.specs.Table.{pick}
 use Rattle.capi_handles.specs.Product.{product_of}
 use Rattle.names_values.specs.declared.Name.{Name}
 use Rattle.names_values.specs.declared.NamedGroup.{NamedGroup}
+use Rattle.names_values.specs.Answers.{NamedMade}
 use Rattle.names_joined.specs.Joined.{at_start}
 
 -- What stands for a name where the list is too short for it: its length is no name's, which is 17.
@@ -27,7 +27,7 @@ named_product handles count names = record {
 abbrev pub record_of : Name → List ℕ
 record_of m = m.bytes ++ (m.length ∷ [])
 
--- What a lent list holds by the verdict of the call that makes the factor: the name at its start where it accepts; else what it held.
-abbrev pub record_into : Verdict → Name → List ℕ → List ℕ
-record_into Fine m l = at_start (record_of m) l
-record_into (Refused r) m l = l
+-- What a lent list holds by the answer of the call that makes the factor: the name at its start where it accepts; else what it held.
+abbrev pub record_into : NamedMade → List ℕ → List ℕ
+record_into (Ok f) l = at_start (record_of f.name) l
+record_into (Err r) l = l

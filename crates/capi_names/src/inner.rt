@@ -1,13 +1,16 @@
 // Reads names from lists of bytes, and writes what a call with a name answers.
 ghost use Rattle.std.specs.Prelude.{◌≡◌, ◌≤◌, length};
+ghost use Rattle.egg.specs.Answers.{answer_of};
 ghost use Rattle.egg.specs.Factor.{verdict_paper};
+ghost use Rattle.names_values.specs.Answers.{unnamed_made, unnamed_begun};
 ghost use Rattle.capi_values.specs.Bridge.{made_into};
 ghost use Rattle.capi_builder.specs.Answers.{begun_into};
 ghost use Rattle.names_joined.specs.Joined.{at_start};
 ghost use Rattle.capi_names.specs.Names.{misfit, name_at, named_product, record_of, record_into};
+ghost use Rattle.capi_names.specs.Told.{as_made};
 
-use egg::{Made, Verdict};
-use names_values::{Name, Named, NamedBegun, NamedGroup, NamedMade};
+use egg::Refusal;
+use names_values::{Name, Named, NamedBuilder, NamedGroup};
 
 // What stands for a name that a list is too short for.
 fn misfit() -> Name
@@ -63,39 +66,36 @@ fn write_name(kept: &mut [u8], m: Name)
     kept[32] = m.length;
 }
 
-// The same where the call that gave the verdict accepts, and nothing where it refuses.
-fn write_accepted(kept: &mut [u8], v: Verdict, m: Name)
+// Writes what a call that makes a factor answers, as `capi_values::inner::write_made` does, and the name beside it. Of a call that
+// refuses there is no name, and `kept` stays.
+pub fn write_named(out: &mut [u32], kept: &mut [u8], m: Result<Named, Refusal>) -> u32
     requires { 33 ≤ length kept.old }
-    ensures { kept.new ≡ record_into v m kept.old }
+    ensures { (result ≡ (verdict_paper (answer_of m)).number) × (out.new ≡ made_into (unnamed_made m) out.old) × (kept.new ≡ record_into m kept.old) }
 {
-    if let Verdict::Fine = v {
-        write_name(kept, m);
+    match m {
+        Ok(named) => {
+            write_name(kept, named.name);
+            capi_values::inner::write_made(out, Ok(named.factor))
+        }
+        Err(why) => capi_values::inner::write_made(out, Err(why)),
     }
 }
 
-// Writes what a call that makes a factor answers, as `capi_values::inner::write_made` does, and the name beside it.
-pub fn write_named(out: &mut [u32], kept: &mut [u8], m: NamedMade) -> u32
-    requires { 33 ≤ length kept.old }
-    ensures { (result ≡ (verdict_paper m.answer).number) × (out.new ≡ made_into (record { answer = m.answer; factor = m.named.factor }) out.old) × (kept.new ≡ record_into m.answer m.named.name kept.old) }
+// A build that was begun as a factor, which has its name.
+fn as_made(b: Result<NamedBuilder, Refusal>) -> Result<Named, Refusal>
+    ensures { result ≡ as_made b }
 {
-    let answer = m.answer;
-    let named = m.named;
-    let factor = named.factor;
-    let name = named.name;
-    write_accepted(kept, answer, name);
-    capi_values::inner::write_made(out, Made { answer, factor })
+    let begun = b?;
+    Ok(Named {
+        factor: begun.builder.0,
+        name: begun.name,
+    })
 }
 
 // Writes what `begin` answers, and the name that the factor will have.
-pub fn write_named_begun(out: &mut [u32], kept: &mut [u8], b: NamedBegun) -> u32
+pub fn write_named_begun(out: &mut [u32], kept: &mut [u8], b: Result<NamedBuilder, Refusal>) -> u32
     requires { 33 ≤ length kept.old }
-    ensures { (result ≡ (verdict_paper b.answer).number) × (out.new ≡ begun_into (record { answer = b.answer; builder = b.begun.builder }) out.old) × (kept.new ≡ record_into b.answer b.begun.name kept.old) }
+    ensures { (result ≡ (verdict_paper (answer_of b)).number) × (out.new ≡ begun_into (unnamed_begun b) out.old) × (kept.new ≡ record_into (as_made b) kept.old) }
 {
-    let answer = b.answer;
-    let begun = b.begun;
-    let builder = begun.builder;
-    let factor = builder.0;
-    let name = begun.name;
-    let named = Named { factor, name };
-    write_named(out, kept, NamedMade { answer, named })
+    write_named(out, kept, as_made(b))
 }

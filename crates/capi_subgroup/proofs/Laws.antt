@@ -5,12 +5,16 @@ use mathlib.Core.Bool.{Bool}
 use mathlib.Core.List.{List, [], ◌∷◌}
 use native.Mathlib.Omega.{arith}
 use lib.ListN.{get_or}
+use Rattle.std.specs.Prelude.{Ok, Err}
+use Rattle.egg.specs.Answers.{answer_of}
 use Rattle.egg.specs.declared.Factor.{Factor}
+use Rattle.egg.specs.declared.Refusal.{Refusal}
 use Rattle.egg.specs.Factor.{fits_in, verdict_paper}
 use Rattle.egg.specs.Table.{put_at}
 use Rattle.capi_values.specs.Bridge.{made_into, telling}
 use Rattle.capi_values.proofs.Laws.{told}
-use Rattle.subgroup_build.specs.declared.Subgrouped.{Subgrouped}
+use Rattle.subgroup_build.specs.declared.Subgroup.{Subgroup}
+use Rattle.subgroup_build.specs.Answers.{Subgrouped}
 use Rattle.subgroup_build.specs.Lent.{Subgrouping, subgrouping}
 use Rattle.subgroup.specs.declared.inner.Outline.{Outline}
 use Rattle.subgroup_sides.specs.Sides.{few_factors, few_of}
@@ -23,13 +27,17 @@ use Rattle.capi_handles.specs.Product.{byte_of, handle_at, product_at}
 use Rattle.capi_subgroup.specs.Subgroup.{subgroup_from, subgrouped_into, subgroup_told}
 
 pub subgroup_told_lem : {m : Subgrouped} {t w i o : List ℕ} {x : Subgrouping} (out : List ℕ) {r : ℕ} {l : List ℕ} → subgrouping m t w i o ≡ x
-    → (r ≡ (verdict_paper m.answer).number) × (l ≡ subgrouped_into m out) → telling r l (t ∷ w ∷ i ∷ o ∷ []) ≡ subgroup_told x out
+    → (r ≡ (verdict_paper (answer_of m)).number) × (l ≡ subgrouped_into m out) → telling r l (t ∷ w ∷ i ∷ o ∷ []) ≡ subgroup_told x out
 subgroup_told_lem out e p = told p ∙ ap (λ (y : Subgrouping). subgroup_told y out) e
 
-pub subgrouped_written : (m : Subgrouped) (l : List ℕ) {l₁ l₂ : List ℕ} → l₁ ≡ made_into (record { answer = m.answer; factor = m.subgroup.factor }) l
-    → l₂ ≡ put_at l₁ 5 m.subgroup.factor.generators → l₂ ≡ subgrouped_into m l
+pub subgrouped_written : (s : Subgroup) (l : List ℕ) {l₁ l₂ : List ℕ} → l₁ ≡ made_into (Ok s.factor) l → l₂ ≡ put_at l₁ 5 s.factor.generators
+    → l₂ ≡ subgrouped_into (Ok s) l
 unfolding subgrouped_into
-subgrouped_written m l p q = q ∙ rw p
+subgrouped_written s l p q = q ∙ rw p
+
+pub subgrouped_not : (r : Refusal) (l : List ℕ) {l₁ l₂ : List ℕ} → l₁ ≡ made_into (Err r) l → l₂ ≡ put_at l₁ 5 0 → l₂ ≡ subgrouped_into (Err r) l
+unfolding subgrouped_into
+subgrouped_not r l p q = q ∙ rw p
 
 -- The outline from the numbers of a subgroup.
 few_told : (l : List ℕ) → few_of (byte_of (get_or l 5 0)) (byte_of (get_or l 6 0)) (byte_of (get_or l 7 0)) ≡ few_factors (subgroup_from l)

@@ -5,6 +5,7 @@
 #![tactic(auto)]
 
 ghost use Rattle.std.specs.Prelude.{◌≡◌, [], ◌∷◌, length, get_or};
+ghost use Rattle.egg.specs.Answers.{answer_of};
 ghost use Rattle.egg.specs.Factor.{verdict_paper};
 ghost use Rattle.capi_values.specs.Bridge.{reached_code, counted_code, telling, in_out, verdict_told};
 ghost use Rattle.capi_handles.specs.Product.{byte_of, product_of, product_at};
@@ -16,11 +17,10 @@ ghost use Rattle.subgroup_sides.specs.Sides.{left_product, right_product};
 ghost use Rattle.subgroup.specs.Questions.{to_over_answer, to_sub_answer, generator_answer, generator_count_answer};
 ghost use Rattle.capi_subgroup.specs.Subgroup.{subgroup_from, within_code, subgrouped_into, subgroup_told};
 
-use egg::{GeneratorId, GroupElementId, Made};
+use egg::{Factor, GeneratorId, GroupElementId, Refusal};
 use group_handles::inner::Seen;
-use subgroup::Within;
 use subgroup::inner::Outline;
-use subgroup_build::{Subgroup, Subgrouped};
+use subgroup_build::Subgroup;
 
 // Reads a count of factors.
 fn count_at(l: &[u32], at: u32) -> u8
@@ -62,26 +62,39 @@ fn outline_from(from: &[u32], table: &[u32], l: &[u32]) -> Outline
 }
 
 // One number for an answer about an element of the subgroup.
-fn within_code(r: Within) -> u64
+fn within_code(r: Result<Option<GroupElementId>, Refusal>) -> u64
     ensures { result ≡ within_code r }
 {
     match r {
-        Within::Element(e) => e.0 as u64,
-        Within::Outside => 4294967295,
-        Within::Refused(why) => capi_values::inner::refusal_code(why),
+        Ok(Some(e)) => e.0 as u64,
+        Ok(None) => 4294967295,
+        Err(why) => capi_values::inner::refusal_code(why),
     }
 }
 
-// Writes the verdict, the element count and how many generators the subgroup has. Hands the verdict's number back.
-fn write_subgrouped(out: &mut [u32], m: Subgrouped) -> u32
-    ensures { (result ≡ (verdict_paper m.answer).number) × (out.new ≡ subgrouped_into m out.old) }
+// The verdict alone.
+fn verdict_of(m: Result<Subgroup, Refusal>) -> Result<(), Refusal>
+    ensures { result ≡ answer_of m }
 {
-    let answer = m.answer;
-    let s = m.subgroup;
-    let factor = s.factor;
-    let number = capi_values::inner::write_made(out, Made { answer, factor });
-    egg::inner::put(out, 5, factor.generators as usize);
-    number
+    m.map(|_| ())
+}
+
+// Writes the verdict, the element count and how many generators the subgroup has, 0 where it was refused. Hands the verdict's number back.
+fn write_subgrouped(out: &mut [u32], m: Result<Subgroup, Refusal>) -> u32
+    ensures { (result ≡ (verdict_paper (answer_of m)).number) × (out.new ≡ subgrouped_into m out.old) }
+{
+    match m {
+        Ok(s) => {
+            let number = capi_values::inner::write_made(out, Ok(s.factor));
+            egg::inner::put(out, 5, s.factor.generators as usize);
+            number
+        }
+        Err(why) => {
+            let number = capi_values::inner::write_made(out, Err(why));
+            egg::inner::put(out, 5, 0);
+            number
+        }
+    }
 }
 
 // Builds the subgroup that the elements gens of a product generate; inn maps the overgroup to it, outw back. Refuses in this order: 4 for an out
@@ -181,15 +194,14 @@ pub fn hg_subgroup_left(
     sub: &[u32],
     out: &mut [u32],
 ) -> u32
-    ensures { telling result out.new [] ≡ in_out 4 out.old [] (verdict_told (left_product (length from.now) (length table.now) (product_of handles.now count) (subgroup_from sub.now)).answer out.old) }
+    ensures { telling result out.new [] ≡ in_out 4 out.old [] (verdict_told (answer_of (left_product (length from.now) (length table.now) (product_of handles.now count) (subgroup_from sub.now))) out.old) }
 {
     if out.len() < 4 {
         return 4;
     }
     let g = capi_handles::inner::product_of(handles, count);
     let s = subgroup_from(sub);
-    let m = subgroup::product_left(from, table, g, s);
-    let v = m.answer;
+    let v = verdict_of(subgroup::product_left(from, table, g, s));
     capi_values::inner::write_verdict(out, v)
 }
 
@@ -203,14 +215,13 @@ pub fn hg_subgroup_right(
     count: u8,
     out: &mut [u32],
 ) -> u32
-    ensures { telling result out.new [] ≡ in_out 4 out.old [] (verdict_told (right_product (length from.now) (length table.now) (subgroup_from sub.now) (product_of handles.now count)).answer out.old) }
+    ensures { telling result out.new [] ≡ in_out 4 out.old [] (verdict_told (answer_of (right_product (length from.now) (length table.now) (subgroup_from sub.now) (product_of handles.now count))) out.old) }
 {
     if out.len() < 4 {
         return 4;
     }
     let g = capi_handles::inner::product_of(handles, count);
     let s = subgroup_from(sub);
-    let m = subgroup::product_right(from, table, s, g);
-    let v = m.answer;
+    let v = verdict_of(subgroup::product_right(from, table, s, g));
     capi_values::inner::write_verdict(out, v)
 }

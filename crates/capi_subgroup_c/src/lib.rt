@@ -2,6 +2,7 @@
 #![tactic(auto)]
 
 ghost use Rattle.std.specs.Prelude.{◌≡◌, [], ◌∷◌, length};
+ghost use Rattle.egg.specs.Answers.{answer_of};
 ghost use Rattle.capi_values.specs.Bridge.{reached_code, counted_code, telling, in_out, verdict_told};
 ghost use Rattle.capi_handles.specs.Product.{product_of};
 ghost use Rattle.group_handles.specs.Handles.{handles};
@@ -108,7 +109,7 @@ pub extern "C" fn hg_subgroup_left(
     sub: &[u32],
     out: &mut [u32],
 ) -> u32
-    ensures { telling result out.new [] ≡ in_out 4 out.old [] (verdict_told (left_product (length from.now) (length table.now) (product_of handles.now count) (subgroup_from sub.now)).answer out.old) }
+    ensures { telling result out.new [] ≡ in_out 4 out.old [] (verdict_told (answer_of (left_product (length from.now) (length table.now) (product_of handles.now count) (subgroup_from sub.now))) out.old) }
 {
     capi_subgroup::hg_subgroup_left(from, table, handles, count, sub, out)
 }
@@ -122,7 +123,7 @@ pub extern "C" fn hg_subgroup_right(
     count: u8,
     out: &mut [u32],
 ) -> u32
-    ensures { telling result out.new [] ≡ in_out 4 out.old [] (verdict_told (right_product (length from.now) (length table.now) (subgroup_from sub.now) (product_of handles.now count)).answer out.old) }
+    ensures { telling result out.new [] ≡ in_out 4 out.old [] (verdict_told (answer_of (right_product (length from.now) (length table.now) (subgroup_from sub.now) (product_of handles.now count))) out.old) }
 {
     capi_subgroup::hg_subgroup_right(from, table, sub, handles, count, out)
 }

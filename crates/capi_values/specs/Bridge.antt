@@ -2,14 +2,11 @@
 use Rattle.std.specs.Prelude.{ℕ, ◌+◌, ◌*◌, List, [], ◌∷◌, length, get_or, ltb}
 use Rattle.egg.specs.declared.Refusal.{Refusal}
 use Rattle.egg.specs.declared.Factor.{Factor}
-use Rattle.egg.specs.declared.Verdict.{Verdict}
-use Rattle.egg.specs.declared.Reached.{Reached}
-use Rattle.egg.specs.declared.Reached.TheVariants as reached
-use Rattle.egg.specs.declared.Counted.{Counted}
-use Rattle.egg.specs.declared.Counted.TheVariants as counted
+use Rattle.egg.specs.Answers.{Counted, Made, Reached, Verdict, answer_of}
+use Rattle.egg.specs.Refusals.{refusal_paper}
+use Rattle.std.specs.Prelude.{Ok, Err}
 use Rattle.egg.specs.Table.{pick, put_at}
 use Rattle.egg.specs.Factor.{Paper, verdict_paper}
-use Rattle.egg.specs.declared.Made.{Made}
 use Rattle.build_lending.specs.Lending.{Making, making}
 
 -- A handle from its numbers.
@@ -18,17 +15,17 @@ handle start room n count = record { start = start; room = room; generators = n;
 
 -- One number for a refusal: its own number times 2^32, and its first place.
 abbrev pub refusal_code : Refusal → ℕ
-refusal_code r = r.number * 4294967296 + r.a
+refusal_code r = (refusal_paper r).number * 4294967296 + (refusal_paper r).a
 
 -- One number for an answer about elements: the element's, or the refusal's.
 abbrev pub reached_code : Reached → ℕ
-reached_code (reached.Element e) = e.0
-reached_code (reached.Refused r) = refusal_code r
+reached_code (Ok e) = e.0
+reached_code (Err r) = refusal_code r
 
 -- One number for an answer about counts: the count, or the refusal's.
 abbrev pub counted_code : Counted → ℕ
-counted_code (counted.Count k) = k
-counted_code (counted.Refused r) = refusal_code r
+counted_code (Ok k) = k
+counted_code (Err r) = refusal_code r
 
 -- One number for a place in a word that was handed back: its letter, or, from the end on, 256 and the length.
 unfoldable pub letter_of : List ℕ → ℕ → ℕ
@@ -42,9 +39,14 @@ papered p out = put_at (put_at (put_at (put_at out 0 p.number) 1 p.a) 2 p.b) 3 p
 unfoldable pub paper_into : Verdict → List ℕ → List ℕ
 paper_into v out = papered (verdict_paper v) out
 
+-- How many elements were made; 0 where a build is refused.
+abbrev pub elements_of : Made → ℕ
+elements_of (Ok f) = f.elements
+elements_of (Err r) = 0
+
 -- The verdict of a build, and the element count after it.
 unfoldable pub made_into : Made → List ℕ → List ℕ
-made_into m out = put_at (paper_into m.answer out) 4 m.factor.elements
+made_into m out = put_at (paper_into (answer_of m) out) 4 (elements_of m)
 
 -- What a C function leaves that writes its verdict into `out`: the number that it returns, 0 where nothing is refused; what `out` holds; and what the
 -- other lists hold that it may write, in the order of its parameters.
@@ -62,4 +64,4 @@ verdict_told v out = telling (verdict_paper v).number (paper_into v out) []
 
 -- What was made: its verdict and count, and the table and the work.
 abbrev pub bridged : Making → List ℕ → Telling
-bridged (making m t w) out = telling (verdict_paper m.answer).number (made_into m out) (t ∷ w ∷ [])
+bridged (making m t w) out = telling (verdict_paper (answer_of m)).number (made_into m out) (t ∷ w ∷ [])

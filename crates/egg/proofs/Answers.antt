@@ -1,16 +1,15 @@
 -- One law for each answer of a step, by the tests that lead to it.
 use Prim.Native.Nat.{ℕ, ◌+◌, ◌-◌, ◌≤◌, ◌<◌}
-use mathlib.Core.Path.{◌≡◌, refl, sym, ap, ◌∙◌}
-use mathlib.Core.Bool.{Bool, true, false}
+use mathlib.Core.Path.{◌≡◌}
+use mathlib.Core.Bool.{true, false}
 use mathlib.Core.List.{List}
 use borrow.Author.Tests.{eq-eqb, ne_eqb, lt-ltb, le-ltb, le-leb, lt-leb}
 use lib.ListN.{length, get_or}
 use Rattle.egg.specs.declared.GroupElementId.{GroupElementId}
 use Rattle.egg.specs.declared.GeneratorId.{GeneratorId}
 use Rattle.egg.specs.declared.Factor.{Factor}
-use Rattle.egg.specs.declared.Reached.{Reached}
-use Rattle.egg.specs.declared.Reached.TheVariants.{Element, Refused}
-use Rattle.egg.specs.Table.{pick, start_of}
+use Rattle.std.specs.Prelude.{Ok}
+use Rattle.egg.specs.Table.{start_of}
 use Rattle.egg.specs.Factor.{fits_in, stretch, refused_reach, read_step, step_answer}
 
 module _ (s : List ℕ) (n count e g : ℕ) {x : ℕ} (q : x ≡ get_or s (start_of n e + g) 0) where
@@ -22,7 +21,7 @@ module _ (s : List ℕ) (n count e g : ℕ) {x : ℕ} (q : x ≡ get_or s (start
   unfolding read_step
   read_beyond z h = rw (← q) (simp (ne_eqb _ _ z, lt-ltb _ _ h))
 
-  pub read_element : (x ≡ 0 → ⊥) → x ≤ count → Element (record { 0 = x - 1 }) ≡ read_step s n count e g
+  pub read_element : (x ≡ 0 → ⊥) → x ≤ count → Ok (record { 0 = x - 1 }) ≡ read_step s n count e g
   unfolding read_step
   read_element z h = rw (← q) (simp (ne_eqb _ _ z, le-ltb _ _ h))
 

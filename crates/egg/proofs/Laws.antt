@@ -1,11 +1,11 @@
 -- Laws of the egg layer's definitions, for this crate's proofs and for the layers above.
-use Prim.Native.Nat.{ℕ, zero, suc, ◌+◌, ◌*◌, ◌-◌, ◌≤◌, ◌<◌}
-use mathlib.Core.Path.{◌≡◌, refl, sym, ap, ◌∙◌}
+use Prim.Native.Nat.{ℕ, ◌+◌, ◌*◌, ◌-◌, ◌≤◌, ◌<◌}
+use mathlib.Core.Path.{◌≡◌, refl, ap, ◌∙◌}
 use mathlib.Core.Bool.{Bool, true, false}
-use mathlib.Core.List.{List, [], ◌++◌, append-nil}
+use mathlib.Core.List.{List, ◌++◌, append-nil}
 use native.Mathlib.Nat.{mul-le-mul, lt_of_le_of_lt, le_of_lt}
 use native.Mathlib.Omega.{arith}
-use lib.ListN.{length, drop, get_or, replicate, set}
+use lib.ListN.{length, drop, get_or, replicate}
 use lib.Seq.{drop-length, set_out}
 use lib.Dec.{ltb, lit<}
 use Rattle.egg.specs.Table.{pick, put_at}

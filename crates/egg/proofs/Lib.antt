@@ -1,3 +1,5 @@
+pub mod Refusals
+pub mod Refusing
 pub mod Laws
 pub mod Scans
 pub mod Rooms

@@ -6,28 +6,28 @@ use mathlib.Core.Bool.{Bool, true, false}
 use native.Mathlib.Nat.{sub-zero, eq-or-lt_of_le}
 use native.Mathlib.Omega.{arith}
 use Rattle.egg.specs.declared.Refusal.{Refusal}
-use Rattle.egg.specs.declared.Verdict.{Verdict}
-use Rattle.egg.specs.declared.Verdict.TheVariants.{Fine, Refused}
+use Rattle.egg.specs.Answers.{Verdict, fine}
+use Rattle.std.specs.Prelude.{Ok, Err}
 use Rattle.egg.specs.Table.{pick}
 use Rattle.egg.specs.Scan.{and_then, scan}
 
-pub refused_fine : {r : Refusal} → Refused r ≡ Fine → ⊥
+pub refused_fine : {r : Refusal} → Err r ≡ fine → ⊥
 refused_fine h = let q : ◌≡◌ {A = ℕ} 0 1 = cc in omega arith
 
-pub and_then_fine : (u v : Verdict) → and_then u v ≡ Fine ↔ ((u ≡ Fine) × (v ≡ Fine))
-and_then_fine Fine v = (λ h. (refl, h), λ h. h.1)
-and_then_fine (Refused r) v = (λ h. absurd (refused_fine h), λ h. absurd (refused_fine h.0))
+pub and_then_fine : (u v : Verdict) → and_then u v ≡ fine ↔ ((u ≡ fine) × (v ≡ fine))
+and_then_fine (Ok tt) v = (λ h. (refl, h), λ h. h.1)
+and_then_fine (Err r) v = (λ h. absurd (refused_fine h), λ h. absurd (refused_fine h.0))
 
-pub and_then_refused : (u v : Verdict) {r : Refusal} → and_then u v ≡ Refused r → (u ≡ Refused r) ⊎ (v ≡ Refused r)
-and_then_refused Fine v h = inr h
-and_then_refused (Refused q) v h = inl h
+pub and_then_refused : (u v : Verdict) {r : Refusal} → and_then u v ≡ Err r → (u ≡ Err r) ⊎ (v ≡ Err r)
+and_then_refused (Ok tt) v h = inr h
+and_then_refused (Err q) v h = inl h
 
 -- Where a call gave the first verdict.
 module _ {v w : Verdict} (q : v ≡ w) (u : Verdict) where
-  pub then_refused : {r : Refusal} → v ≡ Refused r → v ≡ and_then w u
+  pub then_refused : {r : Refusal} → v ≡ Err r → v ≡ and_then w u
   then_refused e = rw (← q, e)
 
-  pub then_fine : v ≡ Fine → u ≡ and_then w u
+  pub then_fine : v ≡ fine → u ≡ and_then w u
   then_fine e = rw (← q, e)
 
 -- What is left of c in a turn that starts at i, of any loop that counts up.
@@ -36,15 +36,15 @@ left_suc h = omega arith
 
 -- A loop over a scan: `c - i` places are left at i. Each turn goes on, stops at a refusal, or has come to the end.
 module _ (c : ℕ) (f : ℕ → Verdict) (i : ℕ) where
-  pub scan_next : i < c → f i ≡ Fine → scan (c - i) f i ≡ scan (c - (i + 1)) f (i + 1)
+  pub scan_next : i < c → f i ≡ fine → scan (c - i) f i ≡ scan (c - (i + 1)) f (i + 1)
   unfolding scan
   scan_next h e = rw (left_suc h, e)
 
-  pub scan_here : {r : Refusal} → i < c → f i ≡ Refused r → scan (c - i) f i ≡ Refused r
+  pub scan_here : {r : Refusal} → i < c → f i ≡ Err r → scan (c - i) f i ≡ Err r
   unfolding scan
   scan_here h e = rw (left_suc h, e)
 
-  pub scan_end : c ≤ i → scan (c - i) f i ≡ Fine
+  pub scan_end : c ≤ i → scan (c - i) f i ≡ fine
   unfolding scan
   scan_end h = let q : c - i ≡ 0 = omega arith in rw q
 
@@ -57,17 +57,17 @@ pub scanning : {c : ℕ} {f : ℕ → Verdict} → Scanning c f 0 (scan c f 0)
 scanning = record { rest = rw sub-zero }
 
 module _ {c : ℕ} {f : ℕ → Verdict} {i : ℕ} {whole : Verdict} (s : Scanning c f i whole) where
-  pub stops : {r : Refusal} → i < c → f i ≡ Refused r → Refused r ≡ whole
+  pub stops : {r : Refusal} → i < c → f i ≡ Err r → Err r ≡ whole
   stops h e = sym (scan_here c f i h e) ∙ s.rest
 
   -- Where a call gave the verdict on i, its refusal is handed on.
-  pub hands_on : {v : Verdict} {r : Refusal} → i < c → v ≡ f i → v ≡ Refused r → v ≡ whole
+  pub hands_on : {v : Verdict} {r : Refusal} → i < c → v ≡ f i → v ≡ Err r → v ≡ whole
   hands_on h e told = told ∙ stops h (sym e ∙ told)
 
-  pub goes_on : i < c → f i ≡ Fine → Scanning c f (i + 1) whole
+  pub goes_on : i < c → f i ≡ fine → Scanning c f (i + 1) whole
   goes_on h e = record { rest = sym (scan_next c f i h e) ∙ s.rest }
 
-  pub ends : c ≤ i → Fine ≡ whole
+  pub ends : c ≤ i → fine ≡ whole
   ends h = sym (scan_end c f i h) ∙ s.rest
 
 -- A place is this one or a later one.
@@ -78,49 +78,49 @@ here_or_later P {i} {j} l here later = go (eq-or-lt_of_le l) where
   go (inr p) = later p
 
 -- A scan is fine just if each of its places is.
-pub scan_each : (k : ℕ) (f : ℕ → Verdict) (i : ℕ) → scan k f i ≡ Fine → (j : ℕ) → i ≤ j → j < i + k → f j ≡ Fine
+pub scan_each : (k : ℕ) (f : ℕ → Verdict) (i : ℕ) → scan k f i ≡ fine → (j : ℕ) → i ≤ j → j < i + k → f j ≡ fine
 unfolding scan
 scan_each zero f i h j l m = absurd (omega arith)
 scan_each (suc k) f i h j l m =
     let both = (and_then_fine (f i) (scan k f (i + 1))).0 h in
-    here_or_later (λ j. f j ≡ Fine) l both.0 (λ p. scan_each k f (i + 1) both.1 j (omega arith) (omega arith))
+    here_or_later (λ j. f j ≡ fine) l both.0 (λ p. scan_each k f (i + 1) both.1 j (omega arith) (omega arith))
 
-pub each_scan : (k : ℕ) (f : ℕ → Verdict) (i : ℕ) → ((j : ℕ) → i ≤ j → j < i + k → f j ≡ Fine) → scan k f i ≡ Fine
+pub each_scan : (k : ℕ) (f : ℕ → Verdict) (i : ℕ) → ((j : ℕ) → i ≤ j → j < i + k → f j ≡ fine) → scan k f i ≡ fine
 unfolding scan
 each_scan zero f i h = refl
 each_scan (suc k) f i h =
     (and_then_fine (f i) (scan k f (i + 1))).1 (h i (omega arith) (omega arith), each_scan k f (i + 1) (λ j l m. h j (omega arith) (omega arith)))
 
-pub scan_fine : (k : ℕ) (f : ℕ → Verdict) → scan k f 0 ≡ Fine ↔ ((j : ℕ) → j < k → f j ≡ Fine)
+pub scan_fine : (k : ℕ) (f : ℕ → Verdict) → scan k f 0 ≡ fine ↔ ((j : ℕ) → j < k → f j ≡ fine)
 scan_fine k f = (λ h j l. scan_each k f 0 h j (omega arith) (omega arith), λ h. each_scan k f 0 (λ j l m. h j (omega arith)))
 
 -- What a scan refuses is refused at the first place that is not fine.
-pub scan_first : (k : ℕ) (f : ℕ → Verdict) (i : ℕ) {r : Refusal} → scan k f i ≡ Refused r
-    → (j : ℕ) × (i ≤ j) × (j < i + k) × (f j ≡ Refused r) × ((l : ℕ) → i ≤ l → l < j → f l ≡ Fine)
+pub scan_first : (k : ℕ) (f : ℕ → Verdict) (i : ℕ) {r : Refusal} → scan k f i ≡ Err r
+    → (j : ℕ) × (i ≤ j) × (j < i + k) × (f j ≡ Err r) × ((l : ℕ) → i ≤ l → l < j → f l ≡ fine)
 unfolding scan
 scan_first zero f i h = absurd (refused_fine (sym h))
 scan_first (suc k) f i {r} h = go (f i) refl h (λ q. scan_first k f (i + 1) q) where
   Found : ℕ → ℕ → Type 0
-  Found i k = (j : ℕ) × (i ≤ j) × (j < i + k) × (f j ≡ Refused r) × ((l : ℕ) → i ≤ l → l < j → f l ≡ Fine)
+  Found i k = (j : ℕ) × (i ≤ j) × (j < i + k) × (f j ≡ Err r) × ((l : ℕ) → i ≤ l → l < j → f l ≡ fine)
 
-  go : (v : Verdict) → f i ≡ v → and_then v (scan k f (i + 1)) ≡ Refused r → (scan k f (i + 1) ≡ Refused r → Found (i + 1) k) → Found i (suc k)
-  go Fine e h rest =
+  go : (v : Verdict) → f i ≡ v → and_then v (scan k f (i + 1)) ≡ Err r → (scan k f (i + 1) ≡ Err r → Found (i + 1) k) → Found i (suc k)
+  go (Ok tt) e h rest =
       let p = rest h in
-      (p.0, omega (arith, p.1), omega (arith, p.2), p.3, λ l a b. here_or_later (λ l. f l ≡ Fine) a e (λ c. p.4 l (omega arith) b))
-  go (Refused s) e h rest = (i, omega arith, omega arith, e ∙ h, λ l a b. absurd (omega arith))
+      (p.0, omega (arith, p.1), omega (arith, p.2), p.3, λ l a b. here_or_later (λ l. f l ≡ fine) a e (λ c. p.4 l (omega arith) b))
+  go (Err s) e h rest = (i, omega arith, omega arith, e ∙ h, λ l a b. absurd (omega arith))
 
-pub scan_refused : (k : ℕ) (f : ℕ → Verdict) {r : Refusal} → scan k f 0 ≡ Refused r → (j : ℕ) × (j < k) × (f j ≡ Refused r)
+pub scan_refused : (k : ℕ) (f : ℕ → Verdict) {r : Refusal} → scan k f 0 ≡ Err r → (j : ℕ) × (j < k) × (f j ≡ Err r)
 scan_refused k f h = let p = scan_first k f 0 h in (p.0, omega (arith, p.2), p.3)
 
 -- Whatever is refused, Q holds of the refusal.
 pub record Says (Q : Refusal → Type 0) (v : Verdict) : Type 0 where
-  pub of : (r : Refusal) → v ≡ Refused r → Q r
+  pub of : (r : Refusal) → v ≡ Err r → Q r
 
 module _ {Q : Refusal → Type 0} where
-  pub says_fine : Says Q Fine
+  pub says_fine : Says Q fine
   says_fine = record { of = λ r h. absurd (refused_fine (sym h)) }
 
-  pub says_refused : {r : Refusal} → Q r → Says Q (Refused r)
+  pub says_refused : {r : Refusal} → Q r → Says Q (Err r)
   says_refused {r} q = record { of = λ s h. let e : r ≡ s = cc in rw e at q }
 
   pub says_pick : (b : Bool) (u v : Verdict) → Says Q u → Says Q v → Says Q (pick b u v)
@@ -128,8 +128,8 @@ module _ {Q : Refusal → Type 0} where
   says_pick false u v p q = q
 
   pub says_then : (u v : Verdict) → Says Q u → Says Q v → Says Q (and_then u v)
-  says_then Fine v p q = q
-  says_then (Refused r) v p q = p
+  says_then (Ok tt) v p q = q
+  says_then (Err r) v p q = p
 
   pub says_scan : (k : ℕ) (f : ℕ → Verdict) (i : ℕ) → ((j : ℕ) → Says Q (f j)) → Says Q (scan k f i)
   unfolding scan

@@ -1,47 +1,30 @@
 -- What the answers of calls mean in document 01's numbers; the handle of a factor and its stretch of the table buffer; and the answer of one step.
-use Rattle.std.specs.Prelude.{ℕ, ◌+◌, ◌*◌, ◌-◌, List, Bool, true, false, ◌&&◌, length, get_or, take, drop, ltb, leb, eqb}
+use Rattle.std.specs.Prelude.{ℕ, ◌+◌, ◌*◌, ◌-◌, List, Bool, ◌&&◌, length, get_or, take, drop, ltb, leb, eqb, Ok, Err}
 use Rattle.egg.specs.declared.GroupElementId.{GroupElementId}
 use Rattle.egg.specs.declared.GeneratorId.{GeneratorId}
-use Rattle.egg.specs.declared.Refusal.{Refusal}
 use Rattle.egg.specs.declared.Factor.{Factor}
-use Rattle.egg.specs.declared.Verdict.{Verdict}
-use Rattle.egg.specs.declared.Verdict.TheVariants as verdict
-use Rattle.egg.specs.declared.Reached.{Reached}
-use Rattle.egg.specs.declared.Reached.TheVariants.{Element, Refused}
-use Rattle.egg.specs.declared.Counted.{Counted}
-use Rattle.egg.specs.declared.Counted.TheVariants as counted
+use Rattle.egg.specs.Answers.{Verdict, Reached, Counted}
+pub use Rattle.egg.specs.Refusals.{Paper, refusal_paper, numbered}
 use Rattle.egg.specs.Table.{pick, start_of}
-
--- What an answer says in document 01's numbers: "When an answer is an enum, a definition sets out this paper's number and values for each of its
--- cases". It is 0 and the answer's own number, or a refusal's number and its three places.
-pub record Paper : Type 0 where
-  pub number : ℕ
-  pub a : ℕ
-  pub b : ℕ
-  pub c : ℕ
-
--- The paper's values of a refusal: its number and its three places.
-abbrev pub refusal_paper : Refusal → Paper
-refusal_paper r = record { number = r.number; a = r.a; b = r.b; c = r.c }
 
 -- The paper's values of a check's answer.
 abbrev pub verdict_paper : Verdict → Paper
-verdict_paper verdict.Fine = record { number = 0; a = 0; b = 0; c = 0 }
-verdict_paper (verdict.Refused r) = refusal_paper r
+verdict_paper (Ok _) = record { number = 0; a = 0; b = 0; c = 0 }
+verdict_paper (Err r) = refusal_paper r
 
 -- The paper's values of an answer that is an element.
 abbrev pub reached_paper : Reached → Paper
-reached_paper (Element e) = record { number = 0; a = e.0; b = 0; c = 0 }
-reached_paper (Refused r) = refusal_paper r
+reached_paper (Ok e) = record { number = 0; a = e.0; b = 0; c = 0 }
+reached_paper (Err r) = refusal_paper r
 
 -- The paper's values of an answer that is a count.
 abbrev pub counted_paper : Counted → Paper
-counted_paper (counted.Count k) = record { number = 0; a = k; b = 0; c = 0 }
-counted_paper (counted.Refused r) = refusal_paper r
+counted_paper (Ok k) = record { number = 0; a = k; b = 0; c = 0 }
+counted_paper (Err r) = refusal_paper r
 
 -- A refused question about elements, with the refusal's number and first place.
 abbrev pub refused_reach : ℕ → ℕ → Reached
-refused_reach k a = Refused (record { number = k; a = a; b = 0; c = 0 })
+refused_reach k a = Err (numbered k a 0 0)
 
 -- True where a factor has room in a buffer of `len` numbers from `start` on, within document 01's limits: at most 8 generators, a room of 1 to
 -- 65,535, and as many numbers as it needs, "exactly R(2n+4) entries of table".
@@ -65,7 +48,7 @@ stored_step t f e g = get_or (stretch t f) (start_of f.generators e + g) 0
 unfoldable pub read_step : (s : List ℕ) (n count e g : ℕ) → Reached
 read_step s n count e g =
     pick (eqb (get_or s (start_of n e + g) 0) 0) (refused_reach 17 0)
-    (pick (ltb count (get_or s (start_of n e + g) 0)) (refused_reach 17 0) (Element (record { 0 = get_or s (start_of n e + g) 0 - 1 })))
+    (pick (ltb count (get_or s (start_of n e + g) 0)) (refused_reach 17 0) (Ok (record { 0 = get_or s (start_of n e + g) 0 - 1 })))
 
 -- What `step` answers. "Calls on handles check 17 in the handle, then 14, .. then 17 in what they read." The place of 14 is the argument's "position
 -- among these from 0": the element has 0, the generator 1.

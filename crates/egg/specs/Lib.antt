@@ -3,3 +3,4 @@ pub mod Factor
 pub mod Scan
 pub mod Pairs
 pub mod Answers
+pub mod Refusals

@@ -1,7 +1,6 @@
 -- The pairs of generators in document 01's order, "(0,1),(0,2),(1,2),(0,3).. ", and the orders given for them.
 use Rattle.std.specs.Prelude.{ℕ, ◌*◌, ◌-◌, ◌/◌, List, [], ◌∷◌, length, get_or, eqb, leb}
-use Rattle.egg.specs.declared.Verdict.{Verdict}
-use Rattle.egg.specs.declared.Verdict.TheVariants.{Fine, Refused}
+use Rattle.egg.specs.Answers.{Verdict, fine}
 use Rattle.egg.specs.Table.{pick}
 use Rattle.egg.specs.Scan.{refused_of, scan}
 
@@ -19,7 +18,7 @@ pair_count n = n * (n - 1) / 2
 
 -- Refusal 3, "an order outside 2..32,767", with its index in the list, where the order at k is such a one.
 abbrev pub order_at : List ℕ → ℕ → Verdict
-order_at orders k = pick (leb 2 (get_or orders k 0)) (pick (leb (get_or orders k 0) 32767) Fine (refused_of 3 k 0 0)) (refused_of 3 k 0 0)
+order_at orders k = pick (leb 2 (get_or orders k 0)) (pick (leb (get_or orders k 0) 32767) fine (refused_of 3 k 0 0)) (refused_of 3 k 0 0)
 
 -- Refusal 2, "order list not n(n-1)/2 long"; else 3 for the first order that is wrong.
 unfoldable pub orders_right : List ℕ → ℕ → Verdict

@@ -7,10 +7,9 @@
 ghost use Rattle.std.specs.Prelude.{◌≡◌, true, ◌+◌, ◌*◌, ◌<◌, ◌-◌, length, get_or, set, replicate};
 ghost use Rattle.egg.specs.Table.{pick, put_at, start_of, succ_at, pred_at, hop_of, last_of, step_of, work_of, Place};
 ghost use Rattle.egg.specs.Pairs.{pair_code, pair_count};
-ghost use Rattle.egg.specs.Scan.{refused_of};
-ghost use Rattle.egg.specs.Factor.{fits_in, stretch, refused_reach, read_step};
+ghost use Rattle.egg.specs.Factor.{fits_in, stretch, read_step};
 
-use super::{Counted, Factor, GeneratorId, GroupElementId, Reached, Refusal, Verdict};
+use super::{Factor, GeneratorId, GroupElementId, Refusal};
 
 // What stands at i, and 0 past the end.
 pub fn get(s: &[u32], i: usize) -> u32
@@ -66,11 +65,7 @@ pub fn put_byte(out: &mut [u8], i: usize, v: u8)
 pub fn clear(s: &mut [u32])
     ensures { s.new ≡ replicate (length s.old) 0 }
 {
-    let mut i = 0;
-    while i < s.len() {
-        s[i] = 0;
-        i += 1;
-    }
+    s.fill(0);
 }
 
 // How many numbers the row of an element has.
@@ -189,31 +184,25 @@ pub fn inverse_at(n: u8, e: GroupElementId) -> usize
     start(n, e) + 2 * (n as usize) + 3
 }
 
-// A refused question about elements, with the refusal's number and first place.
-pub fn refuse(number: u32, a: u32) -> Reached
-    ensures { result ≡ refused_reach number a }
-{
-    Reached::Refused(Refusal {
-        number,
-        a,
-        b: 0,
-        c: 0,
-    })
-}
-
 // The one read that every question is built on: the step in the stretch of a factor, or 17 where the number read is out
 // of range.
-pub fn next(s: &[u32], n: u8, count: u32, e: GroupElementId, g: GeneratorId) -> Reached
+pub fn next(
+    s: &[u32],
+    n: u8,
+    count: u32,
+    e: GroupElementId,
+    g: GeneratorId,
+) -> Result<GroupElementId, Refusal>
     ensures { result ≡ read_step s.now n count e.0 g.0 }
 {
     let x = get(s, successor_at(n, e, g));
     if x == 0 {
-        return refuse(17, 0);
+        return Err(Refusal::Unreadable);
     }
     if count < x {
-        return refuse(17, 0);
+        return Err(Refusal::Unreadable);
     }
-    Reached::Element(GroupElementId(x - 1))
+    Ok(GroupElementId(x - 1))
 }
 
 // The stretch of the table buffer that belongs to a factor whose handle fits.
@@ -248,23 +237,4 @@ pub fn pair_count(n: u8) -> u32
         return 0;
     }
     (n as u32) * ((n as u32) - 1) / 2
-}
-
-// A refused check, with the refusal's number and places.
-pub fn refused(number: u32, a: u32, b: u32, c: u32) -> Verdict
-    ensures { result ≡ refused_of number a b c }
-{
-    Verdict::Refused(Refusal { number, a, b, c })
-}
-
-// A refused question about a count, with the refusal's number.
-pub fn refused_count(number: u32) -> Counted
-    ensures { result ≡ Counted.Refused (record { number = number; a = 0; b = 0; c = 0 }) }
-{
-    Counted::Refused(Refusal {
-        number,
-        a: 0,
-        b: 0,
-        c: 0,
-    })
 }

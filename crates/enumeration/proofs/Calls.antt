@@ -10,11 +10,9 @@ use borrow.Rule.Slice.PartMut.{mid_of, put_mid}
 use lib.ListN.{length, take, drop}
 use lib.Seq.{length-take-le}
 use Rattle.egg.specs.declared.Refusal.{Refusal}
-use Rattle.egg.specs.declared.Made.{Made}
-use Rattle.egg.specs.declared.Verdict.{Verdict}
-use Rattle.egg.specs.declared.Verdict.TheVariants as verdict
-use Rattle.egg.specs.declared.Counted.{Counted}
-use Rattle.egg.specs.declared.Counted.TheVariants.{Count, Refused}
+use Rattle.egg.specs.Answers.{Counted, Made, Verdict, fine}
+use Rattle.std.specs.Prelude.{Ok, Err, Option, Some, None}
+use Rattle.std.specs.Result.{result_ok}
 use Rattle.egg.specs.Pairs.{orders_right}
 use Rattle.factor_relations.proofs.Orders.{orders_limits, few_pairs}
 use Rattle.egg.proofs.Rooms.{positive, limited}
@@ -34,14 +32,14 @@ use Rattle.enumeration.specs.Calls.{ran_count, relating, relating_by, relates, w
 use Rattle.enumeration.specs.Quick.{Quick}
 
 module _ (n : ℕ) (o : List ℕ) {read : Counted} (t : List ℕ) where
-  pub relates_refused : {why : Refusal} → read ≡ Refused why → relating (Refused why) t ≡ relates n o read t
+  pub relates_refused : {why : Refusal} → read ≡ Err why → relating (Err why) t ≡ relates n o read t
   relates_refused e = rw e
 
-  module _ {count : ℕ} {v : Verdict} (e : read ≡ Count count) (q : v ≡ relations_row t n count o 0) where
-    pub relates_fails : {why : Refusal} {t₁ : List ℕ} → v ≡ verdict.Refused why → t₁ ≡ zeroed t → relating (Refused why) t₁ ≡ relates n o read t
+  module _ {count : ℕ} {v : Verdict} (e : read ≡ Ok count) (q : v ≡ relations_row t n count o 0) where
+    pub relates_fails : {why : Refusal} {t₁ : List ℕ} → v ≡ Err why → t₁ ≡ zeroed t → relating (Err why) t₁ ≡ relates n o read t
     relates_fails h z = rw (e, ← q, h, z)
 
-    pub relates_holds : v ≡ verdict.Fine → relating (Count count) t ≡ relates n o read t
+    pub relates_holds : v ≡ fine → relating (Ok count) t ≡ relates n o read t
     relates_holds h = rw (e, ← q, h)
 
 -- The run, the checks, and 13.
@@ -57,44 +55,55 @@ enumerated_in_lem lt lw o n room {r = r} {c} {d} {f} {t} {w} {t₁} {w₁} {t₂
     ap (with_work w₁) q ∙ ap (related n o) (sym v)
 
 -- An accepted end: an accepted build before 13, and 13 passed at the identity.
-pub by_relations : (n : ℕ) (o : List ℕ) (b : Built) {N : ℕ} {t w : List ℕ} → related n o b ≡ built (Count N) t w
-    → (b ≡ built (Count N) t w) × (relations_row t n N o 0 ≡ verdict.Fine)
-by_relations n o (built (Count c) s v) {N} {t} {w} q = by (relations_row s n c o 0) refl q where
-  by : (d : Verdict) → relations_row s n c o 0 ≡ d → with_work v (relating_by d c s) ≡ built (Count N) t w
-      → (built (Count c) s v ≡ built (Count N) t w) × (relations_row t n N o 0 ≡ verdict.Fine)
-  by verdict.Fine h e =
+pub by_relations : (n : ℕ) (o : List ℕ) (b : Built) {N : ℕ} {t w : List ℕ} → related n o b ≡ built (Ok N) t w
+    → (b ≡ built (Ok N) t w) × (relations_row t n N o 0 ≡ fine)
+by_relations n o (built (Ok c) s v) {N} {t} {w} q = by (relations_row s n c o 0) refl q where
+  by : (d : Verdict) → relations_row s n c o 0 ≡ d → with_work v (relating_by d c s) ≡ built (Ok N) t w
+      → (built (Ok c) s v ≡ built (Ok N) t w) × (relations_row t n N o 0 ≡ fine)
+  by (Ok _) h e =
       let a : c ≡ N = cc in
       let b : s ≡ t = cc in
-      (e, subst (λ (x : List ℕ). relations_row x n N o 0 ≡ verdict.Fine) b (subst (λ (x : ℕ). relations_row s n x o 0 ≡ verdict.Fine) a h))
-  by (verdict.Refused r) h e = absurd (refused_counted e)
-by_relations n o (built (Refused r) s v) q = absurd (refused_counted q)
+      (e, subst (λ (x : List ℕ). relations_row x n N o 0 ≡ fine) b (subst (λ (x : ℕ). relations_row s n x o 0 ≡ fine) a h))
+  by (Err r) h e = absurd (refused_counted e)
+by_relations n o (built (Err r) s v) q = absurd (refused_counted q)
+
+-- Nothing is no count.
+nothing : {N : ℕ} → ◌≡◌ {A = Option ℕ} None (Some N) → ⊥
+nothing x = let z : ◌≡◌ {A = ℕ} 0 1 = cc in omega arith
+
+-- What accepts with M is M's acceptance.
+accepts : (d : Counted) {M : ℕ} → result_ok d ≡ Some M → d ≡ Ok M
+accepts (Ok x) {M} e = let q : x ≡ M = cc in ap Ok q
+accepts (Err r) e = absurd (nothing e)
 
 -- The quick way, where it stops, and where it accepts.
 module _ (lt lw : ℕ) (o : List ℕ) (n room : ℕ) where
-  pub quick_none : {r : ℕ} {t w : List ℕ} → r ≡ 0 → Quick lt lw o n room r t w
-  quick_none z = record { same = λ some. absurd (some z) }
+  pub quick_none : {t w : List ℕ} → Quick lt lw o n room None t w
+  quick_none = record { same = λ N e. absurd (nothing e) }
 
-  pub quick_same : (w : List ℕ) → Limits n o room lt lw → {r : Ran} {N M : ℕ} {c d : Counted} {F t₁ w₁ t₂ : List ℕ}
-      → sweep r F ≡ swiftly n o room lt → r ≡ ran.Done N → length w ≡ lw → built c t₁ w₁ ≡ finished (Count N) n F w → relating d t₂ ≡ relates n o c t₁ → d ≡ Count M
-      → Quick lt lw o n room M t₂ w₁
+  quick_with : (w : List ℕ) → Limits n o room lt lw → {r : Ran} {N M : ℕ} {c d : Counted} {F t₁ w₁ t₂ : List ℕ}
+      → sweep r F ≡ swiftly n o room lt → r ≡ ran.Done N → length w ≡ lw → built c t₁ w₁ ≡ finished (Ok N) n F w → relating d t₂ ≡ relates n o c t₁ → d ≡ Ok M
+      → built (Ok M) t₂ w₁ ≡ enumerated_in lt lw o n room
   unfolding enumerated_in
-  quick_same w L {r} {N} {M} {c} {d} {F} {t₁} {w₁} {t₂} a done long p q e =
-      let x : related n o (finished (Count N) n F w) ≡ built (Count M) t₂ w₁
+  quick_with w L {r} {N} {M} {c} {d} {F} {t₁} {w₁} {t₂} a done long p q e =
+      let x : related n o (finished (Ok N) n F w) ≡ built (Ok M) t₂ w₁
       = ap (related n o) (sym p) ∙ ap (with_work w₁) (sym q) ∙ ap (λ (k : Counted). built k t₂ w₁) e in
-      let b = by_relations n o (finished (Count N) n F w) x in
+      let b = by_relations n o (finished (Ok N) n F w) x in
       let S = swift L F (sym a ∙ ap (λ (k : Ran). sweep k F) done) w long b.0 b.1 in
-      record {
-        same = λ some.
-            sym (ap (λ (k : Ran). related n o (finished (ran_count k) n (enumerated n o room lt lw).table (enumerated n o room lt lw).work)) S.0
-            ∙ ap (related n o) (S.1 ∙ sym b.0) ∙ x);
-      }
+      sym (ap (λ (k : Ran). related n o (finished (ran_count k) n (enumerated n o room lt lw).table (enumerated n o room lt lw).work)) S.0
+      ∙ ap (related n o) (S.1 ∙ sym b.0) ∙ x)
+
+  pub quick_same : (w : List ℕ) → Limits n o room lt lw → {r : Ran} {N : ℕ} {c d : Counted} {x : Option ℕ} {F t₁ w₁ t₂ : List ℕ}
+      → sweep r F ≡ swiftly n o room lt → r ≡ ran.Done N → length w ≡ lw → built c t₁ w₁ ≡ finished (Ok N) n F w → relating d t₂ ≡ relates n o c t₁
+      → x ≡ result_ok d → Quick lt lw o n room x t₂ w₁
+  quick_same w L {d = d} a done long p q z = record { same = λ M e. quick_with w L a done long p q (accepts d (sym z ∙ e)) }
 
 -- Orders within the limits are such as the machine wants.
 pub limits_orders : {n : ℕ} {o : List ℕ} {room lt lw : ℕ} → Limits n o room lt lw → Orders o
 limits_orders {n} L = (omega (arith, L.full, few_pairs n L.few), L.orders)
 
 -- Where 1 to 4 pass, the run is within its limits.
-module _ (table : List ℕ) (start : ℕ) (work orders : List ℕ) (n room : ℕ) (generators : n ≤ 8) (right : orders_right orders n ≡ verdict.Fine)
+module _ (table : List ℕ) (start : ℕ) (work orders : List ℕ) (n room : ℕ) (generators : n ≤ 8) (right : orders_right orders n ≡ fine)
     (lent : lent_right (length table) start (length work) room n ≡ true) where
   pub limits : Limits n orders room (table_need n room) (work_need n room)
   limits =
@@ -114,28 +123,27 @@ module _ (table : List ℕ) (start : ℕ) (work orders : List ℕ) (n room : ℕ
       → Limits n orders room (length (mid_of start (e - start) table)) (length (take d work))
   lent_limits {e} {d} q need fits = rw (part_length table start (table_need n room) q, length-take-le d work fits, need) limits
 
-module _ (table : List ℕ) (start : ℕ) (work orders : List ℕ) (n room : ℕ) {m : Made} where
-  pub enumerates_generators : 8 < n → m ≡ refused_made 1 n → making m table work ≡ enumerates table start work orders n room
+module _ (table : List ℕ) (start : ℕ) (work orders : List ℕ) (n room : ℕ) where
+  pub enumerates_generators : 8 < n → making (refused_made 1 n) table work ≡ enumerates table start work orders n room
   unfolding enumerates
-  enumerates_generators h e = simp (lt-ltb _ _ h) (rw e)
+  enumerates_generators h = simp (lt-ltb _ _ h)
 
   module _ (few : n ≤ 8) {v : Verdict} (o : v ≡ orders_right orders n) where
-    pub enumerates_orders : {why : Refusal} {c : Counted} → v ≡ verdict.Refused why → c ≡ Refused why → m ≡ made_of start room n c
-        → making m table work ≡ enumerates table start work orders n room
+    pub enumerates_orders : {why : Refusal} → v ≡ Err why → making (Err why) table work ≡ enumerates table start work orders n room
     unfolding enumerates
-    enumerates_orders h c e = rw (← o, h, e, c) (simp (le-ltb _ _ few))
+    enumerates_orders h = rw (← o, h) (simp (le-ltb _ _ few))
 
-    pub enumerates_short : v ≡ verdict.Fine → lent_right (length table) start (length work) room n ≡ false → m ≡ refused_made 4 0
-        → making m table work ≡ enumerates table start work orders n room
+    pub enumerates_short : v ≡ fine → lent_right (length table) start (length work) room n ≡ false
+        → making (refused_made 4 0) table work ≡ enumerates table start work orders n room
     unfolding enumerates
-    enumerates_short h l e = rw (← o, h, e, l) (simp (le-ltb _ _ few))
+    enumerates_short h l = rw (← o, h, l) (simp (le-ltb _ _ few))
 
-    pub enumerates_built : v ≡ verdict.Fine → lent_right (length table) start (length work) room n ≡ true
-        → {e d : ℕ} {c : Counted} {t w : List ℕ} → StretchEnd e start (table_need n room) (length table) → d ≡ work_need n room → d ≤ length work
+    pub enumerates_built : v ≡ fine → lent_right (length table) start (length work) room n ≡ true
+        → {e d : ℕ} {m : Made} {c : Counted} {t w : List ℕ} → StretchEnd e start (table_need n room) (length table) → d ≡ work_need n room → d ≤ length work
         → m ≡ made_of start room n c → built c t w ≡ enumerated_in (length (mid_of start (e - start) table)) (length (take d work)) orders n room
         → making m (put_mid start (e - start) table t) (w ++ drop d work) ≡ enumerates table start work orders n room
     unfolding enumerates
-    enumerates_built h l {e} {d} {c} {t} {w} q need fits made b =
+    enumerates_built h l {e} {d} {m} {c} {t} {w} q need fits made b =
         let b' : built c t w ≡ enumerated_in (table_need n room) (work_need n room) orders n room
         = b ∙ rw (part_length table start (table_need n room) q, length-take-le d work fits, need) in
         build_back table start work n room q need made b' ∙ rw (← o, h, l) (simp (le-ltb _ _ few))

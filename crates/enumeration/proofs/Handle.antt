@@ -9,9 +9,8 @@ use borrow.Author.Tests.{le-ltb, ltb-false}
 use lib.ListN.{length}
 use lib.Dec.{ltb}
 use Rattle.egg.specs.declared.Factor.{Factor}
-use Rattle.egg.specs.declared.Verdict.{Verdict}
-use Rattle.egg.specs.declared.Verdict.TheVariants as verdict
-use Rattle.egg.specs.declared.Counted.TheVariants.{Count, Refused}
+use Rattle.egg.specs.Answers.{Verdict, fine}
+use Rattle.std.specs.Prelude.{Ok, Err}
 use Rattle.egg.specs.Table.{pick}
 use Rattle.egg.specs.Pairs.{orders_right}
 use Rattle.build_lending.specs.Finish.{built, finished}
@@ -29,15 +28,15 @@ use Rattle.enumeration.proofs.Calls.{by_relations, limits}
 
 module _ {n : ℕ} {o : List ℕ} {room lt lw : ℕ} (L : Limits n o room lt lw) where
   -- A run that counts N is done with N elements.
-  pub done : (a : Ran) → (enumerated n o room lt lw).answer ≡ a → {N : ℕ} → ran_count a ≡ Count N → (enumerated n o room lt lw).answer ≡ ran.Done N
+  pub done : (a : Ran) → (enumerated n o room lt lw).answer ≡ a → {N : ℕ} → ran_count a ≡ Ok N → (enumerated n o room lt lw).answer ≡ ran.Done N
   done (ran.Done c) e q = e ∙ ap ran.Done (cc)
   done (ran.Paused at) e q = absurd (never_paused L e)
   done (ran.Refused r) e {N} q = absurd (never q) where
-    never : Refused r ≡ Count N → ⊥
+    never : Err r ≡ Ok N → ⊥
     never x = let z : ◌≡◌ {A = ℕ} 0 1 = cc in omega arith
 
   -- A build that is accepted with N elements has at most as many as there was room for.
-  enumerated_within : {N : ℕ} {t w : List ℕ} → enumerated_in lt lw o n room ≡ built (Count N) t w → N ≤ room
+  enumerated_within : {N : ℕ} {t w : List ℕ} → enumerated_in lt lw o n room ≡ built (Ok N) t w → N ≤ room
   unfolding enumerated_in
   enumerated_within q =
       let a = by_relations n o (finished (ran_count (enumerated n o room lt lw).answer) n (enumerated n o room lt lw).table (enumerated n o room lt lw).work) q in
@@ -45,7 +44,7 @@ module _ {n : ℕ} {o : List ℕ} {room lt lw : ℕ} (L : Limits n o room lt lw)
       (done_sound L (done (enumerated n o room lt lw).answer refl b.0)).fits
 
 -- Where 1 to 4 pass, the call is the build in its stretches, put back into the buffers.
-module _ (table : List ℕ) (start : ℕ) (work orders : List ℕ) (n room : ℕ) (generators : n ≤ 8) (right : orders_right orders n ≡ verdict.Fine)
+module _ (table : List ℕ) (start : ℕ) (work orders : List ℕ) (n room : ℕ) (generators : n ≤ 8) (right : orders_right orders n ≡ fine)
     (lent : lent_right (length table) start (length work) room n ≡ true) where
   pub enumerates_is_build : enumerates table start work orders n room
       ≡ lent_back table start work n room (enumerated_in (table_need n room) (work_need n room) orders n room)
@@ -54,11 +53,11 @@ module _ (table : List ℕ) (start : ℕ) (work orders : List ℕ) (n room : ℕ
 
 module _ (table : List ℕ) (start : ℕ) (work orders : List ℕ) (n room : ℕ) where
   abbrev Passed : Type 0
-  Passed = (n ≤ 8) × (orders_right orders n ≡ verdict.Fine) × (lent_right (length table) start (length work) room n ≡ true)
+  Passed = (n ≤ 8) × (orders_right orders n ≡ fine) × (lent_right (length table) start (length work) room n ≡ true)
 
   module _ (f : Factor) (t w : List ℕ) where
     abbrev accepted : Making
-    accepted = making (record { answer = verdict.Fine; factor = f }) t w
+    accepted = making (Ok f) t w
 
     -- Where the call is accepted, 1 to 4 have passed.
     pub passed : enumerates table start work orders n room ≡ accepted → Passed
@@ -68,9 +67,9 @@ module _ (table : List ℕ) (start : ℕ) (work orders : List ℕ) (n room : ℕ
           → refused_making v table work (pick b (lent_back table start work n room (enumerated_in (table_need n room) (work_need n room) orders n room))
           (making (refused_made 4 0) table work)) ≡ accepted
           → Passed
-      third verdict.Fine o g true l e = (ltb-false 8 n g, o, l)
-      third verdict.Fine o g false l e = absurd (refused_making_lem e)
-      third (verdict.Refused r) o g b l e = absurd (refused_making_lem e)
+      third (Ok _) o g true l e = (ltb-false 8 n g, o, l)
+      third (Ok _) o g false l e = absurd (refused_making_lem e)
+      third (Err r) o g b l e = absurd (refused_making_lem e)
 
       first : (a : Bool) → ltb 8 n ≡ a
           → pick a (making (refused_made 1 n) table work)

@@ -5,7 +5,7 @@ ghost use Rattle.std.specs.Prelude.{◌≡◌, ◌+◌, ◌*◌, ◌<◌, ◌≤
 ghost use Rattle.build_lending.specs.Lending.{Making};
 ghost use Rattle.enumeration.specs.Calls.{enumerates};
 
-use egg::{Counted, Made, Verdict};
+use egg::{Factor, Refusal};
 
 pub mod inner;
 
@@ -22,17 +22,15 @@ pub fn enumerate(
     orders: &[u32],
     n: u8,
     room: u32,
-) -> Made
+) -> Result<Factor, Refusal>
     ensures { Making.making result table.new work.new ≡ enumerates table.old start work.old orders.now n room }
 {
     if 8 < n {
-        return build_lending::inner::refused_made(1, n as u32);
+        return Err(Refusal::TooManyGenerators(n as u32));
     }
-    if let Verdict::Refused(why) = factor_relations::inner::orders_right(orders, n) {
-        return build_lending::inner::made(start, room, n, Counted::Refused(why));
-    }
+    factor_relations::inner::orders_right(orders, n)?;
     if !build_lending::inner::lent_right(table.len(), start, work.len(), room, n) {
-        return build_lending::inner::refused_made(4, 0);
+        return Err(Refusal::TooShort);
     }
     let end = build_lending::inner::stretch_end(table.len(), start, room, n);
     let need = build_lending::inner::work_need(n, room);

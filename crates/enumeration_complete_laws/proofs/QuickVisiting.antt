@@ -11,7 +11,7 @@ use lib.ListN.{get_or, length}
 use Rattle.egg.specs.declared.GroupElementId.{GroupElementId}
 use Rattle.egg.specs.declared.GeneratorId.{GeneratorId}
 use Rattle.egg.specs.declared.Refusal.{Refusal}
-use Rattle.egg.specs.declared.Counted.TheVariants as counted
+use Rattle.std.specs.Prelude.{Ok, Err}
 use Rattle.egg.specs.Table.{start_of, length_of}
 use Rattle.build_reading.specs.Build.{set_step, set_word, adds}
 use Rattle.egg.specs.Answers.{numbered}
@@ -43,12 +43,12 @@ use Rattle.enumeration_complete_laws.proofs.Saying.{none_says, said_right, loop_
 
 -- The ways in which a visit ends.
 module _ (n : ℕ) (o : List ℕ) (room c : ℕ) (e : GroupElementId) (g : GeneratorId) (q : List ℕ) where
-  sweep_skips : StepKnown n q e.0 g.0 → sweeps n o room c e g q ≡ swept (counted.Count c) q
+  sweep_skips : StepKnown n q e.0 g.0 → sweeps n o room c e g q ≡ swept (Ok c) q
   unfolding sweeps
   sweep_skips d = simp (ne_eqb _ _ d)
 
   module _ (z : get_or q (start_of n e.0 + g.0) 0 ≡ 0) where
-    sweep_loops : (r : ℕ) → loop_from n q o n e.0 g.0 0 ≡ suc r → sweeps n o room c e g q ≡ swept (counted.Count c) (set_both q n e g (record { 0 = r }))
+    sweep_loops : (r : ℕ) → loop_from n q o n e.0 g.0 0 ≡ suc r → sweeps n o room c e g q ≡ swept (Ok c) (set_both q n e g (record { 0 = r }))
     unfolding sweeps settles
     sweep_loops r l =
         let d : suc r ≡ 0 → ⊥ = omega arith in
@@ -57,15 +57,15 @@ module _ (n : ℕ) (o : List ℕ) (room c : ℕ) (e : GroupElementId) (g : Gener
 
     module _ (none : loop_from n q o n e.0 g.0 0 ≡ 0) where
       sweep_makes : (len : ℕ) → c < room → length_of q n e.0 < 4096 → len ≡ length_of q n e.0 + 1
-          → sweeps n o room c e g q ≡ swept (counted.Count (c + 1)) (stepped q n c e g len)
+          → sweeps n o room c e g q ≡ swept (Ok (c + 1)) (stepped q n c e g len)
       unfolding sweeps settles adds
       sweep_makes len h short i = rw i (simp (eq-eqb _ _ z, none, lt-leb _ _ h, lt-leb _ _ short))
 
-      sweep_full : room ≤ c → sweeps n o room c e g q ≡ swept (counted.Refused (numbered 5 e.0 g.0 0)) q
+      sweep_full : room ≤ c → sweeps n o room c e g q ≡ swept (Err (numbered 5 e.0 g.0 0)) q
       unfolding sweeps settles adds
       sweep_full h = simp (eq-eqb _ _ z, none, le-leb _ _ h)
 
-      sweep_long : c < room → 4096 ≤ length_of q n e.0 → sweeps n o room c e g q ≡ swept (counted.Refused (numbered 6 e.0 g.0 0)) q
+      sweep_long : c < room → 4096 ≤ length_of q n e.0 → sweeps n o room c e g q ≡ swept (Err (numbered 6 e.0 g.0 0)) q
       unfolding sweeps settles adds
       sweep_long h long = simp (eq-eqb _ _ z, none, lt-leb _ _ h, le-leb _ _ long)
 
@@ -73,7 +73,7 @@ module _ (n : ℕ) (o : List ℕ) (room c : ℕ) (e : GroupElementId) (g : Gener
 pub record Moved (n : ℕ) (o : List ℕ) (step : ℕ → ℕ → ℕ) (room lt x g c : ℕ) (q : List ℕ) : Type 0 where
   pub count : ℕ
   pub table : List ℕ
-  pub is : sweeps n o room c (record { 0 = x }) (record { 0 = g }) q ≡ swept (counted.Count count) table
+  pub is : sweeps n o room c (record { 0 = x }) (record { 0 = g }) q ≡ swept (Ok count) table
   pub told : StepsAgree n count step table
   pub words : TableWords n step count table
   pub size : length table ≡ lt
@@ -85,7 +85,7 @@ pub record Moved (n : ℕ) (o : List ℕ) (step : ℕ → ℕ → ℕ) (room lt 
 
 pub data Meets (n : ℕ) (o : List ℕ) (step : ℕ → ℕ → ℕ) (room lt x g c : ℕ) (q : List ℕ) : Type 0 where
   goes : Moved n o step room lt x g c q → Meets n o step room lt x g c q
-  stops : {r : Refusal} → sweeps n o room c (record { 0 = x }) (record { 0 = g }) q ≡ swept (counted.Refused r) q → Stops step n room x g c r → Meets n o step room lt x g c q
+  stops : {r : Refusal} → sweeps n o room c (record { 0 = x }) (record { 0 = g }) q ≡ swept (Err r) q → Stops step n room x g c r → Meets n o step room lt x g c q
 
 module _ {n N : ℕ} (o : List ℕ) {room lt lw : ℕ} (L : Limits n o room lt lw) {step : ℕ → ℕ → ℕ} (P : PresentedTable n N (order_of o) step) (X : ExactWords n (order_of o))
     {x g c : ℕ} {q : List ℕ} (T : StepsAgree n c step q) (W : TableWords n step c q) (size : length q ≡ lt) (K : rule.Known n step x g c) (fits : c ≤ room)

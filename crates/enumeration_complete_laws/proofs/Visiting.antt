@@ -10,7 +10,7 @@ use lib.ListN.{get_or, length}
 use Rattle.egg.specs.declared.GroupElementId.{GroupElementId}
 use Rattle.egg.specs.declared.GeneratorId.{GeneratorId}
 use Rattle.egg.specs.declared.Refusal.{Refusal}
-use Rattle.egg.specs.declared.Counted.TheVariants as counted
+use Rattle.std.specs.Prelude.{Ok, Err}
 use Rattle.egg.specs.Table.{start_of, length_of}
 use Rattle.build_reading.specs.Build.{set_step, set_word, adds}
 use Rattle.egg.specs.Answers.{numbered}
@@ -46,12 +46,12 @@ use Rattle.enumeration_complete_laws.proofs.OldSteps.{old_known}
 
 module _ (n : ℕ) (o : List ℕ) (room c : ℕ) (e : GroupElementId) (g : GeneratorId) (t w : List ℕ) where
   -- Where there is no room, it is refused by 5; where the word would be too long, by 6.
-  no_more : get_or t (start_of n e.0 + g.0) 0 ≡ 0 → room ≤ c → visits n o room c e g t w ≡ visit (counted.Refused (numbered 5 e.0 g.0 0)) t w
+  no_more : get_or t (start_of n e.0 + g.0) 0 ≡ 0 → room ≤ c → visits n o room c e g t w ≡ visit (Err (numbered 5 e.0 g.0 0)) t w
   unfolding visits adds
   no_more z h = simp (eq-eqb _ _ z, le-leb _ _ h)
 
   too_long_lem : get_or t (start_of n e.0 + g.0) 0 ≡ 0 → c < room → 4096 ≤ length_of t n e.0
-      → visits n o room c e g t w ≡ visit (counted.Refused (numbered 6 e.0 g.0 0)) t w
+      → visits n o room c e g t w ≡ visit (Err (numbered 6 e.0 g.0 0)) t w
   unfolding visits adds
   too_long_lem z h long = simp (eq-eqb _ _ z, lt-leb _ _ h, le-leb _ _ long)
 
@@ -60,7 +60,7 @@ pub record Came (n : ℕ) (o : List ℕ) (step : ℕ → ℕ → ℕ) (room lt l
   pub count : ℕ
   pub table : List ℕ
   pub work : List ℕ
-  pub is : visits n o room c (record { 0 = x }) (record { 0 = g }) t w ≡ visit (counted.Count count) table work
+  pub is : visits n o room c (record { 0 = x }) (record { 0 = g }) t w ≡ visit (Ok count) table work
   pub closed : Closed n o step (Live (last_of_lem n step)) count lt lw table work
   pub rule : rule.Known n step x (suc g) count
   pub words : TableWords n step count table
@@ -68,7 +68,7 @@ pub record Came (n : ℕ) (o : List ℕ) (step : ℕ → ℕ → ℕ) (room lt l
 -- A visit goes on, or it is refused as the reading of the table is.
 pub data Met (n : ℕ) (o : List ℕ) (step : ℕ → ℕ → ℕ) (room lt lw x g c : ℕ) (t w : List ℕ) : Type 0 where
   goes : Came n o step room lt lw x g c t w → Met n o step room lt lw x g c t w
-  stops : {r : Refusal} → visits n o room c (record { 0 = x }) (record { 0 = g }) t w ≡ visit (counted.Refused r) t w → Stops step n room x g c r
+  stops : {r : Refusal} → visits n o room c (record { 0 = x }) (record { 0 = g }) t w ≡ visit (Err r) t w → Stops step n room x g c r
       → Met n o step room lt lw x g c t w
 
 module _ {n N : ℕ} (o : List ℕ) {room lt lw : ℕ} (L : Limits n o room lt lw) {step : ℕ → ℕ → ℕ} (P : PresentedTable n N (order_of o) step) (X : ExactWords n (order_of o)) where

@@ -21,16 +21,17 @@ pub fn wake_all(
 {
     let mut at = first;
     let mut left = count;
-    let mut now_top = top;
+    let mut top = top;
+    // Counted by hand: a turn wakes one copy, and may move on some that stand alike.
     while left != 0 {
         if at == 0 {
-            return now_top;
+            return top;
         }
         let place = (at - 1) as usize;
         let next = egg::inner::get(&w[..], place + 5);
         let before = enumeration_rows::inner::read_row(&w[..], place);
         let after = enumeration_fill::inner::fill(&t[..], n, before);
-        now_top = enumeration_wake::inner::wake(t, w, n, place, side, after, now_top);
+        top = enumeration_wake::inner::wake(t, w, n, place, side, after, top);
         let rest = enumeration_wake::inner::carry(
             &t[..],
             w,
@@ -40,12 +41,12 @@ pub fn wake_all(
             side,
             before,
             after,
-            now_top,
+            top,
         );
         at = rest.at;
         left = rest.left;
     }
-    now_top
+    top
 }
 
 // 000's `mem::take`: empties both lists of a place, and its link of the fact stack.
@@ -73,8 +74,8 @@ pub fn update_with_fact(t: &mut [u32], w: &mut [u32], n: u8, place: usize, top: 
     let rights = egg::inner::get(&w[..], place + 3);
     let right_count = egg::inner::get(&w[..], place + 5);
     empty(w, place);
-    let top1 = wake_all(t, w, n, lefts, left_count, SideOfGap::Left, top);
-    wake_all(t, w, n, rights, right_count, SideOfGap::Right, top1)
+    let after_lefts = wake_all(t, w, n, lefts, left_count, SideOfGap::Left, top);
+    wake_all(t, w, n, rights, right_count, SideOfGap::Right, after_lefts)
 }
 
 // Takes facts from the stack, last in first out, until none is left. A run never has as many facts as there are numbers
@@ -83,15 +84,13 @@ pub fn settle(t: &mut [u32], w: &mut [u32], n: u8, first: u32) -> u32
     ensures { state t.new w.new result ≡ settled n (state t.old w.old first) }
 {
     let mut top = first;
-    let mut left = w.len();
-    while top != 0 {
-        if left == 0 {
+    for _ in 0..w.len() {
+        if top == 0 {
             return top;
         }
         let place = (top - 1) as usize;
         let below = egg::inner::get(&w[..], place + 6);
         top = update_with_fact(t, w, n, place, below);
-        left -= 1;
     }
     top
 }

@@ -51,8 +51,9 @@ pub fn walk_leg(
 {
     let mut e = element.0;
     let mut left = steps;
+    // Counted by hand: a turn is two steps, and may end after one.
     while left != 0 {
-        let guess = std::num::wrapping_add_u32(e, jump);
+        let guess = e.wrapping_add(jump);
         let x = egg::inner::get(t, egg::inner::start(n, GroupElementId(e)) + here);
         if x == 0 {
             return Leg {
@@ -86,7 +87,7 @@ pub fn walk_leg(
                 element: GroupElementId(y - 1),
                 left,
                 more: true,
-                jump: std::num::wrapping_sub_u32(y - 1, e),
+                jump: (y - 1).wrapping_sub(e),
             };
         }
         e = guess;
@@ -111,18 +112,19 @@ pub fn walk(
     requires { (here < 4294967296) × (there < 4294967296) }
     ensures { result ≡ walk_from steps t.now n element.0 here there }
 {
-    let mut e = element;
-    let mut left = steps;
-    let mut jump = 0;
-    let mut more = true;
-    while more {
-        let leg = walk_leg(t, n, here, there, e, left, jump);
-        e = leg.element;
-        left = leg.left;
-        jump = leg.jump;
-        more = leg.more;
+    let mut leg = Leg {
+        element,
+        left: steps,
+        more: true,
+        jump: 0,
+    };
+    while leg.more {
+        leg = walk_leg(t, n, here, there, leg.element, leg.left, leg.jump);
     }
-    Walked { element: e, left }
+    Walked {
+        element: leg.element,
+        left: leg.left,
+    }
 }
 
 // The first loop of 000's `fill`: the right end goes back as far as it can.
@@ -137,14 +139,10 @@ pub fn back(t: &[u32], n: u8, row: RelationTableRow) -> RelationTableRow
     let here = (n as usize) + (due as usize);
     let there = (n as usize) + (next as usize);
     let end = walk(t, n, here, there, row.to, row.right - row.left);
-    let from = row.from;
-    let to = end.element;
     RelationTableRow {
-        pair: row.pair,
-        left: row.left,
         right: row.left + end.left,
-        from,
-        to,
+        to: end.element,
+        ..row
     }
 }
 
@@ -165,14 +163,10 @@ pub fn forward(t: &[u32], n: u8, row: RelationTableRow) -> RelationTableRow
         row.from,
         row.right - row.left,
     );
-    let from = end.element;
-    let to = row.to;
     RelationTableRow {
-        pair: row.pair,
         left: row.right - end.left,
-        right: row.right,
-        from,
-        to,
+        from: end.element,
+        ..row
     }
 }
 
@@ -187,23 +181,11 @@ pub fn fill(t: &[u32], n: u8, row: RelationTableRow) -> RelationTableRow
 pub fn alike(row: RelationTableRow, before: RelationTableRow, columns: u32) -> bool
     ensures { result ≡ true → Alike row before columns }
 {
-    if row.pair != before.pair {
-        return false;
-    }
-    if row.from.0 != before.from.0 {
-        return false;
-    }
-    if row.to.0 != before.to.0 {
-        return false;
-    }
-    if row.left % 2 != before.left % 2 {
-        return false;
-    }
-    if row.right % 2 != before.right % 2 {
-        return false;
-    }
-    if row.right <= row.left {
-        return false;
-    }
-    columns < row.right - row.left
+    row.pair == before.pair
+        && row.from.0 == before.from.0
+        && row.to.0 == before.to.0
+        && row.left % 2 == before.left % 2
+        && row.right % 2 == before.right % 2
+        && row.left < row.right
+        && columns < row.right - row.left
 }

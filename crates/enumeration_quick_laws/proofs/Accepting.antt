@@ -5,8 +5,8 @@ use mathlib.Core.List.{List}
 use native.Mathlib.Nat.{mul-le-mul, le_refl}
 use native.Mathlib.Omega.{arith}
 use lib.ListN.{length}
-use Rattle.egg.specs.declared.Verdict.TheVariants as verdict
-use Rattle.egg.specs.declared.Counted.TheVariants.{Count}
+use Rattle.egg.specs.Answers.{Counted, fine}
+use Rattle.std.specs.Prelude.{Ok}
 use Rattle.egg.specs.Table.{step_of, parent_of, last_of}
 use Rattle.build_lending.specs.Finish.{built, finished}
 use Rattle.factor_relations.specs.Relations.{relations_row}
@@ -33,10 +33,10 @@ module _ (o : List ℕ) {n N : ℕ} {t F : List ℕ} (few : n ≤ 8) (long : len
   parents = parents_agree S.parents same (λ e pos he. sym (K.parent_same e)) (λ e pos he. sym (K.last_same e))
 
 pub accepted_looped : {n : ℕ} {o : List ℕ} {room lt lw : ℕ} → Limits n o room lt lw → {N : ℕ} → 1 ≤ N → N ≤ room → (F : List ℕ) → length F ≡ lt → (w : List ℕ)
-    → {M : ℕ} {t w' : List ℕ} → finished (Count N) n F w ≡ built (Count M) t w' → relations_row t n M o 0 ≡ verdict.Fine
+    → {M : ℕ} {t w' : List ℕ} → finished (Ok N) n F w ≡ built (Ok M) t w' → relations_row t n M o 0 ≡ fine
     → Looped n N o (step_of F n) × Parents n N (step_of F n) (parent_of F n) (last_of F n)
 accepted_looped {n} {o} {room} {lt} L {N} some within F whole w {M} {t} {w'} q identity =
-    let c = by_count (Count N) n F w q in
+    let c = by_count (Ok N) n F w q in
     let same : N ≡ M = counts c.0 in
     let E = c.1 in
     let fits : M * (2 * n + 4) ≤ length F = omega (arith, L.table_room, mul-le-mul within (le_refl (2 * n + 4)), ap (λ (x : ℕ). x * (2 * n + 4)) same) in
@@ -46,5 +46,5 @@ accepted_looped {n} {o} {room} {lt} L {N} some within F whole w {M} {t} {w'} q i
     let H = (relations_exact S L.few o long).0 (relations_first S L.few o long identity) in
     subst (λ (x : ℕ). Looped n x o (step_of F n) × Parents n x (step_of F n) (parent_of F n) (last_of F n)) (sym same)
     (looped o L.few long S K H, parents o L.few long S K H) where
-      counts : Count N ≡ Count M → N ≡ M
+      counts : ◌≡◌ {A = Counted} (Ok N) (Ok M) → N ≡ M
       counts e = cc

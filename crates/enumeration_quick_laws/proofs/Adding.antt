@@ -11,7 +11,7 @@ use lib.ListN.{get_or, length}
 use Rattle.theory.specs.Presentation.{order_of}
 use Rattle.egg.specs.declared.GroupElementId.{GroupElementId}
 use Rattle.egg.specs.declared.GeneratorId.{GeneratorId}
-use Rattle.egg.specs.declared.Counted.TheVariants as counted
+use Rattle.std.specs.Prelude.{Ok}
 use Rattle.egg.specs.Table.{start_of, step_of, last_of, length_of}
 use Rattle.build_reading.specs.Build.{set_step, set_word, adds}
 use Rattle.enumeration_wake.specs.Waking.{State}
@@ -38,7 +38,7 @@ module _ (n : ℕ) (o : List ℕ) (room c : ℕ) (e : GroupElementId) (g : Gener
   after len = discovered n o e g (record { 0 = c }) (set_step (set_word t n (record { 0 = c }) e g len) n e g (record { 0 = c })) w
 
   pub makes : (len : ℕ) → get_or t (start_of n e.0 + g.0) 0 ≡ 0 → c < room → length_of t n e.0 < 4096 → len ≡ length_of t n e.0 + 1
-      → visits n o room c e g t w ≡ visit (counted.Count (c + 1)) (after len).table (after len).work
+      → visits n o room c e g t w ≡ visit (Ok (c + 1)) (after len).table (after len).work
   unfolding visits adds
   makes len z h short q = rw q (simp (eq-eqb _ _ z, lt-leb _ _ h, lt-leb _ _ short))
 

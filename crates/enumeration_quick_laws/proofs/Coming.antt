@@ -10,12 +10,10 @@ use Rattle.theory.specs.Presentation.{order_of}
 use Rattle.theory.specs.Words.{Parents}
 use Rattle.egg.specs.declared.GroupElementId.{GroupElementId}
 use Rattle.egg.specs.declared.GeneratorId.{GeneratorId}
-use Rattle.egg.specs.declared.Reached.TheVariants as reached
-use Rattle.egg.specs.declared.Counted.{Counted}
-use Rattle.egg.specs.declared.Counted.TheVariants as counted
+use Rattle.egg.specs.Answers.{Counted, numbered}
+use Rattle.std.specs.Prelude.{Ok, Err}
 use Rattle.egg.specs.Table.{pick, step_of, parent_of, last_of, length_of}
 use Rattle.build_reading.specs.Build.{is_new, set_step, set_word, adds}
-use Rattle.egg.specs.Answers.{numbered}
 use Rattle.enumeration_run.specs.Run.{after_adding}
 use Rattle.enumeration_run_laws.specs.Invariant.{RunOk}
 use Rattle.enumeration_run.specs.Limits.{Limits}
@@ -40,18 +38,18 @@ module _ {n N : ℕ} {o : List ℕ} (F : List ℕ) (looped : Looped n N o (step_
   new = record { 0 = c }
 
   abbrev pub Comes : Counted → List ℕ → Type 0
-  Comes (counted.Count c') q' = TwoWay n c' lt q' → Grows n c' N q' F → Came n o room lt lw F x g c t w c' q'
-  Comes (counted.Refused r) q' = Unit {0}
+  Comes (Ok c') q' = TwoWay n c' lt q' → Grows n c' N q' F → Came n o room lt lw F x g c t w c' q'
+  Comes (Err r) q' = Unit {0}
 
   abbrev ComesBy : Swept → Type 0
   ComesBy v = Comes v.answer v.table
 
   adding : (full long : Bool) → leb room c ≡ full → leb 4096 (length_of q n x) ≡ long
       → ComesBy (after_adding
-      (pick full (record { answer = reached.Refused (numbered 5 x g 0); table = q })
-      (pick long (record { answer = reached.Refused (numbered 6 x g 0); table = q })
-      (record { answer = reached.Element new; table = set_step (set_word q n new e γ (length_of q n x + 1)) n e γ new })))
-      (λ new q₁. swept (counted.Count (c + 1)) (set_step q₁ n new γ e)) (λ why q₁. swept (counted.Refused why) q₁))
+      (pick full (record { answer = Err (numbered 5 x g 0); table = q })
+      (pick long (record { answer = Err (numbered 6 x g 0); table = q })
+      (record { answer = Ok new; table = set_step (set_word q n new e γ (length_of q n x + 1)) n e γ new })))
+      (λ new q₁. swept (Ok (c + 1)) (set_step q₁ n new γ e)) (λ why q₁. swept (Err why) q₁))
   adding true long p k = tt
   adding false true p k = tt
   adding false false p k = λ two_way grows. came_new F looped L B I hx hg (leb-false room c p) (leb-false 4096 (length_of q n x) k) two_way grows
@@ -67,6 +65,6 @@ module _ {n N : ℕ} {o : List ℕ} (F : List ℕ) (looped : Looped n N o (step_
   pub comes : let v = sweeps n o room c e γ q in Comes v.answer v.table
   unfolding sweeps
   comes = by (is_new q n e γ) refl where
-    by : (b : Bool) → is_new q n e γ ≡ b → ComesBy (pick b (settles n room c e γ (loop_from n q o n x g 0) q) (swept (counted.Count c) q))
+    by : (b : Bool) → is_new q n e γ ≡ b → ComesBy (pick b (settles n room c e γ (loop_from n q o n x g 0) q) (swept (Ok c) q))
     by true p = settling (loop_from n q o n x g 0) refl
     by false p = λ two_way grows. came_known room x g hg B (eqb-false _ _ p)

@@ -10,8 +10,8 @@ use lib.Dec.{eqb, ltb}
 use Rattle.theory.specs.Words.{Parents}
 use Rattle.theory.specs.Appearance.{row}
 use Rattle.theory.proofs.Places.{nothing_ahead}
-use Rattle.egg.specs.declared.Counted.{Counted}
-use Rattle.egg.specs.declared.Counted.TheVariants as counted
+use Rattle.egg.specs.Answers.{Counted}
+use Rattle.std.specs.Prelude.{Ok, Err}
 use Rattle.egg.specs.Table.{pick, start_of, step_of, parent_of, last_of}
 use Rattle.enumeration_rows.specs.Rows.{added_rows}
 use Rattle.enumeration_run.specs.Run.{Visit, visits, advanced, RunResult, outcome, after, runs, start_of_run, enumerated}
@@ -102,13 +102,13 @@ module _ {n : ℕ} {o : List ℕ} {room lt lw : ℕ} (L : Limits n o room lt lw)
     go : Rest → (hx : at.element < at.count) (a : Counted) (q₁ : List ℕ) → quick ≡ swept a q₁
         → Comes F looped parents L whole.2 A.beside whole.1 A.going.run hx hg a q₁
         → on_swept a q₁ (λ c q₂. sweep_from k n o room (advanced n at c) q₂) (λ why q₂. sweep (ran.Refused why) q₂) ≡ sweep (ran.Done N) F → Same (later slow)
-    go rest hx (counted.Count c) q₁ e come p =
+    go rest hx (Ok c) q₁ e come p =
         let f = sweeps_two_way o L.limit L.table_room A.going.run.fits (record { 0 = at.element }) (record { 0 = at.generator }) hx hg A.beside.two_way e in
         let y = next n at c hg in
         let two_way : TwoWay n (advanced n at c).count lt q₁ = rw y.1 f.0 in
         let z = sweep_two_way o L.limit L.table_room k (advanced n at c) y.0 (omega (arith, y.1, f.2)) two_way p in
         carry rest hx c q₁ (come f.0 (rw y.1 at z.1)) f.1 p
-    go rest hx (counted.Refused r) q₁ e come p = absurd (subst (λ (s : Sweep). IsDone s.answer) (sym p) tt)
+    go rest hx (Err r) q₁ e come p = absurd (subst (λ (s : Sweep). IsDone s.answer) (sym p) tt)
 
     by : (b : Bool) → ltb at.element at.count ≡ b
         → pick b (on_swept quick.answer quick.table (λ c q₂. sweep_from k n o room (advanced n at c) q₂) (λ why q₂. sweep (ran.Refused why) q₂)) (sweep (ran.Done at.count) q) ≡ sweep (ran.Done N) F

@@ -8,7 +8,7 @@ use borrow.Author.Tests.{ne_eqb}
 use Rattle.theory.specs.Words.{Parents}
 use Rattle.egg.specs.declared.GroupElementId.{GroupElementId}
 use Rattle.egg.specs.declared.GeneratorId.{GeneratorId}
-use Rattle.egg.specs.declared.Counted.TheVariants as counted
+use Rattle.std.specs.Prelude.{Ok}
 use Rattle.egg.specs.Table.{step_of, parent_of, last_of}
 use Rattle.build_reading.specs.Build.{set_step}
 use Rattle.enumeration_run.specs.Run.{visit, visits}
@@ -30,12 +30,12 @@ use Rattle.enumeration_quick_laws.proofs.Linking.{linked}
 pub record Came (n : ℕ) (o : List ℕ) (room lt lw : ℕ) (F : List ℕ) (x g c : ℕ) (t w : List ℕ) (c' : ℕ) (q' : List ℕ) : Type 0 where
   pub table : List ℕ
   pub work : List ℕ
-  pub is : visits n o room c (record { 0 = x }) (record { 0 = g }) t w ≡ visit (counted.Count c') table work
+  pub is : visits n o room c (record { 0 = x }) (record { 0 = g }) t w ≡ visit (Ok c') table work
   pub beside : Beside n o lt lw F c' q' table work
   pub here : StepKnown n q' x g
 
 -- A known step is skipped.
-pub skips : (n : ℕ) (o : List ℕ) (room c x g : ℕ) (t w : List ℕ) → StepKnown n t x g → visits n o room c (record { 0 = x }) (record { 0 = g }) t w ≡ visit (counted.Count c) t w
+pub skips : (n : ℕ) (o : List ℕ) (room c x g : ℕ) (t w : List ℕ) → StepKnown n t x g → visits n o room c (record { 0 = x }) (record { 0 = g }) t w ≡ visit (Ok c) t w
 unfolding visits
 skips n o room c x g t w d = simp (ne_eqb _ _ d)
 

@@ -6,7 +6,7 @@ use mathlib.Core.List.{List, [], ◌∷◌}
 use native.Mathlib.Omega.{arith}
 use lib.ListN.{get_or, replicate, length-replicate}
 use Rattle.egg.specs.declared.Refusal.{Refusal}
-use Rattle.egg.specs.declared.Counted.TheVariants.{Count}
+use Rattle.std.specs.Prelude.{Ok}
 use Rattle.egg.specs.Table.{put_at, start_of}
 use Rattle.egg.specs.Scan.{scan}
 use Rattle.egg.specs.Pairs.{pair_code, pair_count}
@@ -34,7 +34,7 @@ use Rattle.enumeration_quick_laws.proofs.Swift.{swift}
 -- `swift` at such a case: 000's run is done with N elements as well, and its build leaves what the quick run's leaves.
 accepted : {n : ℕ} {o : List ℕ} {N lt lw : ℕ} {F : List ℕ} {why : Refusal} → Limits n o N lt lw → Case n o N lt lw F why
     → ((enumerated n o N lt lw).answer ≡ ran.Done N)
-    × (finished (Count N) n (enumerated n o N lt lw).table (enumerated n o N lt lw).work ≡ built (Count N) (checked n N lw F) (replicate lw 0))
+    × (finished (Ok N) n (enumerated n o N lt lw).table (enumerated n o N lt lw).work ≡ built (Ok N) (checked n N lw F) (replicate lw 0))
 accepted {lw = lw} {F = F} L c = swift L F c.done (replicate lw 0) (length-replicate lw 0) c.passes c.relates
 
 pub triangle_case : Case 2 (3 ∷ []) 6 48 192 triangle (five 3 0)
@@ -63,8 +63,8 @@ triangle_limits = record {
   first (suc k) h = absurd (omega arith)
 
 pub triangle_swift : ((enumerated 2 (3 ∷ []) 6 48 192).answer ≡ ran.Done 6)
-    × (finished (Count 6) 2 (enumerated 2 (3 ∷ []) 6 48 192).table (enumerated 2 (3 ∷ []) 6 48 192).work
-    ≡ built (Count 6) (checked 2 6 192 triangle) (replicate 192 0))
+    × (finished (Ok 6) 2 (enumerated 2 (3 ∷ []) 6 48 192).table (enumerated 2 (3 ∷ []) 6 48 192).work
+    ≡ built (Ok 6) (checked 2 6 192 triangle) (replicate 192 0))
 triangle_swift = accepted triangle_limits triangle_case
 
 pub prism_case : Case 3 (2 ∷ 2 ∷ 3 ∷ []) 12 120 792 prism (five 8 1)
@@ -95,6 +95,6 @@ prism_limits = record {
   each (suc (suc (suc k))) h = absurd (omega arith)
 
 pub prism_swift : ((enumerated 3 (2 ∷ 2 ∷ 3 ∷ []) 12 120 792).answer ≡ ran.Done 12)
-    × (finished (Count 12) 3 (enumerated 3 (2 ∷ 2 ∷ 3 ∷ []) 12 120 792).table (enumerated 3 (2 ∷ 2 ∷ 3 ∷ []) 12 120 792).work
-    ≡ built (Count 12) (checked 3 12 792 prism) (replicate 792 0))
+    × (finished (Ok 12) 3 (enumerated 3 (2 ∷ 2 ∷ 3 ∷ []) 12 120 792).table (enumerated 3 (2 ∷ 2 ∷ 3 ∷ []) 12 120 792).work
+    ≡ built (Ok 12) (checked 3 12 792 prism) (replicate 792 0))
 prism_swift = accepted prism_limits prism_case

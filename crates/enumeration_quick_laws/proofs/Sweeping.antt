@@ -10,12 +10,10 @@ use lib.ListN.{get_or}
 use lib.Dec.{ltb, leb}
 use Rattle.egg.specs.declared.GroupElementId.{GroupElementId}
 use Rattle.egg.specs.declared.GeneratorId.{GeneratorId}
-use Rattle.egg.specs.declared.Reached.TheVariants as reached
-use Rattle.egg.specs.declared.Counted.{Counted}
-use Rattle.egg.specs.declared.Counted.TheVariants as counted
+use Rattle.egg.specs.Answers.{Counted, numbered}
+use Rattle.std.specs.Prelude.{Ok, Err}
 use Rattle.egg.specs.Table.{pick, start_of, length_of}
 use Rattle.build_reading.specs.Build.{is_new, set_step, set_word, adds}
-use Rattle.egg.specs.Answers.{numbered}
 use Rattle.enumeration_run.specs.Run.{after_adding, advanced}
 use Rattle.enumeration_run.specs.declared.inner.Run.{Run}
 use Rattle.enumeration_run.specs.declared.inner.Ran.{Ran}
@@ -74,8 +72,8 @@ module _ {n count lt : ℕ} {t : List ℕ} (F : TwoWay n count lt t) (e : GroupE
 
 -- What is said of a visit by its answer, and of a run by its end; of a refusal and a pause nothing.
 abbrev Counts : (n room lt count : ℕ) (t : List ℕ) → Counted → List ℕ → Type 0
-Counts n room lt count t (counted.Count c) t' = TwoWay n c lt t' × Grows n count c t t' × (c ≤ room)
-Counts n room lt count t (counted.Refused r) t' = Unit {0}
+Counts n room lt count t (Ok c) t' = TwoWay n c lt t' × Grows n count c t t' × (c ≤ room)
+Counts n room lt count t (Err r) t' = Unit {0}
 
 abbrev EndsTwoWay : (n room lt count : ℕ) (t : List ℕ) → Ran → List ℕ → Type 0
 EndsTwoWay n room lt count t (ran.Done c) t' = TwoWay n c lt t' × Grows n count c t t' × (c ≤ room)
@@ -90,7 +88,7 @@ module _ (n : ℕ) {room lt : ℕ} (o : List ℕ) (small : room ≤ 65535) (fits
       (new : get_or t (start_of n e.0 + g.0) 0 ≡ 0) where
     -- A new element.
     grown_two_way : (len : ℕ) → count < room
-        → Counts n room lt count t (counted.Count (count + 1)) (set_step (set_step (set_word t n (record { 0 = count }) e g len) n e g (record { 0 = count })) n (record { 0 = count }) g e)
+        → Counts n room lt count t (Ok (count + 1)) (set_step (set_step (set_word t n (record { 0 = count }) e g len) n e g (record { 0 = count })) n (record { 0 = count }) g e)
     grown_two_way len b =
         let G = written_two_way F e g len in
         let both = both_two_way {count = count + 1} (omega arith) (room_fits (omega arith)) e g (record { 0 = count }) hg (omega arith) (omega arith)
@@ -99,13 +97,13 @@ module _ (n : ℕ) {room lt : ℕ} (o : List ℕ) (small : room ≤ 65535) (fits
 
     adding_two_way : (full long : Bool) → leb room count ≡ full
         → let v = after_adding
-        (pick full (record { answer = reached.Refused (numbered 5 e.0 g.0 0); table = t })
-        (pick long (record { answer = reached.Refused (numbered 6 e.0 g.0 0); table = t })
+        (pick full (record { answer = Err (numbered 5 e.0 g.0 0); table = t })
+        (pick long (record { answer = Err (numbered 6 e.0 g.0 0); table = t })
         (record {
-          answer = reached.Element (record { 0 = count });
+          answer = Ok (record { 0 = count });
           table = set_step (set_word t n (record { 0 = count }) e g (length_of t n e.0 + 1)) n e g (record { 0 = count });
         })))
-        (λ new t₁. swept (counted.Count (count + 1)) (set_step t₁ n new g e)) (λ why t₁. swept (counted.Refused why) t₁) in
+        (λ new t₁. swept (Ok (count + 1)) (set_step t₁ n new g e)) (λ why t₁. swept (Err why) t₁) in
         Counts n room lt count t v.answer v.table
     adding_two_way true long q = tt
     adding_two_way false true q = tt
@@ -124,7 +122,7 @@ module _ (n : ℕ) {room lt : ℕ} (o : List ℕ) (small : room ≤ 65535) (fits
   unfolding sweeps
   sweeps_counts {count} {t} low e g he hg F = by (is_new t n e g) refl where
     by : (b : Bool) → is_new t n e g ≡ b
-        → let v = pick b (settles n room count e g (loop_from n t o n e.0 g.0 0) t) (swept (counted.Count count) t) in Counts n room lt count t v.answer v.table
+        → let v = pick b (settles n room count e g (loop_from n t o n e.0 g.0 0) t) (swept (Ok count) t) in Counts n room lt count t v.answer v.table
     by true q = settles_two_way low e g he hg F (eqb-true _ _ q) (loop_from n t o n e.0 g.0 0) (loops_said F o e.0 g.0 he hg n 0 (omega arith))
     by false q = (F, grows_same t, low)
 
@@ -152,9 +150,9 @@ module _ (n : ℕ) {room lt : ℕ} (o : List ℕ) (small : room ≤ 65535) (fits
         after A (ran.Refused r) t₂ u = tt
 
         go : Rest → (a : Counted) (t₁ : List ℕ) → Counts n room lt at.count t a t₁ → let x = then k at a t₁ in EndsTwoWay n room lt at.count t x.answer x.table
-        go rest (counted.Count c) t₁ (G, A, b) =
+        go rest (Ok c) t₁ (G, A, b) =
             let x = sweep_from k n o room (advanced n at c) t₁ in after A x.answer x.table (rest c t₁ G b)
-        go rest (counted.Refused r) t₁ u = tt
+        go rest (Err r) t₁ u = tt
 
         here : Swept
         here = sweeps n o room at.count (record { 0 = at.element }) (record { 0 = at.generator }) t
@@ -165,7 +163,7 @@ module _ (n : ℕ) {room lt : ℕ} (o : List ℕ) (small : room ≤ 65535) (fits
         by false q rest = (F, grows_same t, low)
 
 pub sweeps_two_way : {n room lt : ℕ} (o : List ℕ) → room ≤ 65535 → room * (2 * n + 4) ≤ lt → {count : ℕ} {t : List ℕ} → count ≤ room
-    → (e : GroupElementId) (g : GeneratorId) → e.0 < count → g.0 < n → TwoWay n count lt t → {c : ℕ} {t' : List ℕ} → sweeps n o room count e g t ≡ swept (counted.Count c) t'
+    → (e : GroupElementId) (g : GeneratorId) → e.0 < count → g.0 < n → TwoWay n count lt t → {c : ℕ} {t' : List ℕ} → sweeps n o room count e g t ≡ swept (Ok c) t'
     → TwoWay n c lt t' × Grows n count c t t' × (c ≤ room)
 sweeps_two_way {n} {room} {lt} o small fits {count} {t} low e g he hg F q =
     subst (λ (v : Swept). Counts n room lt count t v.answer v.table) q (sweeps_counts n o small fits low e g he hg F)

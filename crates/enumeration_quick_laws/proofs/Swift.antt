@@ -7,8 +7,8 @@ use native.Mathlib.Omega.{arith}
 use borrow.Author.Tests.{eqb-false}
 use lib.Dec.{eqb}
 use lib.ListN.{length, replicate, length-replicate}
-use Rattle.egg.specs.declared.Verdict.TheVariants as verdict
-use Rattle.egg.specs.declared.Counted.TheVariants.{Count}
+use Rattle.egg.specs.Answers.{fine}
+use Rattle.std.specs.Prelude.{Ok}
 use Rattle.egg.specs.Table.{pick}
 use Rattle.build_lending.specs.Finish.{built, finished}
 use Rattle.factor_relations.specs.Relations.{relations_row}
@@ -40,11 +40,11 @@ swiftly_fits {n} {o} {room} {lt} L {N} {F} q = by (eqb n 0) refl q where
       (grows.more, within, two_way.size)
 
 pub swift : {n : ℕ} {o : List ℕ} {room lt lw : ℕ} → Limits n o room lt lw → {N : ℕ} (F : List ℕ) → swiftly n o room lt ≡ sweep (ran.Done N) F
-    → (w : List ℕ) → length w ≡ lw → {M : ℕ} {t w' : List ℕ} → finished (Count N) n F w ≡ built (Count M) t w' → relations_row t n M o 0 ≡ verdict.Fine
+    → (w : List ℕ) → length w ≡ lw → {M : ℕ} {t w' : List ℕ} → finished (Ok N) n F w ≡ built (Ok M) t w' → relations_row t n M o 0 ≡ fine
     → ((enumerated n o room lt lw).answer ≡ ran.Done N)
-    × (finished (Count N) n (enumerated n o room lt lw).table (enumerated n o room lt lw).work ≡ built (Count M) t w')
+    × (finished (Ok N) n (enumerated n o room lt lw).table (enumerated n o room lt lw).work ≡ built (Ok M) t w')
 swift {n} {o} {room} {lt} {lw} L {N} F q w long checked identity =
     let (some, within, whole) = swiftly_fits L q in
     let A = accepted_looped L some within F whole w checked identity in
     let C = coincides L F A.0 A.1 q in
-    (C.0, rw C.1 (any_work (Count N) n F (enumerated n o room lt lw).work w (work_long L C.0 ∙ sym long) ∙ checked))
+    (C.0, rw C.1 (any_work (Ok N) n F (enumerated n o room lt lw).work w (work_long L C.0 ∙ sym long) ∙ checked))

@@ -1,8 +1,8 @@
 -- What a computed case says of the quick run, and the tables of two such cases.
-use Rattle.std.specs.Prelude.{ℕ, ◌-◌, ◌≡◌, List, [], ◌∷◌, replicate}
+use Rattle.std.specs.Prelude.{ℕ, ◌-◌, ◌≡◌, List, [], ◌∷◌, replicate, Ok}
 use Rattle.egg.specs.declared.Refusal.{Refusal}
-use Rattle.egg.specs.declared.Verdict.TheVariants as verdict
-use Rattle.egg.specs.declared.Counted.TheVariants.{Count}
+use Rattle.egg.specs.declared.Refusal.TheVariants.{BeyondRoom}
+use Rattle.egg.specs.Answers.{fine}
 use Rattle.build_lending.specs.Finish.{Built, built, finished}
 use Rattle.factor_relations.specs.Relations.{relations_row}
 use Rattle.enumeration_run.specs.declared.inner.Ran.TheVariants as ran
@@ -14,21 +14,21 @@ abbrev pub table_of : Built → List ℕ
 table_of (built c t w) = t
 
 abbrev pub checked : (n N lw : ℕ) → List ℕ → List ℕ
-checked n N lw F = table_of (finished (Count N) n F (replicate lw 0))
+checked n N lw F = table_of (finished (Ok N) n F (replicate lw 0))
 
 -- With n generators, these orders and room for N elements the quick run is done with N and leaves the table F, which 000's run leaves too; F passes 8 to 12, and then
 -- 13 at the identity; with one room less both are refused, by the same number and places.
 pub record Case (n : ℕ) (o : List ℕ) (N lt lw : ℕ) (F : List ℕ) (why : Refusal) : Type 0 where
   pub done : swiftly n o N lt ≡ sweep (ran.Done N) F
   pub same : (enumerated n o N lt lw).table ≡ F
-  pub passes : finished (Count N) n F (replicate lw 0) ≡ built (Count N) (checked n N lw F) (replicate lw 0)
-  pub relates : relations_row (checked n N lw F) n N o 0 ≡ verdict.Fine
+  pub passes : finished (Ok N) n F (replicate lw 0) ≡ built (Ok N) (checked n N lw F) (replicate lw 0)
+  pub relates : relations_row (checked n N lw F) n N o 0 ≡ fine
   pub short : (swiftly n o (N - 1) lt).answer ≡ ran.Refused why
   pub short_too : (enumerated n o (N - 1) lt lw).answer ≡ ran.Refused why
 
 -- 5, "an element is needed beyond the room", at element e and generator g.
 abbrev pub five : ℕ → ℕ → Refusal
-five e g = record { number = 5; a = e; b = g; c = 0 }
+five e g = BeyondRoom (record { 0 = e }) (record { 0 = g })
 
 -- "orders [3] (S3)", with room 6. A row: two successors and two predecessors, each as its number + 1, parent, last letter, length of the word, and the inverse, which
 -- comes with the checks.

@@ -13,12 +13,16 @@ use enumeration_fill::inner::Walked;
 fn order_for(orders: &[u32], g: GeneratorId, h: GeneratorId) -> u32
     ensures { result ≡ order_for orders.now g.0 h.0 }
 {
-    let a = g.0;
-    let b = h.0;
-    if a < b {
-        egg::inner::get(orders, (egg::inner::pair_count(b) as usize) + (a as usize))
+    if g.0 < h.0 {
+        egg::inner::get(
+            orders,
+            (egg::inner::pair_count(h.0) as usize) + (g.0 as usize),
+        )
     } else {
-        egg::inner::get(orders, (egg::inner::pair_count(a) as usize) + (b as usize))
+        egg::inner::get(
+            orders,
+            (egg::inner::pair_count(g.0) as usize) + (h.0 as usize),
+        )
     }
 }
 
@@ -27,11 +31,7 @@ fn letters(order: u32) -> u32
     requires { order < 32768 }
     ensures { result ≡ 2 * order - 1 }
 {
-    if order == 0 {
-        return 0;
-    }
-    let all = 2 * order;
-    all - 1
+    (2 * order).saturating_sub(1)
 }
 
 // A walk along two columns of the table's rows in turn. Most have a few steps, so that nothing is guessed as in
@@ -49,6 +49,7 @@ fn loop_end(
 {
     let mut e = element.0;
     let mut left = steps;
+    // Counted by hand: a turn is two steps, and may end after one.
     while left != 0 {
         let x = egg::inner::get(t, egg::inner::start(n, GroupElementId(e)) + here);
         if x == 0 {
@@ -94,24 +95,21 @@ fn loop_by(
     requires { Orders orders.now × ((e.0 < 4294967295) × (length ≡ length_of t.now n e.0)) }
     ensures { result ≡ loop_by t.now orders.now n e.0 g.0 h.0 }
 {
-    let a = g.0;
-    let b = h.0;
-    if b == a {
+    if h.0 == g.0 {
         return 0;
     }
     let order = order_for(&orders[..], g, h);
     if (length as usize) + 1 < (order as usize) {
         return 0;
     }
-    let end = loop_end(&t[..], n, e, b as usize, a as usize, letters(order));
+    let end = loop_end(&t[..], n, e, h.0 as usize, g.0 as usize, letters(order));
     if end.left != 0 {
         return 0;
     }
-    let last = end.element;
-    if egg::inner::get(t, egg::inner::start(n, last) + (a as usize)) != 0 {
+    if egg::inner::get(t, egg::inner::start(n, end.element) + (g.0 as usize)) != 0 {
         return 0;
     }
-    last.0 + 1
+    end.element.0 + 1
 }
 
 // Where the relations of g say that e·g leads, by the first that says it; 0 where none does.
@@ -120,13 +118,11 @@ pub fn loop_from(t: &[u32], orders: &[u32], n: u8, e: GroupElementId, g: Generat
     ensures { result ≡ loop_from n t.now orders.now n e.0 g.0 0 }
 {
     let length = egg::inner::word_length(&t[..], n, e);
-    let mut h: u8 = 0;
-    while h < n {
+    for h in 0..n {
         let found = loop_by(&t[..], &orders[..], n, e, g, GeneratorId(h), length);
         if found != 0 {
             return found;
         }
-        h += 1;
     }
     0
 }

@@ -8,10 +8,8 @@ use lib.ListN.{get_or, replicate}
 use Rattle.egg.specs.declared.GroupElementId.{GroupElementId}
 use Rattle.egg.specs.declared.GeneratorId.{GeneratorId}
 use Rattle.egg.specs.declared.Refusal.{Refusal}
-use Rattle.egg.specs.declared.Reached.{Reached}
-use Rattle.egg.specs.declared.Reached.TheVariants as reached
-use Rattle.egg.specs.declared.Counted.{Counted}
-use Rattle.egg.specs.declared.Counted.TheVariants as counted
+use Rattle.egg.specs.Answers.{Counted, Reached}
+use Rattle.std.specs.Prelude.{Ok, Err}
 use Rattle.egg.specs.Table.{succ_at}
 use Rattle.build_reading.specs.Build.{set_step, adds}
 use Rattle.enumeration_run.specs.declared.inner.Run.{Run}
@@ -24,27 +22,27 @@ use Rattle.enumeration_quick_run.specs.Sweeps.{Swept, swept, settles, sweeps, sw
 -- A step that is not known.
 module _ (n room count : ℕ) (e : GroupElementId) (g : GeneratorId) (t : List ℕ) {loop : ℕ} where
   pub settles_closed : (loop ≡ 0 → ⊥) → {t₁ t₂ : List ℕ} → t₁ ≡ set_step t n e g (record { 0 = loop - 1 })
-      → t₂ ≡ set_step t₁ n (record { 0 = loop - 1 }) g e → swept (counted.Count count) t₂ ≡ settles n room count e g loop t
+      → t₂ ≡ set_step t₁ n (record { 0 = loop - 1 }) g e → swept (Ok count) t₂ ≡ settles n room count e g loop t
   unfolding settles
   settles_closed z p q = rw (q, p) (simp (ne_eqb _ _ z))
 
   module _ (z : loop ≡ 0) {a : Reached} {t₁ : List ℕ} (p : a ≡ (adds t n room count e g).answer) (d : t₁ ≡ (adds t n room count e g).table) where
-    pub settles_refused : {why : Refusal} → a ≡ reached.Refused why → swept (counted.Refused why) t₁ ≡ settles n room count e g loop t
+    pub settles_refused : {why : Refusal} → a ≡ Err why → swept (Err why) t₁ ≡ settles n room count e g loop t
     unfolding settles
     settles_refused {why} h =
-        let q : (adds t n room count e g).answer ≡ reached.Refused why = sym p ∙ h in
+        let q : (adds t n room count e g).answer ≡ Err why = sym p ∙ h in
         simp (eq-eqb _ _ z) (rw (q, d))
 
-    pub settles_new : {new : GroupElementId} {t₂ : List ℕ} → a ≡ reached.Element new → t₂ ≡ set_step t₁ n new g e
-        → swept (counted.Count (count + 1)) t₂ ≡ settles n room count e g loop t
+    pub settles_new : {new : GroupElementId} {t₂ : List ℕ} → a ≡ Ok new → t₂ ≡ set_step t₁ n new g e
+        → swept (Ok (count + 1)) t₂ ≡ settles n room count e g loop t
     unfolding settles
     settles_new {new} h i =
-        let q : (adds t n room count e g).answer ≡ reached.Element new = sym p ∙ h in
+        let q : (adds t n room count e g).answer ≡ Ok new = sym p ∙ h in
         simp (eq-eqb _ _ z) (rw (q, i, d))
 
 -- A place.
 module _ (n : ℕ) (o : List ℕ) (room count : ℕ) (e : GroupElementId) (g : GeneratorId) (t : List ℕ) {x : ℕ} (c : x ≡ get_or t (succ_at n e g) 0) where
-  pub sweeps_known : (x ≡ 0 → ⊥) → swept (counted.Count count) t ≡ sweeps n o room count e g t
+  pub sweeps_known : (x ≡ 0 → ⊥) → swept (Ok count) t ≡ sweeps n o room count e g t
   unfolding sweeps
   sweeps_known z = rw (← c) (simp (ne_eqb _ _ z))
 
@@ -66,12 +64,12 @@ module _ (n : ℕ) (o : List ℕ) (room : ℕ) (at : Run) (t : List ℕ) where
 
   module _ {r : Counted} {t₁ : List ℕ} (h : at.element < at.count)
       (q : swept r t₁ ≡ sweeps n o room at.count (record { 0 = at.element }) (record { 0 = at.generator }) t) where
-    pub sweep_refused : (k : ℕ) → (k ≡ 0 → ⊥) → {why : Refusal} → r ≡ counted.Refused why → sweep (ran.Refused why) t₁ ≡ sweep_from k n o room at t
+    pub sweep_refused : (k : ℕ) → (k ≡ 0 → ⊥) → {why : Refusal} → r ≡ Err why → sweep (ran.Refused why) t₁ ≡ sweep_from k n o room at t
     unfolding sweep_from
     sweep_refused zero p i = absurd (p refl)
     sweep_refused (suc k) p i = rw (lt-ltb _ _ h, ← q, i)
 
-    pub sweep_turn : (k : ℕ) → (k ≡ 0 → ⊥) → {c : ℕ} {at₁ : Run} → r ≡ counted.Count c → at₁ ≡ advanced n at c
+    pub sweep_turn : (k : ℕ) → (k ≡ 0 → ⊥) → {c : ℕ} {at₁ : Run} → r ≡ Ok c → at₁ ≡ advanced n at c
         → sweep_from (k - 1) n o room at₁ t₁ ≡ sweep_from k n o room at t
     unfolding sweep_from
     sweep_turn zero p i j = absurd (p refl)

@@ -2,12 +2,11 @@
 -- (`enumeration_quick_laws`). The places of the table are visited in the same order. At one whose step is not known, a pair relation through it of
 -- which all other steps are known, a closed loop, says where the step leads; where there is none, it leads to a new element. No row waits for
 -- anything, and but for steps back no step is found before its place is visited.
-use Rattle.std.specs.Prelude.{ℕ, zero, suc, ◌+◌, ◌-◌, List, replicate, ltb, eqb}
+use Rattle.std.specs.Prelude.{ℕ, zero, suc, ◌+◌, ◌-◌, List, replicate, ltb, eqb, Ok, Err}
 use Rattle.egg.specs.declared.GroupElementId.{GroupElementId}
 use Rattle.egg.specs.declared.GeneratorId.{GeneratorId}
 use Rattle.egg.specs.declared.Refusal.{Refusal}
-use Rattle.egg.specs.declared.Counted.{Counted}
-use Rattle.egg.specs.declared.Counted.TheVariants as counted
+use Rattle.egg.specs.Answers.{Counted}
 use Rattle.egg.specs.Table.{pick}
 use Rattle.build_reading.specs.Build.{is_new, set_step, adds}
 use Rattle.enumeration_run.specs.declared.inner.Run.{Run}
@@ -35,14 +34,14 @@ unfoldable pub settles : (n room count : ℕ) (e : GroupElementId) (g : Generato
 settles n room count e g loop t =
     pick (eqb loop 0)
     (after_adding (adds t n room count e g)
-    (λ new t₁. swept (counted.Count (count + 1)) (set_step t₁ n new g e))
-    (λ why t₁. swept (counted.Refused why) t₁))
-    (swept (counted.Count count) (set_both t n e g (record { 0 = loop - 1 })))
+    (λ new t₁. swept (Ok (count + 1)) (set_step t₁ n new g e))
+    (λ why t₁. swept (Err why) t₁))
+    (swept (Ok count) (set_both t n e g (record { 0 = loop - 1 })))
 
 -- The visit of one place: a known step is skipped, else it is settled.
 unfoldable pub sweeps : (n : ℕ) (o : List ℕ) (room count : ℕ) (e : GroupElementId) (g : GeneratorId) (t : List ℕ) → Swept
 sweeps n o room count e g t =
-    pick (is_new t n e g) (settles n room count e g (loop_from n t o n e.0 g.0 0) t) (swept (counted.Count count) t)
+    pick (is_new t n e g) (settles n room count e g (loop_from n t o n e.0 g.0 0) t) (swept (Ok count) t)
 
 -- What a run leaves: how it ended, and the table.
 pub record Sweep : Type 0 where
@@ -55,8 +54,8 @@ sweep a t = record { answer = a; table = t }
 
 -- What comes after a visit, by its answer: f goes on from a count, h from a refusal; the table goes with either.
 abbrev pub on_swept : {A : Type 0} → Counted → List ℕ → (ℕ → List ℕ → A) → (Refusal → List ℕ → A) → A
-on_swept (counted.Count c) t f h = f c t
-on_swept (counted.Refused r) t f h = h r t
+on_swept (Ok c) t f h = f c t
+on_swept (Err r) t f h = h r t
 
 -- The same from what the visit left.
 abbrev pub after_swept : {A : Type 0} → Swept → (ℕ → List ℕ → A) → (Refusal → List ℕ → A) → A

@@ -4,7 +4,7 @@ ghost use Rattle.std.specs.Prelude.{◌≡◌, ◌<◌, length};
 ghost use Rattle.enumeration_rows.specs.Rows.{Orders};
 ghost use Rattle.enumeration_quick_run.specs.Sweeps.{swept, settles, sweeps, sweep, sweep_from, swiftly};
 
-use egg::{Counted, GeneratorId, GroupElementId, Reached};
+use egg::{GeneratorId, GroupElementId, Refusal};
 use enumeration_run::inner::{Ran, Run};
 
 // Settles a step that is not known: it leads where the loops say (`found`, the number + 1), or to a new element where
@@ -17,22 +17,18 @@ fn settle_step(
     e: GroupElementId,
     g: GeneratorId,
     found: u32,
-) -> Counted
+) -> Result<u32, Refusal>
     ensures { swept result t.new ≡ settles n room count e g found t.old }
 {
     if found != 0 {
         let to = GroupElementId(found - 1);
         build_reading::inner::set_successor(t, n, e, g, to);
         build_reading::inner::set_successor(t, n, to, g, e);
-        return Counted::Count(count);
+        return Ok(count);
     }
-    match build_reading::inner::add_successor(t, n, room, count, e, g) {
-        Reached::Refused(why) => Counted::Refused(why),
-        Reached::Element(new) => {
-            build_reading::inner::set_successor(t, n, new, g, e);
-            Counted::Count(count + 1)
-        }
-    }
+    let new = build_reading::inner::add_successor(t, n, room, count, e, g)?;
+    build_reading::inner::set_successor(t, n, new, g, e);
+    Ok(count + 1)
 }
 
 // One place: a known step is skipped, else it is settled.
@@ -44,12 +40,12 @@ fn sweep_place(
     count: u32,
     e: GroupElementId,
     g: GeneratorId,
-) -> Counted
+) -> Result<u32, Refusal>
     requires { Orders orders.now × (e.0 < 4294967295) }
     ensures { swept result t.new ≡ sweeps n orders.now room count e g t.old }
 {
     if egg::inner::get(&t[..], egg::inner::successor_at(n, e, g)) != 0 {
-        return Counted::Count(count);
+        return Ok(count);
     }
     let found = enumeration_quick_loops::inner::loop_from(&t[..], &orders[..], n, e, g);
     settle_step(t, n, room, count, e, g, found)
@@ -62,6 +58,7 @@ fn sweep(t: &mut [u32], orders: &[u32], n: u8, room: u32, from: Run, allowance: 
 {
     let mut at = from;
     let mut left = allowance;
+    // Counted by hand: a run mostly ends before its allowance is spent.
     while at.element < at.count {
         if left == 0 {
             return Ran::Paused(at);
@@ -69,10 +66,10 @@ fn sweep(t: &mut [u32], orders: &[u32], n: u8, room: u32, from: Run, allowance: 
         let e = GroupElementId(at.element);
         let g = GeneratorId(at.generator);
         match sweep_place(t, &orders[..], n, room, at.count, e, g) {
-            Counted::Refused(why) => {
+            Err(why) => {
                 return Ran::Refused(why);
             }
-            Counted::Count(count) => {
+            Ok(count) => {
                 at = enumeration_run::inner::advance(n, at, count);
             }
         }
@@ -95,5 +92,5 @@ pub fn swiftly(t: &mut [u32], orders: &[u32], n: u8, room: u32) -> Ran
         generator: 0,
         count: 1,
     };
-    sweep(t, orders, n, room, from, 18446744073709551615)
+    sweep(t, orders, n, room, from, u64::MAX)
 }

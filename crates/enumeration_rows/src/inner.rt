@@ -35,17 +35,14 @@ pub enum SideOfGap {
 pub fn place_at(n: u8, e: GroupElementId, g: GeneratorId) -> usize
     ensures { Place result (place_at n e g) 9007199254740992 }
 {
-    let x = e.0;
-    let k = g.0;
-    (x as usize) * egg::inner::work_width(n) + 10 * (k as usize)
+    (e.0 as usize) * egg::inner::work_width(n) + 10 * (g.0 as usize)
 }
 
 // Where the copies of an element's rows start in the work.
 pub fn rows_at(n: u8, e: GroupElementId) -> usize
     ensures { Place result (rows_at n e) 9007199254740992 }
 {
-    let x = e.0;
-    (x as usize) * egg::inner::work_width(n) + 10 * (n as usize)
+    (e.0 as usize) * egg::inner::work_width(n) + 10 * (n as usize)
 }
 
 // 000's `generator`: the generator of a column of the row.
@@ -65,14 +62,12 @@ pub fn read_row(w: &[u32], at: usize) -> RelationTableRow
     ensures { result ≡ stored_row w.now at }
 {
     if at + 5 < w.len() {
-        let from = GroupElementId(w[at + 3]);
-        let to = GroupElementId(w[at + 4]);
         return RelationTableRow {
             pair: w[at],
             left: w[at + 1],
             right: w[at + 2],
-            from,
-            to,
+            from: GroupElementId(w[at + 3]),
+            to: GroupElementId(w[at + 4]),
         };
     }
     RelationTableRow {
@@ -89,24 +84,19 @@ pub fn write_row(w: &mut [u32], at: usize, row: RelationTableRow)
     requires { at < 36028797018963968 }
     ensures { w.new ≡ write_row w.old at row }
 {
-    let pair = row.pair;
-    let left = row.left;
-    let right = row.right;
-    let from = row.from.0;
-    let to = row.to.0;
     if at + 5 < w.len() {
-        w[at] = pair;
-        w[at + 1] = left;
-        w[at + 2] = right;
-        w[at + 3] = from;
-        w[at + 4] = to;
+        w[at] = row.pair;
+        w[at + 1] = row.left;
+        w[at + 2] = row.right;
+        w[at + 3] = row.from.0;
+        w[at + 4] = row.to.0;
         return;
     }
-    egg::inner::put(w, at, pair as usize);
-    egg::inner::put(w, at + 1, left as usize);
-    egg::inner::put(w, at + 2, right as usize);
-    egg::inner::put(w, at + 3, from as usize);
-    egg::inner::put(w, at + 4, to as usize);
+    egg::inner::put(w, at, row.pair as usize);
+    egg::inner::put(w, at + 1, row.left as usize);
+    egg::inner::put(w, at + 2, row.right as usize);
+    egg::inner::put(w, at + 3, row.from.0 as usize);
+    egg::inner::put(w, at + 4, row.to.0 as usize);
 }
 
 // Where the link to a new last copy goes: to the head of an empty list, else to the last copy's link.
@@ -114,10 +104,7 @@ pub fn link_at(list: usize, tail: u32) -> usize
     requires { list < 36028797018963968 }
     ensures { result ≡ link_at list tail }
 {
-    if tail == 0 {
-        return list;
-    }
-    (tail as usize) + 4
+    if tail == 0 { list } else { (tail as usize) + 4 }
 }
 
 // Puts the copy at `at` at the end of the list whose head, tail and count stand at `list`.
@@ -176,9 +163,7 @@ pub fn add_rows(w: &mut [u32], orders: &[u32], n: u8, e: GroupElementId)
     ensures { w.new ≡ added_rows w.old orders.now n e }
 {
     let first = rows_at(n, e);
-    let mut k = 0;
-    while k < orders.len() {
+    for k in 0..orders.len() {
         add_row(w, n, e, first + 12 * k, egg::inner::pair_code(k), orders[k]);
-        k += 1;
     }
 }

@@ -10,10 +10,8 @@ use lib.ListN.{get_or, replicate}
 use Rattle.egg.specs.declared.GroupElementId.{GroupElementId}
 use Rattle.egg.specs.declared.GeneratorId.{GeneratorId}
 use Rattle.egg.specs.declared.Refusal.{Refusal}
-use Rattle.egg.specs.declared.Reached.{Reached}
-use Rattle.egg.specs.declared.Reached.TheVariants as reached
-use Rattle.egg.specs.declared.Counted.{Counted}
-use Rattle.egg.specs.declared.Counted.TheVariants as counted
+use Rattle.egg.specs.Answers.{Counted, Reached}
+use Rattle.std.specs.Prelude.{Ok, Err}
 use Rattle.egg.specs.Table.{put_at, succ_at}
 use Rattle.build_reading.specs.Build.{set_step, Adds, adds}
 use Rattle.build_reading.proofs.Laws.{adds_full}
@@ -39,7 +37,7 @@ no z = omega arith
 
 module _ (n : ℕ) (o : List ℕ) (room count : ℕ) (e : GroupElementId) (g : GeneratorId) (t w : List ℕ) where
   -- An element that was added had room.
-  pub adds_room : {new : GroupElementId} → (adds t n room count e g).answer ≡ reached.Element new → count < room
+  pub adds_room : {new : GroupElementId} → (adds t n room count e g).answer ≡ Ok new → count < room
   adds_room {new} h = by_test (leb room count) refl
     where
       by_test : (b : Bool) → leb room count ≡ b → count < room
@@ -47,22 +45,22 @@ module _ (n : ℕ) (o : List ℕ) (room count : ℕ) (e : GroupElementId) (g : G
       by_test false q = leb-false _ _ q
 
   module _ {x : ℕ} (c : x ≡ get_or t (succ_at n e g) 0) where
-    pub visit_known : (x ≡ 0 → ⊥) → visit (counted.Count count) t w ≡ visits n o room count e g t w
+    pub visit_known : (x ≡ 0 → ⊥) → visit (Ok count) t w ≡ visits n o room count e g t w
     unfolding visits
     visit_known z = rw (← c) (simp (ne_eqb _ _ z))
 
     module _ (z : x ≡ 0) {a : Reached} {t₁ : List ℕ} (p : a ≡ (adds t n room count e g).answer) (d : t₁ ≡ (adds t n room count e g).table) where
-      pub visit_refused : {why : Refusal} → a ≡ reached.Refused why → visit (counted.Refused why) t₁ w ≡ visits n o room count e g t w
+      pub visit_refused : {why : Refusal} → a ≡ Err why → visit (Err why) t₁ w ≡ visits n o room count e g t w
       unfolding visits
       visit_refused {why} h =
-          let q : (adds t n room count e g).answer ≡ reached.Refused why = sym p ∙ h in
+          let q : (adds t n room count e g).answer ≡ Err why = sym p ∙ h in
           rw (← c) (simp (eq-eqb _ _ z) (rw (q, d)))
 
-      pub visit_new : {new : GroupElementId} {t₂ w₂ : List ℕ} → a ≡ reached.Element new → t₂ ≡ (discovered n o e g new t₁ w).table
-          → w₂ ≡ (discovered n o e g new t₁ w).work → visit (counted.Count (count + 1)) t₂ w₂ ≡ visits n o room count e g t w
+      pub visit_new : {new : GroupElementId} {t₂ w₂ : List ℕ} → a ≡ Ok new → t₂ ≡ (discovered n o e g new t₁ w).table
+          → w₂ ≡ (discovered n o e g new t₁ w).work → visit (Ok (count + 1)) t₂ w₂ ≡ visits n o room count e g t w
       unfolding visits
       visit_new {new} h i j =
-          let q : (adds t n room count e g).answer ≡ reached.Element new = sym p ∙ h in
+          let q : (adds t n room count e g).answer ≡ Ok new = sym p ∙ h in
           rw (← c) (simp (eq-eqb _ _ z) (rw (q, i, j, d)))
 
 -- The loop over places: at most `k` are left.
@@ -78,19 +76,19 @@ module _ (n : ℕ) (o : List ℕ) (room : ℕ) (at : Run) (t w : List ℕ) where
 
   module _ {r : Counted} {t₁ w₁ : List ℕ} (k : ℕ) (h : at.element < at.count) (p : k ≡ 0 → ⊥)
       (q : visit r t₁ w₁ ≡ visits n o room at.count (record { 0 = at.element }) (record { 0 = at.generator }) t w) where
-    pub runs_refused : {why : Refusal} → r ≡ counted.Refused why → outcome (ran.Refused why) t₁ w₁ ≡ runs k n o room at t w
+    pub runs_refused : {why : Refusal} → r ≡ Err why → outcome (ran.Refused why) t₁ w₁ ≡ runs k n o room at t w
     unfolding runs
     runs_refused i = refused k p i
       where
-        refused : (k : ℕ) → (k ≡ 0 → ⊥) → {why : Refusal} → r ≡ counted.Refused why → outcome (ran.Refused why) t₁ w₁ ≡ runs k n o room at t w
+        refused : (k : ℕ) → (k ≡ 0 → ⊥) → {why : Refusal} → r ≡ Err why → outcome (ran.Refused why) t₁ w₁ ≡ runs k n o room at t w
         refused zero p i = absurd (p refl)
         refused (suc k) p i = rw (lt-ltb _ _ h, ← q, i)
 
-    pub runs_turn : {c : ℕ} {at₁ : Run} → r ≡ counted.Count c → at₁ ≡ advanced n at c → runs (k - 1) n o room at₁ t₁ w₁ ≡ runs k n o room at t w
+    pub runs_turn : {c : ℕ} {at₁ : Run} → r ≡ Ok c → at₁ ≡ advanced n at c → runs (k - 1) n o room at₁ t₁ w₁ ≡ runs k n o room at t w
     unfolding runs
     runs_turn i j = turn k p i j
       where
-        turn : (k : ℕ) → (k ≡ 0 → ⊥) → {c : ℕ} {at₁ : Run} → r ≡ counted.Count c → at₁ ≡ advanced n at c
+        turn : (k : ℕ) → (k ≡ 0 → ⊥) → {c : ℕ} {at₁ : Run} → r ≡ Ok c → at₁ ≡ advanced n at c
             → runs (k - 1) n o room at₁ t₁ w₁ ≡ runs k n o room at t w
         turn zero p i j = absurd (p refl)
         turn (suc k) p i j = let m : suc k - 1 ≡ k = omega arith in rw (m, lt-ltb _ _ h, ← q, i, j)

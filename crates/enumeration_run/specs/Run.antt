@@ -1,12 +1,9 @@
 -- The enumeration's run, place by place, to be read beside `construct_group` of todd_coxeter.rs (000).
-use Rattle.std.specs.Prelude.{ℕ, zero, suc, ◌+◌, List, replicate, ltb, eqb}
+use Rattle.std.specs.Prelude.{ℕ, zero, suc, ◌+◌, List, replicate, ltb, eqb, Ok, Err}
 use Rattle.egg.specs.declared.GroupElementId.{GroupElementId}
 use Rattle.egg.specs.declared.GeneratorId.{GeneratorId}
 use Rattle.egg.specs.declared.Refusal.{Refusal}
-use Rattle.egg.specs.declared.Reached.{Reached}
-use Rattle.egg.specs.declared.Reached.TheVariants as reached
-use Rattle.egg.specs.declared.Counted.{Counted}
-use Rattle.egg.specs.declared.Counted.TheVariants as counted
+use Rattle.egg.specs.Answers.{Counted, Reached}
 use Rattle.egg.specs.Table.{pick, put_at}
 use Rattle.build_reading.specs.Build.{is_new, set_step, Adds, adds}
 use Rattle.enumeration_rows.specs.Rows.{place_at, added_rows}
@@ -35,8 +32,8 @@ visit a t w = record { answer = a; table = t; work = w }
 
 -- What comes after an element was to be added, by the answer: f goes on from the element, h from a refusal; the table goes with either.
 abbrev pub after_reaching : {A : Type 0} → Reached → List ℕ → (GroupElementId → List ℕ → A) → (Refusal → List ℕ → A) → A
-after_reaching (reached.Element e) t f h = f e t
-after_reaching (reached.Refused r) t f h = h r t
+after_reaching (Ok e) t f h = f e t
+after_reaching (Err r) t f h = h r t
 
 -- The same from what adding it left.
 abbrev pub after_adding : {A : Type 0} → Adds → (GroupElementId → List ℕ → A) → (Refusal → List ℕ → A) → A
@@ -47,9 +44,9 @@ unfoldable pub visits : (n : ℕ) (o : List ℕ) (room count : ℕ) (e : GroupEl
 visits n o room count e g t w =
     pick (is_new t n e g)
     (after_adding (adds t n room count e g)
-    (λ new t₁. visit (counted.Count (count + 1)) (discovered n o e g new t₁ w).table (discovered n o e g new t₁ w).work)
-    (λ why t₁. visit (counted.Refused why) t₁ w))
-    (visit (counted.Count count) t w)
+    (λ new t₁. visit (Ok (count + 1)) (discovered n o e g new t₁ w).table (discovered n o e g new t₁ w).work)
+    (λ why t₁. visit (Err why) t₁ w))
+    (visit (Ok count) t w)
 
 -- The place after this one: the next generator, or the next element's first.
 unfoldable pub advanced : ℕ → Run → ℕ → Run
@@ -69,8 +66,8 @@ outcome a t w = record { answer = a; table = t; work = w }
 
 -- What comes after a visit, by its answer: f goes on from a count, h from a refusal; both stretches go with either.
 abbrev pub on_visit : {A : Type 0} → Counted → List ℕ → List ℕ → (ℕ → List ℕ → List ℕ → A) → (Refusal → List ℕ → List ℕ → A) → A
-on_visit (counted.Count c) t w f h = f c t w
-on_visit (counted.Refused r) t w f h = h r t w
+on_visit (Ok c) t w f h = f c t w
+on_visit (Err r) t w f h = h r t w
 
 -- The same from what the visit left.
 abbrev pub after : {A : Type 0} → Visit → (ℕ → List ℕ → List ℕ → A) → (Refusal → List ℕ → List ℕ → A) → A

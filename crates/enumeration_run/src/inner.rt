@@ -4,7 +4,7 @@ ghost use Rattle.std.specs.Prelude.{◌≡◌, ◌+◌, ◌<◌, ◌≤◌, leng
 ghost use Rattle.enumeration_rows.specs.Rows.{Orders};
 ghost use Rattle.enumeration_run.specs.Run.{discovered, visit, visits, advanced, outcome, runs, enumerated};
 
-use egg::{Counted, GeneratorId, GroupElementId, Reached, Refusal};
+use egg::{GeneratorId, GroupElementId, Refusal};
 
 // Where a run stands: the place to visit next, by its element and generator, and how many elements there are so far.
 #[derive(Clone, Copy)]
@@ -55,20 +55,16 @@ fn visit_place(
     count: u32,
     e: GroupElementId,
     g: GeneratorId,
-) -> Counted
+) -> Result<u32, Refusal>
     requires { Orders orders.now }
     ensures { visit result t.new w.new ≡ visits n orders.now room count e g t.old w.old }
 {
     if egg::inner::get(&t[..], egg::inner::successor_at(n, e, g)) != 0 {
-        return Counted::Count(count);
+        return Ok(count);
     }
-    match build_reading::inner::add_successor(t, n, room, count, e, g) {
-        Reached::Refused(why) => Counted::Refused(why),
-        Reached::Element(new) => {
-            discover(t, w, orders, n, e, g, new);
-            Counted::Count(count + 1)
-        }
-    }
+    let new = build_reading::inner::add_successor(t, n, room, count, e, g)?;
+    discover(t, w, orders, n, e, g, new);
+    Ok(count + 1)
 }
 
 // The place after this one: the next generator, or the next element's first.
@@ -106,6 +102,7 @@ fn go(
 {
     let mut at = from;
     let mut left = allowance;
+    // Counted by hand: a run mostly ends before its allowance is spent.
     while at.element < at.count {
         if left == 0 {
             return Ran::Paused(at);
@@ -113,10 +110,10 @@ fn go(
         let e = GroupElementId(at.element);
         let g = GeneratorId(at.generator);
         match visit_place(t, w, orders, n, room, at.count, e, g) {
-            Counted::Refused(why) => {
+            Err(why) => {
                 return Ran::Refused(why);
             }
-            Counted::Count(count) => {
+            Ok(count) => {
                 at = advance(n, at, count);
             }
         }
@@ -147,6 +144,6 @@ pub fn enumerate(t: &mut [u32], w: &mut [u32], orders: &[u32], n: u8, room: u32)
             generator: 0,
             count: 1,
         },
-        18446744073709551615,
+        u64::MAX,
     )
 }

@@ -9,8 +9,8 @@ use borrow.Author.Tests.{ltb-true, eqb-false}
 use lib.ListN.{replicate}
 use lib.Dec.{eqb, ltb}
 use Rattle.theory.specs.Presentation.{order_of}
-use Rattle.egg.specs.declared.Counted.{Counted}
-use Rattle.egg.specs.declared.Counted.TheVariants as counted
+use Rattle.egg.specs.Answers.{Counted}
+use Rattle.std.specs.Prelude.{Ok, Err}
 use Rattle.egg.specs.Table.{pick}
 use Rattle.enumeration_rows.specs.Rows.{added_rows}
 use Rattle.enumeration_run.specs.Run.{Visit, visits, advanced, RunResult, outcome, on_visit, after, runs, start_of_run, enumerated}
@@ -44,8 +44,8 @@ module _ {n : ℕ} {o : List ℕ} {room lt lw : ℕ} (L : Limits n o room lt lw)
 
         go : Rest → (a : Counted) (t₁ w₁ : List ℕ) → Counts L a t₁ w₁
             → Ended (on_visit {A = RunResult} a t₁ w₁ (λ c t₂ w₂. runs k n o room (advanced n at c) t₂ w₂) (λ why t₂ w₂. outcome (ran.Refused why) t₂ w₂)).answer
-        go rest (counted.Count c) t₁ w₁ K = rest c t₁ w₁ K
-        go rest (counted.Refused r) t₁ w₁ K = tt
+        go rest (Ok c) t₁ w₁ K = rest c t₁ w₁ K
+        go rest (Err r) t₁ w₁ K = tt
 
         here : Visit
         here = visits n o room at.count (record { 0 = at.element }) (record { 0 = at.generator }) t w

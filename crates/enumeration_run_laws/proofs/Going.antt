@@ -15,13 +15,11 @@ use Rattle.theory.proofs.BoundedTests.{below_suc}
 use Rattle.theory.proofs.Places.{nothing_ahead, ahead_column, ahead_row}
 use Rattle.egg.specs.declared.GroupElementId.{GroupElementId}
 use Rattle.egg.specs.declared.GeneratorId.{GeneratorId}
-use Rattle.egg.specs.declared.Reached.TheVariants as reached
+use Rattle.egg.specs.Answers.{Counted, numbered}
+use Rattle.std.specs.Prelude.{Ok, Err}
 use Rattle.egg.specs.declared.Refusal.{Refusal}
-use Rattle.egg.specs.declared.Counted.{Counted}
-use Rattle.egg.specs.declared.Counted.TheVariants as counted
 use Rattle.egg.specs.Table.{pick, put_at, start_of, succ_at, length_of}
 use Rattle.build_reading.specs.Build.{is_new, set_step, adds}
-use Rattle.egg.specs.Answers.{numbered}
 use Rattle.enumeration_rows.specs.Rows.{place_at, added_rows}
 use Rattle.enumeration_wake.specs.Waking.{State, state, link, below_at}
 use Rattle.enumeration_facts.specs.Facts.{settle_from}
@@ -53,8 +51,8 @@ past_ends (next_row {x} p hx) h = (x, omega arith, p)
 module _ {n : ℕ} {o : List ℕ} {room lt lw : ℕ} (L : Limits n o room lt lw) where
   -- After a visit: the next column of the same row.
   abbrev pub Visited : ℕ → ℕ → Counted → List ℕ → List ℕ → Type 1
-  Visited x g (counted.Count c) t w = (x < c) × Going n o room lt lw x (g + 1) c t w
-  Visited x g (counted.Refused r) t w = Broken n o room lt lw t w r
+  Visited x g (Ok c) t w = (x < c) × Going n o room lt lw x (g + 1) c t w
+  Visited x g (Err r) t w = Broken n o room lt lw t w r
 
   abbrev pub VisitedBy : ℕ → ℕ → Visit → Type 1
   VisitedBy x g v = Visited x g v.answer v.table v.work
@@ -176,10 +174,10 @@ module _ {n : ℕ} {o : List ℕ} {room lt lw : ℕ} (L : Limits n o room lt lw)
 
     adding : get_or t (start_of n x + g) 0 ≡ 0 → (full long : Bool) → leb room c ≡ full → leb 4096 (length_of t n x) ≡ long
         → VisitedBy x g (after_adding
-        (pick full (record { answer = reached.Refused (numbered 5 x g 0); table = t })
-        (pick long (record { answer = reached.Refused (numbered 6 x g 0); table = t })
-        (record { answer = reached.Element made; table = set_step (written t n c e γ (length_of t n x + 1)) n e γ made })))
-        (λ made t₁. visit (counted.Count (c + 1)) (discovered n o e γ made t₁ w).table (discovered n o e γ made t₁ w).work) (λ why t₁. visit (counted.Refused why) t₁ w))
+        (pick full (record { answer = Err (numbered 5 x g 0); table = t })
+        (pick long (record { answer = Err (numbered 6 x g 0); table = t })
+        (record { answer = Ok made; table = set_step (written t n c e γ (length_of t n x + 1)) n e γ made })))
+        (λ made t₁. visit (Ok (c + 1)) (discovered n o e γ made t₁ w).table (discovered n o e γ made t₁ w).work) (λ why t₁. visit (Err why) t₁ w))
     adding z true long q k =
         let i : c ≡ room = omega (arith, leb-true room c q, G.run.fits) in
         no_room x g (omega arith) hg (subst (λ (c : ℕ). Going n o room lt lw x g c t w) i G) z
@@ -193,8 +191,8 @@ module _ {n : ℕ} {o : List ℕ} {room lt lw : ℕ} (L : Limits n o room lt lw)
       by : (b : Bool) → is_new t n e γ ≡ b
           → VisitedBy x g (pick b
           (after_adding (adds t n room c e γ)
-          (λ made t₁. visit (counted.Count (c + 1)) (discovered n o e γ made t₁ w).table (discovered n o e γ made t₁ w).work) (λ why t₁. visit (counted.Refused why) t₁ w))
-          (visit (counted.Count c) t w))
+          (λ made t₁. visit (Ok (c + 1)) (discovered n o e γ made t₁ w).table (discovered n o e γ made t₁ w).work) (λ why t₁. visit (Err why) t₁ w))
+          (visit (Ok c) t w))
       by true q = adding (eqb-true _ _ q) (leb room c) (leb 4096 (length_of t n x)) refl refl
       by false q = (hx, known_going (eqb-false _ _ q))
 
@@ -259,8 +257,8 @@ module _ {n : ℕ} {o : List ℕ} {room lt lw : ℕ} (L : Limits n o room lt lw)
 
         go : Rest → (a : Counted) (t₁ w₁ : List ℕ) → Visited at.element at.generator a t₁ w₁
             → EndedBy (on_visit a t₁ w₁ (λ c t₂ w₂. runs k n o room (advanced n at c) t₂ w₂) (λ why t₂ w₂. outcome (ran.Refused why) t₂ w₂))
-        go rest (counted.Count c) t₁ w₁ H = rest c t₁ w₁ H.0 H.1
-        go rest (counted.Refused r) t₁ w₁ H = H
+        go rest (Ok c) t₁ w₁ H = rest c t₁ w₁ H.0 H.1
+        go rest (Err r) t₁ w₁ H = H
 
         here : Visit
         here = visits n o room at.count (record { 0 = at.element }) (record { 0 = at.generator }) t w

@@ -11,12 +11,10 @@ use lib.Dec.{ltb, leb}
 use Rattle.theory.specs.Presentation.{order_of}
 use Rattle.egg.specs.declared.GroupElementId.{GroupElementId}
 use Rattle.egg.specs.declared.GeneratorId.{GeneratorId}
-use Rattle.egg.specs.declared.Reached.TheVariants as reached
-use Rattle.egg.specs.declared.Counted.{Counted}
-use Rattle.egg.specs.declared.Counted.TheVariants as counted
+use Rattle.egg.specs.Answers.{Counted, numbered}
+use Rattle.std.specs.Prelude.{Ok, Err}
 use Rattle.egg.specs.Table.{pick, put_at, start_of, length_of}
 use Rattle.build_reading.specs.Build.{is_new, set_step, set_word, Adds, adds}
-use Rattle.egg.specs.Answers.{numbered}
 use Rattle.enumeration_rows.specs.Rows.{work_width, place_at, added_rows}
 use Rattle.enumeration_wake.specs.Waking.{State, state, link, below_at}
 use Rattle.enumeration_run.specs.Run.{discovered, Visit, visit, after_adding, visits, advanced, RunResult, outcome, after, runs}
@@ -35,8 +33,8 @@ use Rattle.enumeration_run_laws.proofs.LongerAdding.{added_rows_longer}
 use Rattle.enumeration_run_laws.proofs.LongerFacts.{set_long, settle_longer}
 
 abbrev IsCount : Counted → Type 0
-IsCount (counted.Count c) = Unit {0}
-IsCount (counted.Refused r) = ⊥
+IsCount (Ok c) = Unit {0}
+IsCount (Err r) = ⊥
 
 -- The word of a new element is stored inside the table.
 word_long : (n count : ℕ) {a len : ℕ} {t t' : List ℕ} → Long a len t t' → (count + 1) * (2 * n + 4) ≤ len → (e : GroupElementId) (g : GeneratorId) (size : ℕ)
@@ -82,11 +80,11 @@ module _ {n : ℕ} {o : List ℕ} {room lt lw : ℕ} (L : Limits n o room lt lw)
     -- What adding an element comes to, by the two tests of `adds`.
     abbrev chosen : Bool → Bool → List ℕ → ℕ → Adds
     chosen full long t₀ size =
-        pick full (record { answer = reached.Refused (numbered 5 e.0 g.0 0); table = t₀ })
-        (pick long (record { answer = reached.Refused (numbered 6 e.0 g.0 0); table = t₀ }) (record { answer = reached.Element fresh; table = stepped t₀ size }))
+        pick full (record { answer = Err (numbered 5 e.0 g.0 0); table = t₀ })
+        (pick long (record { answer = Err (numbered 6 e.0 g.0 0); table = t₀ }) (record { answer = Ok fresh; table = stepped t₀ size }))
 
     abbrev came : List ℕ → Adds → Visit
-    came w₀ x = after_adding x (λ new t₁. visit (counted.Count (count + 1)) (discovered n o e g new t₁ w₀).table (discovered n o e g new t₁ w₀).work) (λ why t₁. visit (counted.Refused why) t₁ w₀)
+    came w₀ x = after_adding x (λ new t₁. visit (Ok (count + 1)) (discovered n o e g new t₁ w₀).table (discovered n o e g new t₁ w₀).work) (λ why t₁. visit (Err why) t₁ w₀)
 
     adding_longer : (full long : Bool) (size : ℕ) → leb room count ≡ full → IsCount (came w (chosen full long t size)).answer
         → came (longer b w) (chosen (leb room' count) long (longer a t) size) ≡ longer_visit a b (came w (chosen full long t size))
@@ -95,7 +93,7 @@ module _ {n : ℕ} {o : List ℕ} {room lt lw : ℕ} (L : Limits n o room lt lw)
     adding_longer false false size q d =
         let h = leb-false room count q in
         let q' : leb room' count ≡ false = lt-leb room' count (omega arith) in
-        rw q' (ap (λ (s : State). visit (counted.Count (count + 1)) s.table s.work) (discovered_longer h size))
+        rw q' (ap (λ (s : State). visit (Ok (count + 1)) s.table s.work) (discovered_longer h size))
 
     visits_longer : IsCount (visits n o room count e g t w).answer → visits n o room' count e g (longer a t) (longer b w) ≡ longer_visit a b (visits n o room count e g t w)
     unfolding visits adds
@@ -103,9 +101,9 @@ module _ {n : ℕ} {o : List ℕ} {room lt lw : ℕ} (L : Limits n o room lt lw)
       size : ℕ
       size = length_of t n e.0
 
-      by : (c : Bool) → IsCount (pick c (came w (chosen (leb room count) (leb 4096 size) t (size + 1))) (visit (counted.Count count) t w)).answer
-          → pick c (came (longer b w) (chosen (leb room' count) (leb 4096 size) (longer a t) (size + 1))) (visit (counted.Count count) (longer a t) (longer b w))
-          ≡ longer_visit a b (pick c (came w (chosen (leb room count) (leb 4096 size) t (size + 1))) (visit (counted.Count count) t w))
+      by : (c : Bool) → IsCount (pick c (came w (chosen (leb room count) (leb 4096 size) t (size + 1))) (visit (Ok count) t w)).answer
+          → pick c (came (longer b w) (chosen (leb room' count) (leb 4096 size) (longer a t) (size + 1))) (visit (Ok count) (longer a t) (longer b w))
+          ≡ longer_visit a b (pick c (came w (chosen (leb room count) (leb 4096 size) t (size + 1))) (visit (Ok count) t w))
       by true d = adding_longer (leb room count) (leb 4096 size) (size + 1) refl d
       by false d = refl
 
@@ -130,8 +128,8 @@ module _ {n : ℕ} {o : List ℕ} {room lt lw : ℕ} (L : Limits n o room lt lw)
 
       go : Rest → (x : Counted) (t₁ w₁ : List ℕ) → Counts L x t₁ w₁ → (v : Visit) → (IsCount x → v ≡ longer_visit a b (visit x t₁ w₁)) → IsDone (then k room at (visit x t₁ w₁)).answer
           → then k room' at v ≡ longer_outcome a b (then k room at (visit x t₁ w₁))
-      go rest (counted.Count c) t₁ w₁ J v same d = rw (same tt) (rest c t₁ w₁ J d)
-      go rest (counted.Refused r) t₁ w₁ J v same d = absurd d
+      go rest (Ok c) t₁ w₁ J v same d = rw (same tt) (rest c t₁ w₁ J d)
+      go rest (Err r) t₁ w₁ J v same d = absurd d
 
       here : ℕ → List ℕ → List ℕ → Visit
       here room₀ t₀ w₀ = visits n o room₀ at.count (record { 0 = at.element }) (record { 0 = at.generator }) t₀ w₀

@@ -13,12 +13,10 @@ use Rattle.theory.specs.Presentation.{pairs_below, order_of}
 use Rattle.theory.proofs.Pairs.{pairs_length}
 use Rattle.egg.specs.declared.GroupElementId.{GroupElementId}
 use Rattle.egg.specs.declared.GeneratorId.{GeneratorId}
-use Rattle.egg.specs.declared.Reached.TheVariants as reached
-use Rattle.egg.specs.declared.Counted.{Counted}
-use Rattle.egg.specs.declared.Counted.TheVariants as counted
+use Rattle.egg.specs.Answers.{Counted, numbered}
+use Rattle.std.specs.Prelude.{Ok, Err}
 use Rattle.egg.specs.Table.{pick, put_at, start_of, length_of}
 use Rattle.build_reading.specs.Build.{is_new, set_step, adds}
-use Rattle.egg.specs.Answers.{numbered}
 use Rattle.enumeration_rows.specs.Rows.{work_width, place_at, added_rows}
 use Rattle.enumeration_wake.specs.Waking.{state, link, below_at}
 use Rattle.enumeration_run.specs.Run.{discovered, Visit, visit, after_adding, visits, advanced, RunResult, outcome, on_visit, after, runs, start_of_run, enumerated}
@@ -65,8 +63,8 @@ module _ {n : ℕ} {o : List ℕ} {room lt lw : ℕ} (L : Limits n o room lt lw)
 
   -- What is right after a visit and after a run, by the answer; of a refusal nothing is said.
   abbrev pub Counts : Counted → List ℕ → List ℕ → Type 1
-  Counts (counted.Count c) t w = RunOk n (order_of o) room lt lw c t w
-  Counts (counted.Refused r) t w = Unit {1}
+  Counts (Ok c) t w = RunOk n (order_of o) room lt lw c t w
+  Counts (Err r) t w = Unit {1}
 
   abbrev pub VisitOk : Visit → Type 1
   VisitOk v = Counts v.answer v.table v.work
@@ -129,10 +127,10 @@ module _ {n : ℕ} {o : List ℕ} {room lt lw : ℕ} (L : Limits n o room lt lw)
     -- A place whose step is not known: refused, or a new element.
     adding_ok : (full-room long : Bool) → leb room count ≡ full-room
         → VisitOk (after_adding
-        (pick full-room (record { answer = reached.Refused (numbered 5 e.0 g.0 0); table = t })
-        (pick long (record { answer = reached.Refused (numbered 6 e.0 g.0 0); table = t })
-        (record { answer = reached.Element new; table = set_step (written t n count e g (length_of t n e.0 + 1)) n e g new })))
-        (λ made t₁. visit (counted.Count (count + 1)) (discovered n o e g made t₁ w).table (discovered n o e g made t₁ w).work) (λ why t₁. visit (counted.Refused why) t₁ w))
+        (pick full-room (record { answer = Err (numbered 5 e.0 g.0 0); table = t })
+        (pick long (record { answer = Err (numbered 6 e.0 g.0 0); table = t })
+        (record { answer = Ok new; table = set_step (written t n count e g (length_of t n e.0 + 1)) n e g new })))
+        (λ made t₁. visit (Ok (count + 1)) (discovered n o e g made t₁ w).table (discovered n o e g made t₁ w).work) (λ why t₁. visit (Err why) t₁ w))
     adding_ok true long q = tt
     adding_ok false true q = tt
     adding_ok false false q = discovered_ok (leb-false room count q) (length_of t n e.0 + 1)
@@ -143,8 +141,8 @@ module _ {n : ℕ} {o : List ℕ} {room lt lw : ℕ} (L : Limits n o room lt lw)
       by : (b : Bool)
           → VisitOk (pick b
           (after_adding (adds t n room count e g)
-          (λ made t₁. visit (counted.Count (count + 1)) (discovered n o e g made t₁ w).table (discovered n o e g made t₁ w).work) (λ why t₁. visit (counted.Refused why) t₁ w))
-          (visit (counted.Count count) t w))
+          (λ made t₁. visit (Ok (count + 1)) (discovered n o e g made t₁ w).table (discovered n o e g made t₁ w).work) (λ why t₁. visit (Err why) t₁ w))
+          (visit (Ok count) t w))
       by true = adding_ok (leb room count) (leb 4096 (length_of t n e.0)) refl
       by false = I
 
@@ -159,8 +157,8 @@ module _ {n : ℕ} {o : List ℕ} {room lt lw : ℕ} (L : Limits n o room lt lw)
     Rest = (c : ℕ) (t₁ w₁ : List ℕ) → RunOk n (order_of o) room lt lw c t₁ w₁ → OutcomeOk (runs k n o room (advanced n at c) t₁ w₁)
 
     go : Rest → (a : Counted) (t₁ w₁ : List ℕ) → Counts a t₁ w₁ → OutcomeOk (on_visit a t₁ w₁ (λ c t₂ w₂. runs k n o room (advanced n at c) t₂ w₂) (λ why t₂ w₂. outcome (ran.Refused why) t₂ w₂))
-    go rest (counted.Count c) t₁ w₁ J = rest c t₁ w₁ J
-    go rest (counted.Refused r) t₁ w₁ J = tt
+    go rest (Ok c) t₁ w₁ J = rest c t₁ w₁ J
+    go rest (Err r) t₁ w₁ J = tt
 
     here : Visit
     here = visits n o room at.count (record { 0 = at.element }) (record { 0 = at.generator }) t w

@@ -10,10 +10,8 @@ use lib.ListN.{replicate}
 use lib.Dec.{ltb}
 use Rattle.egg.specs.declared.GroupElementId.{GroupElementId}
 use Rattle.egg.specs.declared.GeneratorId.{GeneratorId}
-use Rattle.egg.specs.declared.Reached.{Reached}
-use Rattle.egg.specs.declared.Reached.TheVariants as reached
-use Rattle.egg.specs.declared.Counted.{Counted}
-use Rattle.egg.specs.declared.Counted.TheVariants as counted
+use Rattle.egg.specs.Answers.{Counted, Reached}
+use Rattle.std.specs.Prelude.{Ok, Err}
 use Rattle.egg.specs.Table.{pick}
 use Rattle.build_reading.specs.Build.{is_new, adds}
 use Rattle.enumeration_rows.specs.Rows.{added_rows}
@@ -39,8 +37,8 @@ next n at c h = by (ltb (at.generator + 1) n) refl where
 
 -- A visit adds an element or none.
 abbrev Grows : ℕ → Counted → Type 0
-Grows count (counted.Count c) = count ≤ c
-Grows count (counted.Refused r) = Unit {0}
+Grows count (Ok c) = count ≤ c
+Grows count (Err r) = Unit {0}
 
 module _ (n : ℕ) (o : List ℕ) (room : ℕ) where
   visits_grow : (count : ℕ) (e : GroupElementId) (g : GeneratorId) (t w : List ℕ) → Grows count (visits n o room count e g t w).answer
@@ -49,10 +47,10 @@ module _ (n : ℕ) (o : List ℕ) (room : ℕ) where
     by : (b : Bool) (a : Reached) (t₀ : List ℕ)
         → Grows count
         (pick {A = Visit} b
-        (after_reaching a t₀ (λ new t₁. visit (counted.Count (count + 1)) (discovered n o e g new t₁ w).table (discovered n o e g new t₁ w).work) (λ why t₁. visit (counted.Refused why) t₁ w))
-        (visit (counted.Count count) t w)).answer
-    by true (reached.Element x) t₀ = omega arith
-    by true (reached.Refused r) t₀ = tt
+        (after_reaching a t₀ (λ new t₁. visit (Ok (count + 1)) (discovered n o e g new t₁ w).table (discovered n o e g new t₁ w).work) (λ why t₁. visit (Err why) t₁ w))
+        (visit (Ok count) t w)).answer
+    by true (Ok x) t₀ = omega arith
+    by true (Err r) t₀ = tt
     by false a t₀ = le_refl count
 
   abbrev here : Run → List ℕ → List ℕ → Visit
@@ -75,8 +73,8 @@ module _ (n : ℕ) (o : List ℕ) (room : ℕ) where
     Rest = (c : ℕ) (t₁ w₁ : List ℕ) → at.count ≤ c → IsDone (runs k n o room (advanced n at c) t₁ w₁).answer → at.count ≤ done_of (runs k n o room (advanced n at c) t₁ w₁).answer
 
     go : Rest → (a : Counted) (t₁ w₁ : List ℕ) → Grows at.count a → IsDone (then k at a t₁ w₁).answer → at.count ≤ done_of (then k at a t₁ w₁).answer
-    go rest (counted.Count c) t₁ w₁ h d = rest c t₁ w₁ h d
-    go rest (counted.Refused r) t₁ w₁ h d = absurd d
+    go rest (Ok c) t₁ w₁ h d = rest c t₁ w₁ h d
+    go rest (Err r) t₁ w₁ h d = absurd d
 
     by : (b : Bool) → IsDone (pick {A = RunResult} b (then k at (here at t w).answer (here at t w).table (here at t w).work) (outcome (ran.Done at.count) t w)).answer → Rest
         → at.count ≤ done_of (pick {A = RunResult} b (then k at (here at t w).answer (here at t w).table (here at t w).work) (outcome (ran.Done at.count) t w)).answer
@@ -137,8 +135,8 @@ module _ (n : ℕ) (o : List ℕ) (room : ℕ) where
     go : Rest → (a : Counted) (t₁ w₁ : List ℕ) → IsDone (then k at a t₁ w₁).answer
         → (done_of (then k at a t₁ w₁).answer * n ≤ suc j + place n at → then j at a t₁ w₁ ≡ then k at a t₁ w₁)
         × (suc j + place n at < done_of (then k at a t₁ w₁).answer * n → IsPaused (then j at a t₁ w₁).answer)
-    go rest (counted.Count c) t₁ w₁ d = let r = rest c t₁ w₁ d in let f = next n at c hg in (λ h. r.enough (omega (arith, f.2)), λ h. r.short (omega (arith, f.2)))
-    go rest (counted.Refused x) t₁ w₁ d = absurd d
+    go rest (Ok c) t₁ w₁ d = let r = rest c t₁ w₁ d in let f = next n at c hg in (λ h. r.enough (omega (arith, f.2)), λ h. r.short (omega (arith, f.2)))
+    go rest (Err x) t₁ w₁ d = absurd d
 
     by : (b : Bool) → ltb at.element at.count ≡ b → Rest → Exact (suc k) (suc j) at t w
     by true q rest =

@@ -47,8 +47,8 @@ pub fn wake(
 {
     if row.left == row.right {
         let g = enumeration_rows::inner::generator(row.pair, row.left);
-        let top1 = learn(t, w, n, row.from, g, row.to, top);
-        learn(t, w, n, row.to, g, row.from, top1)
+        let below = learn(t, w, n, row.from, g, row.to, top);
+        learn(t, w, n, row.to, g, row.from, below)
     } else {
         enumeration_rows::inner::wait(w, n, at, row, side);
         top
@@ -87,8 +87,9 @@ pub fn carry_leg(
     let back = before.right - after.right;
     let mut at = first;
     let mut left = count;
+    // Counted by hand: each exit hands on how many are left.
     while left != 0 {
-        let guess = std::num::wrapping_add_u32(at, step);
+        let guess = at.wrapping_add(step);
         if at == 0 {
             return Carried {
                 at,
@@ -108,14 +109,11 @@ pub fn carry_leg(
             };
         }
         let next = egg::inner::get(&w[..], place + 5);
-        let from = after.from;
-        let to = after.to;
         let moved = RelationTableRow {
             pair: row.pair,
             left: row.left + forth,
             right: row.right - back,
-            from,
-            to,
+            ..after
         };
         enumeration_rows::inner::write_row(w, place, moved);
         enumeration_rows::inner::append(w, list, place);
@@ -124,7 +122,7 @@ pub fn carry_leg(
             return Carried {
                 at: next,
                 left,
-                step: std::num::wrapping_sub_u32(next, at),
+                step: next.wrapping_sub(at),
                 more: true,
             };
         }
@@ -143,10 +141,7 @@ pub fn carry_leg(
 pub fn worth_carrying(count: u32, after: RelationTableRow) -> bool
     ensures { result ≡ true → after.left < after.right }
 {
-    if count <= 16 {
-        return false;
-    }
-    after.left < after.right
+    16 < count && after.left < after.right
 }
 
 // Moves on the copies at the start of what is left of a list that stand as `before` stood, which was filled to `after`:
@@ -165,21 +160,16 @@ pub fn carry(
     requires { after.left < after.right → after ≡ filled t.now n before }
     ensures { (wakes_rest result n side (state t.now w.new top) ≡ wakes_all count n first side (state t.now w.old top)) × (result.left ≤ count) }
 {
-    let mut at = first;
-    let mut left = count;
-    let mut step = 0;
-    let mut more = worth_carrying(count, after);
-    while more {
-        let leg = carry_leg(t, w, n, at, left, side, before, after, step, top);
-        at = leg.at;
-        left = leg.left;
-        step = leg.step;
-        more = leg.more;
+    let mut leg = Carried {
+        at: first,
+        left: count,
+        step: 0,
+        more: worth_carrying(count, after),
+    };
+    while leg.more {
+        leg = carry_leg(
+            t, w, n, leg.at, leg.left, side, before, after, leg.step, top,
+        );
     }
-    Carried {
-        at,
-        left,
-        step,
-        more,
-    }
+    leg
 }

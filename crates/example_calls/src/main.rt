@@ -3,10 +3,9 @@
 // subgroup. What is past a range is asked too.
 #![tactic(auto)]
 
-use egg::{Counted, Factor, GeneratorId, GroupElementId, Reached, Verdict};
-use group_handles::{Group, Grouped};
+use egg::{Factor, GeneratorId, GroupElementId, Refusal};
+use group_handles::Group;
 use std::io;
-use subgroup::Within;
 use subgroup_build::Subgroup;
 
 // What is asked. `Letter` asks for one letter of a word; `Over` and `Back` ask the two maps of a subgroup.
@@ -40,41 +39,34 @@ fn exponent(i: u8) -> i32 {
 }
 
 // Gives a count as an element of that number, so that one function writes every answer.
-fn counted(c: Counted) -> Reached {
-    match c {
-        Counted::Count(x) => Reached::Element(GroupElementId(x)),
-        Counted::Refused(why) => Reached::Refused(why),
-    }
+fn counted(c: Result<u32, Refusal>) -> Result<GroupElementId, Refusal> {
+    Ok(GroupElementId(c?))
 }
 
 // Answers the letter at b of a word, by the call that hands back the filled part of a buffer; from the word's end on 256 and its length, which is
 // below 64 here.
-fn letter(table: &[u32], g: Group, e: GroupElementId, b: u8) -> Reached {
+fn letter(table: &[u32], g: Group, e: GroupElementId, b: u8) -> Result<GroupElementId, Refusal> {
     let mut buffer = [0u8; 64];
     let part = group::word(table, g, e, &mut buffer);
     let k = b as usize;
     if k < part.len() {
-        return Reached::Element(GroupElementId(part[k] as u32));
+        return Ok(GroupElementId(part[k] as u32));
     }
-    Reached::Element(GroupElementId(256 + ((part.len() % 256) as u32)))
+    Ok(GroupElementId(256 + ((part.len() % 256) as u32)))
 }
 
 // Outside of a subgroup is 4,294,967,295, as on paper.
-fn inside(x: Within) -> Reached {
-    match x {
-        Within::Element(y) => Reached::Element(y),
-        Within::Outside => Reached::Element(GroupElementId(4294967295)),
-        Within::Refused(why) => Reached::Refused(why),
-    }
+fn inside(x: Result<Option<GroupElementId>, Refusal>) -> Result<GroupElementId, Refusal> {
+    Ok(x?.unwrap_or(GroupElementId(4294967295)))
 }
 
 // One place of a map of the subgroup that element 1 generates, which is made anew for each question.
-fn carried(from: &[u32], g: Group, over: bool, b: u8) -> Reached {
+fn carried(from: &[u32], g: Group, over: bool, b: u8) -> Result<GroupElementId, Refusal> {
     let mut table = [0u32; 12];
     let mut work = [0u32; 20];
     let mut inn = [0u32; 6];
     let mut outw = [0u32; 2];
-    let made = subgroup::from_generators(
+    let s = subgroup::from_generators(
         from,
         g,
         &[1],
@@ -84,8 +76,7 @@ fn carried(from: &[u32], g: Group, over: bool, b: u8) -> Reached {
         &mut inn,
         &mut outw,
         2,
-    );
-    let s = made.subgroup;
+    )?;
     let x = GroupElementId(b as u32);
     if over {
         return subgroup::to_overgroup(from, &table, s, &outw, x);
@@ -94,7 +85,7 @@ fn carried(from: &[u32], g: Group, over: bool, b: u8) -> Reached {
 }
 
 // Asks one question. One with a single argument or none does not look at a.
-fn ask(table: &[u32], g: Group, what: Question, a: u8, b: u8) -> Reached {
+fn ask(table: &[u32], g: Group, what: Question, a: u8, b: u8) -> Result<GroupElementId, Refusal> {
     let e = GroupElementId(a as u32);
     let f = GroupElementId(b as u32);
     match what {
@@ -119,12 +110,12 @@ fn number(rt: &impl Print, x: u32) -> io::Result<()> {
     print!(rt; " {x}")
 }
 
-fn write_answer(rt: &impl Print, answer: Reached) -> io::Result<()> {
+fn write_answer(rt: &impl Print, answer: Result<GroupElementId, Refusal>) -> io::Result<()> {
     match answer {
-        Reached::Element(e) => number(rt, e.0),
-        Reached::Refused(why) => {
+        Ok(e) => number(rt, e.0),
+        Err(why) => {
             rt.write_all(b" refused")?;
-            number(rt, why.number)
+            number(rt, why.number())
         }
     }
 }
@@ -199,26 +190,32 @@ fn write_group(
 }
 
 // The answers of two questions, and the line's end.
-fn write_both(rt: &impl Print, name: &[u8], first: Reached, second: Reached) -> io::Result<()> {
+fn write_both(
+    rt: &impl Print,
+    name: &[u8],
+    first: Result<GroupElementId, Refusal>,
+    second: Result<GroupElementId, Refusal>,
+) -> io::Result<()> {
     rt.write_all(name)?;
     write_answer(rt, first)?;
     write_answer(rt, second)?;
     rt.write_all(b"\n")
 }
 
-fn write_one(rt: &impl Print, name: &[u8], answer: Reached) -> io::Result<()> {
+fn write_one(
+    rt: &impl Print,
+    name: &[u8],
+    answer: Result<GroupElementId, Refusal>,
+) -> io::Result<()> {
     rt.write_all(name)?;
     write_answer(rt, answer)?;
     rt.write_all(b"\n")
 }
 
 // What a call that makes a product answers: 0, or its refusal.
-fn grouped(made: Grouped) -> Reached {
-    let answer = made.answer;
-    match answer {
-        Verdict::Fine => Reached::Element(GroupElementId(0)),
-        Verdict::Refused(why) => Reached::Refused(why),
-    }
+fn grouped(made: Result<Group, Refusal>) -> Result<GroupElementId, Refusal> {
+    made?;
+    Ok(GroupElementId(0))
 }
 
 // More factors than a product may have, which only a forged value says.
@@ -235,15 +232,9 @@ fn write_refused(
     s: Subgroup,
     z2: Factor,
 ) -> io::Result<()> {
-    let below = s.below;
-    let factor = s.factor;
-    let over = s.over;
-    let above = forged(z2);
     let more = Subgroup {
-        below,
-        factor,
-        over,
-        above,
+        above: forged(z2),
+        ..s
     };
     let none = grouped(subgroup::overgroup(table, &own[..0], s));
     let many = grouped(subgroup::overgroup(table, own, more));
@@ -264,15 +255,17 @@ fn write_overgroup(
         b"generators:",
         counted(subgroup::generator_count(table, own, s)),
     )?;
-    let made = subgroup::product_left(table, own, group::of(z2), s);
-    let left = made.subgroup;
+    let Ok(left) = subgroup::product_left(table, own, group::of(z2), s) else {
+        return rt.write_all(b"no product\n");
+    };
     write_one(
         rt,
         b"below:",
         counted(subgroup::generator_count(table, own, left)),
     )?;
-    let whole = subgroup::overgroup(table, own, left);
-    let over = whole.group;
+    let Ok(over) = subgroup::overgroup(table, own, left) else {
+        return rt.write_all(b"no overgroup\n");
+    };
     write_group(rt, b"overgroup\n", table, over, 13, 4)?;
     write_refused(rt, table, own, left, z2)
 }
@@ -294,7 +287,9 @@ fn write_subgroup(rt: &impl Print, table: &[u32], s3: Group, z2: Factor) -> io::
         &mut outw,
         2,
     );
-    let s = made.subgroup;
+    let Ok(s) = made else {
+        return rt.write_all(b"no subgroup\n");
+    };
     write_overgroup(rt, table, &own, s, z2)
 }
 
@@ -320,8 +315,9 @@ fn write_maps(
         b"generators:",
         counted(subgroup::generator_count(none, own, s)),
     )?;
-    let whole = subgroup::overgroup(none, own, s);
-    let g = whole.group;
+    let Ok(g) = subgroup::overgroup(none, own, s) else {
+        return rt.write_all(b"no overgroup\n");
+    };
     write_one(rt, b"overgroup:", counted(group::element_count(none, g)))
 }
 
@@ -331,15 +327,18 @@ fn write_trivial(rt: &impl Print) -> io::Result<()> {
     let mut work = [9u32; 1];
     let mut inn = [9u32; 1];
     let mut outw = [9u32; 1];
-    let made = subgroup::trivial(&mut own, 0, &mut work, &mut inn, &mut outw);
-    let s = made.subgroup;
+    let Ok(s) = subgroup::trivial(&mut own, 0, &mut work, &mut inn, &mut outw) else {
+        return rt.write_all(b"no subgroup\n");
+    };
     write_maps(rt, &[], &own, &inn, &outw, s)
 }
 
 // Each range is asked up to the first number past it.
 fn write_groups(rt: &impl Print, table: &[u32], s3: Group, z2: Factor) -> io::Result<()> {
-    let pair = group::product(table, s3, group::of(z2));
-    write_group(rt, b"product\n", table, pair.group, 13, 4)?;
+    let Ok(pair) = group::product(table, s3, group::of(z2)) else {
+        return rt.write_all(b"no product\n");
+    };
+    write_group(rt, b"product\n", table, pair, 13, 4)?;
     write_group(rt, b"alone\n", table, s3, 7, 3)?;
     write_group(rt, b"none\n", table, group::trivial(), 2, 1)?;
     write_group(rt, b"forged\n", table, forged(z2), 1, 1)?;
@@ -353,7 +352,11 @@ fn write_groups(rt: &impl Print, table: &[u32], s3: Group, z2: Factor) -> io::Re
 fn main(rt: HostRuntime) -> io::Result<()> {
     let mut table = [0u32; 60];
     let mut work = [0u32; 192];
-    let first = enumeration::enumerate(&mut table, 0, &mut work, &[3], 2, 6);
-    let second = enumeration::enumerate(&mut table, 48, &mut work, &[], 1, 2);
-    write_groups(&rt, &table, group::of(first.factor), second.factor)
+    let Ok(s3) = enumeration::enumerate(&mut table, 0, &mut work, &[3], 2, 6) else {
+        return rt.write_all(b"no S3\n");
+    };
+    let Ok(z2) = enumeration::enumerate(&mut table, 48, &mut work, &[], 1, 2) else {
+        return rt.write_all(b"no Z2\n");
+    };
+    write_groups(&rt, &table, group::of(s3), z2)
 }

@@ -4,7 +4,7 @@
 
 use egg::{Factor, Refusal};
 use group_handles::Group;
-use lists::Listed;
+use lists::ListRefusal;
 use std::io;
 
 fn number(rt: &impl Print, x: u32) -> io::Result<()> {
@@ -13,17 +13,18 @@ fn number(rt: &impl Print, x: u32) -> io::Result<()> {
 
 fn write_refusal(rt: &impl Print, why: Refusal) -> io::Result<()> {
     rt.write_all(b" refused")?;
-    number(rt, why.number)?;
-    number(rt, why.a)?;
-    number(rt, why.b)?;
-    number(rt, why.c)
+    number(rt, why.number())?;
+    for place in why.places() {
+        number(rt, place)?;
+    }
+    Ok(())
 }
 
-fn write_answer(rt: &impl Print, said: Listed) -> io::Result<()> {
+fn write_answer(rt: &impl Print, said: Result<(), ListRefusal>) -> io::Result<()> {
     match said {
-        Listed::Fine => rt.write_all(b" fine"),
-        Listed::ListsRefused(why) => write_refusal(rt, why),
-        Listed::RefusedAt(at) => {
+        Ok(()) => rt.write_all(b" fine"),
+        Err(ListRefusal::ListsRefused(why)) => write_refusal(rt, why),
+        Err(ListRefusal::RefusedAt(at)) => {
             let place = at.place;
             print!(rt; " at {place}")?;
             write_refusal(rt, at.why)
@@ -39,7 +40,12 @@ fn write_list(rt: &impl Print, list: &[u32]) -> io::Result<()> {
     rt.write_all(b"\n")
 }
 
-fn write_listed(rt: &impl Print, label: &[u8], said: Listed, out: &[u32]) -> io::Result<()> {
+fn write_listed(
+    rt: &impl Print,
+    label: &[u8],
+    said: Result<(), ListRefusal>,
+    out: &[u32],
+) -> io::Result<()> {
     rt.write_all(label)?;
     write_answer(rt, said)?;
     write_list(rt, out)
@@ -187,10 +193,12 @@ fn main(rt: HostRuntime) -> io::Result<()> {
     let mut table = [0u32; 48];
     let mut work = [0u32; 192];
     let rows = [1u32, 2, 0, 3, 4, 0, 5, 1, 2, 5, 3, 4];
-    let made = factor::from_composed(&mut table, 0, &mut work, &rows, 2, 6);
-    let f = made.factor;
-    let pair = group::product(&table, group::of(f), group::of(f));
-    let g = pair.group;
+    let Ok(f) = factor::from_composed(&mut table, 0, &mut work, &rows, 2, 6) else {
+        return rt.write_all(b"no factor\n");
+    };
+    let Ok(g) = group::product(&table, group::of(f), group::of(f)) else {
+        return rt.write_all(b"no product\n");
+    };
     ask_all(&rt, &table, f, g)?;
     // In a table that is empty no handle fits, and the lengths come first.
     ask_all(&rt, &[], f, g)

@@ -2,40 +2,42 @@
 #![tactic(auto)]
 
 use builder::Builder;
-use egg::{Counted, Factor, GeneratorId, GroupElementId, Verdict};
-use names_values::{Name, Named, NamedBuilder, NamedGroup, NamedMade};
+use egg::{Factor, GeneratorId, GroupElementId, Refusal};
+use names_values::{Name, Named, NamedBuilder, NamedGroup};
 use std::io;
 
 fn write_number(rt: &impl Print, x: u32) -> io::Result<()> {
     print!(rt; " {x}")
 }
 
-fn write_count(rt: &impl Print, answer: Counted) -> io::Result<()> {
+fn write_count(rt: &impl Print, answer: Result<u32, Refusal>) -> io::Result<()> {
     match answer {
-        Counted::Count(k) => write_number(rt, k),
-        Counted::Refused(why) => {
+        Ok(k) => write_number(rt, k),
+        Err(why) => {
             rt.write_all(b" refused")?;
-            write_number(rt, why.number)
+            write_number(rt, why.number())
         }
     }
 }
 
 // What a call that makes something answers: 0, or its refusal.
-fn write_verdict(rt: &impl Print, label: &[u8], answer: Verdict) -> io::Result<()> {
+fn write_verdict(rt: &impl Print, label: &[u8], answer: Result<(), Refusal>) -> io::Result<()> {
     rt.write_all(label)?;
     match answer {
-        Verdict::Fine => write_number(rt, 0)?,
-        Verdict::Refused(why) => {
+        Ok(()) => write_number(rt, 0)?,
+        Err(why) => {
             rt.write_all(b" refused")?;
-            write_number(rt, why.number)?;
+            write_number(rt, why.number())?;
         }
     }
     rt.write_all(b"\n")
 }
 
-fn write_made(rt: &impl Print, label: &[u8], made: NamedMade) -> io::Result<()> {
-    let answer = made.answer;
-    write_verdict(rt, label, answer)
+fn write_made(rt: &impl Print, label: &[u8], made: Result<Named, Refusal>) -> io::Result<()> {
+    match made {
+        Ok(_) => write_verdict(rt, label, Ok(())),
+        Err(why) => write_verdict(rt, label, Err(why)),
+    }
 }
 
 // Writes the joined name of a product into a buffer: prints what is answered and what the buffer holds then, and the part that is handed back.
@@ -61,22 +63,26 @@ fn write_factor(rt: &impl Print, label: &[u8], table: &[u32], f: Named) -> io::R
     write_name(rt, label, table, names::of(f), &mut buffer)
 }
 
-// A product of two, as it is given on: where it is refused, its handle fits no buffer.
+// A product of two, as it is given on. All that are asked for are accepted; of no factors where one is not.
 fn times(table: &[u32], a: NamedGroup, b: NamedGroup) -> NamedGroup {
-    let made = names::product(table, a, b);
-    made.product
+    match names::product(table, a, b) {
+        Ok(product) => product,
+        Err(_) => names::trivial(),
+    }
 }
 
 // The name with another length, as only an altered record has it.
 fn forged(f: Named, length: u8) -> Named {
-    let factor = f.factor;
-    let name = f.name;
-    let bytes = name.bytes;
+    let bytes = f.name.bytes;
     let name = Name { bytes, length };
-    Named { factor, name }
+    Named {
+        factor: f.factor,
+        name,
+    }
 }
 
-// The joined names of products: into just its length, one byte less, and more; of none, of eight, of nine; with an empty name between; and forged.
+// The joined names of products: into just its length, one byte less, and more; of none, of eight, and of a factor whose handle fits no buffer; with an
+// empty name between; and forged. Nine factors are no product.
 fn write_products(
     rt: &impl Print,
     table: &[u32],
@@ -92,8 +98,7 @@ fn write_products(
     let mut short = [46u8; 6];
     write_name(rt, b"short", table, pair, &mut short)?;
     write_name(rt, b"none", table, names::trivial(), &mut [])?;
-    let handle = z2.factor;
-    let gap = times(table, pair, names::of(names::unnamed(handle)));
+    let gap = times(table, pair, names::of(names::unnamed(z2.factor)));
     let mut between = [46u8; 16];
     write_name(
         rt,
@@ -107,26 +112,40 @@ fn write_products(
     let eight = times(table, four, four);
     let mut many = [46u8; 37];
     write_name(rt, b"eight", table, eight, &mut many)?;
-    let nine = names::product(table, eight, names::of(z2));
-    let answer = nine.answer;
-    write_verdict(rt, b"nine", answer)?;
-    write_name(rt, b"nine", table, nine.product, &mut many)?;
+    match names::product(table, eight, names::of(z2)) {
+        Ok(_) => write_verdict(rt, b"nine", Ok(()))?,
+        Err(why) => write_verdict(rt, b"nine", Err(why))?,
+    }
+    let misfit = Factor {
+        start: 0,
+        room: 0,
+        generators: 0,
+        elements: 0,
+    };
+    write_name(
+        rt,
+        b"nine",
+        table,
+        names::of(names::unnamed(misfit)),
+        &mut many,
+    )?;
     write_factor(rt, b"thirty-two", table, forged(s3, 32))?;
     write_factor(rt, b"thirty-three", table, forged(s3, 33))
 }
 
 // A factor read from the image of another, one flattened, and a subgroup's: all with the empty name.
 fn write_unnamed(rt: &impl Print, table: &[u32], s3: Named) -> io::Result<()> {
-    let handle = s3.factor;
     let mut bytes = [0u8; 32];
     let mut own = [0u32; 48];
     let mut work = [0u32; 192];
-    image::write(table, handle, &mut bytes);
-    let read = names::read(&bytes, &mut own, 0, &mut work);
-    write_factor(rt, b"read", &own, read.named)?;
-    let flat = names::flatten(table, names::of(s3), &mut own, 0, &mut work, 6);
-    write_factor(rt, b"flattened", &own, flat.named)?;
-    write_part(rt, table, handle)
+    let _ = image::write(table, s3.factor, &mut bytes);
+    if let Ok(read) = names::read(&bytes, &mut own, 0, &mut work) {
+        write_factor(rt, b"read", &own, read)?;
+    }
+    if let Ok(flat) = names::flatten(table, names::of(s3), &mut own, 0, &mut work, 6) {
+        write_factor(rt, b"flattened", &own, flat)?;
+    }
+    write_part(rt, table, s3.factor)
 }
 
 fn write_part(rt: &impl Print, table: &[u32], handle: Factor) -> io::Result<()> {
@@ -145,8 +164,10 @@ fn write_part(rt: &impl Print, table: &[u32], handle: Factor) -> io::Result<()> 
         &mut outw,
         2,
     );
-    let s = made.subgroup;
-    write_factor(rt, b"subgroup", &own, names::unnamed(s.factor))
+    match made {
+        Ok(s) => write_factor(rt, b"subgroup", &own, names::unnamed(s.factor)),
+        Err(why) => write_verdict(rt, b"subgroup", Err(why)),
+    }
 }
 
 // The steps of the group of three elements.
@@ -155,18 +176,16 @@ fn stepped(table: &mut [u32], b: Builder) -> Builder {
     let one = builder::add_successor(table, b, GroupElementId(0), turn);
     let two = builder::add_successor(table, one.builder, GroupElementId(1), turn);
     let last = two.builder;
-    builder::set_successor(table, last, GroupElementId(2), turn, GroupElementId(0));
+    let _ = builder::set_successor(table, last, GroupElementId(2), turn, GroupElementId(0));
     last
 }
 
 // That group, built step by step: the builder's calls are given the builder, and the name goes along.
-fn built(table: &mut [u32], work: &mut [u32]) -> Named {
-    let begun = names::begin(table, 60, 3, 1, b"Z3");
-    let b = begun.begun;
-    let name = b.name;
-    let builder = stepped(table, b.builder);
-    let made = names::build(table, NamedBuilder { builder, name }, work);
-    made.named
+fn built(table: &mut [u32], work: &mut [u32]) -> Result<Named, Refusal> {
+    let begun = names::begin(table, 60, 3, 1, b"Z3")?;
+    let builder = stepped(table, begun.builder);
+    let name = begun.name;
+    names::build(table, NamedBuilder { builder, name }, work)
 }
 
 // A name of 32 bytes, and a longer one: refused before the build.
@@ -205,9 +224,10 @@ fn write_longer(
 
 // With the longer name no room.
 fn write_unbegun(rt: &impl Print, table: &mut [u32], long: &[u8]) -> io::Result<()> {
-    let begun = names::begin(table, 0, 0, 1, long);
-    let answer = begun.answer;
-    write_verdict(rt, b"begun", answer)
+    match names::begin(table, 0, 0, 1, long) {
+        Ok(_) => write_verdict(rt, b"begun", Ok(())),
+        Err(why) => write_verdict(rt, b"begun", Err(why)),
+    }
 }
 
 fn write_refused(rt: &impl Print, table: &mut [u32], work: &mut [u32]) -> io::Result<()> {
@@ -221,11 +241,15 @@ fn main(rt: HostRuntime) -> io::Result<()> {
     let mut table = [0u32; 78];
     let mut work = [0u32; 192];
     write_refused(&rt, &mut table, &mut work)?;
-    let first = names::enumerate(&mut table, 0, &mut work, &[3], 2, 6, b"S3");
-    let second = names::from_composed(&mut table, 48, &mut work, &[1, 0], 1, 2, b"Z2");
-    let z3 = built(&mut table, &mut work);
-    let s3 = first.named;
-    let z2 = second.named;
+    let Ok(s3) = names::enumerate(&mut table, 0, &mut work, &[3], 2, 6, b"S3") else {
+        return rt.write_all(b"no S3\n");
+    };
+    let Ok(z2) = names::from_composed(&mut table, 48, &mut work, &[1, 0], 1, 2, b"Z2") else {
+        return rt.write_all(b"no Z2\n");
+    };
+    let Ok(z3) = built(&mut table, &mut work) else {
+        return rt.write_all(b"no Z3\n");
+    };
     write_factor(&rt, b"orders", &table, s3)?;
     write_factor(&rt, b"rows", &table, z2)?;
     write_factor(&rt, b"built", &table, z3)?;

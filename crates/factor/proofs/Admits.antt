@@ -6,12 +6,8 @@ use native.Mathlib.Omega.{arith}
 use borrow.Author.Tests.{le-leb, lt-leb}
 use Rattle.egg.specs.declared.Refusal.{Refusal}
 use Rattle.egg.specs.declared.Factor.{Factor}
-use Rattle.egg.specs.declared.Verdict.{Verdict}
-use Rattle.egg.specs.declared.Verdict.TheVariants.{Fine, Refused}
-use Rattle.egg.specs.declared.Reached.{Reached}
-use Rattle.egg.specs.declared.Reached.TheVariants as reached
-use Rattle.egg.specs.declared.Counted.{Counted}
-use Rattle.egg.specs.declared.Counted.TheVariants as counted
+use Rattle.egg.specs.Answers.{Counted, Reached, Verdict, fine}
+use Rattle.std.specs.Prelude.{Err}
 use Rattle.egg.specs.Scan.{refused_of}
 use Rattle.egg.specs.Factor.{fits_in}
 use Rattle.factor.specs.Questions.{admits}
@@ -31,12 +27,12 @@ module _ (len : ℕ) (f : Factor) (a b : ℕ) where
     unfolding admits
     admits_second h k = rw fits (simp (lt-leb _ _ h, le-leb _ _ k))
 
-    pub admits_fine : a < f.elements → b < f.elements → Fine ≡ admits len f a b
+    pub admits_fine : a < f.elements → b < f.elements → fine ≡ admits len f a b
     unfolding admits
     admits_fine h k = rw fits (simp (lt-leb _ _ h, lt-leb _ _ k))
 
   -- Where the call goes on, the stretch of the factor may be lent.
-  pub admitted : {v : Verdict} → v ≡ admits len f a b → v ≡ Fine → fits_in len f ≡ true
+  pub admitted : {v : Verdict} → v ≡ admits len f a b → v ≡ fine → fits_in len f ≡ true
   admitted {v} q e = by (fits_in len f) refl where
     by : (t : Bool) → fits_in len f ≡ t → fits_in len f ≡ true
     by true h = h
@@ -46,14 +42,14 @@ module _ (len : ℕ) (f : Factor) (a b : ℕ) where
         absurd (omega arith)
 
 module _ {v w : Verdict} (q : v ≡ w) where
-  pub reach_refused : {r : Refusal} (x : Reached) → v ≡ Refused r → reached.Refused r ≡ if_reach w x
+  pub reach_refused : {r : Refusal} (x : Reached) → v ≡ Err r → Err r ≡ if_reach w x
   reach_refused x e = rw (← q, e)
 
-  pub reach_fine : (x : Reached) → v ≡ Fine → x ≡ if_reach w x
+  pub reach_fine : (x : Reached) → v ≡ fine → x ≡ if_reach w x
   reach_fine x e = rw (← q, e)
 
-  pub count_refused : {r : Refusal} (x : Counted) → v ≡ Refused r → counted.Refused r ≡ if_count w x
+  pub count_refused : {r : Refusal} (x : Counted) → v ≡ Err r → Err r ≡ if_count w x
   count_refused x e = rw (← q, e)
 
-  pub count_fine : (x : Counted) → v ≡ Fine → x ≡ if_count w x
+  pub count_fine : (x : Counted) → v ≡ fine → x ≡ if_count w x
   count_fine x e = rw (← q, e)

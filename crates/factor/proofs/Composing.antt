@@ -8,8 +8,7 @@ use native.Mathlib.Omega.{arith}
 use borrow.Author.Tests.{lt-ltb, le-ltb, le-leb, lt-leb}
 use borrow.Rule.Slice.PartMut.{mid_of, put_mid}
 use lib.ListN.{length, take, drop}
-use Rattle.egg.specs.declared.Made.{Made}
-use Rattle.egg.specs.declared.Counted.{Counted}
+use Rattle.egg.specs.Answers.{Counted, Made}
 use Rattle.build_lending.specs.Finish.{built}
 use Rattle.build_lending.specs.Lending.{table_need, work_need, lent_right, StretchEnd, refused_made, made_of, making}
 use Rattle.build_lending.proofs.Lending.{part_length, build_back}

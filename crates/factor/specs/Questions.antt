@@ -5,11 +5,8 @@ use Rattle.std.specs.Prelude.{ℕ, List, length, take, leb}
 use Rattle.egg.specs.declared.Factor.{Factor}
 use Rattle.egg.specs.declared.GroupElementId.{GroupElementId}
 use Rattle.egg.specs.declared.GeneratorId.{GeneratorId}
-use Rattle.egg.specs.declared.Verdict.{Verdict}
-use Rattle.egg.specs.declared.Verdict.TheVariants as verdict
-use Rattle.egg.specs.declared.Reached.{Reached}
-use Rattle.egg.specs.declared.Counted.{Counted}
-use Rattle.egg.specs.declared.Counted.TheVariants as counted
+use Rattle.egg.specs.Answers.{Counted, Reached, Verdict, fine}
+use Rattle.std.specs.Prelude.{Ok, Err}
 use Rattle.egg.specs.Table.{pick}
 use Rattle.egg.specs.Scan.{refused_of}
 use Rattle.egg.specs.Answers.{if_reach, if_count}
@@ -23,7 +20,7 @@ use Rattle.factor_walk.specs.Walked.{walk_in}
 unfoldable pub admits : ℕ → Factor → ℕ → ℕ → Verdict
 admits len f a b =
     pick (fits_in len f)
-    (pick (leb f.elements a) (refused_of 14 0 0 0) (pick (leb f.elements b) (refused_of 14 1 0 0) verdict.Fine))
+    (pick (leb f.elements a) (refused_of 14 0 0 0) (pick (leb f.elements b) (refused_of 14 1 0 0) fine))
     (refused_of 17 0 0 0)
 
 -- What `compose` answers: a·b.
@@ -42,7 +39,7 @@ conjugate_answer t f a b =
 
 -- What `element_count` answers.
 unfoldable pub count_answer : List ℕ → Factor → Counted
-count_answer t f = if_count (admits (length t) f 0 0) (counted.Count f.elements)
+count_answer t f = if_count (admits (length t) f 0 0) (Ok f.elements)
 
 -- What `generator` answers: the generator's element, read from the identity row.
 unfoldable pub generator_answer : List ℕ → Factor → GeneratorId → Reached
@@ -67,8 +64,8 @@ written t f e out = written_by (write_answer t f e (length out)) (stretch t f) f
 
 -- The filled part of the buffer, as long as the answered length; "refused: the empty start".
 abbrev pub filled_by : Counted → List ℕ → List ℕ
-filled_by (counted.Count k) out = take k out
-filled_by (counted.Refused r) out = take 0 out
+filled_by (Ok k) out = take k out
+filled_by (Err r) out = take 0 out
 
 -- What `word` hands back: "the word is written into the caller's buffer and the filled part handed back".
 unfoldable pub word_part : List ℕ → Factor → GroupElementId → List ℕ → List ℕ

@@ -2,7 +2,7 @@
 -- against orders."
 use Rattle.std.specs.Prelude.{ℕ, List, length}
 use Rattle.egg.specs.declared.Factor.{Factor}
-use Rattle.egg.specs.declared.Verdict.{Verdict}
+use Rattle.egg.specs.Answers.{Verdict}
 use Rattle.egg.specs.Scan.{and_then}
 use Rattle.egg.specs.Pairs.{orders_right}
 use Rattle.egg.specs.Factor.{stretch}

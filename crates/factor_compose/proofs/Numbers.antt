@@ -7,8 +7,8 @@ use native.Mathlib.Nat.{mul-le-mul}
 use native.Mathlib.Omega.{arith}
 use borrow.Author.Tests.{ltb-true, ltb-false}
 use lib.Dec.{ltb}
-use Rattle.egg.specs.declared.Reached.{Reached}
-use Rattle.egg.specs.declared.Reached.TheVariants.{Element, Refused}
+use Rattle.egg.specs.Answers.{Reached}
+use Rattle.std.specs.Prelude.{Ok, Err}
 use Rattle.egg.specs.Table.{pick, length_of, inverse_of}
 use Rattle.egg.specs.Answers.{on_reached}
 use Rattle.factor_questions.specs.Walks.{back_along, compose_in, conjugate_in}
@@ -26,8 +26,8 @@ chosen_inside false q h k = rw q k
 -- No step after the last.
 no_more : (s : List ℕ) (n count : ℕ) (v : Reached) → on_reached v (ending false s n count) ≡ v
 unfolding ending
-no_more s n count (Element x) = refl
-no_more s n count (Refused r) = refl
+no_more s n count (Ok x) = refl
+no_more s n count (Err r) = refl
 
 -- The way along the shorter of two words, by the numbers that were read.
 module _ (s : List ℕ) (n count a b : ℕ) {len i own back : ℕ} (q : len ≡ length_of s n b) (more : 5 < len) (h : len ≤ 4096) (p : i ≡ inverse_of s n b)
@@ -49,13 +49,13 @@ module _ (s : List ℕ) (n count a b : ℕ) {len i own back : ℕ} (q : len ≡ 
 
 -- Where the walk leads to an element, the ending is the product.
 pub ending_reached : (s : List ℕ) (n count a b : ℕ) (t : Bool) {v : Reached} {x z r : ℕ} → on_reached v (ending t s n count) ≡ compose_in s n count a b
-    → v ≡ Element (record { 0 = x }) → z ≡ inverse_of s n x → r ≡ pick t z x → r < count → compose_in s n count a b ≡ Element (record { 0 = r })
+    → v ≡ Ok (record { 0 = x }) → z ≡ inverse_of s n x → r ≡ pick t z x → r < count → compose_in s n count a b ≡ Ok (record { 0 = r })
 unfolding ending
 ending_reached s n count a b true {x = x} e u m y j = sym e ∙ rw (u, y) (sym (inverse_element s n count x m (rw (← y) j)))
 ending_reached s n count a b false e u m y j = sym e ∙ rw (u, y)
 
 -- a·b·a⁻¹, by the three numbers.
-pub conjugate_reached : (s : List ℕ) (n count a b : ℕ) {c i r : ℕ} → compose_in s n count a b ≡ Element (record { 0 = c }) → i ≡ inverse_of s n a → i < count
-    → compose_in s n count c i ≡ Element (record { 0 = r }) → conjugate_in s n count a b ≡ Element (record { 0 = r })
+pub conjugate_reached : (s : List ℕ) (n count a b : ℕ) {c i r : ℕ} → compose_in s n count a b ≡ Ok (record { 0 = c }) → i ≡ inverse_of s n a → i < count
+    → compose_in s n count c i ≡ Ok (record { 0 = r }) → conjugate_in s n count a b ≡ Ok (record { 0 = r })
 unfolding conjugate_in
 conjugate_reached s n count a b {c} {i} {r} u q h w = rw (u, ← inverse_element s n count a q h, w)

@@ -6,7 +6,7 @@ ghost use Rattle.egg.specs.Table.{length_of};
 ghost use Rattle.factor_questions.specs.Walks.{compose_in, conjugate_in};
 ghost use Rattle.factor_compose.specs.Routes.{Routed};
 
-use egg::{GroupElementId, Reached};
+use egg::{GroupElementId, Refusal};
 
 // Answers whether the rows of all elements stand in the stretch.
 pub fn rows_within(s: &[u32], n: u8, count: u32) -> bool
@@ -15,9 +15,9 @@ pub fn rows_within(s: &[u32], n: u8, count: u32) -> bool
     (count as usize) * egg::inner::width(n) <= s.len()
 }
 
-// The way to a product whose second word has more than five letters: back along `letters` letters of the word of `word`, from the
-// element `from`, to the product or, where `inverted`, to its inverse. It is `found` where every number that was looked at is in
-// range and the inverse of the second has no longer word.
+// The way to a product whose second word has more than five letters: back along `letters` letters of the word of `word`,
+// from the element `from`, to the product or, where `inverted`, to its inverse. It is `found` where every number that was
+// looked at is in range and the inverse of the second has no longer word.
 #[derive(Clone, Copy)]
 pub struct Way {
     pub found: bool,
@@ -39,8 +39,8 @@ fn no_way() -> Way
     }
 }
 
-// Chooses the way to a·b, where b's word has `len` letters; five and fewer stand in its own row, and need none. Both ways are worked out, so that they join without a branch, which a
-// processor would guess wrong every other time.
+// Chooses the way to a·b, where b's word has `len` letters; five and fewer stand in its own row, and need none. Both ways
+// are worked out, so that they join without a branch, which a processor would guess wrong every other time.
 pub fn route(s: &[u32], n: u8, count: u32, a: u32, b: u32, len: u32) -> Way
     requires { (count * (2 * n + 4) ≤ length s.now) × ((a < count) × ((b < count) × (len ≡ length_of s.now n b))) }
     ensures { result.found ≡ true → Routed s.now n count a b result.inverted result.letters result.from result.word }
@@ -79,29 +79,26 @@ pub fn route(s: &[u32], n: u8, count: u32, a: u32, b: u32, len: u32) -> Way
 // and not `s`: that call is not put in line, and a slice that is itself passed on would be copied at the start, for which
 // short words too would wait, up to twice their time.)
 pub fn product_number(s: &[u32], n: u8, count: u32, a: GroupElementId, b: GroupElementId) -> u32
-    ensures { result < count → compose_in s.now n count a.0 b.0 ≡ Reached.Element (record { 0 = result }) }
+    ensures { result < count → compose_in s.now n count a.0 b.0 ≡ Ok (record { 0 = result }) }
 {
-    let first = a.0;
-    let second = b.0;
     if !rows_within(s, n, count) {
         return count;
     }
-    if count <= first {
+    if count <= a.0 {
         return count;
     }
-    if count <= second {
+    if count <= b.0 {
         return count;
     }
-    let len = factor_quick_walks::inner::recorded(s, n, count, GroupElementId(second), 2);
+    let len = factor_quick_walks::inner::recorded(s, n, count, b, 2);
     if len <= 5 {
-        let c = factor_quick_walks::inner::recorded(s, n, count, GroupElementId(second), 1);
-        return factor_quick_walks::inner::advance(s, n, count, GroupElementId(first), c, len);
+        let c = factor_quick_walks::inner::recorded(s, n, count, b, 1);
+        return factor_quick_walks::inner::advance(s, n, count, a, c, len);
     }
-    let way = route(s, n, count, first, second, len);
+    let way = route(s, n, count, a.0, b.0, len);
     if !way.found {
         return count;
     }
-    let inverted = way.inverted;
     let x = factor_quick_walks::inner::retrace(
         &s[..],
         n,
@@ -117,7 +114,7 @@ pub fn product_number(s: &[u32], n: u8, count: u32, a: GroupElementId, b: GroupE
     if count <= z {
         return count;
     }
-    egg::inner::chosen(inverted, z, x)
+    egg::inner::chosen(way.inverted, z, x)
 }
 
 // The product a·b: quick where it can be, else with care.
@@ -127,19 +124,19 @@ pub fn compose_elements(
     count: u32,
     a: GroupElementId,
     b: GroupElementId,
-) -> Reached
+) -> Result<GroupElementId, Refusal>
     ensures { result ≡ compose_in s.now n count a.0 b.0 }
 {
     let x = product_number(&s[..], n, count, a, b);
     if x < count {
-        return Reached::Element(GroupElementId(x));
+        return Ok(GroupElementId(x));
     }
     factor_questions::inner::compose_with_care(&s[..], n, count, a, b)
 }
 
 // The number of a·b·a⁻¹, or the count, as `product_number` gives a product.
 fn conjugate_number(s: &[u32], n: u8, count: u32, a: GroupElementId, b: GroupElementId) -> u32
-    ensures { result < count → conjugate_in s.now n count a.0 b.0 ≡ Reached.Element (record { 0 = result }) }
+    ensures { result < count → conjugate_in s.now n count a.0 b.0 ≡ Ok (record { 0 = result }) }
 {
     let c = product_number(&s[..], n, count, a, b);
     if count <= c {
@@ -159,12 +156,12 @@ pub fn conjugate_elements(
     count: u32,
     a: GroupElementId,
     b: GroupElementId,
-) -> Reached
+) -> Result<GroupElementId, Refusal>
     ensures { result ≡ conjugate_in s.now n count a.0 b.0 }
 {
     let x = conjugate_number(&s[..], n, count, a, b);
     if x < count {
-        return Reached::Element(GroupElementId(x));
+        return Ok(GroupElementId(x));
     }
     factor_questions::inner::conjugate_with_care(&s[..], n, count, a, b)
 }

@@ -3,7 +3,7 @@ use Prim.Native.Nat.{ℕ}
 use mathlib.Core.Path.{◌≡◌, ap, ◌∙◌}
 use mathlib.Core.List.{List}
 use lib.ListN.{replicate}
-use Rattle.egg.specs.declared.Counted.{Counted}
+use Rattle.egg.specs.Answers.{Counted}
 use Rattle.build_lending.specs.Finish.{Built, finished, finished_placed}
 use Rattle.build_reading.specs.Reading.{Placed, placed, read_all, composed_at}
 use Rattle.factor_composed_rows.specs.Rows.{composed_in}

@@ -10,8 +10,8 @@ use lib.ListN.{length, get_or, drop}
 use lib.Seq.{take-append_seam}
 use Rattle.egg.specs.declared.Refusal.{Refusal}
 use Rattle.egg.specs.declared.Factor.{Factor}
-use Rattle.egg.specs.declared.Verdict.TheVariants.{Fine, Refused}
-use Rattle.egg.specs.declared.Counted.TheVariants.{Count}
+use Rattle.egg.specs.Answers.{fine}
+use Rattle.std.specs.Prelude.{Ok, Err}
 use Rattle.egg.specs.Pairs.{orders_right}
 use Rattle.egg.specs.Factor.{fits_in, stretch, step_answer}
 use Rattle.egg.proofs.Answers.{step_read_lem}
@@ -33,7 +33,7 @@ use Rattle.build_checks_laws.proofs.Accepted.{read_step_lem}
 use Rattle.factor_laws.proofs.Letters.{length_in_lem, write_in_lem, spell_word}
 use Rattle.factor_relations_laws.proofs.Relators.{orders_long, relations_exact, relations_fail}
 
-pub admits_fine : (len : ℕ) (f : Factor) {a b : ℕ} → fits_in len f ≡ true → a < f.elements → b < f.elements → admits len f a b ≡ Fine
+pub admits_fine : (len : ℕ) (f : Factor) {a b : ℕ} → fits_in len f ≡ true → a < f.elements → b < f.elements → admits len f a b ≡ fine
 unfolding admits
 admits_fine len f fits ha hb = rw fits (simp (lt-leb _ _ ha, lt-leb _ _ hb))
 
@@ -43,7 +43,7 @@ word_letter empty i l = absurd (omega arith)
 word_letter (letter hg hu) zero l = hg
 word_letter (letter hg hu) (suc i) l = word_letter hu i (omega arith)
 
-pub letters_fine : {n : ℕ} {u : List ℕ} → Word n u → letters_right n u ≡ Fine
+pub letters_fine : {n : ℕ} {u : List ℕ} → Word n u → letters_right n u ≡ fine
 unfolding letters_right
 letters_fine {n} {u} hu = (scan_fine (length u) (letter_right n u)).1 (λ i l. letter_right_lem n u i refl (word_letter hu i l))
 
@@ -70,12 +70,12 @@ module _ {t : List ℕ} {f : Factor} (A : Accepted t f) where
     unfolding inverse_answer
     inverse_answer_lem = rw (admits_fine (length t) f A.fits he origin) (inverse_in_lem A.sound he)
 
-    pub length_answer_lem : length_answer t f (record { 0 = e }) ≡ Count (length (factor_word t f e))
+    pub length_answer_lem : length_answer t f (record { 0 = e }) ≡ Ok (length (factor_word t f e))
     unfolding length_answer
     length_answer_lem = rw (admits_fine (length t) f A.fits he origin) (length_in_lem A.sound he)
 
     pub write_answer_lem : (size : ℕ) → length (factor_word t f e) ≤ size
-        → write_answer t f (record { 0 = e }) size ≡ Count (length (factor_word t f e))
+        → write_answer t f (record { 0 = e }) size ≡ Ok (length (factor_word t f e))
     unfolding write_answer
     write_answer_lem size room = rw (admits_fine (length t) f A.fits he origin) (write_in_lem A.sound A.ruled A.hops few_elements size he room)
 
@@ -104,7 +104,7 @@ module _ {t : List ℕ} {f : Factor} (A : Accepted t f) where
     unfolding conjugate_answer
     conjugate_answer_lem = rw (admits_fine (length t) f A.fits ha hb) (conjugate_in_lem A.sound A.ruled A.hops few_elements ha hb)
 
-  pub count_answer_lem : count_answer t f ≡ Count f.elements
+  pub count_answer_lem : count_answer t f ≡ Ok f.elements
   unfolding count_answer
   count_answer_lem = rw (admits_fine (length t) f A.fits origin origin)
 
@@ -113,13 +113,13 @@ module _ {t : List ℕ} {f : Factor} (A : Accepted t f) where
   generator_answer_lem hg = rw (admits_fine (length t) f A.fits origin origin) (generator_in_lem A.sound hg)
 
   -- With right orders the check is the test of the relations.
-  module _ (o : List ℕ) (right : orders_right o f.generators ≡ Fine) where
+  module _ (o : List ℕ) (right : orders_right o f.generators ≡ fine) where
     pub check_is : check_answer t f o ≡ relations (stretch t f) f.generators f.elements o
     unfolding check_answer
     check_is = rw (admits_fine (length t) f A.fits origin origin, right)
 
-    pub check_answer_lem : check_answer t f o ≡ Fine ↔ Holds f.generators f.elements (order_of o) (factor_step t f)
+    pub check_answer_lem : check_answer t f o ≡ fine ↔ Holds f.generators f.elements (order_of o) (factor_step t f)
     check_answer_lem = rw check_is (relations_exact A.sound few_generators o (orders_long o f.generators right))
 
-    pub check_fails : {r : Refusal} → check_answer t f o ≡ Refused r → Fails f.generators (order_of o) (factor_step t f) 0 r
+    pub check_fails : {r : Refusal} → check_answer t f o ≡ Err r → Fails f.generators (order_of o) (factor_step t f) 0 r
     check_fails h = relations_fail A.sound few_generators o (orders_long o f.generators right) (sym check_is ∙ h)

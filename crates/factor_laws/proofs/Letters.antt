@@ -6,7 +6,7 @@ use native.Mathlib.Nat.{mod-eq_of_lt, zero-add}
 use native.Mathlib.Omega.{arith}
 use borrow.Author.Tests.{le-ltb}
 use lib.ListN.{length, drop, set, length-set}
-use Rattle.egg.specs.declared.Counted.TheVariants.{Count}
+use Rattle.std.specs.Prelude.{Ok}
 use Rattle.egg.specs.Table.{parent_of, last_of, length_of}
 use Rattle.factor_words.specs.Words.{length_in, spell_by, spell_from, spell, write_in}
 use Rattle.factor_words.proofs.Words.{drop_set_here}
@@ -19,18 +19,18 @@ use Rattle.build_checks_laws.specs.Sound.{Sound, Ruled}
 use Rattle.factor_laws.proofs.Steps.{no_letters, rest_of, not_first, parent_length, parent_below, word_readable}
 
 module _ {s : List ℕ} {n N : ℕ} (S : Sound s n N) where
-  pub length_in_lem : {e : ℕ} → e < N → length_in s n e ≡ Count (length (word_of s n e))
+  pub length_in_lem : {e : ℕ} → e < N → length_in s n e ≡ Ok (length (word_of s n e))
   unfolding length_in
-  length_in_lem {e} he = simp (le-ltb _ _ (S.short he)) (ap Count (S.stored.lengths he))
+  length_in_lem {e} he = simp (le-ltb _ _ (S.short he)) (ap Ok (S.stored.lengths he))
 
   -- Where the rows have five letters each.
   module _ (R : Ruled s n N) (H : Hops s n N) (few : N ≤ 65535) where
-    pub write_in_lem : {e : ℕ} (size : ℕ) → e < N → length (word_of s n e) ≤ size → write_in s n N e size ≡ Count (length (word_of s n e))
+    pub write_in_lem : {e : ℕ} (size : ℕ) → e < N → length (word_of s n e) ≤ size → write_in s n N e size ≡ Ok (length (word_of s n e))
     unfolding write_in
     write_in_lem {e} size he room =
         let q = S.stored.lengths he in
         let fits : length_of s n e ≤ size = omega arith in
-        simp (le-ltb _ _ (S.short he), le-ltb _ _ fits, word_readable S R H few (length_of s n e) he q) (ap Count q)
+        simp (le-ltb _ _ (S.short he), le-ltb _ _ fits, word_readable S R H few (length_of s n e) he q) (ap Ok q)
 
   module _ (H : Hops s n N) (few : N ≤ 65535) where
     -- Each letter moved up by o, as behind factors that have o generators together.

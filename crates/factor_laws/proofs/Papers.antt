@@ -5,13 +5,10 @@ use mathlib.Core.Bool.{false}
 use mathlib.Core.List.{List}
 use Rattle.egg.specs.declared.Refusal.{Refusal}
 use Rattle.egg.specs.declared.Factor.{Factor}
-use Rattle.egg.specs.declared.Verdict.{Verdict}
-use Rattle.egg.specs.declared.Verdict.TheVariants as verdict
-use Rattle.egg.specs.declared.Reached.{Reached}
-use Rattle.egg.specs.declared.Reached.TheVariants as reached
-use Rattle.egg.specs.declared.Counted.{Counted}
-use Rattle.egg.specs.declared.Counted.TheVariants as counted
+use Rattle.egg.specs.Answers.{Counted, Reached, Verdict, fine}
+use Rattle.std.specs.Prelude.{Ok, Err}
 use Rattle.egg.specs.Factor.{Paper, refusal_paper, verdict_paper, reached_paper, counted_paper}
+use Rattle.egg.proofs.Refusals.{same_refusal}
 use Rattle.egg.proofs.Rooms.{false_true}
 use Rattle.factor.specs.Relations.{check_answer}
 use Rattle.build_checks_laws.specs.Numbers.{member, RefusalIn}
@@ -24,33 +21,30 @@ use Rattle.factor_laws.proofs.Refuses.{questions_refuse}
 -- Two answers with one paper are one answer, where no refusal of theirs has the number 0.
 module _ (l : List ℕ) (none : member 0 l ≡ false) where
   no_value : (k : ℕ) (r : Refusal) → RefusalIn l r → value_paper k ≡ refusal_paper r → ⊥
-  no_value k r m q = let z : 0 ≡ r.number = ap (λ (p : Paper). p.number) q in false_true (sym none ∙ rw (← z) at m)
-
-  same_refusal : (r s : Refusal) → refusal_paper r ≡ refusal_paper s → r ≡ s
-  same_refusal r s q = ap (λ (p : Paper). record { number = p.number; a = p.a; b = p.b; c = p.c }) q
+  no_value k r m q = let z : 0 ≡ (refusal_paper r).number = ap (λ (p : Paper). p.number) q in false_true (sym none ∙ rw (← z) at m)
 
   pub verdict_once : (u v : Verdict) → VerdictIn l u → VerdictIn l v → verdict_paper u ≡ verdict_paper v → u ≡ v
-  verdict_once verdict.Fine verdict.Fine p q e = refl
-  verdict_once verdict.Fine (verdict.Refused s) p q e = absurd (no_value 0 s (q.of s refl) e)
-  verdict_once (verdict.Refused r) verdict.Fine p q e = absurd (no_value 0 r (p.of r refl) (sym e))
-  verdict_once (verdict.Refused r) (verdict.Refused s) p q e = ap verdict.Refused (same_refusal r s e)
+  verdict_once (Ok _) (Ok _) p q e = refl
+  verdict_once (Ok _) (Err s) p q e = absurd (no_value 0 s (q.of s refl) e)
+  verdict_once (Err r) (Ok _) p q e = absurd (no_value 0 r (p.of r refl) (sym e))
+  verdict_once (Err r) (Err s) p q e = ap Err (same_refusal r s e)
 
   pub reached_once : (x y : Reached) → ReachedIn l x → ReachedIn l y → reached_paper x ≡ reached_paper y → x ≡ y
-  reached_once (reached.Element a) (reached.Element b) p q e = ap (λ (z : Paper). reached.Element (record { 0 = z.a })) e
-  reached_once (reached.Element a) (reached.Refused s) p q e = absurd (no_value a.0 s (q.of s refl) e)
-  reached_once (reached.Refused r) (reached.Element b) p q e = absurd (no_value b.0 r (p.of r refl) (sym e))
-  reached_once (reached.Refused r) (reached.Refused s) p q e = ap reached.Refused (same_refusal r s e)
+  reached_once (Ok a) (Ok b) p q e = ap (λ (z : Paper). Ok (record { 0 = z.a })) e
+  reached_once (Ok a) (Err s) p q e = absurd (no_value a.0 s (q.of s refl) e)
+  reached_once (Err r) (Ok b) p q e = absurd (no_value b.0 r (p.of r refl) (sym e))
+  reached_once (Err r) (Err s) p q e = ap Err (same_refusal r s e)
 
   pub counted_once : (x y : Counted) → CountedIn l x → CountedIn l y → counted_paper x ≡ counted_paper y → x ≡ y
-  counted_once (counted.Count a) (counted.Count b) p q e = ap (λ (z : Paper). counted.Count z.a) e
-  counted_once (counted.Count a) (counted.Refused s) p q e = absurd (no_value a s (q.of s refl) e)
-  counted_once (counted.Refused r) (counted.Count b) p q e = absurd (no_value b r (p.of r refl) (sym e))
-  counted_once (counted.Refused r) (counted.Refused s) p q e = ap counted.Refused (same_refusal r s e)
+  counted_once (Ok a) (Ok b) p q e = ap (λ (z : Paper). Ok z.a) e
+  counted_once (Ok a) (Err s) p q e = absurd (no_value a s (q.of s refl) e)
+  counted_once (Err r) (Ok b) p q e = absurd (no_value b r (p.of r refl) (sym e))
+  counted_once (Err r) (Err s) p q e = ap Err (same_refusal r s e)
 
   -- So a verdict whose paper is 0 is the acceptance.
-  pub paper_fine : (v : Verdict) → VerdictIn l v → verdict_paper v ≡ value_paper 0 → v ≡ verdict.Fine
-  paper_fine verdict.Fine p e = refl
-  paper_fine (verdict.Refused r) p e = absurd (no_value 0 r (p.of r refl) (sym e))
+  pub paper_fine : (v : Verdict) → VerdictIn l v → verdict_paper v ≡ value_paper 0 → v ≡ fine
+  paper_fine (Ok _) p e = refl
+  paper_fine (Err r) p e = absurd (no_value 0 r (p.of r refl) (sym e))
 
 pub accepted_papers : {t : List ℕ} {f : Factor} → Accepted t f → (op : ℕ → ℕ → ℕ) × (inv : ℕ → ℕ) × PapersOf t f op inv
 accepted_papers {t} {f} A =

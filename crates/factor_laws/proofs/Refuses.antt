@@ -12,13 +12,9 @@ use Rattle.egg.specs.declared.Refusal.{Refusal}
 use Rattle.egg.specs.declared.Factor.{Factor}
 use Rattle.egg.specs.declared.GroupElementId.{GroupElementId}
 use Rattle.egg.specs.declared.GeneratorId.{GeneratorId}
-use Rattle.egg.specs.declared.Verdict.{Verdict}
-use Rattle.egg.specs.declared.Verdict.TheVariants as verdict
-use Rattle.egg.specs.declared.Reached.{Reached}
-use Rattle.egg.specs.declared.Reached.TheVariants as reached
-use Rattle.egg.specs.declared.Reached.TheVariants.{Element}
-use Rattle.egg.specs.declared.Counted.{Counted}
-use Rattle.egg.specs.declared.Counted.TheVariants as counted
+use Rattle.egg.specs.Answers.{Counted, Reached, Verdict, fine}
+use Rattle.egg.specs.Refusals.{refusal_paper}
+use Rattle.std.specs.Prelude.{Ok, Err}
 use Rattle.egg.specs.Table.{pick, length_of}
 use Rattle.egg.specs.Scan.{refused_of, and_then, scan}
 use Rattle.egg.specs.Pairs.{orders_right}
@@ -39,12 +35,12 @@ use Rattle.factor_laws.specs.Refuses.{VerdictIn, ReachedIn, CountedIn, Refuses}
 
 -- What answers are made of, branch by branch.
 module _ {l : List ℕ} where
-  pub reached_element : (e : GroupElementId) → ReachedIn l (Element e)
+  pub reached_element : (e : GroupElementId) → ReachedIn l (Ok e)
   reached_element e = record { of = λ r h. absurd (never r h) } where
-    never : (r : Refusal) → Element e ≡ reached.Refused r → ⊥
+    never : (r : Refusal) → Ok e ≡ Err r → ⊥
     never r h = let z : ◌≡◌ {A = ℕ} 0 1 = cc in omega arith
 
-  pub reached_refused : (s : Refusal) → RefusalIn l s → ReachedIn l (reached.Refused s)
+  pub reached_refused : (s : Refusal) → RefusalIn l s → ReachedIn l (Err s)
   reached_refused s m = record { of = λ r h. let e : s ≡ r = cc in rw e at m }
 
   pub reached_pick : (b : Bool) (x y : Reached) → ReachedIn l x → ReachedIn l y → ReachedIn l (pick b x y)
@@ -52,19 +48,19 @@ module _ {l : List ℕ} where
   reached_pick false x y p q = q
 
   pub reached_on : (x : Reached) (next : ℕ → Reached) → ReachedIn l x → ((e : ℕ) → ReachedIn l (next e)) → ReachedIn l (on_reached x next)
-  reached_on (Element e) next p q = q e.0
-  reached_on (reached.Refused s) next p q = p
+  reached_on (Ok e) next p q = q e.0
+  reached_on (Err s) next p q = p
 
   pub reached_if : (v : Verdict) (x : Reached) → VerdictIn l v → ReachedIn l x → ReachedIn l (if_reach v x)
-  reached_if verdict.Fine x p q = q
-  reached_if (verdict.Refused s) x p q = reached_refused s (p.of s refl)
+  reached_if (Ok _) x p q = q
+  reached_if (Err s) x p q = reached_refused s (p.of s refl)
 
-  pub counted_count : (k : ℕ) → CountedIn l (counted.Count k)
+  pub counted_count : (k : ℕ) → CountedIn l (Ok k)
   counted_count k = record { of = λ r h. absurd (never r h) } where
-    never : (r : Refusal) → counted.Count k ≡ counted.Refused r → ⊥
+    never : (r : Refusal) → Ok k ≡ Err r → ⊥
     never r h = let z : ◌≡◌ {A = ℕ} 0 1 = cc in omega arith
 
-  pub counted_refused : (s : Refusal) → RefusalIn l s → CountedIn l (counted.Refused s)
+  pub counted_refused : (s : Refusal) → RefusalIn l s → CountedIn l (Err s)
   counted_refused s m = record { of = λ r h. let e : s ≡ r = cc in rw e at m }
 
   pub counted_pick : (b : Bool) (x y : Counted) → CountedIn l x → CountedIn l y → CountedIn l (pick b x y)
@@ -72,13 +68,13 @@ module _ {l : List ℕ} where
   counted_pick false x y p q = q
 
   pub counted_if : (v : Verdict) (x : Counted) → VerdictIn l v → CountedIn l x → CountedIn l (if_count v x)
-  counted_if verdict.Fine x p q = q
-  counted_if (verdict.Refused s) x p q = counted_refused s (p.of s refl)
+  counted_if (Ok _) x p q = q
+  counted_if (Err s) x p q = counted_refused s (p.of s refl)
 
-  pub verdict_fine : VerdictIn l verdict.Fine
+  pub verdict_fine : VerdictIn l fine
   verdict_fine = record { of = λ r h. absurd (refused_fine (sym h)) }
 
-  pub verdict_refused : (s : Refusal) → RefusalIn l s → VerdictIn l (verdict.Refused s)
+  pub verdict_refused : (s : Refusal) → RefusalIn l s → VerdictIn l (Err s)
   verdict_refused s m = record { of = λ r h. let e : s ≡ r = cc in rw e at m }
 
   pub verdict_pick : (b : Bool) (u v : Verdict) → VerdictIn l u → VerdictIn l v → VerdictIn l (pick b u v)
@@ -86,17 +82,17 @@ module _ {l : List ℕ} where
   verdict_pick false u v p q = q
 
   pub verdict_then : (u v : Verdict) → VerdictIn l u → VerdictIn l v → VerdictIn l (and_then u v)
-  verdict_then verdict.Fine v p q = q
-  verdict_then (verdict.Refused s) v p q = p
+  verdict_then (Ok _) v p q = q
+  verdict_then (Err s) v p q = p
 
   pub verdict_scan : (k : ℕ) (f : ℕ → Verdict) (i : ℕ) → ((j : ℕ) → VerdictIn l (f j)) → VerdictIn l (scan k f i)
   verdict_scan k f i p = record { of = (says_scan k f i (λ j. record { of = (p j).of })).of }
 
 pub reached_widen : {l : List ℕ} (m : List ℕ) → every (λ x. member x m) l ≡ true → {x : Reached} → ReachedIn l x → ReachedIn m x
-reached_widen {l} m a p = record { of = λ r h. each_in (λ x. member x m) r.number l a (p.of r h) }
+reached_widen {l} m a p = record { of = λ r h. each_in (λ x. member x m) (refusal_paper r).number l a (p.of r h) }
 
 verdict_widen : {l : List ℕ} (m : List ℕ) → every (λ x. member x m) l ≡ true → {v : Verdict} → VerdictIn l v → VerdictIn m v
-verdict_widen {l} m a p = record { of = λ r h. each_in (λ x. member x m) r.number l a (p.of r h) }
+verdict_widen {l} m a p = record { of = λ r h. each_in (λ x. member x m) (refusal_paper r).number l a (p.of r h) }
 
 -- What is read is refused by 17 only.
 refused_17 : ReachedIn (17 ∷ []) (refused_reach 17 0)
@@ -147,8 +143,8 @@ module _ (s : List ℕ) (n count : ℕ) where
 
   -- The relations: 13, or 17 as met.
   returns_in : (e a b : ℕ) (x : Reached) → ReachedIn (17 ∷ []) x → VerdictIn (13 ∷ 17 ∷ []) (returns_to e a b x)
-  returns_in e a b (Element x) p = verdict_pick (eqb x.0 e) verdict.Fine (refused_of 13 e a b) verdict_fine (verdict_refused _ refl)
-  returns_in e a b (reached.Refused r) p = verdict_refused r ((reached_widen (13 ∷ 17 ∷ []) refl p).of r refl)
+  returns_in e a b (Ok x) p = verdict_pick (eqb x.0 e) fine (refused_of 13 e a b) verdict_fine (verdict_refused _ refl)
+  returns_in e a b (Err r) p = verdict_refused r ((reached_widen (13 ∷ 17 ∷ []) refl p).of r refl)
 
   relation_in : (e a b k : ℕ) → VerdictIn (13 ∷ 17 ∷ []) (relation_at s n count e a b k)
   relation_in e a b k = returns_in e a b (turned k s n count e a b) (turned_in k e a b)
@@ -168,7 +164,7 @@ admits_in len f a b =
 admits_origin : (len : ℕ) (f : Factor) → VerdictIn (17 ∷ []) (admits len f 0 0)
 unfolding admits
 admits_origin len f = by (fits_in len f) refl where
-  by : (b : Bool) → fits_in len f ≡ b → VerdictIn (17 ∷ []) (pick b (pick (leb f.elements 0) (refused_of 14 0 0 0) (pick (leb f.elements 0) (refused_of 14 1 0 0) verdict.Fine)) (refused_of 17 0 0 0))
+  by : (b : Bool) → fits_in len f ≡ b → VerdictIn (17 ∷ []) (pick b (pick (leb f.elements 0) (refused_of 14 0 0 0) (pick (leb f.elements 0) (refused_of 14 1 0 0) fine)) (refused_of 17 0 0 0))
   by true h = let z : leb f.elements 0 ≡ false = lt-leb _ _ (some len f h) in rw z verdict_fine
   by false h = verdict_refused _ refl
 
@@ -234,11 +230,11 @@ module _ (t : List ℕ) (f : Factor) where
       (counted_pick (ltb size (length_of s n e.0)) _ _ (counted_refused _ refl)
       (counted_pick (readable (length_of s n e.0) s n f.elements e.0) _ _ (counted_count _) (counted_refused _ refl))))
 
-  nothing_written : (e : GroupElementId) (out : List ℕ) {r : Refusal} → write_answer t f e (length out) ≡ counted.Refused r → written t f e out ≡ out
+  nothing_written : (e : GroupElementId) (out : List ℕ) {r : Refusal} → write_answer t f e (length out) ≡ Err r → written t f e out ≡ out
   unfolding written
   nothing_written e out q = rw q
 
-  nothing_handed : (e : GroupElementId) (out : List ℕ) {r : Refusal} → write_answer t f e (length out) ≡ counted.Refused r → word_part t f e out ≡ []
+  nothing_handed : (e : GroupElementId) (out : List ℕ) {r : Refusal} → write_answer t f e (length out) ≡ Err r → word_part t f e out ≡ []
   unfolding word_part
   nothing_handed e out q = rw q
 
@@ -247,7 +243,7 @@ module _ (t : List ℕ) (f : Factor) where
   check_numbers o =
       verdict_then (admits (length t) f 0 0) _ (verdict_widen (2 ∷ 3 ∷ 13 ∷ 17 ∷ []) refl (admits_origin (length t) f))
       (verdict_then (orders_right o f.generators) _
-      (record { of = λ r h. each_in (λ x. member x (2 ∷ 3 ∷ 13 ∷ 17 ∷ [])) r.number (2 ∷ 3 ∷ []) refl (orders_number o f.generators h) })
+      (record { of = λ r h. each_in (λ x. member x (2 ∷ 3 ∷ 13 ∷ 17 ∷ [])) (refusal_paper r).number (2 ∷ 3 ∷ []) refl (orders_number o f.generators h) })
       (verdict_widen (2 ∷ 3 ∷ 13 ∷ 17 ∷ []) refl (relations_in (stretch t f) f.generators f.elements o)))
 
   pub questions_refuse : Refuses t f

@@ -8,7 +8,7 @@ use borrow.Author.Tests.{lt-ltb, le-ltb, lt-leb}
 use lib.Dec.{ltb, leb}
 use lib.ListN.{length}
 use Rattle.egg.specs.Table.{pick, parent_of, hop_of, last_of, length_of, step_of, back_of}
-use Rattle.egg.specs.declared.Reached.{Reached}
+use Rattle.egg.specs.Answers.{Reached}
 use Rattle.factor_word_walks.proofs.Walks.{back_element}
 use Rattle.factor_word_letters.specs.Spell.{cell_by, cell_within, readable_by, readable, letters_by, letters}
 use Rattle.factor_questions.specs.Walks.{follow, along, read_step_back, back_by, back_along, compose_in, inverse_in, conjugate_in, generator_in}

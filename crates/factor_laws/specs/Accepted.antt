@@ -2,11 +2,8 @@
 use Rattle.std.specs.Prelude.{ℕ, ◌≤◌, ◌<◌, ◌≡◌, ◌↔◌, true, List, ◌++◌, length, drop}
 use Rattle.egg.specs.declared.Refusal.{Refusal}
 use Rattle.egg.specs.declared.Factor.{Factor}
-use Rattle.egg.specs.declared.Verdict.TheVariants as verdict
-use Rattle.egg.specs.declared.Verdict.TheVariants.{Fine}
-use Rattle.egg.specs.declared.Reached.{Reached}
-use Rattle.egg.specs.declared.Reached.TheVariants.{Element}
-use Rattle.egg.specs.declared.Counted.TheVariants.{Count}
+use Rattle.egg.specs.Answers.{Reached, fine}
+use Rattle.std.specs.Prelude.{Ok, Err}
 use Rattle.egg.specs.Table.{step_of, back_of}
 use Rattle.egg.specs.Pairs.{orders_right}
 use Rattle.egg.specs.Factor.{fits_in, stretch, step_answer}
@@ -46,13 +43,13 @@ factor_word t f = word_of (stretch t f) f.generators
 
 -- The answer that an element was reached.
 abbrev pub reach : ℕ → Reached
-reach e = Element (record { 0 = e })
+reach e = Ok (record { 0 = e })
 
 -- Every answer about the factor is the group's whose product is op and whose inverse is inv.
 pub record AnswersOf (t : List ℕ) (f : Factor) (op : ℕ → ℕ → ℕ) (inv : ℕ → ℕ) : Type 0 where
   pub group : GroupOn f.elements op inv
   pub right_steps : RightSteps f.generators f.elements (factor_step t f) op
-  pub counts : count_answer t f ≡ Count f.elements
+  pub counts : count_answer t f ≡ Ok f.elements
   pub generators : {g : ℕ} → g < f.generators → generator_answer t f (record { 0 = g }) ≡ reach (generator (factor_step t f) g)
   pub steps : {e g : ℕ} → e < f.elements → g < f.generators
       → step_answer t f (record { 0 = e }) (record { 0 = g }) ≡ reach (op e (generator (factor_step t f) g))
@@ -64,18 +61,18 @@ pub record AnswersOf (t : List ℕ) (f : Factor) (op : ℕ → ℕ → ℕ) (inv
   pub conjugates : {a b : ℕ} → a < f.elements → b < f.elements
       → conjugate_answer t f (record { 0 = a }) (record { 0 = b }) ≡ reach (conjugate op inv a b)
   -- The word that is written, to the start of a buffer that is long enough, is the recorded one; it leads from the identity to its element.
-  pub lengths : {e : ℕ} → e < f.elements → length_answer t f (record { 0 = e }) ≡ Count (length (factor_word t f e))
+  pub lengths : {e : ℕ} → e < f.elements → length_answer t f (record { 0 = e }) ≡ Ok (length (factor_word t f e))
   pub writes : {e : ℕ} (size : ℕ) → e < f.elements → length (factor_word t f e) ≤ size
-      → write_answer t f (record { 0 = e }) size ≡ Count (length (factor_word t f e))
+      → write_answer t f (record { 0 = e }) size ≡ Ok (length (factor_word t f e))
   pub leaves : {e : ℕ} (out : List ℕ) → e < f.elements → length (factor_word t f e) ≤ length out
       → written t f (record { 0 = e }) out ≡ factor_word t f e ++ drop (length (factor_word t f e)) out
   pub parts : {e : ℕ} (out : List ℕ) → e < f.elements → length (factor_word t f e) ≤ length out
       → word_part t f (record { 0 = e }) out ≡ factor_word t f e
   pub spells : {e : ℕ} → e < f.elements → walk (factor_step t f) 0 (factor_word t f e) ≡ e
   -- With right orders, the check against them passes just if every relation holds, and any refusal is 13 with a relation that fails at the identity.
-  pub checks : (o : List ℕ) → orders_right o f.generators ≡ Fine
-      → check_answer t f o ≡ Fine ↔ Holds f.generators f.elements (order_of o) (factor_step t f)
-  pub fails : (o : List ℕ) {r : Refusal} → orders_right o f.generators ≡ Fine → check_answer t f o ≡ verdict.Refused r
+  pub checks : (o : List ℕ) → orders_right o f.generators ≡ fine
+      → check_answer t f o ≡ fine ↔ Holds f.generators f.elements (order_of o) (factor_step t f)
+  pub fails : (o : List ℕ) {r : Refusal} → orders_right o f.generators ≡ fine → check_answer t f o ≡ Err r
       → Fails f.generators (order_of o) (factor_step t f) 0 r
   -- No other group has these right steps.
   pub only_product : {op' : ℕ → ℕ → ℕ} {inv' : ℕ → ℕ} {a b : ℕ} → GroupOn f.elements op' inv'

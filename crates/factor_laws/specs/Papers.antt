@@ -2,7 +2,7 @@
 -- of its cases. The promises use that definition." It is `verdict_paper`, `reached_paper` and `counted_paper` of egg.
 use Rattle.std.specs.Prelude.{ℕ, ◌≤◌, ◌<◌, ◌≡◌, ◌↔◌, List, length}
 use Rattle.egg.specs.declared.Factor.{Factor}
-use Rattle.egg.specs.declared.Verdict.TheVariants.{Fine}
+use Rattle.egg.specs.Answers.{fine}
 use Rattle.egg.specs.Pairs.{orders_right}
 use Rattle.egg.specs.Factor.{Paper, verdict_paper, reached_paper, counted_paper, step_answer}
 use Rattle.factor.specs.Questions.{compose_answer, inverse_answer, conjugate_answer, count_answer, generator_answer, length_answer, write_answer}
@@ -31,5 +31,5 @@ pub record PapersOf (t : List ℕ) (f : Factor) (op : ℕ → ℕ → ℕ) (inv 
   pub lengths : {e : ℕ} → e < f.elements → counted_paper (length_answer t f (record { 0 = e })) ≡ value_paper (length (factor_word t f e))
   pub writes : {e : ℕ} (size : ℕ) → e < f.elements → length (factor_word t f e) ≤ size
       → counted_paper (write_answer t f (record { 0 = e }) size) ≡ value_paper (length (factor_word t f e))
-  pub checks : (o : List ℕ) → orders_right o f.generators ≡ Fine
+  pub checks : (o : List ℕ) → orders_right o f.generators ≡ fine
       → verdict_paper (check_answer t f o) ≡ value_paper 0 ↔ Holds f.generators f.elements (order_of o) (factor_step t f)

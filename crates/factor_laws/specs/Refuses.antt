@@ -5,12 +5,8 @@ use Rattle.egg.specs.declared.Refusal.{Refusal}
 use Rattle.egg.specs.declared.Factor.{Factor}
 use Rattle.egg.specs.declared.GroupElementId.{GroupElementId}
 use Rattle.egg.specs.declared.GeneratorId.{GeneratorId}
-use Rattle.egg.specs.declared.Verdict.{Verdict}
-use Rattle.egg.specs.declared.Verdict.TheVariants as verdict
-use Rattle.egg.specs.declared.Reached.{Reached}
-use Rattle.egg.specs.declared.Reached.TheVariants as reached
-use Rattle.egg.specs.declared.Counted.{Counted}
-use Rattle.egg.specs.declared.Counted.TheVariants as counted
+use Rattle.egg.specs.Answers.{Counted, Reached, Verdict}
+use Rattle.std.specs.Prelude.{Err}
 use Rattle.egg.specs.Factor.{step_answer}
 use Rattle.factor.specs.Questions.{compose_answer, inverse_answer, conjugate_answer, count_answer, generator_answer, length_answer}
 use Rattle.factor.specs.Questions.{walk_answer, write_answer, written, word_part}
@@ -19,15 +15,15 @@ use Rattle.build_checks_laws.specs.Numbers.{RefusalIn}
 
 -- If the check is refused, then by one of the numbers of l.
 pub record VerdictIn (l : List ℕ) (v : Verdict) : Type 0 where
-  pub of : (r : Refusal) → v ≡ verdict.Refused r → RefusalIn l r
+  pub of : (r : Refusal) → v ≡ Err r → RefusalIn l r
 
 -- The same of an answer that is an element.
 pub record ReachedIn (l : List ℕ) (x : Reached) : Type 0 where
-  pub of : (r : Refusal) → x ≡ reached.Refused r → RefusalIn l r
+  pub of : (r : Refusal) → x ≡ Err r → RefusalIn l r
 
 -- The same of an answer that is a count.
 pub record CountedIn (l : List ℕ) (x : Counted) : Type 0 where
-  pub of : (r : Refusal) → x ≡ counted.Refused r → RefusalIn l r
+  pub of : (r : Refusal) → x ≡ Err r → RefusalIn l r
 
 -- Each question is answered, or refused by one of the numbers that stand here.
 pub record Refuses (t : List ℕ) (f : Factor) : Type 0 where
@@ -41,6 +37,6 @@ pub record Refuses (t : List ℕ) (f : Factor) : Type 0 where
   pub lengths : (e : GroupElementId) → CountedIn (14 ∷ 17 ∷ []) (length_answer t f e)
   pub writes : (e : GroupElementId) (size : ℕ) → CountedIn (4 ∷ 14 ∷ 17 ∷ []) (write_answer t f e size)
   -- "A refused question writes nothing"; and of the part that is handed back: "refused: the empty start".
-  pub nothing_written : (e : GroupElementId) (out : List ℕ) {r : Refusal} → write_answer t f e (length out) ≡ counted.Refused r → written t f e out ≡ out
-  pub nothing_handed : (e : GroupElementId) (out : List ℕ) {r : Refusal} → write_answer t f e (length out) ≡ counted.Refused r → word_part t f e out ≡ []
+  pub nothing_written : (e : GroupElementId) (out : List ℕ) {r : Refusal} → write_answer t f e (length out) ≡ Err r → written t f e out ≡ out
+  pub nothing_handed : (e : GroupElementId) (out : List ℕ) {r : Refusal} → write_answer t f e (length out) ≡ Err r → word_part t f e out ≡ []
   pub checks : (o : List ℕ) → VerdictIn (2 ∷ 3 ∷ 13 ∷ 17 ∷ []) (check_answer t f o)

@@ -4,7 +4,7 @@ use mathlib.Core.Path.{◌≡◌}
 use mathlib.Core.List.{List}
 use native.Mathlib.Omega.{arith}
 use borrow.Author.Tests.{lt-ltb, le-ltb, le-leb, lt-leb}
-use Rattle.egg.specs.declared.Reached.TheVariants.{Element}
+use Rattle.std.specs.Prelude.{Ok}
 use Rattle.egg.specs.Table.{length_of, inverse_of}
 use Rattle.egg.specs.Factor.{refused_reach, read_step}
 use Rattle.factor_questions.specs.Walks.{along, back_along, inverse_in, compose_in, generator_in}
@@ -55,7 +55,7 @@ module _ (s : List ℕ) (n count a : ℕ) {i : ℕ} (q : i ≡ inverse_of s n a)
   unfolding inverse_in
   inverse_beyond h = rw (← q) (simp (le-leb _ _ h))
 
-  pub inverse_element : i < count → Element (record { 0 = i }) ≡ inverse_in s n count a
+  pub inverse_element : i < count → Ok (record { 0 = i }) ≡ inverse_in s n count a
   unfolding inverse_in
   inverse_element h = rw (← q) (simp (lt-leb _ _ h))
 

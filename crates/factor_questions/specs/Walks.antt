@@ -1,8 +1,8 @@
 -- What is answered by walks through a factor's stretch s, with n generators and `count` elements: products, inverses, conjugates and the elements of
 -- generators. Document 01: "Calls on handles check 17 in the handle, then 14, .. then 17 in what they read." The handle is looked at before.
 use Rattle.std.specs.Prelude.{ℕ, List, ltb, leb}
-use Rattle.egg.specs.declared.Reached.{Reached}
-use Rattle.egg.specs.declared.Reached.TheVariants.{Element}
+use Rattle.egg.specs.Answers.{Reached}
+use Rattle.std.specs.Prelude.{Ok}
 use Rattle.egg.specs.Table.{pick, length_of, inverse_of}
 use Rattle.egg.specs.Factor.{refused_reach, read_step}
 use Rattle.egg.specs.Answers.{on_reached}
@@ -12,7 +12,7 @@ unfoldable pub use Rattle.factor_word_walks.specs.Walks.{follow, along, read_ste
 
 -- The inverse, which was found when the table was built and stands in the row; 17 where it is beyond the elements.
 unfoldable pub inverse_in : List ℕ → ℕ → ℕ → ℕ → Reached
-inverse_in s n count a = pick (leb count (inverse_of s n a)) (refused_reach 17 0) (Element (record { 0 = inverse_of s n a }))
+inverse_in s n count a = pick (leb count (inverse_of s n a)) (refused_reach 17 0) (Ok (record { 0 = inverse_of s n a }))
 
 -- "`compose` walks the word of the second from the first": forward along the word of the second where that has at most five letters; else, where the first's word is
 -- shorter, back along that from the inverse of the second, to the inverse of the product; else back along the word of the second's inverse, or, where that is longer,

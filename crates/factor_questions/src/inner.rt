@@ -3,7 +3,7 @@
 ghost use Rattle.std.specs.Prelude.{◌≡◌};
 ghost use Rattle.factor_questions.specs.Walks.{inverse_in, compose_in, conjugate_in, generator_in};
 
-use egg::{GeneratorId, GroupElementId, Reached};
+use egg::{GeneratorId, GroupElementId, Refusal};
 
 // Forward along a word of at most five letters. Back along the word of the inverse the letters come in the order in which they are
 // walked, so that none has to be kept; where that word is longer, forward along the element's own.
@@ -16,7 +16,7 @@ pub fn compose_with_care(
     count: u32,
     a: GroupElementId,
     b: GroupElementId,
-) -> Reached
+) -> Result<GroupElementId, Refusal>
     ensures { result ≡ compose_in s.now n count a.0 b.0 }
 {
     let len = egg::inner::word_length(s, n, b);
@@ -24,32 +24,23 @@ pub fn compose_with_care(
         return factor_word_walks::inner::along(&s[..], n, count, a, b, len);
     }
     if 4096 < len {
-        return egg::inner::refuse(17, 0);
+        return Err(Refusal::Unreadable);
     }
     let i = egg::inner::get(s, egg::inner::inverse_at(n, b));
     if count <= i {
-        return egg::inner::refuse(17, 0);
+        return Err(Refusal::Unreadable);
     }
     let own = egg::inner::word_length(s, n, a);
     if own < len {
-        return match factor_word_walks::inner::back_along(
-            &s[..],
-            n,
-            count,
-            GroupElementId(i),
-            a,
-            own,
-        ) {
-            Reached::Refused(why) => Reached::Refused(why),
-            Reached::Element(x) => inverse_in(s, n, count, x),
-        };
+        let x = factor_word_walks::inner::back_along(&s[..], n, count, GroupElementId(i), a, own)?;
+        return inverse_in(s, n, count, x);
     }
     if 4096 < own {
-        return egg::inner::refuse(17, 0);
+        return Err(Refusal::Unreadable);
     }
     let back = egg::inner::word_length(s, n, GroupElementId(i));
     if 4096 < back {
-        return egg::inner::refuse(17, 0);
+        return Err(Refusal::Unreadable);
     }
     if len < back {
         return factor_word_walks::inner::along(&s[..], n, count, a, b, len);
@@ -58,14 +49,19 @@ pub fn compose_with_care(
 }
 
 // The inverse of a, which stands in its row.
-pub fn inverse_in(s: &[u32], n: u8, count: u32, a: GroupElementId) -> Reached
+pub fn inverse_in(
+    s: &[u32],
+    n: u8,
+    count: u32,
+    a: GroupElementId,
+) -> Result<GroupElementId, Refusal>
     ensures { result ≡ inverse_in s.now n count a.0 }
 {
     let i = egg::inner::get(s, egg::inner::inverse_at(n, a));
     if count <= i {
-        return egg::inner::refuse(17, 0);
+        return Err(Refusal::Unreadable);
     }
-    Reached::Element(GroupElementId(i))
+    Ok(GroupElementId(i))
 }
 
 // The conjugate a·b·a⁻¹, by two products.
@@ -75,24 +71,20 @@ pub fn conjugate_with_care(
     count: u32,
     a: GroupElementId,
     b: GroupElementId,
-) -> Reached
+) -> Result<GroupElementId, Refusal>
     ensures { result ≡ conjugate_in s.now n count a.0 b.0 }
 {
-    match compose_with_care(&s[..], n, count, a, b) {
-        Reached::Refused(why) => Reached::Refused(why),
-        Reached::Element(c) => match inverse_in(s, n, count, a) {
-            Reached::Refused(why) => Reached::Refused(why),
-            Reached::Element(i) => compose_with_care(&s[..], n, count, c, i),
-        },
-    }
+    let c = compose_with_care(&s[..], n, count, a, b)?;
+    let i = inverse_in(s, n, count, a)?;
+    compose_with_care(&s[..], n, count, c, i)
 }
 
 // The element of a generator, which stands in the identity's row; refuses 14 for a generator that is none.
-pub fn generator_in(s: &[u32], n: u8, count: u32, g: GeneratorId) -> Reached
+pub fn generator_in(s: &[u32], n: u8, count: u32, g: GeneratorId) -> Result<GroupElementId, Refusal>
     ensures { result ≡ generator_in s.now n count g.0 }
 {
     if n <= g.0 {
-        return egg::inner::refuse(14, 0);
+        return Err(Refusal::ArgumentOutside(0));
     }
     egg::inner::next(s, n, count, GroupElementId(0), g)
 }

@@ -10,8 +10,8 @@ use lib.ListN.{get_or}
 use lib.Dec.{eqb, ltb, leb}
 use lib.Pow.{shr-shr}
 use Rattle.egg.specs.declared.Refusal.{Refusal}
-use Rattle.egg.specs.declared.Reached.{Reached}
-use Rattle.egg.specs.declared.Reached.TheVariants.{Element, Refused}
+use Rattle.egg.specs.Answers.{Reached}
+use Rattle.std.specs.Prelude.{Ok, Err}
 use Rattle.egg.specs.Table.{pick, start_of, hop_of}
 use Rattle.egg.specs.Factor.{refused_reach, read_step}
 use Rattle.egg.proofs.Answers.{read_element}
@@ -94,7 +94,7 @@ cell_whole n count c {k} some l h t =
 
 -- Along the letters in a number.
 module _ (s : List ℕ) (n count from c : ℕ) where
-  pub ahead_none : {k : ℕ} → k ≡ 0 → Element (record { 0 = from }) ≡ ahead k s n count from c
+  pub ahead_none : {k : ℕ} → k ≡ 0 → Ok (record { 0 = from }) ≡ ahead k s n count from c
   unfolding ahead
   ahead_none z = rw z
 
@@ -105,7 +105,7 @@ module _ (s : List ℕ) (n count from c : ℕ) where
       sym (ap (λ (l : ℕ). ahead l s n count from c) d ∙ simp (lt-leb _ _ z))
 
 -- A refusal is no element.
-never_both : {r : Refusal} {y : ℕ} → Refused r ≡ Element (record { 0 = y }) → ⊥
+never_both : {r : Refusal} {y : ℕ} → ◌≡◌ {A = Reached} (Err r) (Ok (record { 0 = y })) → ⊥
 never_both q = let z : ◌≡◌ {A = ℕ} 0 1 = cc in omega arith
 
 -- One letter more.
@@ -113,21 +113,21 @@ follow_snoc : (s : List ℕ) (n count from : ℕ) (w : List ℕ) (g : ℕ)
     → follow s n count from (w ++ (g ∷ [])) ≡ on_reached (follow s n count from w) (λ x. read_step s n count x g)
 unfolding follow
 follow_snoc s n count from [] g = no_more (read_step s n count from g) where
-  no_more : (r : Reached) → on_reached r (λ x. Element (record { 0 = x })) ≡ r
-  no_more (Element x) = refl
-  no_more (Refused r) = refl
+  no_more : (r : Reached) → on_reached r (λ x. Ok (record { 0 = x })) ≡ r
+  no_more (Ok x) = refl
+  no_more (Err r) = refl
 follow_snoc s n count from (h ∷ w) g = by (read_step s n count from h) (λ x. follow_snoc s n count x w g) where
   by : (v : Reached) → ((x : ℕ) → follow s n count x (w ++ (g ∷ [])) ≡ on_reached (follow s n count x w) (λ y. read_step s n count y g))
       → on_reached v (λ x. follow s n count x (w ++ (g ∷ []))) ≡ on_reached (on_reached v (λ x. follow s n count x w)) (λ x. read_step s n count x g)
-  by (Element x) more = more x.0
-  by (Refused r) more = refl
+  by (Ok x) more = more x.0
+  by (Err r) more = refl
 
 -- Where the letters in a number lead to an element, they are generators, and the list of them leads there.
 pub record Shown (s : List ℕ) (n count from c k j y : ℕ) : Type 0 where
-  pub leads : follow s n count from (letters_by k j s n c) ≡ Element (record { 0 = y })
+  pub leads : follow s n count from (letters_by k j s n c) ≡ Ok (record { 0 = y })
   pub below : (m : ℕ) → without k c < m → cell_by k n m c ≡ true
 
-ahead_shows : (k j : ℕ) (s : List ℕ) (n count from c : ℕ) {y : ℕ} → k ≤ j → ahead k s n count from c ≡ Element (record { 0 = y }) → Shown s n count from c k j y
+ahead_shows : (k j : ℕ) (s : List ℕ) (n count from c : ℕ) {y : ℕ} → k ≤ j → ahead k s n count from c ≡ Ok (record { 0 = y }) → Shown s n count from c k j y
 unfolding ahead letters_by follow without
 ahead_shows zero j s n count from c h q = record { leads = q; below = λ m l. lt-ltb _ _ l }
 ahead_shows (suc k) zero s n count from c h q = absurd (omega arith)
@@ -135,11 +135,11 @@ ahead_shows (suc k) (suc j) s n count from c {y} h q =
     by (leb n (c % 8)) (ahead k s n count from (c / 8)) refl refl (λ x. ahead_shows k j s n count from (c / 8) {y = x} (omega arith)) q
   where
     by : (b : Bool) (v : Reached) → leb n (c % 8) ≡ b → ahead k s n count from (c / 8) ≡ v
-        → ((x : ℕ) → ahead k s n count from (c / 8) ≡ Element (record { 0 = x }) → Shown s n count from (c / 8) k j x)
-        → pick b (refused_reach 17 0) (on_reached v (λ x. read_step s n count x (c % 8))) ≡ Element (record { 0 = y }) → Shown s n count from c (suc k) (suc j) y
+        → ((x : ℕ) → ahead k s n count from (c / 8) ≡ Ok (record { 0 = x }) → Shown s n count from (c / 8) k j x)
+        → pick b (refused_reach 17 0) (on_reached v (λ x. read_step s n count x (c % 8))) ≡ Ok (record { 0 = y }) → Shown s n count from c (suc k) (suc j) y
     by true v p u more z = absurd (never_both z)
-    by false (Refused r) p u more z = absurd (never_both z)
-    by false (Element x) p u more z =
+    by false (Err r) p u more z = absurd (never_both z)
+    by false (Ok x) p u more z =
         let I = more x.0 u in
         record {
           leads = follow_snoc s n count from (letters_by k j s n (c / 8)) (c % 8) ∙ rw I.leads z;
@@ -157,7 +157,7 @@ row_letters_lem s n e {k} some q = let d : k ≡ suc (k - 1) = omega arith in rw
 
 -- A word whose letters all stand in its element's row, by that cell.
 pub along_cell : (s : List ℕ) (n count from e : ℕ) {k c y : ℕ} → e < count → c ≡ hop_of s n e → 0 < k → k ≤ 5 → c / 2 ^ (3 * k) ≤ 0
-    → ahead k s n count from c ≡ Element (record { 0 = y }) → along k s n count from e ≡ Element (record { 0 = y })
+    → ahead k s n count from c ≡ Ok (record { 0 = y }) → along k s n count from e ≡ Ok (record { 0 = y })
 unfolding along
 along_cell s n count from e {k} {c} {y} h q some l none u =
     let S = ahead_shows k 5 s n count from c l u in
@@ -167,7 +167,7 @@ along_cell s n count from e {k} {c} {y} h q some l none u =
     let r : readable k s n count e ≡ true = sym (readable_last s n count e some h q (sym t) refl l) in
     rw r (ap (λ (w : List ℕ). follow s n count from w) (row_letters_lem s n e some q) ∙ S.leads)
 
-pub along_none : (s : List ℕ) (n count from e : ℕ) {k : ℕ} → k ≡ 0 → along k s n count from e ≡ Element (record { 0 = from })
+pub along_none : (s : List ℕ) (n count from e : ℕ) {k : ℕ} → k ≡ 0 → along k s n count from e ≡ Ok (record { 0 = from })
 unfolding along letters_by follow
 along_none s n count from e {k} z = rw (z, ← readable_end s n count e {left = 0} (omega arith))
 
@@ -202,24 +202,24 @@ module _ {s : List ℕ} {n count cell letters : ℕ} where
   pub onward_on : {i j k x y z : ℕ} → Onward s n count cell letters i x j y → Onward s n count cell letters j y k z → Onward s n count cell letters i x k z
   onward_on v w = record { small = w.small; leads = λ from r. w.leads from (v.leads from r) }
 
-  pub onward_whole : (from : ℕ) {y : ℕ} → letters ≤ 5 → Onward s n count cell letters 5 (from + 1) 0 y → ahead letters s n count from cell ≡ Element (record { 0 = y - 1 })
+  pub onward_whole : (from : ℕ) {y : ℕ} → letters ≤ 5 → Onward s n count cell letters 5 (from + 1) 0 y → ahead letters s n count from cell ≡ Ok (record { 0 = y - 1 })
   onward_whole from {y} h w =
       let d : from + 1 - 1 ≡ from = omega arith in
       let e : letters - 0 ≡ letters = omega arith in
       let f : cell / 2 ^ (3 * 0) ≡ cell = omega arith in
-      let r : ahead (letters - 0) s n count from (cell / 2 ^ (3 * 0)) ≡ Element (record { 0 = y - 1 }) =
+      let r : ahead (letters - 0) s n count from (cell / 2 ^ (3 * 0)) ≡ Ok (record { 0 = y - 1 }) =
       w.leads from (rw d (sym (ahead_none s n count from (cell / 2 ^ (3 * 5)) (omega arith)))) in
       rw (e, f) at r
 
 -- Back along the letters of a cell that a word ends in.
 pub retrace_last : (s : List ℕ) (n count x e : ℕ) {left c y : ℕ} → e < count → c ≡ hop_of s n e → cell_by left n 1 c ≡ true → left ≤ 5
-    → LettersBack s n count x c left (Element (record { 0 = y })) → back_along left s n count x e ≡ Element (record { 0 = y })
+    → LettersBack s n count x c left (Ok (record { 0 = y })) → back_along left s n count x e ≡ Ok (record { 0 = y })
 unfolding back_by
 retrace_last s n count x e {left} {c} {y} h q t l L = by (eqb left 0) refl where
-  by : (t : Bool) → eqb left 0 ≡ t → back_along left s n count x e ≡ Element (record { 0 = y })
+  by : (t : Bool) → eqb left 0 ≡ t → back_along left s n count x e ≡ Ok (record { 0 = y })
   by true z =
       let d : left ≡ 0 = eqb-true _ _ z in
-      let M : LettersBack s n count x c 0 (Element (record { 0 = y })) = rw (← d) L in
+      let M : LettersBack s n count x c 0 (Ok (record { 0 = y })) = rw (← d) L in
       rw d (M.leads 0 0)
   by false z =
       let some : 0 < left = omega (arith, eqb-false left 0 z) in

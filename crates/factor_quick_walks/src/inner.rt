@@ -8,7 +8,7 @@ ghost use Rattle.factor_word_walks.specs.Letters.{LettersBack};
 ghost use Rattle.factor_word_walks.specs.Walks.{along, back_along};
 ghost use Rattle.factor_quick_walks.specs.Letters.{Onward};
 
-use egg::{GroupElementId, Reached};
+use egg::GroupElementId;
 
 // One of the four numbers behind the steps of a row, by k: 0 the parent, 1 the cell with the last five letters, 2 the
 // length, 3 the inverse.
@@ -84,16 +84,15 @@ fn advance_two(s: &[u32], n: u8, count: u32, y: u32, cell: u32, letters: u32) ->
 // is a branch: who multiplies again and again by the identity, as powers do, need not wait for any row.
 pub fn advance(s: &[u32], n: u8, count: u32, from: GroupElementId, cell: u32, letters: u32) -> u32
     requires { (count * (2 * n + 4) ≤ length s.now) × ((from.0 < count) × (letters ≤ 5)) }
-    ensures { result < count → (e : ℕ) → e < count → cell ≡ hop_of s.now n e → along letters s.now n count from.0 e ≡ Reached.Element (record { 0 = result }) }
+    ensures { result < count → (e : ℕ) → e < count → cell ≡ hop_of s.now n e → along letters s.now n count from.0 e ≡ Ok (record { 0 = result }) }
 {
-    let start = from.0;
     if letters == 0 {
-        return start;
+        return from.0;
     }
     if 0 < (cell >> (3 * letters)) {
         return count;
     }
-    let x = advance_two(s, n, count, start + 1, cell, letters);
+    let x = advance_two(s, n, count, from.0 + 1, cell, letters);
     if x == 0 {
         return count;
     }
@@ -124,11 +123,12 @@ pub fn retrace_letters(
     limit: u32,
 ) -> u32
     requires { (count * (2 * n + 4) ≤ length s.now) × ((0 < from) × (from ≤ count)) }
-    ensures { 0 < result → (result ≤ count) × ((cell_by letters n limit cell ≡ true) × LettersBack s.now n count (from - 1) cell letters (Reached.Element (record { 0 = result - 1 }))) }
+    ensures { 0 < result → (result ≤ count) × ((cell_by letters n limit cell ≡ true) × LettersBack s.now n count (from - 1) cell letters (Ok (record { 0 = result - 1 }))) }
 {
     let mut y = from;
     let mut c = cell;
     let mut left = letters;
+    // Counted by hand: every product ends in this loop, and its time was measured in this form.
     while 0 < left {
         let letter = c % 8;
         if (n as u32) <= letter {
@@ -142,7 +142,7 @@ pub fn retrace_letters(
             return 0;
         }
         y = x;
-        c = c / 8;
+        c /= 8;
         left -= 1;
     }
     if limit <= c {
@@ -162,10 +162,9 @@ pub fn retrace(
     letters: u32,
 ) -> u32
     requires { (count * (2 * n + 4) ≤ length s.now) × ((from.0 < count) × (e.0 < count)) }
-    ensures { result < count → back_along letters s.now n count from.0 e.0 ≡ Reached.Element (record { 0 = result }) }
+    ensures { result < count → back_along letters s.now n count from.0 e.0 ≡ Ok (record { 0 = result }) }
 {
-    let start = from.0;
-    let mut y = start + 1;
+    let mut y = from.0 + 1;
     let mut at = e.0;
     let mut left = letters;
     while 5 < left {

@@ -1,10 +1,8 @@
 -- Refusal 13, "a relation fails", with its places "element, generator, generator". "For each element it tests each generator doubled, then each
 -- pair's 2m steps in list order." A number out of range on the way is 17, as met.
 use Rattle.std.specs.Prelude.{ℕ, zero, suc, ◌/◌, ◌%◌, List, length, get_or, eqb}
-use Rattle.egg.specs.declared.Verdict.{Verdict}
-use Rattle.egg.specs.declared.Verdict.TheVariants as verdict
-use Rattle.egg.specs.declared.Reached.{Reached}
-use Rattle.egg.specs.declared.Reached.TheVariants.{Element, Refused}
+use Rattle.egg.specs.Answers.{Reached, Verdict, fine}
+use Rattle.std.specs.Prelude.{Ok, Err}
 use Rattle.egg.specs.Table.{pick}
 use Rattle.egg.specs.Scan.{refused_of, and_then, scan}
 use Rattle.egg.specs.Pairs.{pair_code}
@@ -13,14 +11,14 @@ use Rattle.egg.specs.Answers.{on_reached}
 
 -- The walk from e by a and then b, k times both.
 unfoldable pub turned : (k : ℕ) (s : List ℕ) (n count e a b : ℕ) → Reached
-turned zero s n count e a b = Element (record { 0 = e })
+turned zero s n count e a b = Ok (record { 0 = e })
 turned (suc k) s n count e a b =
     on_reached (read_step s n count e a) (λ x. on_reached (read_step s n count x b) (λ y. turned k s n count y a b))
 
 -- The verdict on where that walk has come to: 13 where it is not e again.
 abbrev pub returns_to : ℕ → ℕ → ℕ → Reached → Verdict
-returns_to e a b (Element x) = pick (eqb x.0 e) verdict.Fine (refused_of 13 e a b)
-returns_to e a b (Refused r) = verdict.Refused r
+returns_to e a b (Ok x) = pick (eqb x.0 e) fine (refused_of 13 e a b)
+returns_to e a b (Err r) = Err r
 
 -- The verdict on one relation at e.
 abbrev pub relation_at : (s : List ℕ) (n count e a b k : ℕ) → Verdict

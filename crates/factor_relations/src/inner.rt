@@ -3,28 +3,26 @@ ghost use Rattle.std.specs.Prelude.{◌≡◌, ◌≤◌, length};
 ghost use Rattle.egg.specs.Pairs.{orders_right};
 ghost use Rattle.factor_relations.specs.Relations.{turned, relation_at, doubled_row, pairs_row, relations_row, relations};
 
-use egg::{GeneratorId, GroupElementId, Reached, Verdict};
+use egg::{GeneratorId, GroupElementId, Refusal};
 
 // Refuses 2 where the list is not as long as there are pairs, then 3 for the first order outside 2..32,767.
-pub fn orders_right(orders: &[u32], n: u8) -> Verdict
+pub fn orders_right(orders: &[u32], n: u8) -> Result<(), Refusal>
     ensures { result ≡ orders_right orders.now n }
 {
     let count = egg::inner::pair_count(n);
-    if orders.len() != (count as usize) {
-        return egg::inner::refused(2, 0, 0, 0);
+    if orders.len() != count as usize {
+        return Err(Refusal::OrdersMiscounted);
     }
-    let mut k: u32 = 0;
-    while k < count {
+    for k in 0..count {
         let m = egg::inner::get(orders, k as usize);
         if m < 2 {
-            return egg::inner::refused(3, k, 0, 0);
+            return Err(Refusal::OrderOutside(k));
         }
         if 32767 < m {
-            return egg::inner::refused(3, k, 0, 0);
+            return Err(Refusal::OrderOutside(k));
         }
-        k += 1;
     }
-    Verdict::Fine
+    Ok(())
 }
 
 // Walks from e by a and then b, `times` times both.
@@ -36,24 +34,15 @@ pub fn turned(
     a: GeneratorId,
     b: GeneratorId,
     times: u32,
-) -> Reached
+) -> Result<GroupElementId, Refusal>
     ensures { result ≡ turned times s.now n count e.0 a.0 b.0 }
 {
     let mut x = e;
-    let mut left = times;
-    while 0 < left {
-        let one = egg::inner::next(s, n, count, x, a);
-        let Reached::Element(y) = one else {
-            return one;
-        };
-        let two = egg::inner::next(s, n, count, y, b);
-        let Reached::Element(z) = two else {
-            return two;
-        };
-        x = z;
-        left -= 1;
+    for _ in 0..times {
+        let y = egg::inner::next(s, n, count, x, a)?;
+        x = egg::inner::next(s, n, count, y, b)?;
     }
-    Reached::Element(x)
+    Ok(x)
 }
 
 // Refuses 13 where one relation does not lead from e back to e, or 17 where a number read on the way is out of range.
@@ -65,45 +54,35 @@ pub fn relation_at(
     a: GeneratorId,
     b: GeneratorId,
     times: u32,
-) -> Verdict
+) -> Result<(), Refusal>
     ensures { result ≡ relation_at s.now n count e.0 a.0 b.0 times }
 {
-    match turned(&s[..], n, count, e, a, b, times) {
-        Reached::Refused(why) => Verdict::Refused(why),
-        Reached::Element(x) => {
-            if x.0 == e.0 {
-                Verdict::Fine
-            } else {
-                egg::inner::refused(13, e.0, a.0 as u32, b.0 as u32)
-            }
-        }
+    let x = turned(&s[..], n, count, e, a, b, times)?;
+    if x.0 == e.0 {
+        Ok(())
+    } else {
+        Err(Refusal::RelationFails(e, a, b))
     }
 }
 
 // The relations of one element by which each generator doubled leads back.
-fn doubled_row(s: &[u32], n: u8, count: u32, e: GroupElementId) -> Verdict
+fn doubled_row(s: &[u32], n: u8, count: u32, e: GroupElementId) -> Result<(), Refusal>
     ensures { result ≡ doubled_row s.now n count e.0 }
 {
-    let mut g: u8 = 0;
-    while g < n {
-        let v = relation_at(&s[..], n, count, e, GeneratorId(g), GeneratorId(g), 1);
-        let Verdict::Fine = v else {
-            return v;
-        };
-        g += 1;
+    for g in 0..n {
+        relation_at(&s[..], n, count, e, GeneratorId(g), GeneratorId(g), 1)?;
     }
-    Verdict::Fine
+    Ok(())
 }
 
 // The relations of one element by which each pair, as often as its order says, leads back.
-fn pairs_row(s: &[u32], n: u8, count: u32, orders: &[u32], e: GroupElementId) -> Verdict
+fn pairs_row(s: &[u32], n: u8, count: u32, orders: &[u32], e: GroupElementId) -> Result<(), Refusal>
     requires { length orders.now ≤ 28 }
     ensures { result ≡ pairs_row s.now n count orders.now e.0 }
 {
-    let mut k: usize = 0;
-    while k < orders.len() {
+    for k in 0..orders.len() {
         let pair = egg::inner::pair_code(k);
-        let v = relation_at(
+        relation_at(
             &s[..],
             n,
             count,
@@ -111,39 +90,34 @@ fn pairs_row(s: &[u32], n: u8, count: u32, orders: &[u32], e: GroupElementId) ->
             GeneratorId((pair / 8 % 256) as u8),
             GeneratorId((pair % 8) as u8),
             orders[k],
-        );
-        let Verdict::Fine = v else {
-            return v;
-        };
-        k += 1;
+        )?;
     }
-    Verdict::Fine
+    Ok(())
 }
 
 // Every relation at one element: each generator doubled, then each pair; the first refusal.
-pub fn relations_row(s: &[u32], n: u8, count: u32, orders: &[u32], e: GroupElementId) -> Verdict
+#[tactic(auto, using(egg::proofs::Refusing::handed_on))]
+pub fn relations_row(
+    s: &[u32],
+    n: u8,
+    count: u32,
+    orders: &[u32],
+    e: GroupElementId,
+) -> Result<(), Refusal>
     requires { length orders.now ≤ 28 }
     ensures { result ≡ relations_row s.now n count orders.now e.0 }
 {
-    let v = doubled_row(&s[..], n, count, e);
-    let Verdict::Fine = v else {
-        return v;
-    };
+    doubled_row(&s[..], n, count, e)?;
     pairs_row(&s[..], n, count, &orders[..], e)
 }
 
 // Every relation at every element, in order: the first refusal.
-pub fn relations(s: &[u32], n: u8, count: u32, orders: &[u32]) -> Verdict
+pub fn relations(s: &[u32], n: u8, count: u32, orders: &[u32]) -> Result<(), Refusal>
     requires { length orders.now ≤ 28 }
     ensures { result ≡ relations s.now n count orders.now }
 {
-    let mut e: u32 = 0;
-    while e < count {
-        let v = relations_row(&s[..], n, count, &orders[..], GroupElementId(e));
-        let Verdict::Fine = v else {
-            return v;
-        };
-        e += 1;
+    for e in 0..count {
+        relations_row(&s[..], n, count, &orders[..], GroupElementId(e))?;
     }
-    Verdict::Fine
+    Ok(())
 }

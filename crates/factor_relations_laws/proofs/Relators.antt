@@ -9,9 +9,9 @@ use borrow.Author.Tests.{eqb-false}
 use lib.ListN.{length, get_or}
 use lib.Dec.{eqb}
 use Rattle.egg.specs.declared.Refusal.{Refusal}
-use Rattle.egg.specs.declared.Verdict.{Verdict}
-use Rattle.egg.specs.declared.Reached.TheVariants.{Element}
-use Rattle.egg.specs.declared.Verdict.TheVariants.{Fine, Refused}
+use Rattle.egg.specs.Answers.{Verdict, fine}
+use Rattle.egg.specs.Refusals.{numbered}
+use Rattle.std.specs.Prelude.{Ok, Err}
 use Rattle.egg.specs.Table.{pick, step_of}
 use Rattle.egg.specs.Pairs.{pair_code, pair_count, orders_right, order_at}
 use Rattle.egg.specs.Scan.{scan}
@@ -29,19 +29,19 @@ use Rattle.factor_relations_laws.specs.Fails.{Fails}
 use Rattle.factor_relations_laws.proofs.Codes.{code_first, code_second, pair_count_lem}
 
 -- An order list that is right has an order for each pair.
-pub orders_long : (o : List ℕ) (n : ℕ) → orders_right o n ≡ Fine → length o ≡ pairs_below n
+pub orders_long : (o : List ℕ) (n : ℕ) → orders_right o n ≡ fine → length o ≡ pairs_below n
 unfolding orders_right
 orders_long o n h = ((eq_then (length o) (pair_count n) _ (scan (length o) (λ k. order_at o k) 0)).0 h).0 ∙ pair_count_lem n
 
 -- Where the refusal of a test of equality comes from.
-pub eq_refused : (a b : ℕ) {q r : Refusal} → pick (eqb a b) Fine (Refused q) ≡ Refused r → (r ≡ q) × (a ≡ b → ⊥)
+pub eq_refused : (a b : ℕ) {q r : Refusal} → pick (eqb a b) fine (Err q) ≡ Err r → (r ≡ q) × (a ≡ b → ⊥)
 eq_refused a b {q} {r} = by (eqb a b) refl where
-  by : (v : Bool) → eqb a b ≡ v → pick v Fine (Refused q) ≡ Refused r → (r ≡ q) × (a ≡ b → ⊥)
+  by : (v : Bool) → eqb a b ≡ v → pick v fine (Err q) ≡ Err r → (r ≡ q) × (a ≡ b → ⊥)
   by true e h = absurd (refused_fine (sym h))
   by false e h = (cc, eqb-false a b e)
 
 module _ {s : List ℕ} {n N : ℕ} (S : Sound s n N) where
-  pub turned_is : (k : ℕ) {e a b : ℕ} → e < N → a < n → b < n → turned k s n N e a b ≡ Element (record { 0 = walk (step_of s n) e (alternate a b k) })
+  pub turned_is : (k : ℕ) {e a b : ℕ} → e < N → a < n → b < n → turned k s n N e a b ≡ Ok (record { 0 = walk (step_of s n) e (alternate a b k) })
   unfolding turned
   turned_is zero he ha hb = refl
   turned_is (suc k) {e} {a} {b} he ha hb =
@@ -49,14 +49,14 @@ module _ {s : List ℕ} {n N : ℕ} (S : Sound s n N) where
       simp (read_step_lem S he ha, read_step_lem S x hb) (turned_is k (S.table.closed x hb) ha hb)
 
   pub relation_at_lem : (k : ℕ) {e a b : ℕ} → e < N → a < n → b < n
-      → relation_at s n N e a b k ≡ Fine ↔ (walk (step_of s n) e (alternate a b k) ≡ e)
+      → relation_at s n N e a b k ≡ fine ↔ (walk (step_of s n) e (alternate a b k) ≡ e)
   relation_at_lem k he ha hb = rw (turned_is k he ha hb) (eq_passes _ _ _)
 
-  relation_refused : (k : ℕ) {e a b : ℕ} {r : Refusal} → e < N → a < n → b < n → relation_at s n N e a b k ≡ Refused r
-      → (r ≡ record { number = 13; a = e; b = a; c = b }) × (walk (step_of s n) e (alternate a b k) ≡ e → ⊥)
+  relation_refused : (k : ℕ) {e a b : ℕ} {r : Refusal} → e < N → a < n → b < n → relation_at s n N e a b k ≡ Err r
+      → (r ≡ numbered 13 e a b) × (walk (step_of s n) e (alternate a b k) ≡ e → ⊥)
   relation_refused k he ha hb h = eq_refused _ _ (rw (turned_is k he ha hb) at h)
 
-  pub doubled_row_lem : {e : ℕ} → e < N → doubled_row s n N e ≡ Fine ↔ ((g : ℕ) → g < n → step_of s n (step_of s n e g) g ≡ e)
+  pub doubled_row_lem : {e : ℕ} → e < N → doubled_row s n N e ≡ fine ↔ ((g : ℕ) → g < n → step_of s n (step_of s n e g) g ≡ e)
   unfolding doubled_row
   doubled_row_lem {e} he = (
     λ h g hg. (relation_at_lem 1 he hg hg).0 ((scan_fine n (λ g. relation_at s n N e g g 1)).0 h g hg),
@@ -68,13 +68,13 @@ module _ {s : List ℕ} {n N : ℕ} (S : Sound s n N) where
     at e k = relation_at s n N e (pair_code k / 8) (pair_code k % 8) (get_or o k 0)
 
     at_pair : {e i j : ℕ} → e < N → i < j → j < n
-        → at e (pair_place i j) ≡ Fine ↔ (walk (step_of s n) e (alternate i j (order_of o i j)) ≡ e)
+        → at e (pair_place i j) ≡ fine ↔ (walk (step_of s n) e (alternate i j (order_of o i j)) ≡ e)
     at_pair {e} {i} {j} he hi hj =
         let small : j < 8 = omega arith in
         rw (code_first hi small, code_second hi small) (relation_at_lem (order_of o i j) he (omega arith) hj)
 
     pub pairs_row_lem : {e : ℕ} → e < N
-        → pairs_row s n N o e ≡ Fine ↔ ((i j : ℕ) → i < j → j < n → walk (step_of s n) e (alternate i j (order_of o i j)) ≡ e)
+        → pairs_row s n N o e ≡ fine ↔ ((i j : ℕ) → i < j → j < n → walk (step_of s n) e (alternate i j (order_of o i j)) ≡ e)
     unfolding pairs_row
     pairs_row_lem {e} he = (
       λ h i j hi hj. (at_pair he hi hj).0 ((scan_fine (length o) (at e)).0 h (pair_place i j) (rw long (pair_inside hi hj))),
@@ -84,7 +84,7 @@ module _ {s : List ℕ} {n N : ℕ} (S : Sound s n N) where
     )
 
     pub relations_row_lem : {e : ℕ} → e < N
-        → relations_row s n N o e ≡ Fine ↔ ((r : List ℕ) → Relator n (order_of o) r → walk (step_of s n) e r ≡ e)
+        → relations_row s n N o e ≡ fine ↔ ((r : List ℕ) → Relator n (order_of o) r → walk (step_of s n) e r ≡ e)
     relations_row_lem {e} he = (
       λ h. let both = (and_then_fine (doubled_row s n N e) (pairs_row s n N o e)).0 h in by_kind ((doubled_row_lem he).0 both.0) ((pairs_row_lem he).0 both.1),
       λ h. (and_then_fine (doubled_row s n N e) (pairs_row s n N o e)).1 (
@@ -99,7 +99,7 @@ module _ {s : List ℕ} {n N : ℕ} (S : Sound s n N) where
       by_kind d p r (pair hi hj) = p _ _ hi hj
 
     -- The test passes just if every relator leads from each element back to it.
-    pub relations_exact : relations s n N o ≡ Fine ↔ Holds n N (order_of o) (step_of s n)
+    pub relations_exact : relations s n N o ≡ fine ↔ Holds n N (order_of o) (step_of s n)
     unfolding relations
     relations_exact = (
       λ h. record { holds = λ {e} {r} he. (relations_row_lem he).0 ((scan_fine N (λ e. relations_row s n N o e)).0 h e he) r },
@@ -107,7 +107,7 @@ module _ {s : List ℕ} {n N : ℕ} (S : Sound s n N) where
     )
 
     -- To walk a relator from e is to compose e with where it leads from the identity.
-    pub relations_first : relations_row s n N o 0 ≡ Fine → relations s n N o ≡ Fine
+    pub relations_first : relations_row s n N o 0 ≡ fine → relations s n N o ≡ fine
     relations_first h = relations_exact.1 (record {
       holds = λ {e} {r} he R.
           let first = (relations_row_lem S.table.origin).0 h r R in
@@ -119,22 +119,22 @@ module _ {s : List ℕ} {n N : ℕ} (S : Sound s n N) where
     unfolding relations
     relations_identity = go (relations_row s n N o 0) refl where
       go : (v : Verdict) → relations_row s n N o 0 ≡ v → scan N (λ e. relations_row s n N o e) 0 ≡ v
-      go Fine q = relations_first q
-      go (Refused r) q =
+      go (Ok _) q = relations_first q
+      go (Err r) q =
           let all : N - 0 ≡ N = omega arith in
           rw all at (scan_here N (λ e. relations_row s n N o e) 0 S.table.origin q)
 
     -- A refusal is 13, and the relator of its places does not hold.
-    fails_row : {e : ℕ} {r : Refusal} → e < N → relations_row s n N o e ≡ Refused r → Fails n (order_of o) (step_of s n) e r
+    fails_row : {e : ℕ} {r : Refusal} → e < N → relations_row s n N o e ≡ Err r → Fails n (order_of o) (step_of s n) e r
     unfolding doubled_row pairs_row
     fails_row {e} {r} he h = ⊎_elim doubled paired (and_then_refused (doubled_row s n N e) (pairs_row s n N o e) h) where
-      doubled : doubled_row s n N e ≡ Refused r → Fails n (order_of o) (step_of s n) e r
+      doubled : doubled_row s n N e ≡ Err r → Fails n (order_of o) (step_of s n) e r
       doubled q =
           let (g, hg, p) = scan_refused n (λ g. relation_at s n N e g g 1) q in
           let f = relation_refused 1 he hg hg p in
           record { first = g; second = g; times = 1; places = f.0; relator = double hg; broken = f.1 }
 
-      paired : pairs_row s n N o e ≡ Refused r → Fails n (order_of o) (step_of s n) e r
+      paired : pairs_row s n N o e ≡ Err r → Fails n (order_of o) (step_of s n) e r
       paired q =
           let (k, hk, p) = scan_refused (length o) (at e) q in
           let (i, j, hi, hj, w) = pair_at n k (omega arith) in
@@ -142,5 +142,5 @@ module _ {s : List ℕ} {n N : ℕ} (S : Sound s n N) where
           let f = relation_refused (order_of o i j) he (omega arith) hj (rw (← w, code_first hi small, code_second hi small) at p) in
           record { first = i; second = j; times = order_of o i j; places = f.0; relator = pair hi hj; broken = f.1 }
 
-    pub relations_fail : {r : Refusal} → relations s n N o ≡ Refused r → Fails n (order_of o) (step_of s n) 0 r
+    pub relations_fail : {r : Refusal} → relations s n N o ≡ Err r → Fails n (order_of o) (step_of s n) 0 r
     relations_fail h = fails_row S.table.origin (sym relations_identity ∙ h)

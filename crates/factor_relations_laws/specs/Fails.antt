@@ -1,4 +1,5 @@
 -- What 13 says.
+use Rattle.egg.specs.Refusals.{numbered}
 use Rattle.std.specs.Prelude.{ℕ, ◌≡◌}
 use Rattle.egg.specs.declared.Refusal.{Refusal}
 use Rattle.theory.specs.Words.{walk}
@@ -10,6 +11,6 @@ pub record Fails (n : ℕ) (m step : ℕ → ℕ → ℕ) (e : ℕ) (r : Refusal
   pub first : ℕ
   pub second : ℕ
   pub times : ℕ
-  pub places : r ≡ record { number = 13; a = e; b = first; c = second }
+  pub places : r ≡ numbered 13 e first second
   pub relator : Relator n m (alternate first second times)
   pub broken : walk step e (alternate first second times) ≡ e → ⊥

@@ -6,7 +6,7 @@ use mathlib.Core.List.{List}
 use borrow.Author.Tests.{le-leb, lt-leb, leb-false}
 use lib.Dec.{leb}
 use lib.ListN.{length, get_or}
-use Rattle.egg.specs.declared.Verdict.TheVariants.{Fine}
+use Rattle.egg.specs.Answers.{fine}
 use Rattle.egg.specs.Scan.{refused_of}
 use Rattle.egg.specs.Table.{pick}
 use Rattle.egg.proofs.Scans.{Scanning, scanning, scan_fine, refused_fine}
@@ -20,13 +20,13 @@ module _ (n : ℕ) (w : List ℕ) (i : ℕ) {g : ℕ} (q : g ≡ get_or w i 0) w
   pub letter_wrong : {k : ℕ} → k ≡ shown (i + 1) → n ≤ g → letter_right n w i ≡ refused_of 14 k 0 0
   letter_wrong e h = rw (← q, e) (simp (le-leb _ _ h))
 
-  pub letter_right_lem : g < n → letter_right n w i ≡ Fine
+  pub letter_right_lem : g < n → letter_right n w i ≡ fine
   letter_right_lem h = rw (← q) (simp (lt-leb _ _ h))
 
 -- Where all are right each is a generator.
-pub letter_below : (n : ℕ) (w : List ℕ) → letters_right n w ≡ Fine → (i : ℕ) → i < length w → get_or w i 0 < n
+pub letter_below : (n : ℕ) (w : List ℕ) → letters_right n w ≡ fine → (i : ℕ) → i < length w → get_or w i 0 < n
 unfolding letters_right
 letter_below n w q i h = by (leb n (get_or w i 0)) refl ((scan_fine (length w) (letter_right n w)).0 q i h) where
-  by : (b : Bool) → leb n (get_or w i 0) ≡ b → pick b (refused_of 14 (shown (i + 1)) 0 0) Fine ≡ Fine → get_or w i 0 < n
+  by : (b : Bool) → leb n (get_or w i 0) ≡ b → pick b (refused_of 14 (shown (i + 1)) 0 0) fine ≡ fine → get_or w i 0 < n
   by true z r = absurd (refused_fine r)
   by false z r = leb-false _ _ z

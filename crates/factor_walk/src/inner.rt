@@ -2,7 +2,7 @@
 ghost use Rattle.std.specs.Prelude.{◌≡◌, ◌+◌};
 ghost use Rattle.factor_walk.specs.Walked.{shown, letters_right, walk_in};
 
-use egg::{GroupElementId, Reached, Verdict};
+use egg::{GroupElementId, Refusal};
 
 // A length or a position as far as 32 bits can tell: 4,294,967,295 stands for all that is above.
 pub fn shown(i: usize) -> u32
@@ -19,26 +19,29 @@ pub fn wide(x: u8) -> u32
 }
 
 // Refuses with 14 the first letter that is none of n generators. The start of the walk has position 0, so the letter at i has i + 1.
-pub fn letters_right(n: u32, word: &[u8]) -> Verdict
+pub fn letters_right(n: u32, word: &[u8]) -> Result<(), Refusal>
     ensures { result ≡ letters_right n word.now }
 {
-    let mut i: usize = 0;
-    while i < word.len() {
+    for i in 0..word.len() {
         let g = wide(word[i]);
         if n <= g {
-            return egg::inner::refused(14, shown(i + 1), 0, 0);
+            return Err(Refusal::ArgumentOutside(shown(i + 1)));
         }
-        i += 1;
     }
-    Verdict::Fine
+    Ok(())
 }
 
 // Refuses the first letter that is no generator; else walks.
-pub fn walk_in(s: &[u32], n: u8, count: u32, from: GroupElementId, word: &[u8]) -> Reached
+#[tactic(auto, using(egg::proofs::Refusing::handed_on), unfolding(crate::specs::Walked::walk_in))]
+pub fn walk_in(
+    s: &[u32],
+    n: u8,
+    count: u32,
+    from: GroupElementId,
+    word: &[u8],
+) -> Result<GroupElementId, Refusal>
     ensures { result ≡ walk_in s.now n count from.0 word.now }
 {
-    match letters_right(n as u32, word) {
-        Verdict::Refused(why) => Reached::Refused(why),
-        Verdict::Fine => factor_word_walks::inner::follow(s, n, count, from, word),
-    }
+    letters_right(n as u32, word)?;
+    factor_word_walks::inner::follow(s, n, count, from, word)
 }

@@ -50,12 +50,11 @@ module _ (c start offset : ℕ) (out : List ℕ) (word here : ℕ) where
     by zero = refl
     by (suc k) = refl
 
-  pub put_on : (word ≡ 0 → ⊥) → 0 < here → {o : List ℕ} → o ≡ set out (start + (word - 1)) ((offset + c % 8) % 256)
-      → letters_put (word - 1) (here - 1) (c / 8) start offset o ≡ letters_put word here c start offset out
+  pub put_on : (word ≡ 0 → ⊥) → {fewer : ℕ} → here ≡ suc fewer → {o : List ℕ} → o ≡ set out (start + (word - 1)) ((offset + c % 8) % 256)
+      → letters_put (word - 1) fewer (c / 8) start offset o ≡ letters_put word here c start offset out
   unfolding letters_put
-  put_on w h q =
+  put_on w {fewer} e q =
       let d : word ≡ suc (word - 1) = omega (arith, w) in
-      let e : here ≡ suc (here - 1) = omega arith in
       sym (ap (λ (k : ℕ). letters_put k here c start offset out) d ∙ ap (λ (j : ℕ). letters_put (suc (word - 1)) j c start offset out) e ∙ rw q)
 
 -- The letters of one number are passed, or written, and the rest of the word from what is above them.

@@ -60,8 +60,7 @@ fn put_letters(c: u32, left: u32, start: usize, offset: u32, out: &mut [u8])
 {
     let mut rest = c;
     let mut word = left;
-    let mut here: u32 = 5;
-    while 0 < here {
+    for _ in 0..5u32 {
         if word == 0 {
             return;
         }
@@ -69,7 +68,6 @@ fn put_letters(c: u32, left: u32, start: usize, offset: u32, out: &mut [u8])
         let letter = (((offset as u64) + ((rest % 8) as u64)) % 256) as u8;
         egg::inner::put_byte(out, start + (word as usize), letter);
         rest /= 8;
-        here -= 1;
     }
 }
 

@@ -11,8 +11,8 @@ use lib.ListN.{length, get_or, take, drop, drop_of_length-le}
 use lib.Seq.{drop-cons}
 use Rattle.egg.specs.declared.Refusal.{Refusal}
 use Rattle.egg.specs.declared.GroupElementId.{GroupElementId}
-use Rattle.egg.specs.declared.Reached.{Reached}
-use Rattle.egg.specs.declared.Reached.TheVariants.{Element, Refused}
+use Rattle.egg.specs.Answers.{Reached}
+use Rattle.std.specs.Prelude.{Ok, Err}
 use Rattle.egg.specs.Table.{start_of, hop_of}
 use Rattle.egg.specs.Factor.{refused_reach, read_step}
 use Rattle.build_word_cells.specs.Hops.{without}
@@ -25,24 +25,24 @@ use Rattle.egg.specs.Answers.{on_reached}
 
 -- Going on from an element, and not from a refusal.
 module _ {v w : Reached} (q : v ≡ w) (f : ℕ → Reached) where
-  pub on_refused : {r : Refusal} → v ≡ Refused r → Refused r ≡ on_reached w f
+  pub on_refused : {r : Refusal} → v ≡ Err r → Err r ≡ on_reached w f
   on_refused e = rw (← q, e)
 
-  pub on_element_lem : {x : GroupElementId} → v ≡ Element x → f x.0 ≡ on_reached w f
+  pub on_element_lem : {x : GroupElementId} → v ≡ Ok x → f x.0 ≡ on_reached w f
   on_element_lem e = rw (← q, e)
 
 -- Along a list of letters, from a place in it on.
 module _ (s : List ℕ) (n count x : ℕ) (w : List ℕ) (i : ℕ) where
-  pub follow_end : length w ≤ i → Element (record { 0 = x }) ≡ follow s n count x (drop i w)
+  pub follow_end : length w ≤ i → Ok (record { 0 = x }) ≡ follow s n count x (drop i w)
   unfolding follow
   follow_end h = rw (drop_of_length-le w h)
 
   module _ (h : i < length w) {g : ℕ} (q : g ≡ get_or w i 0) {v : Reached} (p : v ≡ read_step s n count x g) where
-    pub follow_stops : {r : Refusal} → v ≡ Refused r → v ≡ follow s n count x (drop i w)
+    pub follow_stops : {r : Refusal} → v ≡ Err r → Err r ≡ follow s n count x (drop i w)
     unfolding follow
     follow_stops e = rw (drop-cons w i 0 h, ← q, ← p, e)
 
-    pub follow_on : {y : GroupElementId} → v ≡ Element y → follow s n count y.0 (drop (i + 1) w) ≡ follow s n count x (drop i w)
+    pub follow_on : {y : GroupElementId} → v ≡ Ok y → follow s n count y.0 (drop (i + 1) w) ≡ follow s n count x (drop i w)
     unfolding follow
     follow_on e = rw (add-one, drop-cons w i 0 h, ← q, ← p, e)
 
@@ -66,13 +66,13 @@ module _ (s : List ℕ) (n count e g : ℕ) {x : ℕ} (q : x ≡ get_or s (start
   unfolding read_step_back
   back_beyond z h = rw (← q) (simp (ne_eqb _ _ z, lt-ltb _ _ h))
 
-  pub back_element : (x ≡ 0 → ⊥) → x ≤ count → Element (record { 0 = x - 1 }) ≡ read_step_back s n count e g
+  pub back_element : (x ≡ 0 → ⊥) → x ≤ count → Ok (record { 0 = x - 1 }) ≡ read_step_back s n count e g
   unfolding read_step_back
   back_element z h = rw (← q) (simp (ne_eqb _ _ z, le-ltb _ _ h))
 
 -- Back along the letters in a number, one by one.
 module _ (s : List ℕ) (n count x c : ℕ) where
-  pub letters_end : {left : ℕ} → left ≤ 0 → LettersBack s n count x c left (Element (record { 0 = x }))
+  pub letters_end : {left : ℕ} → left ≤ 0 → LettersBack s n count x c left (Ok (record { 0 = x }))
   unfolding without
   letters_end {left} h = let d : left ≡ 0 = omega arith in record { leads = λ more j. rw (d, zero-add more, zero-add j) }
 
@@ -84,10 +84,10 @@ module _ (s : List ℕ) (n count x c : ℕ) where
         let e : left + j ≡ suc (left - 1 + j) = omega arith in
         ap (λ (l : ℕ). back_by l (left + j) s n count x c) d ∙ ap (λ (l : ℕ). back_by (suc (left - 1 + more)) l s n count x c) e ∙ rw u
 
-    pub letters_refused : {r : Refusal} → v ≡ Refused r → LettersBack s n count x c left v
+    pub letters_refused : {r : Refusal} → v ≡ Err r → LettersBack s n count x c left (Err r)
     letters_refused m = record { leads = λ more j. letter_back more j ∙ rw m }
 
-    pub letters_more : {y : GroupElementId} {r : Reached} → v ≡ Element y → LettersBack s n count y.0 (c / 8) (left - 1) r → LettersBack s n count x c left r
+    pub letters_more : {y : GroupElementId} {r : Reached} → v ≡ Ok y → LettersBack s n count y.0 (c / 8) (left - 1) r → LettersBack s n count x c left r
     unfolding without
     letters_more {r = r} m L = record {
       leads = λ more j.
@@ -95,14 +95,17 @@ module _ (s : List ℕ) (n count x c : ℕ) where
           letter_back more j ∙ rw m (L.leads more j ∙ ap (λ (l : ℕ). on_reached r (λ y. back_by more j s n count y (without l c))) (sym d));
     }
 
+    pub letters_next : {fewer : ℕ} → fewer ≡ left - 1 → {y : GroupElementId} {r : Reached} → v ≡ Ok y → LettersBack s n count y.0 (c / 8) fewer r → LettersBack s n count x c left r
+    letters_next q m L = letters_more m (rw (← q) L)
+
 -- No step after the last.
-no_more : (r : Reached) → on_reached r (λ x. Element (record { 0 = x })) ≡ r
-no_more (Element x) = refl
-no_more (Refused r) = refl
+no_more : (r : Reached) → on_reached r (λ x. Ok (record { 0 = x })) ≡ r
+no_more (Ok x) = refl
+no_more (Err r) = refl
 
 -- Back along a word, row by row.
 module _ (s : List ℕ) (n count x e : ℕ) where
-  pub back_end : {left : ℕ} → left ≤ 0 → Element (record { 0 = x }) ≡ back_along left s n count x e
+  pub back_end : {left : ℕ} → left ≤ 0 → Ok (record { 0 = x }) ≡ back_along left s n count x e
   unfolding back_by
   back_end {left} h = let d : left ≡ 0 = omega arith in rw d
 
@@ -135,8 +138,8 @@ module _ (s : List ℕ) (n count x e : ℕ) where
           let k : 0 < left = omega arith in
           rw (← five_off c) (sym (L.leads (left - 5) 0) ∙ rw d (row_back k))
 
-      pub row_refused : {r : Refusal} → v ≡ Refused r → v ≡ back_along left s n count x e
-      row_refused p = p ∙ on_refused refl _ p ∙ row_leads
+      pub row_refused : {r : Refusal} → v ≡ Err r → Err r ≡ back_along left s n count x e
+      row_refused p = on_refused refl _ p ∙ row_leads
 
-      pub row_more : {y : GroupElementId} → v ≡ Element y → back_along (left - 5) s n count y.0 (c / 32768) ≡ back_along left s n count x e
+      pub row_more : {y : GroupElementId} → v ≡ Ok y → back_along (left - 5) s n count y.0 (c / 32768) ≡ back_along left s n count x e
       row_more p = on_element_lem refl _ p ∙ row_leads

@@ -1,6 +1,6 @@
 -- What a part of a walk back does: the letters that stand in one number are walked at a time. What the whole walk comes to is `back_by`.
 use Rattle.std.specs.Prelude.{ℕ, ◌+◌, ◌≡◌, List}
-use Rattle.egg.specs.declared.Reached.{Reached}
+use Rattle.egg.specs.Answers.{Reached}
 use Rattle.build_word_cells.specs.Hops.{without}
 use Rattle.factor_word_walks.specs.Walks.{back_by}
 use Rattle.egg.specs.Answers.{on_reached}

@@ -1,8 +1,8 @@
 -- Walks through a factor's stretch s, with n generators and `count` elements, along the letters of recorded words. Document 01: "Calls on handles
 -- check 17 in the handle, then 14, .. then 17 in what they read." The handle is looked at before.
 use Rattle.std.specs.Prelude.{ℕ, zero, suc, ◌+◌, ◌-◌, ◌/◌, ◌%◌, List, [], ◌∷◌, get_or, eqb, ltb, leb}
-use Rattle.egg.specs.declared.Reached.{Reached}
-use Rattle.egg.specs.declared.Reached.TheVariants.{Element}
+use Rattle.egg.specs.Answers.{Reached}
+use Rattle.std.specs.Prelude.{Ok}
 use Rattle.egg.specs.Table.{pick, start_of, hop_of}
 use Rattle.egg.specs.Answers.{on_reached}
 use Rattle.egg.specs.Factor.{refused_reach, read_step}
@@ -10,7 +10,7 @@ use Rattle.factor_word_letters.specs.Spell.{cell_within, readable, letters}
 
 -- From an element along the letters of a word, each of which is a generator.
 unfoldable pub follow : (s : List ℕ) (n count from : ℕ) (w : List ℕ) → Reached
-follow s n count from [] = Element (record { 0 = from })
+follow s n count from [] = Ok (record { 0 = from })
 follow s n count from (g ∷ w) = on_reached (read_step s n count from g) (λ x. follow s n count x w)
 
 -- From an element along the last k letters of the recorded word that ends at e. The letters stand there from the last to the first: so all are read before the first
@@ -22,12 +22,12 @@ along k s n count from e = pick (readable k s n count e) (follow s n count from 
 unfoldable pub read_step_back : (s : List ℕ) (n count e g : ℕ) → Reached
 read_step_back s n count e g =
     pick (eqb (get_or s (start_of n e + n + g) 0) 0) (refused_reach 17 0)
-    (pick (ltb count (get_or s (start_of n e + n + g) 0)) (refused_reach 17 0) (Element (record { 0 = get_or s (start_of n e + n + g) 0 - 1 })))
+    (pick (ltb count (get_or s (start_of n e + n + g) 0)) (refused_reach 17 0) (Ok (record { 0 = get_or s (start_of n e + n + g) 0 - 1 })))
 
 -- From an element back along the last k letters of a recorded word, the last letter first. Of these j stand in c, the last lowest, and above them the element at
 -- which the word ends without them; where none is left there, that element's row has five more (`build_word_cells`), in one cell, which is tested as a whole.
 unfoldable pub back_by : (k j : ℕ) (s : List ℕ) (n count from c : ℕ) → Reached
-back_by zero j s n count from c = Element (record { 0 = from })
+back_by zero j s n count from c = Ok (record { 0 = from })
 back_by (suc k) zero s n count from c =
     pick (leb count c) (refused_reach 17 0)
     (pick (cell_within n count (hop_of s n c))

@@ -4,24 +4,23 @@ ghost use Rattle.std.specs.Prelude.{◌≡◌, ◌≤◌};
 ghost use Rattle.factor_word_walks.specs.Walks.{follow, along, read_step_back, back_along};
 ghost use Rattle.factor_word_walks.specs.Letters.{LettersBack};
 
-use egg::{GeneratorId, GroupElementId, Reached};
+use egg::{GeneratorId, GroupElementId, Refusal};
 
 // From an element along the letters of a word.
-pub fn follow(s: &[u32], n: u8, count: u32, from: GroupElementId, word: &[u8]) -> Reached
+pub fn follow(
+    s: &[u32],
+    n: u8,
+    count: u32,
+    from: GroupElementId,
+    word: &[u8],
+) -> Result<GroupElementId, Refusal>
     ensures { result ≡ follow s.now n count from.0 word.now }
 {
     let mut x = from;
-    let mut i = 0;
-    while i < word.len() {
-        let g = word[i];
-        let next = egg::inner::next(s, n, count, x, GeneratorId(g));
-        let Reached::Element(y) = next else {
-            return next;
-        };
-        x = y;
-        i += 1;
+    for i in 0..word.len() {
+        x = egg::inner::next(s, n, count, x, GeneratorId(word[i]))?;
     }
-    Reached::Element(x)
+    Ok(x)
 }
 
 // A word's letters stand in the table from the last to the first, and are walked from the first to the last: they are gathered in
@@ -33,13 +32,13 @@ fn along_short(
     from: GroupElementId,
     e: GroupElementId,
     len: u32,
-) -> Reached
+) -> Result<GroupElementId, Refusal>
     requires { len ≤ 64 }
     ensures { result ≡ along len s.now n count from.0 e.0 }
 {
     let mut held = [0; 68];
     if !factor_word_letters::inner::gather(&s[..], n, count, e, len, &mut held) {
-        return egg::inner::refuse(17, 0);
+        return Err(Refusal::Unreadable);
     }
     follow(&s[..], n, count, from, &held[4..(len as usize) + 4])
 }
@@ -51,13 +50,13 @@ fn along_long(
     from: GroupElementId,
     e: GroupElementId,
     len: u32,
-) -> Reached
+) -> Result<GroupElementId, Refusal>
     requires { len ≤ 4096 }
     ensures { result ≡ along len s.now n count from.0 e.0 }
 {
     let mut held = [0; 4100];
     if !factor_word_letters::inner::gather(&s[..], n, count, e, len, &mut held) {
-        return egg::inner::refuse(17, 0);
+        return Err(Refusal::Unreadable);
     }
     follow(&s[..], n, count, from, &held[4..(len as usize) + 4])
 }
@@ -70,7 +69,7 @@ pub fn along(
     from: GroupElementId,
     e: GroupElementId,
     len: u32,
-) -> Reached
+) -> Result<GroupElementId, Refusal>
     requires { len ≤ 4096 }
     ensures { result ≡ along len s.now n count from.0 e.0 }
 {
@@ -81,17 +80,23 @@ pub fn along(
 }
 
 // The step back in the stretch of a factor, or 17 where the number read is out of range.
-fn previous(s: &[u32], n: u8, count: u32, e: GroupElementId, g: GeneratorId) -> Reached
+fn previous(
+    s: &[u32],
+    n: u8,
+    count: u32,
+    e: GroupElementId,
+    g: GeneratorId,
+) -> Result<GroupElementId, Refusal>
     ensures { result ≡ read_step_back s.now n count e.0 g.0 }
 {
     let x = egg::inner::get(s, egg::inner::predecessor_at(n, e, g));
     if x == 0 {
-        return egg::inner::refuse(17, 0);
+        return Err(Refusal::Unreadable);
     }
     if count < x {
-        return egg::inner::refuse(17, 0);
+        return Err(Refusal::Unreadable);
     }
-    Reached::Element(GroupElementId(x - 1))
+    Ok(GroupElementId(x - 1))
 }
 
 // From an element back along the letters that are lowest in a cell that has been tested, the last letter first.
@@ -102,23 +107,17 @@ fn letters_back(
     from: GroupElementId,
     cell: u32,
     letters: u32,
-) -> Reached
+) -> Result<GroupElementId, Refusal>
     ensures { LettersBack s.now n count from.0 cell letters result }
 {
     let mut x = from;
     let mut c = cell;
-    let mut left = letters;
-    while 0 < left {
+    for _ in 0..letters {
         let letter = c % 8;
-        let back = previous(s, n, count, x, GeneratorId(letter as u8));
-        let Reached::Element(y) = back else {
-            return back;
-        };
-        x = y;
-        c = c / 8;
-        left -= 1;
+        x = previous(s, n, count, x, GeneratorId(letter as u8))?;
+        c /= 8;
     }
-    Reached::Element(x)
+    Ok(x)
 }
 
 // Walks from an element back along the last `letters` letters of the word that ends at e, five for each row that is
@@ -131,7 +130,7 @@ pub fn back_along(
     from: GroupElementId,
     e: GroupElementId,
     letters: u32,
-) -> Reached
+) -> Result<GroupElementId, Refusal>
     ensures { result ≡ back_along letters s.now n count from.0 e.0 }
 {
     let mut x = from;
@@ -139,29 +138,25 @@ pub fn back_along(
     let mut left = letters;
     while 5 < left {
         if count <= at {
-            return egg::inner::refuse(17, 0);
+            return Err(Refusal::Unreadable);
         }
         let c = egg::inner::hop(s, n, GroupElementId(at));
         if !factor_word_letters::inner::cell_within(n, count, c) {
-            return egg::inner::refuse(17, 0);
+            return Err(Refusal::Unreadable);
         }
-        let back = letters_back(&s[..], n, count, x, c, 5);
-        let Reached::Element(y) = back else {
-            return back;
-        };
-        x = y;
+        x = letters_back(&s[..], n, count, x, c, 5)?;
         at = c / 32768;
         left -= 5;
     }
     if left == 0 {
-        return Reached::Element(x);
+        return Ok(x);
     }
     if count <= at {
-        return egg::inner::refuse(17, 0);
+        return Err(Refusal::Unreadable);
     }
     let c = egg::inner::hop(s, n, GroupElementId(at));
     if !factor_word_letters::inner::cell_within(n, count, c) {
-        return egg::inner::refuse(17, 0);
+        return Err(Refusal::Unreadable);
     }
     letters_back(&s[..], n, count, x, c, left)
 }

@@ -4,17 +4,17 @@ ghost use Rattle.egg.specs.Table.{pick};
 ghost use Rattle.factor_word_letters.specs.Spell.{readable, spell};
 ghost use Rattle.factor_words.specs.Words.{length_in, write_in, written_by};
 
-use egg::{Counted, GroupElementId};
+use egg::{GroupElementId, Refusal};
 
 // The recorded length of e's word; refuses 17 where it is over 4,096.
-pub fn length_in(s: &[u32], n: u8, e: GroupElementId) -> Counted
+pub fn length_in(s: &[u32], n: u8, e: GroupElementId) -> Result<u32, Refusal>
     ensures { result ≡ length_in s.now n e.0 }
 {
     let len = egg::inner::word_length(s, n, e);
     if 4096 < len {
-        return egg::inner::refused_count(17);
+        return Err(Refusal::Unreadable);
     }
-    Counted::Count(len)
+    Ok(len)
 }
 
 // Writes a short word when all of it has been read, and answers whether it was. Few letters need no long array, which
@@ -47,24 +47,30 @@ fn write_long(s: &[u32], n: u8, count: u32, e: GroupElementId, len: u32, out: &m
 
 // Writes the recorded word of e and answers its length. Refuses 17 for a length over 4,096, then 4 for a buffer that is
 // shorter, then 17 for a cell of letters that is out of range.
-pub fn write_in(s: &[u32], n: u8, count: u32, e: GroupElementId, out: &mut [u8]) -> Counted
+pub fn write_in(
+    s: &[u32],
+    n: u8,
+    count: u32,
+    e: GroupElementId,
+    out: &mut [u8],
+) -> Result<u32, Refusal>
     ensures { (result ≡ write_in s.now n count e.0 (length out.old)) × (out.new ≡ written_by (write_in s.now n count e.0 (length out.old)) s.now n e.0 out.old) }
 {
     let letters = egg::inner::word_length(s, n, e);
     if 4096 < letters {
-        return egg::inner::refused_count(17);
+        return Err(Refusal::Unreadable);
     }
-    if out.len() < (letters as usize) {
-        return egg::inner::refused_count(4);
+    if out.len() < letters as usize {
+        return Err(Refusal::TooShort);
     }
     if letters <= 64 {
         if write_short(&s[..], n, count, e, letters, out) {
-            return Counted::Count(letters);
+            return Ok(letters);
         }
-        return egg::inner::refused_count(17);
+        return Err(Refusal::Unreadable);
     }
     if write_long(&s[..], n, count, e, letters, out) {
-        return Counted::Count(letters);
+        return Ok(letters);
     }
-    egg::inner::refused_count(17)
+    Err(Refusal::Unreadable)
 }

@@ -6,12 +6,8 @@ use mathlib.Core.List.{List}
 use lib.ListN.{length}
 use Rattle.egg.specs.declared.Refusal.{Refusal}
 use Rattle.egg.specs.declared.GroupElementId.{GroupElementId}
-use Rattle.egg.specs.declared.Verdict.{Verdict}
-use Rattle.egg.specs.declared.Verdict.TheVariants as verdict
-use Rattle.egg.specs.declared.Counted.{Counted}
-use Rattle.egg.specs.declared.Counted.TheVariants.{Count}
-use Rattle.egg.specs.declared.Reached.{Reached}
-use Rattle.egg.specs.declared.Reached.TheVariants as reached
+use Rattle.egg.specs.Answers.{Counted, Reached, Verdict, fine}
+use Rattle.std.specs.Prelude.{Ok, Err}
 use Rattle.egg.specs.Factor.{refused_reach}
 use Rattle.group_handles.specs.declared.Group.{Group}
 use Rattle.group_handles.specs.Handles.{handles, sizes, elements_of, all_fit, seen, admits, admits_seen}
@@ -30,15 +26,15 @@ module _ (t : List ℕ) (g : Group) (ds : List ℕ) where
   join_handle h = rw h
 
   module _ (h : all_fit (length t) (handles g) ≡ true) {v : Verdict} (q : v ≡ digits_right (sizes (handles g)) ds) where
-    pub join_bad : {r : Refusal} → v ≡ verdict.Refused r → reached.Refused r ≡ join_answer t g ds
+    pub join_bad : {r : Refusal} → v ≡ Err r → Err r ≡ join_answer t g ds
     unfolding join_answer
     join_bad e = rw (h, ← q, e)
 
-    pub join_good : v ≡ verdict.Fine → {x : Reached} → x ≡ join_tail g ds → x ≡ join_answer t g ds
+    pub join_good : v ≡ fine → {x : Reached} → x ≡ join_tail g ds → x ≡ join_answer t g ds
     unfolding join_answer
     join_good e p = p ∙ rw (h, ← q, e)
 
-pub answer_fits : (t : List ℕ) (g : Group) (e : GroupElementId) (size : ℕ) {v : Counted} {k : ℕ} → v ≡ write_answer t g e size → v ≡ Count k → k ≤ size
+pub answer_fits : (t : List ℕ) (g : Group) (e : GroupElementId) (size : ℕ) {v : Counted} {k : ℕ} → v ≡ write_answer t g e size → v ≡ Ok k → k ≤ size
 unfolding write_answer writes
 answer_fits t g e size q h =
     by_fits (lengths t (handles g) e.0) (readables t (handles g) e.0) size (counted_by (admits (length t) g e.0 (elements_of (handles g)) 0 1) (sym q ∙ h))

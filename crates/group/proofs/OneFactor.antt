@@ -12,12 +12,9 @@ use lib.Dec.{eqb, leb, ltb}
 use Rattle.egg.specs.declared.Factor.{Factor}
 use Rattle.egg.specs.declared.GroupElementId.{GroupElementId}
 use Rattle.egg.specs.declared.GeneratorId.{GeneratorId}
-use Rattle.egg.specs.declared.Verdict.{Verdict}
-use Rattle.egg.specs.declared.Verdict.TheVariants as verdict
-use Rattle.egg.specs.declared.Reached.{Reached}
-use Rattle.egg.specs.declared.Reached.TheVariants.{Element, Refused}
-use Rattle.egg.specs.declared.Counted.{Counted}
-use Rattle.egg.specs.declared.Counted.TheVariants as counted
+use Rattle.egg.specs.Answers.{Counted, Reached, Verdict, fine}
+use Rattle.egg.specs.Refusals.{numbered}
+use Rattle.std.specs.Prelude.{Ok, Err}
 use Rattle.egg.specs.Table.{pick, length_of}
 use Rattle.egg.specs.Scan.{refused_of, and_then}
 use Rattle.egg.specs.Factor as egg
@@ -43,26 +40,26 @@ use Rattle.group_digits.proofs.Walks.{Below, element, below_on, step_below, digi
 use Rattle.group_walk.specs.Walked.{follows, admits_walk}
 
 -- A verdict decides the same of two answers that are equal where it is fine.
-reach_alike : (v : Verdict) {x y : Reached} → (v ≡ verdict.Fine → x ≡ y) → if_reach v x ≡ if_reach v y
-reach_alike verdict.Fine k = k refl
-reach_alike (verdict.Refused r) k = refl
+reach_alike : (v : Verdict) {x y : Reached} → (v ≡ fine → x ≡ y) → if_reach v x ≡ if_reach v y
+reach_alike (Ok _) k = k refl
+reach_alike (Err r) k = refl
 
-then_fine : (v : Verdict) → and_then v verdict.Fine ≡ v
-then_fine verdict.Fine = refl
-then_fine (verdict.Refused r) = refl
+then_fine : (v : Verdict) → and_then v fine ≡ v
+then_fine (Ok _) = refl
+then_fine (Err r) = refl
 
-count_alike : (v : Verdict) {x y : Counted} → (v ≡ verdict.Fine → x ≡ y) → if_count v x ≡ if_count v y
-count_alike verdict.Fine k = k refl
-count_alike (verdict.Refused r) k = refl
+count_alike : (v : Verdict) {x y : Counted} → (v ≡ fine → x ≡ y) → if_count v x ≡ if_count v y
+count_alike (Ok _) k = k refl
+count_alike (Err r) k = refl
 
 and_true : (b : Bool) → b ≡ b && true
 and_true true = refl
 and_true false = refl
 
 -- The only digit is the whole number.
-only : (N : ℕ) (r : Reached) → on_reached r (λ x. above x N (Element (record { 0 = 0 }))) ≡ r
-only N (Element x) = ap (λ (z : ℕ). Element (record { 0 = z })) (omega (arith, mul-zero N))
-only N (Refused r) = refl
+only : (N : ℕ) (r : Reached) → on_reached r (λ x. above x N (Ok (record { 0 = 0 }))) ≡ r
+only N (Ok x) = ap (λ (z : ℕ). Ok (record { 0 = z })) (omega (arith, mul-zero N))
+only N (Err r) = refl
 
 module _ (t : List ℕ) (h : Factor) where
   one_digit : (k : PartQuestion) (a b : ℕ) → a < h.elements → b < h.elements → digitwise (digit_of k t) (h ∷ []) a b ≡ digit_of k t h a b
@@ -70,8 +67,8 @@ module _ (t : List ℕ) (h : Factor) where
   one_digit k a b p q = rw (mod-eq_of_lt p, mod-eq_of_lt q) (only h.elements (digit_of k t h a b))
 
 on_alike : {N : ℕ} {f g : ℕ → Reached} (r : Reached) → Below N r → ((x : ℕ) → x < N → f x ≡ g x) → on_reached r f ≡ on_reached r g
-on_alike (Element e) (element p) k = k e.0 p
-on_alike (Refused r) b k = refl
+on_alike (Ok e) (element p) k = k e.0 p
+on_alike (Err r) b k = refl
 
 -- Two ways to compose that are alike below N, where the second stays: their powers are alike.
 module _ {N : ℕ} (op op' : ℕ → ℕ → Reached) (some-N : 0 < N) (alike : (x y : ℕ) → x < N → y < N → op x y ≡ op' x y) (stays : (x y : ℕ) → x < N → Below N (op' x y)) where
@@ -115,9 +112,9 @@ module _ {N : ℕ} (op op' : ℕ → ℕ → Reached) (some-N : 0 < N) (alike : 
       ap (λ (r : Reached). on_reached r (λ i. negated (eqb (suc k) (half + half)) half op i (suc k))) q
       ∙ on_alike (inv' a) b (λ i p. negated_alike (eqb (suc k) (half + half)) half i (suc k) p)
 
-none_after : (r : Counted) → on_counted r (λ k. on_counted (counted.Count 0) (λ m. counted.Count (k + m))) ≡ r
-none_after (counted.Count k) = ap counted.Count (omega arith)
-none_after (counted.Refused r) = refl
+none_after : (r : Counted) → on_counted r (λ k. on_counted (Ok 0) (λ m. Ok (k + m))) ≡ r
+none_after (Ok k) = ap Ok (omega arith)
+none_after (Err r) = refl
 
 module _ (len : ℕ) (g : Group) (h : Factor) (c : g.count ≡ 1) (q : handles g ≡ h ∷ []) where
   whole : elements_of (handles g) ≡ h.elements
@@ -133,12 +130,12 @@ module _ (len : ℕ) (g : Group) (h : Factor) (c : g.count ≡ 1) (q : handles g
       rw (whole, c) (le-leb _ _ e)
 
   -- The verdict on two arguments: 17 in the handle, then 14 for either.
-  verdicts : (a la b lb : ℕ) → pick (fits_in len h) (pick (leb la a) (refused_of 14 0 0 0) (pick (leb lb b) (refused_of 14 1 0 0) verdict.Fine)) (refused_of 17 0 0 0)
+  verdicts : (a la b lb : ℕ) → pick (fits_in len h) (pick (leb la a) (refused_of 14 0 0 0) (pick (leb lb b) (refused_of 14 1 0 0) fine)) (refused_of 17 0 0 0)
       ≡ admits len g a la b lb
   unfolding admits
   verdicts a la b lb = rw q (by (fits_in len h) refl) where
-    by : (f : Bool) → fits_in len h ≡ f → pick f (pick (leb la a) (refused_of 14 0 0 0) (pick (leb lb b) (refused_of 14 1 0 0) verdict.Fine)) (refused_of 17 0 0 0)
-        ≡ pick (f && true) (pick (leb la a) (refused_of 14 0 0 0) (pick (leb lb b) (refused_of 14 1 0 0) (pick (limited g) verdict.Fine (refused_of 15 0 0 0)))) (refused_of 17 0 0 0)
+    by : (f : Bool) → fits_in len h ≡ f → pick f (pick (leb la a) (refused_of 14 0 0 0) (pick (leb lb b) (refused_of 14 1 0 0) fine)) (refused_of 17 0 0 0)
+        ≡ pick (f && true) (pick (leb la a) (refused_of 14 0 0 0) (pick (leb lb b) (refused_of 14 1 0 0) (pick (limited g) fine (refused_of 15 0 0 0)))) (refused_of 17 0 0 0)
     by true p = rw (within p)
     by false p = refl
 
@@ -151,18 +148,18 @@ module _ (t : List ℕ) (g : Group) (h : Factor) (c : g.count ≡ 1) (q : handle
   unfolding factor.admits
   one a = rw (whole (length t) g h c q) (by (fits_in (length t) h) refl ∙ verdicts (length t) g h c q a h.elements 0 1) where
     by : (f : Bool) → fits_in (length t) h ≡ f
-        → pick f (pick (leb h.elements a) (refused_of 14 0 0 0) (pick (leb h.elements 0) (refused_of 14 1 0 0) verdict.Fine)) (refused_of 17 0 0 0)
-        ≡ pick f (pick (leb h.elements a) (refused_of 14 0 0 0) verdict.Fine) (refused_of 17 0 0 0)
+        → pick f (pick (leb h.elements a) (refused_of 14 0 0 0) (pick (leb h.elements 0) (refused_of 14 1 0 0) fine)) (refused_of 17 0 0 0)
+        ≡ pick f (pick (leb h.elements a) (refused_of 14 0 0 0) fine) (refused_of 17 0 0 0)
     by true p = rw (lt-leb h.elements 0 (some (length t) h p))
     by false p = refl
 
   -- What a fine verdict says of the arguments.
-  below_two : (a b : ℕ) → factor.admits (length t) h a b ≡ verdict.Fine → (a < h.elements) × (b < h.elements)
+  below_two : (a b : ℕ) → factor.admits (length t) h a b ≡ fine → (a < h.elements) × (b < h.elements)
   below_two a b f =
       let G : Goes (length t) g a (elements_of (handles g)) b (elements_of (handles g)) = goes_on (length t) g a _ b _ (two a b) f in
       (rw (whole (length t) g h c q) at G.first, rw (whole (length t) g h c q) at G.second)
 
-  below_one : (a : ℕ) → factor.admits (length t) h a 0 ≡ verdict.Fine → a < h.elements
+  below_one : (a : ℕ) → factor.admits (length t) h a 0 ≡ fine → a < h.elements
   below_one a f =
       let G : Goes (length t) g a (elements_of (handles g)) 0 1 = goes_on (length t) g a _ 0 _ (one a) f in
       rw (whole (length t) g h c q) at G.first
@@ -212,7 +209,7 @@ module _ (t : List ℕ) (g : Group) (h : Factor) (c : g.count ≡ 1) (q : handle
     where
       by : (f d k : Bool) → fits_in (length t) h ≡ f → leb h.elements e.0 ≡ d → leb h.generators x.0 ≡ k
           → pick f (pick d (egg.refused_reach 14 0) (pick k (egg.refused_reach 14 1) (read_step (stretch t h) h.generators h.elements e.0 x.0))) (egg.refused_reach 17 0)
-          ≡ if_reach (pick f (pick d (refused_of 14 0 0 0) (pick k (refused_of 14 1 0 0) verdict.Fine)) (refused_of 17 0 0 0)) (step_in t (handles g) e.0 x.0)
+          ≡ if_reach (pick f (pick d (refused_of 14 0 0 0) (pick k (refused_of 14 1 0 0) fine)) (refused_of 17 0 0 0)) (step_in t (handles g) e.0 x.0)
       by false d k z u v = refl
       by true true k z u v = refl
       by true false true z u v = refl
@@ -233,7 +230,7 @@ module _ (t : List ℕ) (g : Group) (h : Factor) (c : g.count ≡ 1) (q : handle
   unfolding admits_walk
   walk_verdict e w = rw (whole (length t) g h c q, letters (length t) g h c q, q) (by (fits_in (length t) h) refl) where
     by : (f : Bool) → fits_in (length t) h ≡ f
-        → pick (f && true) (pick (leb h.elements e) (refused_of 14 0 0 0) (and_then (letters_right h.generators w) (pick (limited g) verdict.Fine (refused_of 15 0 0 0)))) (refused_of 17 0 0 0)
+        → pick (f && true) (pick (leb h.elements e) (refused_of 14 0 0 0) (and_then (letters_right h.generators w) (pick (limited g) fine (refused_of 15 0 0 0)))) (refused_of 17 0 0 0)
         ≡ pick f (pick (leb h.elements e) (refused_of 14 0 0 0) (letters_right h.generators w)) (refused_of 17 0 0 0)
     by true p = rw (within (length t) g h c q p, then_fine (letters_right h.generators w))
     by false p = refl
@@ -242,7 +239,7 @@ module _ (t : List ℕ) (g : Group) (h : Factor) (c : g.count ≡ 1) (q : handle
   unfolding factor.walk_answer factor.admits walk_in walk_answer
   one_walk e w = rw (walk_verdict e.0 w) (by (fits_in (length t) h) (leb h.elements e.0) refl refl) where
     by : (f d : Bool) → fits_in (length t) h ≡ f → leb h.elements e.0 ≡ d
-        → if_reach (pick f (pick d (refused_of 14 0 0 0) (pick (leb h.elements 0) (refused_of 14 1 0 0) verdict.Fine)) (refused_of 17 0 0 0))
+        → if_reach (pick f (pick d (refused_of 14 0 0 0) (pick (leb h.elements 0) (refused_of 14 1 0 0) fine)) (refused_of 17 0 0 0))
         (if_reach (letters_right h.generators w) (follow (stretch t h) h.generators h.elements e.0 w))
         ≡ if_reach (pick f (pick d (refused_of 14 0 0 0) (letters_right h.generators w)) (refused_of 17 0 0 0)) (follows t (handles g) e.0 w)
     by false d z u = refl
@@ -258,9 +255,9 @@ module _ (t : List ℕ) (g : Group) (h : Factor) (c : g.count ≡ 1) (q : handle
       (by (fits_in (length t) h) (leb h.generators x.0) refl refl)
     where
       by : (f k : Bool) → fits_in (length t) h ≡ f → leb h.generators x.0 ≡ k
-          → if_reach (pick f (pick (leb h.elements 0) (refused_of 14 0 0 0) (pick (leb h.elements 0) (refused_of 14 1 0 0) verdict.Fine)) (refused_of 17 0 0 0))
+          → if_reach (pick f (pick (leb h.elements 0) (refused_of 14 0 0 0) (pick (leb h.elements 0) (refused_of 14 1 0 0) fine)) (refused_of 17 0 0 0))
           (pick k (egg.refused_reach 14 0) (read_step (stretch t h) h.generators h.elements 0 x.0))
-          ≡ if_reach (pick f (pick k (refused_of 14 0 0 0) verdict.Fine) (refused_of 17 0 0 0)) (step_in t (handles g) 0 x.0)
+          ≡ if_reach (pick f (pick k (refused_of 14 0 0 0) fine) (refused_of 17 0 0 0)) (step_in t (handles g) 0 x.0)
       by false k z v = refl
       by true true z v = rw (lt-leb h.elements 0 (some (length t) h z))
       by true false z v = rw (lt-leb h.elements 0 (some (length t) h z)) (stepped 0 x.0 (some (length t) h z) (leb-false _ _ v))
@@ -282,10 +279,10 @@ module _ (t : List ℕ) (g : Group) (h : Factor) (c : g.count ≡ 1) (q : handle
   wrote_in : (e size : ℕ) → e < h.elements → write_in (stretch t h) h.generators h.elements e size ≡ writes t (handles g) e size
   unfolding write_in writes length_in
   wrote_in e size p = rw (← measured e p, ← read_all_lem e p) (by (ltb 4096 (length_of (stretch t h) h.generators e))) where
-    by : (b : Bool) → pick b (counted.Refused (record { number = 17; a = 0; b = 0; c = 0 }))
-        (pick (ltb size (length_of (stretch t h) h.generators e)) (counted.Refused (record { number = 4; a = 0; b = 0; c = 0 }))
-        (pick (readable (length_of (stretch t h) h.generators e) (stretch t h) h.generators h.elements e) (counted.Count (length_of (stretch t h) h.generators e)) (counted.Refused (record { number = 17; a = 0; b = 0; c = 0 }))))
-        ≡ writes_by (pick b (counted.Refused (record { number = 17; a = 0; b = 0; c = 0 })) (counted.Count (length_of (stretch t h) h.generators e)))
+    by : (b : Bool) → pick b (Err (numbered 17 0 0 0))
+        (pick (ltb size (length_of (stretch t h) h.generators e)) (Err (numbered 4 0 0 0))
+        (pick (readable (length_of (stretch t h) h.generators e) (stretch t h) h.generators h.elements e) (Ok (length_of (stretch t h) h.generators e)) (Err (numbered 17 0 0 0))))
+        ≡ writes_by (pick b (Err (numbered 17 0 0 0)) (Ok (length_of (stretch t h) h.generators e)))
         (readable (length_of (stretch t h) h.generators e) (stretch t h) h.generators h.elements e) size
     by true = refl
     by false = refl
@@ -301,15 +298,15 @@ module _ (t : List ℕ) (g : Group) (h : Factor) (c : g.count ≡ 1) (q : handle
   spelled e out p = rw (q, mod-eq_of_lt p)
 
   -- An answer that is a count is the recorded length, of an element.
-  write_counts : (e size k : ℕ) → write_in (stretch t h) h.generators h.elements e size ≡ counted.Count k → k ≡ length_of (stretch t h) h.generators e
+  write_counts : (e size k : ℕ) → write_in (stretch t h) h.generators h.elements e size ≡ Ok k → k ≡ length_of (stretch t h) h.generators e
   unfolding write_in
   write_counts e size k r =
       by (ltb 4096 (length_of (stretch t h) h.generators e)) (ltb size (length_of (stretch t h) h.generators e))
       (readable (length_of (stretch t h) h.generators e) (stretch t h) h.generators h.elements e) r
     where
-      by : (x y z : Bool) → pick x (counted.Refused (record { number = 17; a = 0; b = 0; c = 0 }))
-          (pick y (counted.Refused (record { number = 4; a = 0; b = 0; c = 0 }))
-          (pick z (counted.Count (length_of (stretch t h) h.generators e)) (counted.Refused (record { number = 17; a = 0; b = 0; c = 0 })))) ≡ counted.Count k
+      by : (x y z : Bool) → pick x (Err (numbered 17 0 0 0))
+          (pick y (Err (numbered 4 0 0 0))
+          (pick z (Ok (length_of (stretch t h) h.generators e)) (Err (numbered 17 0 0 0)))) ≡ Ok k
           → k ≡ length_of (stretch t h) h.generators e
       by true y z u = absurd (never_both refl u)
       by false true z u = absurd (never_both refl u)
@@ -322,8 +319,8 @@ module _ (t : List ℕ) (g : Group) (h : Factor) (c : g.count ≡ 1) (q : handle
       by (factor.admits (length t) h e.0 0) (write_in (stretch t h) h.generators h.elements e.0 (length out)) (below_one e.0) (write_counts e.0 (length out))
       ∙ ap (λ (v : Counted). leaves v t (handles g) e.0 out) (one_write e (length out))
     where
-      by : (v : Verdict) (x : Counted) → (v ≡ verdict.Fine → e.0 < h.elements) → ((k : ℕ) → x ≡ counted.Count k → k ≡ length_of (stretch t h) h.generators e.0)
+      by : (v : Verdict) (x : Counted) → (v ≡ fine → e.0 < h.elements) → ((k : ℕ) → x ≡ Ok k → k ≡ length_of (stretch t h) h.generators e.0)
           → written_by (if_count v x) (stretch t h) h.generators e.0 out ≡ leaves (if_count v x) t (handles g) e.0 out
-      by (verdict.Refused r) x p k = refl
-      by verdict.Fine (counted.Refused r) p k = refl
-      by verdict.Fine (counted.Count n) p k = rw (k n refl) (spelled e.0 out (p refl))
+      by (Err r) x p k = refl
+      by (Ok _) (Err r) p k = refl
+      by (Ok _) (Ok n) p k = rw (k n refl) (spelled e.0 out (p refl))

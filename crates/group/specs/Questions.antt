@@ -2,13 +2,10 @@
 -- the handle, then 14, then 15, then 1 to 4, then 17 in what they read". `admits` gives 17, 14 and 15; the place of a 14 is the argument's position,
 -- from 0. `if_reach` and `if_count` go on only where there was no refusal.
 use Rattle.std.specs.Prelude.{ℕ, List, length, get_or, ℤ}
-use Rattle.egg.specs.declared.Verdict.{Verdict}
+use Rattle.egg.specs.Answers.{Counted, Reached, Verdict}
+use Rattle.std.specs.Prelude.{Ok}
 use Rattle.egg.specs.declared.GroupElementId.{GroupElementId}
 use Rattle.egg.specs.declared.GeneratorId.{GeneratorId}
-use Rattle.egg.specs.declared.Reached.{Reached}
-use Rattle.egg.specs.declared.Reached.TheVariants.{Element}
-use Rattle.egg.specs.declared.Counted.{Counted}
-use Rattle.egg.specs.declared.Counted.TheVariants as counted
 use Rattle.egg.specs.Table.{pick}
 use Rattle.egg.specs.Factor.{refused_reach}
 use Rattle.factor.specs.Questions.{filled_by}
@@ -30,11 +27,11 @@ two_elements len g a b = admits len g a (elements_of (handles g)) b (elements_of
 
 -- How many elements the product has. The call has no argument that could be out of range, and `admits` is asked about 0 below 1.
 unfoldable pub count_answer : List ℕ → Group → Counted
-count_answer t g = if_count (admits (length t) g 0 1 0 1) (counted.Count (elements_of (handles g)))
+count_answer t g = if_count (admits (length t) g 0 1 0 1) (Ok (elements_of (handles g)))
 
 -- How many generators its factors have together.
 unfoldable pub generators_answer : List ℕ → Group → Counted
-generators_answer t g = if_count (admits (length t) g 0 1 0 1) (counted.Count (generators_of (handles g)))
+generators_answer t g = if_count (admits (length t) g 0 1 0 1) (Ok (generators_of (handles g)))
 
 -- The element of a generator: the step from the identity.
 unfoldable pub generator_answer : List ℕ → Group → GeneratorId → Reached
@@ -48,12 +45,12 @@ step_answer t g e x =
 -- The element that e has in the factor f: one digit of e.
 unfoldable pub project_answer : List ℕ → Group → ℕ → GroupElementId → Reached
 project_answer t g f e =
-    if_reach (admits (length t) g f (length (handles g)) e.0 (elements_of (handles g))) (Element (record { 0 = project (sizes (handles g)) f e.0 }))
+    if_reach (admits (length t) g f (length (handles g)) e.0 (elements_of (handles g))) (Ok (record { 0 = project (sizes (handles g)) f e.0 }))
 
 -- The element of the product that has x in the factor f and the identity in every other.
 unfoldable pub inject_answer : List ℕ → Group → ℕ → GroupElementId → Reached
 inject_answer t g f x =
-    if_reach (admits (length t) g f (length (handles g)) x.0 (get_or (sizes (handles g)) f 1)) (Element (record { 0 = inject (sizes (handles g)) f x.0 }))
+    if_reach (admits (length t) g f (length (handles g)) x.0 (get_or (sizes (handles g)) f 1)) (Ok (record { 0 = inject (sizes (handles g)) f x.0 }))
 
 -- How many digits of e were written into a lent list of `size` numbers.
 unfoldable pub split_answer : List ℕ → Group → GroupElementId → ℕ → Counted

@@ -10,244 +10,230 @@ ghost use Rattle.build_lending.specs.Lending.{Making};
 ghost use Rattle.group.specs.Questions.{count_answer, generators_answer, generator_answer, step_answer, walk_answer, project_answer, inject_answer, split_answer, split_leaves, join_answer, compose_answer, inverse_answer, conjugate_answer, powi_answer, period_answer, length_answer, write_answer, written, word_part};
 ghost use Rattle.group_flatten.specs.Flat.{flat};
 
-use egg::{Counted, GeneratorId, GroupElementId, Made, Reached, Verdict};
+use egg::{Factor, GeneratorId, GroupElementId, Refusal};
 use group_handles::inner::Limit;
-pub use group_handles::{Group, Grouped, of, product, trivial};
+pub use group_handles::{Group, of, product, trivial};
 
 // Answers how many elements the product has. Refuses in this order: 17 for a handle that does not fit, 15 for a product too large.
-pub fn element_count(table: &[u32], g: Group) -> Counted
+pub fn element_count(table: &[u32], g: Group) -> Result<u32, Refusal>
     ensures { result ≡ count_answer table.now g }
 {
     let seen = group_handles::inner::look(table, g);
-    match group_handles::inner::admit_none_seen(seen, g.count) {
-        Verdict::Refused(why) => Counted::Refused(why),
-        Verdict::Fine => Counted::Count((seen.elements % 4294967296) as u32),
-    }
+    group_handles::inner::admit_none_seen(seen, g.count)?;
+    Ok((seen.elements % 4294967296) as u32)
 }
 
 // Answers how many generators the factors have together. Refuses in this order: 17 for a handle that does not fit, 15 for a product too large.
-pub fn generator_count(table: &[u32], g: Group) -> Counted
+pub fn generator_count(table: &[u32], g: Group) -> Result<u32, Refusal>
     ensures { result ≡ generators_answer table.now g }
 {
     let seen = group_handles::inner::look(table, g);
-    match group_handles::inner::admit_none_seen(seen, g.count) {
-        Verdict::Refused(why) => Counted::Refused(why),
-        Verdict::Fine => Counted::Count(seen.generators),
-    }
+    group_handles::inner::admit_none_seen(seen, g.count)?;
+    Ok(seen.generators)
 }
 
 // Answers the element that the generator x is. Refuses in this order: 17 for a handle that does not fit, 14 for a generator out of range, 15 for a
 // product too large, 17 for a number read that is out of range.
-pub fn generator(table: &[u32], g: Group, x: GeneratorId) -> Reached
+pub fn generator(table: &[u32], g: Group, x: GeneratorId) -> Result<GroupElementId, Refusal>
     ensures { result ≡ generator_answer table.now g x }
 {
     if group_handles::inner::alone(g) {
-        let h = g.factors[0];
-        return factor::generator(table, h, x);
+        return factor::generator(table, g.factors[0], x);
     }
-    match group_handles::inner::admit_one(table, g, x.0 as u32, Limit::Generators) {
-        Verdict::Refused(why) => Reached::Refused(why),
-        Verdict::Fine => group_digits::inner::step_in(table, g, GroupElementId(0), x),
-    }
+    group_handles::inner::admit_one(table, g, x.0 as u32, Limit::Generators)?;
+    group_digits::inner::step_in(table, g, GroupElementId(0), x)
 }
 
 // Answers the step from e by the generator x. Refuses in this order: 17 for a handle that does not fit, 14 for an element or a generator out of
 // range, 15 for a product too large, 17 for a number read that is out of range.
-pub fn step(table: &[u32], g: Group, e: GroupElementId, x: GeneratorId) -> Reached
+pub fn step(
+    table: &[u32],
+    g: Group,
+    e: GroupElementId,
+    x: GeneratorId,
+) -> Result<GroupElementId, Refusal>
     ensures { result ≡ step_answer table.now g e x }
 {
     if group_handles::inner::alone(g) {
-        let h = g.factors[0];
-        return egg::step(table, h, e, x);
+        return egg::step(table, g.factors[0], e, x);
     }
-    match group_handles::inner::admit(
+    group_handles::inner::admit(
         table,
         g,
         e.0,
         Limit::Elements,
         x.0 as u32,
         Limit::Generators,
-    ) {
-        Verdict::Refused(why) => Reached::Refused(why),
-        Verdict::Fine => group_digits::inner::step_in(table, g, e, x),
-    }
+    )?;
+    group_digits::inner::step_in(table, g, e, x)
 }
 
 // Answers the element to which the generators of a word lead from an element, one after another; an empty word leads to the element itself. Refuses in
 // this order: 17 for a handle that does not fit, 14 for an element (place 0) or the first letter (the one at i has place i + 1) out of range, 15 for a
 // product too large, 17 for a number read that is out of range.
-pub fn walk(table: &[u32], g: Group, from: GroupElementId, word: &[u8]) -> Reached
+pub fn walk(
+    table: &[u32],
+    g: Group,
+    from: GroupElementId,
+    word: &[u8],
+) -> Result<GroupElementId, Refusal>
     ensures { result ≡ walk_answer table.now g from word.now }
 {
     if group_handles::inner::alone(g) {
-        let h = g.factors[0];
-        return factor::walk(table, h, from, word);
+        return factor::walk(table, g.factors[0], from, word);
     }
     group_walk::inner::walk(table, g, from, word)
 }
 
 // Answers the element that e has in the factor f. Refuses in this order: 17 for a handle that does not fit, 14 for a factor or an element out of
 // range, 15 for a product too large.
-pub fn project(table: &[u32], g: Group, f: u8, e: GroupElementId) -> Reached
+pub fn project(table: &[u32], g: Group, f: u8, e: GroupElementId) -> Result<GroupElementId, Refusal>
     ensures { result ≡ project_answer table.now g f e }
 {
     let k = group_handles::inner::listed(g);
-    match group_handles::inner::admit(
+    group_handles::inner::admit(
         table,
         g,
         f as u32,
         Limit::Number(k as u32),
         e.0,
         Limit::Elements,
-    ) {
-        Verdict::Refused(why) => Reached::Refused(why),
-        Verdict::Fine => group_digits::inner::project_in(g, f as usize, e),
-    }
+    )?;
+    group_digits::inner::project_in(g, f as usize, e)
 }
 
 // Answers the element that is x in the factor f, and the identity in the others. Refuses in this order: 17 for a handle that does not fit, 14 for a
 // factor that is not there or an x that is no element of it, 15 for a product too large.
-pub fn inject(table: &[u32], g: Group, f: u8, x: GroupElementId) -> Reached
+pub fn inject(table: &[u32], g: Group, f: u8, x: GroupElementId) -> Result<GroupElementId, Refusal>
     ensures { result ≡ inject_answer table.now g f x }
 {
     let n = group_handles::inner::size_of(g, f as usize);
     let k = group_handles::inner::listed(g);
-    match group_handles::inner::admit(
+    group_handles::inner::admit(
         table,
         g,
         f as u32,
         Limit::Number(k as u32),
         x.0,
         Limit::Number(n),
-    ) {
-        Verdict::Refused(why) => Reached::Refused(why),
-        Verdict::Fine => group_digits::inner::inject_in(g, f as usize, x),
-    }
+    )?;
+    group_digits::inner::inject_in(g, f as usize, x)
 }
 
 // Writes the digits of e, its elements in each factor, to the start of a lent list, and answers how many they are. Refuses in this order: 17 for a
 // handle that does not fit, 14 for an element out of range, 15 for a product too large, 4 for a short list.
-pub fn split(table: &[u32], g: Group, e: GroupElementId, out: &mut [u32]) -> Counted
+pub fn split(table: &[u32], g: Group, e: GroupElementId, out: &mut [u32]) -> Result<u32, Refusal>
     ensures { (result ≡ split_answer table.now g e (length out.old)) × (out.new ≡ split_leaves table.now g e out.old) }
 {
-    match group_handles::inner::admit_one(table, g, e.0, Limit::Elements) {
-        Verdict::Refused(why) => Counted::Refused(why),
-        Verdict::Fine => group_digits::inner::split_in(g, e, out),
-    }
+    group_handles::inner::admit_one(table, g, e.0, Limit::Elements)?;
+    group_digits::inner::split_in(g, e, out)
 }
 
 // Answers the element whose digits the list starts with. Refuses in this order: 17 for a handle that does not fit, 14 for the first digit out of
 // range, 15 for a product too large, 4 for a list with fewer digits than there are factors.
-pub fn join(table: &[u32], g: Group, digits: &[u32]) -> Reached
+pub fn join(table: &[u32], g: Group, digits: &[u32]) -> Result<GroupElementId, Refusal>
     ensures { result ≡ join_answer table.now g digits.now }
 {
     let seen = group_handles::inner::look(table, g);
     if !seen.fit {
-        return egg::inner::refuse(17, 0);
+        return Err(Refusal::Unreadable);
     }
-    match group_digits::inner::digits_right(g, digits) {
-        Verdict::Refused(why) => Reached::Refused(why),
-        Verdict::Fine => group_digits::inner::join_in(g, seen.elements, digits),
-    }
+    group_digits::inner::digits_right(g, digits)?;
+    group_digits::inner::join_in(g, seen.elements, digits)
 }
 
 // Answers a·b. Refuses in this order: 17 for a handle that does not fit, 14 for an element out of range, 15 for a product too large, 17 for a number
 // read that is out of range.
-pub fn compose(table: &[u32], g: Group, a: GroupElementId, b: GroupElementId) -> Reached
+pub fn compose(
+    table: &[u32],
+    g: Group,
+    a: GroupElementId,
+    b: GroupElementId,
+) -> Result<GroupElementId, Refusal>
     ensures { result ≡ compose_answer table.now g a b }
 {
     if group_handles::inner::alone(g) {
-        let h = g.factors[0];
-        return factor::compose(table, h, a, b);
+        return factor::compose(table, g.factors[0], a, b);
     }
-    match group_handles::inner::admit(table, g, a.0, Limit::Elements, b.0, Limit::Elements) {
-        Verdict::Refused(why) => Reached::Refused(why),
-        Verdict::Fine => group_digits::inner::compose_digits(table, g, a, b),
-    }
+    group_handles::inner::admit(table, g, a.0, Limit::Elements, b.0, Limit::Elements)?;
+    group_digits::inner::compose_digits(table, g, a, b)
 }
 
 // Answers the inverse of a. Refuses in this order: 17 for a handle that does not fit, 14 for an element out of range, 15 for a product too large, 17
 // for a number read that is out of range.
-pub fn inverse(table: &[u32], g: Group, a: GroupElementId) -> Reached
+pub fn inverse(table: &[u32], g: Group, a: GroupElementId) -> Result<GroupElementId, Refusal>
     ensures { result ≡ inverse_answer table.now g a }
 {
     if group_handles::inner::alone(g) {
-        let h = g.factors[0];
-        return factor::inverse(table, h, a);
+        return factor::inverse(table, g.factors[0], a);
     }
-    match group_handles::inner::admit_one(table, g, a.0, Limit::Elements) {
-        Verdict::Refused(why) => Reached::Refused(why),
-        Verdict::Fine => group_digits::inner::inverse_digits(table, g, a),
-    }
+    group_handles::inner::admit_one(table, g, a.0, Limit::Elements)?;
+    group_digits::inner::inverse_digits(table, g, a)
 }
 
 // Answers a·b·a⁻¹. Refuses as `compose` does.
-pub fn conjugate(table: &[u32], g: Group, a: GroupElementId, b: GroupElementId) -> Reached
+pub fn conjugate(
+    table: &[u32],
+    g: Group,
+    a: GroupElementId,
+    b: GroupElementId,
+) -> Result<GroupElementId, Refusal>
     ensures { result ≡ conjugate_answer table.now g a b }
 {
     if group_handles::inner::alone(g) {
-        let h = g.factors[0];
-        return factor::conjugate(table, h, a, b);
+        return factor::conjugate(table, g.factors[0], a, b);
     }
-    match group_handles::inner::admit(table, g, a.0, Limit::Elements, b.0, Limit::Elements) {
-        Verdict::Refused(why) => Reached::Refused(why),
-        Verdict::Fine => group_digits::inner::conjugate_digits(table, g, a, b),
-    }
+    group_handles::inner::admit(table, g, a.0, Limit::Elements, b.0, Limit::Elements)?;
+    group_digits::inner::conjugate_digits(table, g, a, b)
 }
 
 // Answers the i-th power of a, the inverse's power where i is negative. Refuses as `inverse` does.
-pub fn powi(table: &[u32], g: Group, a: GroupElementId, i: i32) -> Reached
+pub fn powi(table: &[u32], g: Group, a: GroupElementId, i: i32) -> Result<GroupElementId, Refusal>
     ensures { result ≡ powi_answer table.now g a i }
 {
     if group_handles::inner::alone(g) {
-        let h = g.factors[0];
-        return group_powers::inner::one::powi(table, h, a, i);
+        return group_powers::inner::one::powi(table, g.factors[0], a, i);
     }
-    match group_handles::inner::admit_one(table, g, a.0, Limit::Elements) {
-        Verdict::Refused(why) => Reached::Refused(why),
-        Verdict::Fine => group_powers::inner::powi_in(table, g, a, i),
-    }
+    group_handles::inner::admit_one(table, g, a.0, Limit::Elements)?;
+    group_powers::inner::powi_in(table, g, a, i)
 }
 
 // Answers the period of a, which is 1 for the identity. Refuses as `inverse` does, and with 17 where, in a factor of N elements, none of the first N
 // powers of a's digit is the identity.
-pub fn period(table: &[u32], g: Group, a: GroupElementId) -> Counted
+pub fn period(table: &[u32], g: Group, a: GroupElementId) -> Result<u32, Refusal>
     ensures { result ≡ period_answer table.now g a }
 {
-    match group_handles::inner::admit_one(table, g, a.0, Limit::Elements) {
-        Verdict::Refused(why) => Counted::Refused(why),
-        Verdict::Fine => group_periods::inner::periods(table, g, a),
-    }
+    group_handles::inner::admit_one(table, g, a.0, Limit::Elements)?;
+    group_periods::inner::periods(table, g, a)
 }
 
 // Answers how long the word of e is. Refuses in this order: 17 for a handle that does not fit, 14 for an element out of range, 15 for a product too
 // large, 17 for a recorded length over 4,096.
-pub fn word_length(table: &[u32], g: Group, e: GroupElementId) -> Counted
+pub fn word_length(table: &[u32], g: Group, e: GroupElementId) -> Result<u32, Refusal>
     ensures { result ≡ length_answer table.now g e }
 {
     if group_handles::inner::alone(g) {
-        let h = g.factors[0];
-        return factor::word_length(table, h, e);
+        return factor::word_length(table, g.factors[0], e);
     }
-    match group_handles::inner::admit_one(table, g, e.0, Limit::Elements) {
-        Verdict::Refused(why) => Counted::Refused(why),
-        Verdict::Fine => group_words::inner::lengths(table, g, e),
-    }
+    group_handles::inner::admit_one(table, g, e.0, Limit::Elements)?;
+    group_words::inner::lengths(table, g, e)
 }
 
 // Writes the word of e to the start of a lent byte buffer and answers its length. Refuses as `word_length` does, then with 4 a buffer that is short,
 // then with 17 a cell of letters that is out of range.
-pub fn write_word(table: &[u32], g: Group, e: GroupElementId, out: &mut [u8]) -> Counted
+pub fn write_word(
+    table: &[u32],
+    g: Group,
+    e: GroupElementId,
+    out: &mut [u8],
+) -> Result<u32, Refusal>
     ensures { (result ≡ write_answer table.now g e (length out.old)) × (out.new ≡ written table.now g e out.old) }
 {
     if group_handles::inner::alone(g) {
-        let h = g.factors[0];
-        return factor::write_word(table, h, e, out);
+        return factor::write_word(table, g.factors[0], e, out);
     }
-    match group_handles::inner::admit_one(table, g, e.0, Limit::Elements) {
-        Verdict::Refused(why) => Counted::Refused(why),
-        Verdict::Fine => group_words::inner::write_in(table, g, e, out),
-    }
+    group_handles::inner::admit_one(table, g, e.0, Limit::Elements)?;
+    group_words::inner::write_in(table, g, e, out)
 }
 
 // The same as `write_word`, but hands back the filled part of the buffer. Where it refuses this is the empty start, and `write_word` tells the
@@ -256,8 +242,8 @@ pub fn word<'a>(table: &[u32], g: Group, e: GroupElementId, out: &'a mut [u8]) -
     ensures { result.now ≡ word_part table.now g e out.old }
 {
     match write_word(table, g, e, out) {
-        Counted::Count(len) => &mut out[..len as usize],
-        Counted::Refused(_) => &mut out[..0],
+        Ok(len) => &mut out[..len as usize],
+        Err(_) => &mut out[..0],
     }
 }
 
@@ -271,11 +257,9 @@ pub fn flatten(
     start: usize,
     work: &mut [u32],
     room: u32,
-) -> Made
+) -> Result<Factor, Refusal>
     ensures { Making.making result table.new work.new ≡ flat from.now g table.old start work.old room }
 {
-    match group_handles::inner::admit(from, g, 0, Limit::Number(1), 0, Limit::Number(1)) {
-        Verdict::Refused(why) => group_handles::inner::no_factor_made(why),
-        Verdict::Fine => group_flatten::inner::flat_into(from, g, table, start, work, room),
-    }
+    group_handles::inner::admit(from, g, 0, Limit::Number(1), 0, Limit::Number(1))?;
+    group_flatten::inner::flat_into(from, g, table, start, work, room)
 }

@@ -10,10 +10,9 @@ use lib.ListN.{length, get_or, drop}
 use lib.Dec.{ltb}
 use lib.Seq.{drop-cons, set-append_seam}
 use Rattle.egg.specs.declared.Factor.{Factor}
-use Rattle.egg.specs.declared.Verdict.TheVariants.{Fine}
-use Rattle.egg.specs.declared.Counted.{Counted}
-use Rattle.egg.specs.declared.Counted.TheVariants as counted
-use Rattle.egg.specs.declared.Reached.TheVariants as reached
+use Rattle.egg.specs.Answers.{Counted, fine}
+use Rattle.egg.specs.Refusals.{numbered}
+use Rattle.std.specs.Prelude.{Ok, Err}
 use Rattle.egg.specs.Table.{put_at}
 use Rattle.egg.specs.Scan.{refused_of}
 use Rattle.egg.specs.Factor.{refused_reach}
@@ -114,7 +113,7 @@ splits_on {hs} {e} {out₀} {out} {f} {rest} {h} w d {l} k q = record {
 
 -- The answer and the list, where it is long enough and where it is short.
 module _ (hs : List Factor) (e : ℕ) {c : ℕ} (p : c ≡ length hs) where
-  pub split_short : (out : List ℕ) {v : Counted} → length out < c → v ≡ counted.Refused (record { number = 4; a = 0; b = 0; c = 0 })
+  pub split_short : (out : List ℕ) {v : Counted} → length out < c → v ≡ Err (numbered 4 0 0 0)
       → (v ≡ split_tail hs (length out)) × (out ≡ digits_left (split_tail hs (length out)) (sizes hs) e out)
   unfolding split_tail
   split_short out {v} h q =
@@ -122,23 +121,23 @@ module _ (hs : List Factor) (e : ℕ) {c : ℕ} (p : c ≡ length hs) where
       rw (lt-ltb (length out) (length hs) k) (q, refl)
 
   pub split_long : {out₀ out : List ℕ} {f rest : ℕ} → e < 4294967296 → c ≤ length out₀ → Splitting hs e out₀ out f rest → drop f hs ≡ []
-      → (counted.Count c ≡ split_tail hs (length out₀)) × (out ≡ digits_left (split_tail hs (length out₀)) (sizes hs) e out₀)
+      → (Ok c ≡ split_tail hs (length out₀)) × (out ≡ digits_left (split_tail hs (length out₀)) (sizes hs) e out₀)
   unfolding split_tail
   split_long {out₀} {out} {f} {rest} small h w d =
       let k : length hs ≤ length out₀ = rw (← p) h in
       let z : out ≡ split (sizes hs) e ++ drop (length hs) out₀ =
       ap (λ (l : List Factor). split_into l f rest out) (sym d) ∙ w.same ∙ split_from hs e [] out₀ small k in
-      rw (le-ltb (length out₀) (length hs) k) (ap counted.Count p, z)
+      rw (le-ltb (length out₀) (length hs) k) (ap Ok p, z)
 
 -- The range of each digit.
 module _ (Ns ds : List ℕ) (f : ℕ) {n d : ℕ} (p : n ≡ get_or Ns f 1) (q : d ≡ get_or ds f 0) where
   pub digit_bad : n ≤ d → digit_right Ns ds f ≡ refused_of 14 f 0 0
   digit_bad h = rw (← p, ← q) (simp (le-ltb _ _ h))
 
-  pub digit_good : d < n → digit_right Ns ds f ≡ Fine
+  pub digit_good : d < n → digit_right Ns ds f ≡ fine
   digit_good h = rw (← p, ← q) (simp (lt-ltb _ _ h))
 
-fine_good : (Ns ds : List ℕ) (f : ℕ) → digit_right Ns ds f ≡ Fine → get_or ds f 0 < get_or Ns f 1
+fine_good : (Ns ds : List ℕ) (f : ℕ) → digit_right Ns ds f ≡ fine → get_or ds f 0 < get_or Ns f 1
 fine_good Ns ds f e = by (ltb (get_or ds f 0) (get_or Ns f 1)) refl where
   by : (b : Bool) → ltb (get_or ds f 0) (get_or Ns f 1) ≡ b → get_or ds f 0 < get_or Ns f 1
   by true h = ltb-true _ _ h
@@ -147,7 +146,7 @@ fine_good Ns ds f e = by (ltb (get_or ds f 0) (get_or Ns f 1)) refl where
       let y : ◌≡◌ {A = ℕ} 0 1 = cc in
       absurd (omega arith)
 
-pub digits_good : (hs : List Factor) (ds : List ℕ) (f : ℕ) → digits_right (sizes hs) ds ≡ Fine → length hs ≤ length ds → f < length hs
+pub digits_good : (hs : List Factor) (ds : List ℕ) (f : ℕ) → digits_right (sizes hs) ds ≡ fine → length hs ≤ length ds → f < length hs
     → get_or ds f 0 < (get_or hs f no_factor).elements
 unfolding digits_right
 digits_good hs ds f e k h =
@@ -198,13 +197,13 @@ module _ (g : Group) (ds : List ℕ) where
         let k : length ds < length (handles g) = rw (← p) h in
         rw e (simp (lt-ltb _ _ k))
 
-    pub join_end : {f s sum : ℕ} → c ≤ length ds → Joining (handles g) ds f s sum → drop f (handles g) ≡ [] → reached.Element (record { 0 = sum }) ≡ join_tail g ds
+    pub join_end : {f s sum : ℕ} → c ≤ length ds → Joining (handles g) ds f s sum → drop f (handles g) ≡ [] → Ok (record { 0 = sum }) ≡ join_tail g ds
     unfolding join_tail
     join_end {f} {s} {sum} h w d =
         let k : length (handles g) ≤ length ds = rw (← p) h in
         let z : sum ≡ sum + s * 0 = omega (arith, mul-zero s) in
         let y : sum ≡ join (sizes (handles g)) ds = z ∙ ap (λ (m : List Factor). sum + s * join (sizes m) (drop f ds)) (sym d) ∙ w.same in
-        rw e (simp (le-ltb _ _ k) (ap (λ (x : ℕ). reached.Element (record { 0 = x })) y))
+        rw e (simp (le-ltb _ _ k) (ap (λ (x : ℕ). Ok (record { 0 = x })) y))
 
 -- The answer and what the list holds, both by the answer.
 pub left_by_lem : (Ns : List ℕ) (e : ℕ) (out : List ℕ) {w r x : Counted} {o : List ℕ} → w ≡ r → x ≡ r → o ≡ digits_left r Ns e out → (x ≡ w) × (o ≡ digits_left w Ns e out)

@@ -11,8 +11,8 @@ use lib.Dec.{eqb, ltb, leb}
 use Rattle.egg.specs.declared.Factor.{Factor}
 use Rattle.egg.specs.declared.Refusal.{Refusal}
 use Rattle.egg.specs.declared.GroupElementId.{GroupElementId}
-use Rattle.egg.specs.declared.Reached.{Reached}
-use Rattle.egg.specs.declared.Reached.TheVariants.{Element, Refused}
+use Rattle.egg.specs.Answers.{Reached}
+use Rattle.std.specs.Prelude.{Ok, Err}
 use Rattle.egg.specs.Table.{pick, start_of, hop_of, length_of, inverse_of}
 use Rattle.egg.specs.Factor.{stretch, refused_reach, read_step}
 use Rattle.factor_word_letters.specs.Spell.{cell_within, readable, letters}
@@ -55,8 +55,8 @@ module _ {hs : List Factor} {f s low : ℕ} {h : Factor} (w : Walk hs f s low) (
 
 -- Gathering twice is gathering once.
 pub above_above : (low s x N : ℕ) (r : Reached) → above low s (above x N r) ≡ above (low + s * x) (s * N) r
-above_above low s x N (Refused r) = refl
-above_above low s x N (Element y) = ap (λ (z : ℕ). Element (record { 0 = z })) (move y.0) where
+above_above low s x N (Err r) = refl
+above_above low s x N (Ok y) = ap (λ (z : ℕ). Ok (record { 0 = z })) (move y.0) where
   move : (v : ℕ) → low + s * (x + N * v) ≡ low + s * x + s * N * v
   move v = rw (mul-add s x (N * v), ← mul_assoc s N v, add_assoc)
 
@@ -65,8 +65,8 @@ pub record Gathering (F : Factor → ℕ → ℕ → Reached) (hs : List Factor)
   pub same : above sum s (digitwise F (drop f hs) x y) ≡ digitwise F hs a b
 
 above_none : (r : Reached) → above 0 1 r ≡ r
-above_none (Element e) = ap (λ (z : ℕ). Element (record { 0 = z })) (omega (arith, one-mul e.0))
-above_none (Refused r) = refl
+above_none (Ok e) = ap (λ (z : ℕ). Ok (record { 0 = z })) (omega (arith, one-mul e.0))
+above_none (Err r) = refl
 
 opened : (F : Factor → ℕ → ℕ → Reached) (h : Factor) (hs : List Factor) (x y : ℕ) {r : Reached} → r ≡ F h (x % h.elements) (y % h.elements)
     → digitwise F (h ∷ hs) x y ≡ on_reached r (λ z. above z h.elements (digitwise F hs (x / h.elements) (y / h.elements)))
@@ -84,7 +84,7 @@ module _ {F : Factor → ℕ → ℕ → Reached} where
       left_over =
           ap (above sum s) (sym (opened F h (drop (f + 1) hs) x y q)) ∙ ap (λ (l : List Factor). above sum s (digitwise F l x y)) (sym d) ∙ w.same
 
-      pub gathers_on : {e : GroupElementId} → r ≡ Element e → e.0 < h.elements
+      pub gathers_on : {e : GroupElementId} → r ≡ Ok e → e.0 < h.elements
           → Gathering F hs a b (f + 1) (s * h.elements) (sum + s * e.0) (x / h.elements) (y / h.elements)
       gathers_on {e} p k = record {
         walks = walk_on w.walks d k;
@@ -94,27 +94,26 @@ module _ {F : Factor → ℕ → ℕ → Reached} where
             ∙ left_over;
       }
 
-      pub gathers_stop : {why : Refusal} → r ≡ Refused why → r ≡ digitwise F hs a b
+      pub gathers_stop : {why : Refusal} → r ≡ Err why → Err why ≡ digitwise F hs a b
       gathers_stop p =
-          p
-          ∙ ap (λ (v : Reached). above sum s (on_reached v (λ z. above z h.elements (digitwise F (drop (f + 1) hs) (x / h.elements) (y / h.elements))))) (sym p)
+          ap (λ (v : Reached). above sum s (on_reached v (λ z. above z h.elements (digitwise F (drop (f + 1) hs) (x / h.elements) (y / h.elements))))) (sym p)
           ∙ left_over
 
-  pub gathers_end : {hs : List Factor} {a b f s sum x y : ℕ} → Gathering F hs a b f s sum x y → drop f hs ≡ [] → Element (record { 0 = sum }) ≡ digitwise F hs a b
+  pub gathers_end : {hs : List Factor} {a b f s sum x y : ℕ} → Gathering F hs a b f s sum x y → drop f hs ≡ [] → Ok (record { 0 = sum }) ≡ digitwise F hs a b
   unfolding digitwise
   gathers_end {hs} {a} {b} {f} {s} {sum} {x} {y} w d =
       let z : sum ≡ sum + s * 0 = omega (arith, mul-zero s) in
-      ap (λ (k : ℕ). Element (record { 0 = k })) z ∙ ap (λ (l : List Factor). above sum s (digitwise F l x y)) (sym d) ∙ w.same
+      ap (λ (k : ℕ). Ok (record { 0 = k })) z ∙ ap (λ (l : List Factor). above sum s (digitwise F l x y)) (sym d) ∙ w.same
 
 -- An answer in range: an element below N, or a refusal.
 pub data Below (N : ℕ) : Reached → Type 0 where
-  element : {e : GroupElementId} → e.0 < N → Below N (Element e)
-  refusal : {r : Refusal} → Below N (Refused r)
+  element : {e : GroupElementId} → e.0 < N → Below N (Ok e)
+  refusal : {r : Refusal} → Below N (Err r)
 
-inside_of : {N : ℕ} {e : GroupElementId} → Below N (Element e) → e.0 < N
+inside_of : {N : ℕ} {e : GroupElementId} → Below N (Ok e) → e.0 < N
 inside_of (element h) = h
 
-pub below_element : {N : ℕ} {r v : Reached} {e : GroupElementId} → Below N v → r ≡ v → r ≡ Element e → e.0 < N
+pub below_element : {N : ℕ} {r v : Reached} {e : GroupElementId} → Below N v → r ≡ v → r ≡ Ok e → e.0 < N
 below_element {N} b q p = inside_of (subst (Below N) (sym q ∙ p) b)
 
 below_pick : {N : ℕ} {x y : Reached} (t : Bool) → (t ≡ true → Below N x) → (t ≡ false → Below N y) → Below N (pick t x y)
@@ -122,12 +121,12 @@ below_pick true p q = p refl
 below_pick false p q = q refl
 
 pub below_on : {N M : ℕ} {f : ℕ → Reached} (r : Reached) → Below N r → ((x : ℕ) → x < N → Below M (f x)) → Below M (on_reached r f)
-below_on (Element e) b h = h e.0 (inside_of b)
-below_on (Refused r) b h = refusal
+below_on (Ok e) b h = h e.0 (inside_of b)
+below_on (Err r) b h = refusal
 
 below_any : {N : ℕ} {f : ℕ → Reached} (r : Reached) → ((x : ℕ) → Below N (f x)) → Below N (on_reached r f)
-below_any (Element e) h = h e.0
-below_any (Refused r) h = refusal
+below_any (Ok e) h = h e.0
+below_any (Err r) h = refusal
 
 module _ (s : List ℕ) (n N : ℕ) where
   pub step_below : (e g : ℕ) → Below N (read_step s n N e g)
@@ -229,21 +228,21 @@ module _ {t : List ℕ} {hs : List Factor} {e x f s low rest left : ℕ} {h : Fa
     }
 
     module _ (k : left < h.generators) {r : Reached} (q : r ≡ read_step (stretch t h) h.generators h.elements (rest % h.elements) left) where
-      found : step_in t (h ∷ drop (f + 1) hs) rest left ≡ on_reached r (λ y. Element (record { 0 = y + h.elements * (rest / h.elements) }))
+      found : step_in t (h ∷ drop (f + 1) hs) rest left ≡ on_reached r (λ y. Ok (record { 0 = y + h.elements * (rest / h.elements) }))
       unfolding step_in
       found = rw q (simp (lt-ltb _ _ k))
 
-      pub steps_refused : {why : Refusal} → r ≡ Refused why → r ≡ step_in t hs e x
+      pub steps_refused : {why : Refusal} → r ≡ Err why → Err why ≡ step_in t hs e x
       steps_refused p =
-          p ∙ ap (λ (v : Reached). above low s (on_reached v (λ y. Element (record { 0 = y + h.elements * (rest / h.elements) })))) (sym p)
+          ap (λ (v : Reached). above low s (on_reached v (λ y. Ok (record { 0 = y + h.elements * (rest / h.elements) })))) (sym p)
           ∙ ap (above low s) (sym found) ∙ here
 
-      pub steps_found : {y : GroupElementId} → r ≡ Element y → Element (record { 0 = low + s * (y.0 + h.elements * (rest / h.elements)) }) ≡ step_in t hs e x
+      pub steps_found : {y : GroupElementId} → r ≡ Ok y → Ok (record { 0 = low + s * (y.0 + h.elements * (rest / h.elements)) }) ≡ step_in t hs e x
       steps_found p =
-          ap (λ (v : Reached). above low s (on_reached v (λ y. Element (record { 0 = y + h.elements * (rest / h.elements) })))) (sym p)
+          ap (λ (v : Reached). above low s (on_reached v (λ y. Ok (record { 0 = y + h.elements * (rest / h.elements) })))) (sym p)
           ∙ ap (above low s) (sym found) ∙ here
 
-      pub found_small : {y : GroupElementId} → r ≡ Element y → y.0 < h.elements
+      pub found_small : {y : GroupElementId} → r ≡ Ok y → y.0 < h.elements
       found_small p = below_element (step_below (stretch t h) h.generators h.elements (rest % h.elements) left) q p
 
     -- The new element is one, and so are the numbers on the way to it.

@@ -9,19 +9,14 @@ use borrow.Rule.Slice.PartMut.{mid_of, put_mid}
 use lib.ListN.{length, take, drop, replicate}
 use lib.Dec.{ltb}
 use Rattle.egg.specs.declared.Factor.{Factor}
-use Rattle.egg.specs.declared.Made.{Made}
+use Rattle.egg.specs.Answers.{Counted, Made, Reached, Verdict, fine}
+use Rattle.std.specs.Prelude.{Ok, Err}
 use Rattle.egg.specs.declared.Refusal.{Refusal}
 use Rattle.egg.specs.declared.GroupElementId.{GroupElementId}
-use Rattle.egg.specs.declared.Verdict.{Verdict}
-use Rattle.egg.specs.declared.Verdict.TheVariants as verdict
-use Rattle.egg.specs.declared.Reached.{Reached}
-use Rattle.egg.specs.declared.Reached.TheVariants as reached
-use Rattle.egg.specs.declared.Counted.{Counted}
-use Rattle.egg.specs.declared.Counted.TheVariants.{Count, Refused}
 use Rattle.egg.specs.Table.{pick}
 use Rattle.build_reading.specs.Build.{adds}
 use Rattle.build_lending.specs.Finish.{Built, built, finished, finished_placed}
-use Rattle.build_lending.specs.Lending.{table_need, work_need, lent_right, StretchEnd, refused_made, made_of, Making, making, no_factor}
+use Rattle.build_lending.specs.Lending.{table_need, work_need, lent_right, StretchEnd, refused_made, made_of, Making, making}
 use Rattle.build_lending.proofs.Lending.{part_length, build_back}
 use Rattle.build_reading.specs.Reading.{Placed, placed, then_placed, on_adds, read_place}
 use Rattle.group_handles.specs.Handles.{generators_of}
@@ -31,58 +26,58 @@ use Rattle.group_digits.proofs.Walks.{Below, element, refusal}
 
 module _ (src : ℕ → ℕ → Reached) (n room e g count : ℕ) (t : List ℕ) where
   module _ (h : g < n) {r : Reached} (w : r ≡ src e g) where
-    pub row_refused : {why : Refusal} → r ≡ reached.Refused why → placed (Refused why) t ≡ row_by (n - g) src n room e g count t
+    pub row_refused : {why : Refusal} → r ≡ Err why → placed (Err why) t ≡ row_by (n - g) src n room e g count t
     unfolding row_by
     row_refused q = let d : n - g ≡ suc (n - (g + 1)) = omega arith in rw (d, ← w, q)
 
-    module _ {v : GroupElementId} (q : r ≡ reached.Element v) {c : Counted} {l : List ℕ} (s : placed c l ≡ read_place t n room count e g v.0) where
-      pub row_next : {k : ℕ} → c ≡ Count k → row_by (n - g) src n room e g count t ≡ row_by (n - (g + 1)) src n room e (g + 1) k l
+    module _ {v : GroupElementId} (q : r ≡ Ok v) {c : Counted} {l : List ℕ} (s : placed c l ≡ read_place t n room count e g v.0) where
+      pub row_next : {k : ℕ} → c ≡ Ok k → row_by (n - g) src n room e g count t ≡ row_by (n - (g + 1)) src n room e (g + 1) k l
       unfolding row_by
       row_next p = let d : n - g ≡ suc (n - (g + 1)) = omega arith in rw (d, ← w, q, ← s, p)
 
-      pub row_stop : {why : Refusal} → c ≡ Refused why → placed c l ≡ row_by (n - g) src n room e g count t
+      pub row_stop : {why : Refusal} → c ≡ Err why → placed (Err why) l ≡ row_by (n - g) src n room e g count t
       unfolding row_by
       row_stop p = let d : n - g ≡ suc (n - (g + 1)) = omega arith in rw (d, ← w, q, ← s, p)
 
-  pub row_end : n ≤ g → placed (Count count) t ≡ row_by (n - g) src n room e g count t
+  pub row_end : n ≤ g → placed (Ok count) t ≡ row_by (n - g) src n room e g count t
   unfolding row_by
   row_end h = let d : n - g ≡ 0 = omega arith in rw d
 
 module _ (src : ℕ → ℕ → Reached) (n room e count : ℕ) (t : List ℕ) where
   module _ (h : e < room) where
-    pub rows_done : count ≤ e → placed (Count count) t ≡ rows_by (room - e) src n room e count t
+    pub rows_done : count ≤ e → placed (Ok count) t ≡ rows_by (room - e) src n room e count t
     unfolding rows_by
     rows_done z = let d : room - e ≡ suc (room - (e + 1)) = omega arith in rw d (simp (le-ltb _ _ z))
 
     module _ (z : e < count) {c : Counted} {l : List ℕ} (s : placed c l ≡ row_by n src n room e 0 count t) where
-      pub rows_next : {k : ℕ} → c ≡ Count k → rows_by (room - e) src n room e count t ≡ rows_by (room - (e + 1)) src n room (e + 1) k l
+      pub rows_next : {k : ℕ} → c ≡ Ok k → rows_by (room - e) src n room e count t ≡ rows_by (room - (e + 1)) src n room (e + 1) k l
       unfolding rows_by
       rows_next q = let d : room - e ≡ suc (room - (e + 1)) = omega arith in rw d (simp (lt-ltb _ _ z) (rw (← s, q)))
 
-      pub rows_stop : {why : Refusal} → c ≡ Refused why → placed c l ≡ rows_by (room - e) src n room e count t
+      pub rows_stop : {why : Refusal} → c ≡ Err why → placed (Err why) l ≡ rows_by (room - e) src n room e count t
       unfolding rows_by
       rows_stop q = let d : room - e ≡ suc (room - (e + 1)) = omega arith in rw d (simp (lt-ltb _ _ z) (rw (← s, q)))
 
-  pub rows_end : room ≤ e → placed (Count count) t ≡ rows_by (room - e) src n room e count t
+  pub rows_end : room ≤ e → placed (Ok count) t ≡ rows_by (room - e) src n room e count t
   unfolding rows_by
   rows_end h = let d : room - e ≡ 0 = omega arith in rw d
 
 -- There are never more elements than the source has.
 pub data Counts (M : ℕ) : Placed → Type 0 where
-  counts : {k : ℕ} {t : List ℕ} → k ≤ M → Counts M (placed (Count k) t)
-  refuses : {r : Refusal} {t : List ℕ} → Counts M (placed (Refused r) t)
+  counts : {k : ℕ} {t : List ℕ} → k ≤ M → Counts M (placed (Ok k) t)
+  refuses : {r : Refusal} {t : List ℕ} → Counts M (placed (Err r) t)
 
 counts_pick : {M : ℕ} {x y : Placed} (b : Bool) → (b ≡ true → Counts M x) → (b ≡ false → Counts M y) → Counts M (pick b x y)
 counts_pick true p q = p refl
 counts_pick false p q = q refl
 
 counts_then : {M : ℕ} (p : Placed) {f : ℕ → List ℕ → Placed} → Counts M p → ((k : ℕ) (t : List ℕ) → k ≤ M → Counts M (f k t)) → Counts M (then_placed p f)
-counts_then (placed (Count k) t) (counts h) f = f k t h
-counts_then (placed (Refused r) t) refuses f = refuses
+counts_then (placed (Ok k) t) (counts h) f = f k t h
+counts_then (placed (Err r) t) refuses f = refuses
 
 counts_adds : {M : ℕ} (count : ℕ) (r : Reached) (t : List ℕ) → count + 1 ≤ M → Counts M (on_adds count r t)
-counts_adds count (reached.Element e) t h = counts h
-counts_adds count (reached.Refused r) t h = refuses
+counts_adds count (Ok e) t h = counts h
+counts_adds count (Err r) t h = refuses
 
 place_counts : {M : ℕ} (t : List ℕ) (n room count e g v : ℕ) → count ≤ M → v < M → Counts M (read_place t n room count e g v)
 unfolding read_place
@@ -93,8 +88,8 @@ place_counts t n room count e g v h k =
     (omega (arith, ltb-false count v p, ltb-false v count q))))
 
 place_by_counts : {M : ℕ} (t : List ℕ) (n room count e g : ℕ) (r : Reached) → count ≤ M → Below M r → Counts M (place_by t n room count e g r)
-place_by_counts t n room count e g (reached.Element v) h (element k) = place_counts t n room count e g v.0 h k
-place_by_counts t n room count e g (reached.Refused r) h refusal = refuses
+place_by_counts t n room count e g (Ok v) h (element k) = place_counts t n room count e g v.0 h k
+place_by_counts t n room count e g (Err r) h refusal = refuses
 
 pub row_counts : {M : ℕ} (src : ℕ → ℕ → Reached) (n room e : ℕ) → ((x : ℕ) → Below M (src e x)) → (k g count : ℕ) (t : List ℕ) → count ≤ M
     → Counts M (row_by k src n room e g count t)
@@ -103,11 +98,11 @@ row_counts src n room e b zero g count t h = counts h
 row_counts src n room e b (suc k) g count t h =
     counts_then (place_by t n room count e g (src e g)) (place_by_counts t n room count e g (src e g) h (b g)) (λ c l z. row_counts src n room e b k (g + 1) c l z)
 
-counted_of : {M k : ℕ} {t : List ℕ} → Counts M (placed (Count k) t) → k ≤ M
+counted_of : {M k : ℕ} {t : List ℕ} → Counts M (placed (Ok k) t) → k ≤ M
 counted_of (counts h) = h
 
 pub row_counted : {M : ℕ} (src : ℕ → ℕ → Reached) (n room e count : ℕ) (t : List ℕ) → ((x : ℕ) → Below M (src e x)) → count ≤ M
-    → {c : Counted} {l : List ℕ} {k : ℕ} → placed c l ≡ row_by n src n room e 0 count t → c ≡ Count k → k ≤ M
+    → {c : Counted} {l : List ℕ} {k : ℕ} → placed c l ≡ row_by n src n room e 0 count t → c ≡ Ok k → k ≤ M
 row_counted {M} src n room e count t b h {c} {l} q p =
     counted_of (subst (Counts M) (sym q ∙ ap (λ (x : Counted). placed x l) p) (row_counts src n room e b n 0 count t h))
 
@@ -142,8 +137,8 @@ module _ (from : List ℕ) (hs : List Factor) (table : List ℕ) (start : ℕ) (
         rw (le-ltb 8 (generators_of hs) u, ← y, z) (build_back table start work n room ends need made v)
 
 module _ {v w : Verdict} (q : v ≡ w) (table work : List ℕ) (m : Making) where
-  pub making_refused : {r : Refusal} {x : Made} → v ≡ verdict.Refused r → x ≡ record { answer = verdict.Refused r; factor = no_factor } → making x table work ≡ if_making w table work m
+  pub making_refused : {r : Refusal} {x : Made} → v ≡ Err r → x ≡ Err r → making x table work ≡ if_making w table work m
   making_refused e p = rw (← q, e, p)
 
-  pub making_fine : v ≡ verdict.Fine → m ≡ if_making w table work m
+  pub making_fine : v ≡ fine → m ≡ if_making w table work m
   making_fine e = rw (← q, e)

@@ -7,8 +7,8 @@ use native.Mathlib.Omega.{arith}
 use borrow.Author.Tests.{le-leb, lt-leb, leb-true, leb-false}
 use lib.Dec.{leb}
 use Rattle.egg.specs.declared.Refusal.{Refusal}
-use Rattle.egg.specs.declared.Verdict.{Verdict}
-use Rattle.egg.specs.declared.Verdict.TheVariants.{Fine, Refused}
+use Rattle.egg.specs.Answers.{Verdict, fine}
+use Rattle.std.specs.Prelude.{Err}
 use Rattle.egg.specs.Scan.{refused_of}
 use Rattle.egg.proofs.Rooms.{and_first, and_second}
 use Rattle.group_handles.specs.declared.Group.{Group}
@@ -37,7 +37,7 @@ module _ (g : Group) where
     unfolding limited
     few_elements = leb-true _ _ (and_second (leb g.count 8) _ h)
 
-refusal_fine : {r : Refusal} → Refused r ≡ Fine → ⊥
+refusal_fine : {r : Refusal} → Err r ≡ fine → ⊥
 refusal_fine q = let z : ◌≡◌ {A = ℕ} 0 1 = cc in omega arith
 
 -- Where a call goes on.
@@ -67,11 +67,11 @@ module _ (len : ℕ) (g : Group) (a la b lb : ℕ) where
         unfolding admits
         admits_large z = rw fits (simp (lt-leb _ _ h, lt-leb _ _ k) (rw z))
 
-        pub admits_fine : limited g ≡ true → Fine ≡ admits len g a la b lb
+        pub admits_fine : limited g ≡ true → fine ≡ admits len g a la b lb
         unfolding admits
         admits_fine z = rw fits (simp (lt-leb _ _ h, lt-leb _ _ k) (rw z))
 
-  goes : admits len g a la b lb ≡ Fine → Goes len g a la b lb
+  goes : admits len g a la b lb ≡ fine → Goes len g a la b lb
   goes q = by (all_fit len (handles g)) (leb la a) (leb lb b) (limited g) refl refl refl refl where
     by : (w x y z : Bool) → all_fit len (handles g) ≡ w → leb la a ≡ x → leb lb b ≡ y → limited g ≡ z → Goes len g a la b lb
     by false x y z p h k l = absurd (refusal_fine (admits_handle p ∙ q))
@@ -80,11 +80,11 @@ module _ (len : ℕ) (g : Group) (a la b lb : ℕ) where
     by true false false false p h k l = absurd (refusal_fine (admits_large p (leb-false _ _ h) (leb-false _ _ k) l ∙ q))
     by true false false true p h k l = record { fits = p; first = leb-false _ _ h; second = leb-false _ _ k; within = l }
 
-  pub goes_on : {v : Verdict} → v ≡ admits len g a la b lb → v ≡ Fine → Goes len g a la b lb
+  pub goes_on : {v : Verdict} → v ≡ admits len g a la b lb → v ≡ fine → Goes len g a la b lb
   goes_on q e = goes (sym q ∙ e)
 
   -- What the work of a call asks for.
-  pub ready : {v : Verdict} → v ≡ admits len g a la b lb → v ≡ Fine → (all_fit len (handles g) ≡ true) × (elements_of (handles g) ≤ 4294967295)
+  pub ready : {v : Verdict} → v ≡ admits len g a la b lb → v ≡ fine → (all_fit len (handles g) ≡ true) × (elements_of (handles g) ≤ 4294967295)
   ready q e = let G : Goes len g a la b lb = goes_on q e in (G.fits, few_elements g G.within)
 
 -- A limit as far as 32 bits can tell does as well.

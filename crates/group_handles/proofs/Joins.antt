@@ -1,4 +1,6 @@
 -- Laws of the product of two, one for each answer.
+use Rattle.std.specs.Prelude.{Ok, Err}
+use Rattle.egg.specs.Refusals.{numbered}
 use Prim.Native.Nat.{ℕ, ◌+◌, ◌-◌, ◌≤◌, ◌<◌}
 use mathlib.Core.Path.{◌≡◌, refl, sym, ap, ◌∙◌}
 use mathlib.Core.Bool.{Bool, true, false, ◌&&◌, and_assoc}
@@ -7,13 +9,11 @@ use borrow.Author.Tests.{le-leb, lt-leb}
 use lib.ListN.{length, replicate}
 use lib.Seq.{take-append_seam}
 use Rattle.egg.specs.declared.Factor.{Factor}
-use Rattle.egg.specs.declared.Verdict.TheVariants.{Fine}
-use Rattle.egg.specs.Scan.{refused_of}
 use Rattle.egg.specs.Factor.{fits_in}
 use Rattle.build_lending.specs.Lending.{no_factor}
 use Rattle.group_handles.specs.declared.Group.{Group}
-use Rattle.group_handles.specs.declared.Grouped.{Grouped}
-use Rattle.group_handles.specs.Handles.{handles, elements_of, all_fit, capped, group_of, no_group, joins}
+use Rattle.group_handles.specs.Answers.{Grouped}
+use Rattle.group_handles.specs.Handles.{handles, elements_of, all_fit, capped, group_of, joins}
 use Rattle.group_handles.proofs.Caps.{cap_within}
 use Rattle.group_handles.proofs.Sums.{both_length}
 
@@ -25,7 +25,7 @@ pub handles_of : (hs : List Factor) → handles (group_of hs) ≡ hs
 handles_of hs = take-append_seam hs (replicate (8 - length hs) no_factor)
 
 abbrev pub refused_group : ℕ → Grouped
-refused_group k = record { answer = refused_of k 0 0 0; group = no_group }
+refused_group k = Err (numbered k 0 0 0)
 
 module _ (len : ℕ) (a b : Group) where
   pub joins_first : all_fit len (handles a) ≡ false → refused_group 17 ≡ joins len a b
@@ -75,7 +75,7 @@ module _ (len : ℕ) (a b : Group) where
                   lt-leb m 4294967295 h,
                 )
 
-            pub joins_fine : m ≤ 4294967295 → record { answer = Fine; group = g } ≡ joins len a b
+            pub joins_fine : m ≤ 4294967295 → Ok g ≡ joins len a b
             unfolding joins
             joins_fine h =
                 rw (

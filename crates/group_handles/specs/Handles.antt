@@ -1,16 +1,17 @@
 -- This file defines which handles a product lists, what they have together, and the refusals that come before anything is read in a table: 17 in a
 -- handle, 14 for an argument, 15 for a product too large. Document 01: "factors per product 0 to 8; product elements at most 4,294,967,295".
+use Rattle.std.specs.Prelude.{Ok, Err}
+use Rattle.egg.specs.Refusals.{numbered}
 use Rattle.std.specs.Prelude.{ℕ, ◌+◌, ◌-◌, ◌≡◌, List, [], ◌∷◌, ◌++◌, Bool, true, ◌&&◌, length, take, replicate, leb}
 use Rattle.egg.specs.declared.Factor.{Factor}
-use Rattle.egg.specs.declared.Verdict.{Verdict}
-use Rattle.egg.specs.declared.Verdict.TheVariants as verdict
+use Rattle.egg.specs.Answers.{Verdict, fine}
 use Rattle.egg.specs.Table.{pick}
 use Rattle.egg.specs.Scan.{refused_of}
 use Rattle.egg.specs.Factor.{fits_in}
 use Rattle.build_lending.specs.Lending.{no_factor}
 use Rattle.theory_radix.specs.Radix.{count}
 use Rattle.group_handles.specs.declared.Group.{Group}
-use Rattle.group_handles.specs.declared.Grouped.{Grouped}
+use Rattle.group_handles.specs.Answers.{Grouped}
 use Rattle.group_handles.specs.declared.inner.Seen.{Seen}
 use Rattle.group_handles.specs.declared.inner.Limit.{Limit}
 use Rattle.group_handles.specs.declared.inner.Limit.TheVariants.{Elements, Generators, Number}
@@ -69,7 +70,7 @@ in_order fit first second within =
     pick fit
     (pick first (refused_of 14 0 0 0)
     (pick second (refused_of 14 1 0 0)
-    (pick within verdict.Fine (refused_of 15 0 0 0))))
+    (pick within fine (refused_of 15 0 0 0))))
     (refused_of 17 0 0 0)
 
 -- The refusals of a call with two arguments, a that has to be below la, and b below lb. A call with fewer arguments gives 0 below 1.
@@ -90,16 +91,12 @@ pub record Looked (len : ℕ) (hs : List Factor) (s : Seen) : Type 0 where
 abbrev pub group_of : List Factor → Group
 group_of hs = record { factors = hs ++ replicate (8 - length hs) no_factor; count = length hs }
 
--- The value beside a refusal, which is no product: its one handle fits no buffer.
-abbrev pub no_group : Group
-no_group = group_of (no_factor ∷ [])
-
 -- What `product` answers. Refuses in this order: 17 for a handle of either that does not fit, 15 for more than 8 factors or a product too large, of
 -- either and of both together.
 unfoldable pub joins : ℕ → Group → Group → Grouped
 joins len a b =
     pick (all_fit len (handles a ++ handles b))
     (pick (leb a.count 8 && (leb b.count 8 && (leb (length (handles a ++ handles b)) 8 && leb (elements_of (handles a ++ handles b)) 4294967295)))
-    (record { answer = verdict.Fine; group = group_of (handles a ++ handles b) })
-    (record { answer = refused_of 15 0 0 0; group = no_group }))
-    (record { answer = refused_of 17 0 0 0; group = no_group })
+    (Ok (group_of (handles a ++ handles b)))
+    (Err (numbered 15 0 0 0)))
+    (Err (numbered 17 0 0 0))

@@ -1,3 +1,4 @@
+pub mod Answers
 pub mod Handles
 pub mod Alone
 pub mod Counts

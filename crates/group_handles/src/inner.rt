@@ -1,19 +1,17 @@
 // What the handles of a product have together, and the refusals that come before anything is read in a table.
 ghost use Rattle.std.specs.Prelude.{◌≡◌, true, ◌&&◌, ◌++◌, ◌+◌, ◌*◌, ◌≤◌, length, get_or};
-ghost use Rattle.egg.specs.Scan.{refused_of};
 ghost use Rattle.build_lending.specs.Lending.{no_factor};
-ghost use Rattle.group_handles.specs.Handles.{handles, sizes, elements_of, generators_of, all_fit, capped, seen, limit_of, limit_seen, limited, admits, admits_seen, group_of, no_group};
+ghost use Rattle.group_handles.specs.Handles.{handles, sizes, elements_of, generators_of, all_fit, capped, seen, limit_of, limit_seen, limited, admits, admits_seen, group_of};
 ghost use Rattle.group_handles.specs.Alone.{Alone};
 
-use super::{Group, Grouped};
-use egg::{Counted, Factor, Made, Refusal, Verdict};
+use super::Group;
+use egg::{Factor, Refusal};
 
 // How many handles are listed.
 pub fn listed(g: Group) -> usize
     ensures { (result ≡ length (handles g)) × (result ≤ 8) }
 {
-    let c = g.count;
-    if 8 < c { 8 } else { c as usize }
+    if 8 < g.count { 8 } else { g.count as usize }
 }
 
 // Whether there is one factor, and no more.
@@ -30,9 +28,6 @@ pub fn handle(g: Group, f: usize) -> Factor
     if listed(g) <= f {
         return build_lending::inner::no_factor();
     }
-    if 8 <= f {
-        return build_lending::inner::no_factor();
-    }
     g.factors[f]
 }
 
@@ -43,8 +38,7 @@ pub fn size_of(g: Group, f: usize) -> u32
     if listed(g) <= f {
         return 1;
     }
-    let h = handle(g, f);
-    h.elements
+    handle(g, f).elements
 }
 
 // Multiplies as far as 32 bits can tell: 4,294,967,296 stands for everything above them.
@@ -76,16 +70,14 @@ pub fn look(table: &[u32], g: Group) -> Seen
     ensures { (result ≡ seen (length table.now) (handles g)) × (result.generators ≤ 2040) }
 {
     let c = listed(g);
-    let mut f: usize = 0;
     let mut fit = true;
     let mut elements: u64 = 1;
     let mut generators: u32 = 0;
-    while f < c {
+    for f in 0..c {
         let h = g.factors[f];
         fit = both(fit, egg::fits(table, h));
         elements = times(elements, h.elements);
         generators += h.generators as u32;
-        f += 1;
     }
     Seen {
         fit,
@@ -98,8 +90,7 @@ pub fn look(table: &[u32], g: Group) -> Seen
 pub fn all_fit(table: &[u32], g: Group) -> bool
     ensures { result ≡ all_fit (length table.now) (handles g) }
 {
-    let s = look(table, g);
-    s.fit
+    look(table, g).fit
 }
 
 // How many elements the product has, as far as 32 bits can tell. What the pass shows of elements and generators is the same over every buffer; so
@@ -107,18 +98,14 @@ pub fn all_fit(table: &[u32], g: Group) -> bool
 pub fn elements_of(g: Group) -> u64
     ensures { result ≡ capped (elements_of (handles g)) }
 {
-    let buffer = [0; 1];
-    let s = look(&buffer, g);
-    s.elements
+    look(&[0; 1], g).elements
 }
 
 // How many generators the product has; it lists eight handles at most, so the sum is small.
 pub fn generators_of(g: Group) -> u32
     ensures { (result ≡ generators_of (handles g)) × (result ≤ 2040) }
 {
-    let buffer = [0; 1];
-    let s = look(&buffer, g);
-    s.generators
+    look(&[0; 1], g).generators
 }
 
 // Whether the product has at most 8 factors and 4,294,967,295 elements.
@@ -152,43 +139,43 @@ fn limit_of(s: Seen, l: Limit) -> u64
 
 // Refuses in this order: 17 where a handle was seen not to fit, 14 for the first or the second argument where it is not below its limit, 15 for more
 // than 8 factors or a product too large.
-pub fn admit_seen(s: Seen, count: u8, a: u32, la: Limit, b: u32, lb: Limit) -> Verdict
+pub fn admit_seen(s: Seen, count: u8, a: u32, la: Limit, b: u32, lb: Limit) -> Result<(), Refusal>
     ensures { result ≡ admits_seen s count a la b lb }
 {
     if !s.fit {
-        return egg::inner::refused(17, 0, 0, 0);
+        return Err(Refusal::Unreadable);
     }
     if limit_of(s, la) <= (a as u64) {
-        return egg::inner::refused(14, 0, 0, 0);
+        return Err(Refusal::ArgumentOutside(0));
     }
     if limit_of(s, lb) <= (b as u64) {
-        return egg::inner::refused(14, 1, 0, 0);
+        return Err(Refusal::ArgumentOutside(1));
     }
     if 8 < count {
-        return egg::inner::refused(15, 0, 0, 0);
+        return Err(Refusal::TooLarge);
     }
     if 4294967295 < s.elements {
-        return egg::inner::refused(15, 0, 0, 0);
+        return Err(Refusal::TooLarge);
     }
-    Verdict::Fine
+    Ok(())
 }
 
 // The same for a call with one argument: the place of the second has 0, which is below 1.
-pub fn admit_one_seen(s: Seen, count: u8, a: u32, la: Limit) -> Verdict
+pub fn admit_one_seen(s: Seen, count: u8, a: u32, la: Limit) -> Result<(), Refusal>
     ensures { result ≡ admits_seen s count a la 0 (Limit.Number 1) }
 {
     admit_seen(s, count, a, la, 0, Limit::Number(1))
 }
 
 // The same for a call with no argument.
-pub fn admit_none_seen(s: Seen, count: u8) -> Verdict
+pub fn admit_none_seen(s: Seen, count: u8) -> Result<(), Refusal>
     ensures { result ≡ admits_seen s count 0 (Limit.Number 1) 0 (Limit.Number 1) }
 {
     admit_one_seen(s, count, 0, Limit::Number(1))
 }
 
 // Looks at the handles, and refuses as `admit_seen` does.
-pub fn admit(table: &[u32], g: Group, a: u32, la: Limit, b: u32, lb: Limit) -> Verdict
+pub fn admit(table: &[u32], g: Group, a: u32, la: Limit, b: u32, lb: Limit) -> Result<(), Refusal>
     ensures { result ≡ admits (length table.now) g a (limit_of (handles g) la) b (limit_of (handles g) lb) }
 {
     let s = look(table, g);
@@ -196,21 +183,10 @@ pub fn admit(table: &[u32], g: Group, a: u32, la: Limit, b: u32, lb: Limit) -> V
 }
 
 // The same for a call with one argument.
-pub fn admit_one(table: &[u32], g: Group, a: u32, la: Limit) -> Verdict
+pub fn admit_one(table: &[u32], g: Group, a: u32, la: Limit) -> Result<(), Refusal>
     ensures { result ≡ admits (length table.now) g a (limit_of (handles g) la) 0 1 }
 {
     admit(table, g, a, la, 0, Limit::Number(1))
-}
-
-// A refusal, with the value that is no product beside it.
-pub fn refused_grouped(number: u32) -> Grouped
-    ensures { result ≡ record { answer = refused_of number 0 0 0; group = no_group } }
-{
-    let none = build_lending::inner::no_factor();
-    let factors = [none, none, none, none, none, none, none, none];
-    let group = Group { factors, count: 1 };
-    let answer = egg::inner::refused(number, 0, 0, 0);
-    Grouped { answer, group }
 }
 
 // The handle at i in the list of both: the handles of a, then those of b.
@@ -229,27 +205,17 @@ pub fn joined(a: Group, b: Group) -> Group
     requires { length (handles a) + length (handles b) ≤ 8 }
     ensures { result ≡ group_of (handles a ++ handles b) }
 {
-    let x0 = either(a, b, 0);
-    let x1 = either(a, b, 1);
-    let x2 = either(a, b, 2);
-    let x3 = either(a, b, 3);
-    let x4 = either(a, b, 4);
-    let x5 = either(a, b, 5);
-    let x6 = either(a, b, 6);
-    let x7 = either(a, b, 7);
-    let factors = [x0, x1, x2, x3, x4, x5, x6, x7];
-    let k = listed(a) + listed(b);
     Group {
-        factors,
-        count: (k % 256) as u8,
+        factors: [
+            either(a, b, 0),
+            either(a, b, 1),
+            either(a, b, 2),
+            either(a, b, 3),
+            either(a, b, 4),
+            either(a, b, 5),
+            either(a, b, 6),
+            either(a, b, 7),
+        ],
+        count: (listed(a) + listed(b)) as u8,
     }
-}
-
-// A refusal, with the handle that fits no buffer beside it.
-pub fn no_factor_made(why: Refusal) -> Made
-    ensures { result ≡ record { answer = Verdict.Refused why; factor = no_factor } }
-{
-    let factor = build_lending::inner::no_factor();
-    let answer = Verdict::Refused(why);
-    Made { answer, factor }
 }

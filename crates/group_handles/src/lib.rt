@@ -5,7 +5,7 @@
 ghost use Rattle.std.specs.Prelude.{◌≡◌, [], ◌∷◌, length};
 ghost use Rattle.group_handles.specs.Handles.{group_of, joins};
 
-use egg::{Factor, Verdict};
+use egg::{Factor, Refusal};
 
 pub mod inner;
 
@@ -16,20 +16,14 @@ pub struct Group {
     pub count: u8,
 }
 
-// What a call that makes a product answers; the product stands beside the verdict, and fits no buffer where it was refused.
-#[derive(Clone, Copy)]
-pub struct Grouped {
-    pub answer: Verdict,
-    pub group: Group,
-}
-
 // The group of one element: the product of no factors.
 pub fn trivial() -> Group
     ensures { result ≡ group_of [] }
 {
-    let none = build_lending::inner::no_factor();
-    let factors = [none, none, none, none, none, none, none, none];
-    Group { factors, count: 0 }
+    Group {
+        factors: [build_lending::inner::no_factor(); 8],
+        count: 0,
+    }
 }
 
 // One factor as a product.
@@ -43,34 +37,31 @@ pub fn of(f: Factor) -> Group
 
 // Answers the product of two: the factors of the first, then those of the second. Refuses in this order: 17 for a handle that does not fit, 15 for
 // more than 8 factors or more than 4,294,967,295 elements.
-pub fn product(table: &[u32], a: Group, b: Group) -> Grouped
+pub fn product(table: &[u32], a: Group, b: Group) -> Result<Group, Refusal>
     ensures { result ≡ joins (length table.now) a b }
 {
     let first = inner::look(table, a);
     if !first.fit {
-        return inner::refused_grouped(17);
+        return Err(Refusal::Unreadable);
     }
     let second = inner::look(table, b);
     if !second.fit {
-        return inner::refused_grouped(17);
+        return Err(Refusal::Unreadable);
     }
     if 8 < a.count {
-        return inner::refused_grouped(15);
+        return Err(Refusal::TooLarge);
     }
     if 8 < b.count {
-        return inner::refused_grouped(15);
+        return Err(Refusal::TooLarge);
     }
     let k = inner::listed(a) + inner::listed(b);
     if 8 < k {
-        return inner::refused_grouped(15);
+        return Err(Refusal::TooLarge);
     }
     let group = inner::joined(a, b);
     let whole = inner::look(table, group);
     if 4294967295 < whole.elements {
-        return inner::refused_grouped(15);
+        return Err(Refusal::TooLarge);
     }
-    Grouped {
-        answer: Verdict::Fine,
-        group,
-    }
+    Ok(group)
 }

@@ -11,10 +11,9 @@ use lib.Dec.{eqb}
 use Rattle.egg.specs.declared.Factor.{Factor}
 use Rattle.egg.specs.declared.Refusal.{Refusal}
 use Rattle.egg.specs.declared.GroupElementId.{GroupElementId}
-use Rattle.egg.specs.declared.Reached.{Reached}
-use Rattle.egg.specs.declared.Reached.TheVariants.{Element, Refused}
-use Rattle.egg.specs.declared.Counted.{Counted}
-use Rattle.egg.specs.declared.Counted.TheVariants as counted
+use Rattle.egg.specs.Answers.{Counted, Reached}
+use Rattle.egg.specs.Refusals.{numbered}
+use Rattle.std.specs.Prelude.{Ok, Err}
 use Rattle.egg.specs.Factor.{stretch}
 use Rattle.factor_questions.specs.Walks.{compose_in}
 use Rattle.theory_radix.specs.Radix.{stride}
@@ -72,61 +71,57 @@ lcm_one_right a = rw (mul-one) (div-one a)
 lcm_one_left : (a : ℕ) → lcm 1 a ≡ a
 lcm_one_left a = dvd_antisymm (lcm_least 1 a (omega arith) a (one-dvd a) (dvd_refl a)) (lcm_right 1 a)
 
--- One law for each answer of a period walk.
+-- One law for each answer of a period walk: x is the power by i + 1.
 abbrev pub refused17 : Counted
-refused17 = counted.Refused (record { number = 17; a = 0; b = 0; c = 0 })
+refused17 = Err (numbered 17 0 0 0)
 
-pub record Turning (op : ℕ → ℕ → Reached) (N a left x k : ℕ) : Type 0 where
-  pub steps : k + left ≡ N + 1
-  pub same : period_from left op a x k ≡ period_from N op a a 1
+pub record Turning (op : ℕ → ℕ → Reached) (N a i x : ℕ) : Type 0 where
+  pub same : period_from (N - i) op a x (i + 1) ≡ period_from N op a a 1
 
-pub turning : (op : ℕ → ℕ → Reached) (N a : ℕ) → Turning op N a N a 1
-turning op N a = record { steps = omega arith; same = refl }
+pub turning : (op : ℕ → ℕ → Reached) (N a : ℕ) → Turning op N a 0 a
+turning op N a = let d : N - 0 ≡ N = omega arith in record { same = ap (λ (l : ℕ). period_from l op a a 1) d }
 
-module _ {op : ℕ → ℕ → Reached} {N a left x k : ℕ} (w : Turning op N a left x k) where
-  pub turn_none : left ≤ 0 → refused17 ≡ period_from N op a a 1
+module _ {op : ℕ → ℕ → Reached} {N a i x : ℕ} (w : Turning op N a i x) where
+  pub turn_none : N ≤ i → refused17 ≡ period_from N op a a 1
   unfolding period_from
-  turn_none h = let d : left ≡ 0 = omega arith in ap (λ (l : ℕ). period_from l op a x k) (sym d) ∙ w.same
+  turn_none h = let d : N - i ≡ 0 = omega arith in ap (λ (l : ℕ). period_from l op a x (i + 1)) (sym d) ∙ w.same
 
-  module _ (l : 0 < left) where
-    pub turn_here : x ≡ 0 → counted.Count k ≡ period_from N op a a 1
+  module _ (l : i < N) where
+    pub turn_here : x ≡ 0 → Ok (i + 1) ≡ period_from N op a a 1
     unfolding period_from
     turn_here z =
-        let d : left ≡ suc (left - 1) = omega arith in
-        let q : period_from (suc (left - 1)) op a x k ≡ counted.Count k = rw (eq-eqb x 0 z) in
-        sym q ∙ ap (λ (l : ℕ). period_from l op a x k) (sym d) ∙ w.same
+        let d : N - i ≡ suc (N - (i + 1)) = omega arith in
+        let q : period_from (suc (N - (i + 1))) op a x (i + 1) ≡ Ok (i + 1) = rw (eq-eqb x 0 z) in
+        sym q ∙ ap (λ (l : ℕ). period_from l op a x (i + 1)) (sym d) ∙ w.same
 
     module _ (z : x ≡ 0 → ⊥) {r : Reached} (q : r ≡ op x a) where
-      opens : on_element r (λ y. period_from (left - 1) op a y (k + 1)) ≡ period_from N op a a 1
+      opens : on_element r (λ y. period_from (N - (i + 1)) op a y (i + 1 + 1)) ≡ period_from N op a a 1
       unfolding period_from
       opens =
-          let d : left ≡ suc (left - 1) = omega arith in
-          let p : period_from (suc (left - 1)) op a x k ≡ on_element r (λ y. period_from (left - 1) op a y (k + 1)) = rw (ne_eqb x 0 z, q) in
-          sym p ∙ ap (λ (l : ℕ). period_from l op a x k) (sym d) ∙ w.same
+          let d : N - i ≡ suc (N - (i + 1)) = omega arith in
+          let p : period_from (suc (N - (i + 1))) op a x (i + 1) ≡ on_element r (λ y. period_from (N - (i + 1)) op a y (i + 1 + 1)) = rw (ne_eqb x 0 z, q) in
+          sym p ∙ ap (λ (l : ℕ). period_from l op a x (i + 1)) (sym d) ∙ w.same
 
-      pub turn_stop : {why : Refusal} → r ≡ Refused why → counted.Refused why ≡ period_from N op a a 1
-      turn_stop e = ap (λ (v : Reached). on_element v (λ y. period_from (left - 1) op a y (k + 1))) (sym e) ∙ opens
+      pub turn_stop : {why : Refusal} → r ≡ Err why → Err why ≡ period_from N op a a 1
+      turn_stop e = ap (λ (v : Reached). on_element v (λ y. period_from (N - (i + 1)) op a y (i + 1 + 1))) (sym e) ∙ opens
 
-      pub turn_on : {y : GroupElementId} → r ≡ Element y → Turning op N a (left - 1) y.0 (k + 1)
-      turn_on e = record {
-        steps = omega (arith, w.steps);
-        same = ap (λ (v : Reached). on_element v (λ y. period_from (left - 1) op a y (k + 1))) (sym e) ∙ opens;
-      }
+      pub turn_on : {y : GroupElementId} → r ≡ Ok y → Turning op N a (i + 1) y.0
+      turn_on e = record { same = ap (λ (v : Reached). on_element v (λ y. period_from (N - (i + 1)) op a y (i + 1 + 1))) (sym e) ∙ opens }
 
 -- A period that was answered is one of 1 .. N.
-period_in_range : (left : ℕ) (op : ℕ → ℕ → Reached) (a x k m : ℕ) → period_from left op a x k ≡ counted.Count m → (k ≤ m) × (m < k + left)
+period_in_range : (left : ℕ) (op : ℕ → ℕ → Reached) (a x k m : ℕ) → period_from left op a x k ≡ Ok m → (k ≤ m) × (m < k + left)
 unfolding period_from
 period_in_range zero op a x k m h = absurd (never_both refl h)
 period_in_range (suc left) op a x k m h = by (λ y. period_in_range left op a y (k + 1) m) (eqb x 0) (op x a) refl refl where
-  by : ((y : ℕ) → period_from left op a y (k + 1) ≡ counted.Count m → (k + 1 ≤ m) × (m < k + 1 + left))
+  by : ((y : ℕ) → period_from left op a y (k + 1) ≡ Ok m → (k + 1 ≤ m) × (m < k + 1 + left))
       → (b : Bool) (r : Reached) → eqb x 0 ≡ b → op x a ≡ r → (k ≤ m) × (m < k + suc left)
-  by i true r p q = let z : counted.Count k ≡ counted.Count m = (rw p at h) in let e : k ≡ m = same_count z in (omega arith, omega arith)
-  by i false (Refused w) p q = absurd (never_both refl (rw (p, q) at h))
-  by i false (Element y) p q =
+  by i true r p q = let z : Ok k ≡ Ok m = (rw p at h) in let e : k ≡ m = same_count z in (omega arith, omega arith)
+  by i false (Err w) p q = absurd (never_both refl (rw (p, q) at h))
+  by i false (Ok y) p q =
       let (u, v) = i y.0 (rw (p, q) at h) in
       (omega arith, omega arith)
 
-pub period_range : (t : List ℕ) (h : Factor) (a : ℕ) {v : Counted} {m : ℕ} → v ≡ period_of t h a → v ≡ counted.Count m → (1 ≤ m) × (m ≤ h.elements)
+pub period_range : (t : List ℕ) (h : Factor) (a : ℕ) {v : Counted} {m : ℕ} → v ≡ period_of t h a → v ≡ Ok m → (1 ≤ m) × (m ≤ h.elements)
 period_range t h a {v} {m} q e =
     let (x, y) = period_in_range h.elements (compose_in (stretch t h) h.generators h.elements) a a 1 m (sym q ∙ e) in
     (x, omega arith)
@@ -135,39 +130,39 @@ period_range t h a {v} {m} q e =
 pub record Multiple (t : List ℕ) (hs : List Factor) (a f m rest : ℕ) : Type 0 where
   pub some : 0 < m
   pub small : m ≤ stride (sizes hs) f
-  pub same : on_counted (periods t (drop f hs) rest) (λ q. counted.Count (lcm m q)) ≡ periods t hs a
+  pub same : on_counted (periods t (drop f hs) rest) (λ q. Ok (lcm m q)) ≡ periods t hs a
 
 module _ (t : List ℕ) where
-  one_first : (r : Counted) → on_counted r (λ q. counted.Count (lcm 1 q)) ≡ r
-  one_first (counted.Count q) = ap counted.Count (lcm_one_left q)
-  one_first (counted.Refused r) = refl
+  one_first : (r : Counted) → on_counted r (λ q. Ok (lcm 1 q)) ≡ r
+  one_first (Ok q) = ap Ok (lcm_one_left q)
+  one_first (Err r) = refl
 
   pub multiple : (hs : List Factor) (a : ℕ) → Multiple t hs a 0 1 a
   multiple hs a = record { some = omega arith; small = omega arith; same = one_first (periods t hs a) }
 
-  moved : (r : Counted) {m p : ℕ} → 0 < m → 0 < p → on_counted r (λ q. counted.Count (lcm (lcm m p) q)) ≡ on_counted (on_counted r (λ q. counted.Count (lcm p q))) (λ q. counted.Count (lcm m q))
-  moved (counted.Count q) {m} {p} hm hp = ap counted.Count (lcm_assoc m p q hm hp)
-  moved (counted.Refused r) hm hp = refl
+  moved : (r : Counted) {m p : ℕ} → 0 < m → 0 < p → on_counted r (λ q. Ok (lcm (lcm m p) q)) ≡ on_counted (on_counted r (λ q. Ok (lcm p q))) (λ q. Ok (lcm m q))
+  moved (Ok q) {m} {p} hm hp = ap Ok (lcm_assoc m p q hm hp)
+  moved (Err r) hm hp = refl
 
   opened_periods : (h : Factor) (hs : List Factor) (a : ℕ) {r : Counted} → r ≡ period_of t h (a % h.elements)
-      → periods t (h ∷ hs) a ≡ on_counted r (λ p. on_counted (periods t hs (a / h.elements)) (λ q. counted.Count (lcm p q)))
+      → periods t (h ∷ hs) a ≡ on_counted r (λ p. on_counted (periods t hs (a / h.elements)) (λ q. Ok (lcm p q)))
   unfolding periods
   opened_periods h hs a q = rw q
 
 module _ {t : List ℕ} {hs : List Factor} {a f m rest : ℕ} {h : Factor} (w : Multiple t hs a f m rest) (d : drop f hs ≡ h ∷ drop (f + 1) hs)
     {r : Counted} (q : r ≡ period_of t h (rest % h.elements))
   where
-    left_over : on_counted (on_counted r (λ p. on_counted (periods t (drop (f + 1) hs) (rest / h.elements)) (λ q. counted.Count (lcm p q)))) (λ q. counted.Count (lcm m q)) ≡ periods t hs a
+    left_over : on_counted (on_counted r (λ p. on_counted (periods t (drop (f + 1) hs) (rest / h.elements)) (λ q. Ok (lcm p q)))) (λ q. Ok (lcm m q)) ≡ periods t hs a
     left_over =
-        ap (λ (v : Counted). on_counted v (λ q. counted.Count (lcm m q))) (sym (opened_periods t h (drop (f + 1) hs) rest q))
-        ∙ ap (λ (l : List Factor). on_counted (periods t l rest) (λ q. counted.Count (lcm m q))) (sym d) ∙ w.same
+        ap (λ (v : Counted). on_counted v (λ q. Ok (lcm m q))) (sym (opened_periods t h (drop (f + 1) hs) rest q))
+        ∙ ap (λ (l : List Factor). on_counted (periods t l rest) (λ q. Ok (lcm m q))) (sym d) ∙ w.same
 
-    pub multiple_stop : {why : Refusal} → r ≡ counted.Refused why → r ≡ periods t hs a
+    pub multiple_stop : {why : Refusal} → r ≡ Err why → Err why ≡ periods t hs a
     multiple_stop e =
-        e ∙ ap (λ (v : Counted). on_counted (on_counted v (λ p. on_counted (periods t (drop (f + 1) hs) (rest / h.elements)) (λ q. counted.Count (lcm p q)))) (λ q. counted.Count (lcm m q))) (sym e)
+        ap (λ (v : Counted). on_counted (on_counted v (λ p. on_counted (periods t (drop (f + 1) hs) (rest / h.elements)) (λ q. Ok (lcm p q)))) (λ q. Ok (lcm m q))) (sym e)
         ∙ left_over
 
-    module _ {p : ℕ} (e : r ≡ counted.Count p) {x : ℕ} (g : x ≡ gcd m p) (next : stride (sizes hs) f * h.elements ≡ stride (sizes hs) (f + 1)) where
+    module _ {p : ℕ} (e : r ≡ Ok p) {x : ℕ} (g : x ≡ gcd m p) (next : stride (sizes hs) f * h.elements ≡ stride (sizes hs) (f + 1)) where
       pub multiple_bound : m / x * p ≤ stride (sizes hs) (f + 1)
       multiple_bound =
           let (u, v) = period_range t h (rest % h.elements) q e in
@@ -181,11 +176,11 @@ module _ {t : List ℕ} {hs : List Factor} {a f m rest : ℕ} {h : Factor} (w : 
             small = multiple_bound;
             same =
                 rw g (moved t (periods t (drop (f + 1) hs) (rest / h.elements)) w.some u
-                ∙ ap (λ (v : Counted). on_counted (on_counted v (λ p. on_counted (periods t (drop (f + 1) hs) (rest / h.elements)) (λ q. counted.Count (lcm p q)))) (λ q. counted.Count (lcm m q))) (sym e)
+                ∙ ap (λ (v : Counted). on_counted (on_counted v (λ p. on_counted (periods t (drop (f + 1) hs) (rest / h.elements)) (λ q. Ok (lcm p q)))) (λ q. Ok (lcm m q))) (sym e)
                 ∙ left_over);
           }
 
-pub multiple_end : {t : List ℕ} {hs : List Factor} {a f m rest : ℕ} → Multiple t hs a f m rest → drop f hs ≡ [] → counted.Count m ≡ periods t hs a
+pub multiple_end : {t : List ℕ} {hs : List Factor} {a f m rest : ℕ} → Multiple t hs a f m rest → drop f hs ≡ [] → Ok m ≡ periods t hs a
 unfolding periods
 multiple_end {t} {hs} {a} {f} {m} {rest} w d =
-    ap counted.Count (sym (lcm_one_right m)) ∙ ap (λ (l : List Factor). on_counted (periods t l rest) (λ q. counted.Count (lcm m q))) (sym d) ∙ w.same
+    ap Ok (sym (lcm_one_right m)) ∙ ap (λ (l : List Factor). on_counted (periods t l rest) (λ q. Ok (lcm m q))) (sym d) ∙ w.same

@@ -5,7 +5,7 @@ ghost use Rattle.theory_radix.specs.Divisors.{gcd};
 ghost use Rattle.group_handles.specs.Handles.{handles, elements_of, all_fit};
 ghost use Rattle.group_periods.specs.Periods.{period_from, periods};
 
-use egg::{Counted, GroupElementId, Reached};
+use egg::{GroupElementId, Refusal};
 use group_handles::Group;
 
 // Euclid's greatest common divisor, for the least common multiple.
@@ -23,55 +23,38 @@ fn gcd(a: u32, b: u32) -> u32
 }
 
 // Walks the powers of a in one factor, up to the `count`-th, to the first that is the identity; refuses with 17 where there is none.
-fn period_in(s: &[u32], n: u8, count: u32, a: GroupElementId) -> Counted
-    requires { count ≤ 65535 }
+fn period_in(s: &[u32], n: u8, count: u32, a: GroupElementId) -> Result<u32, Refusal>
     ensures { result ≡ period_from count (compose_in s.now n count) a.0 a.0 1 }
 {
-    let mut left = count;
-    let mut x = a.0;
-    let mut k: u32 = 1;
-    while 0 < left {
-        if x == 0 {
-            return Counted::Count(k);
+    let mut x = a;
+    for i in 0..count {
+        if x.0 == 0 {
+            return Ok(i + 1);
         }
-        match factor_compose::inner::compose_elements(&s[..], n, count, GroupElementId(x), a) {
-            Reached::Refused(why) => {
-                return Counted::Refused(why);
-            }
-            Reached::Element(y) => {
-                x = y.0;
-            }
-        }
-        k += 1;
-        left -= 1;
+        x = factor_compose::inner::compose_elements(s, n, count, x, a)?;
     }
-    egg::inner::refused_count(17)
+    Err(Refusal::Unreadable)
 }
 
 // Answers the least common multiple of the periods of the digits.
-pub fn periods(table: &[u32], g: Group, a: GroupElementId) -> Counted
+pub fn periods(table: &[u32], g: Group, a: GroupElementId) -> Result<u32, Refusal>
     requires { (all_fit (length table.now) (handles g) ≡ true) × (elements_of (handles g) ≤ 4294967295) }
     ensures { result ≡ periods table.now (handles g) a.0 }
 {
     let c = group_handles::inner::listed(g);
-    let mut f: usize = 0;
     let mut m: u32 = 1;
     let mut rest = a.0;
-    while f < c {
+    for f in 0..c {
         let h = g.factors[f];
         let n = h.elements;
-        let r = period_in(
+        let p = period_in(
             egg::inner::part(table, h),
             h.generators,
             n,
             GroupElementId(rest % n),
-        );
-        let Counted::Count(p) = r else {
-            return r;
-        };
+        )?;
         m = m / gcd(m, p) * p;
         rest /= n;
-        f += 1;
     }
-    Counted::Count(m)
+    Ok(m)
 }

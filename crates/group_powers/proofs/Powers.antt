@@ -5,8 +5,8 @@ use native.Mathlib.Nat.{le_refl}
 use native.Mathlib.Omega.{arith}
 use Rattle.egg.specs.declared.Refusal.{Refusal}
 use Rattle.egg.specs.declared.GroupElementId.{GroupElementId}
-use Rattle.egg.specs.declared.Reached.{Reached}
-use Rattle.egg.specs.declared.Reached.TheVariants.{Element, Refused}
+use Rattle.egg.specs.Answers.{Reached}
+use Rattle.std.specs.Prelude.{Ok, Err}
 use Rattle.egg.specs.Answers.{on_reached}
 use Rattle.group_powers.specs.Powers.{odd_too, by_halving}
 
@@ -31,7 +31,7 @@ halves_suc op a k =
 
 -- One law for each answer of a power.
 module _ (op : ℕ → ℕ → Reached) (a : ℕ) where
-  pub power_none : {k : ℕ} → k ≡ 0 → Element (record { 0 = 0 }) ≡ by_halving k op a k
+  pub power_none : {k : ℕ} → k ≡ 0 → Ok (record { 0 = 0 }) ≡ by_halving k op a k
   unfolding by_halving
   power_none z = rw z
 
@@ -43,23 +43,23 @@ module _ (op : ℕ → ℕ → Reached) (a : ℕ) where
         subst (λ (n : ℕ). on_reached (by_halving (n / 2) op a (n / 2)) (λ x. on_reached (op x x) (λ y. odd_too op a y (n % 2))) ≡ by_halving n op a n) (sym d) (sym (halves_suc op a (k - 1))) in
         ap (λ (v : Reached). on_reached v (λ x. on_reached (op x x) (λ y. odd_too op a y (k % 2)))) q ∙ z
 
-    pub power_stop : {why : Refusal} → r ≡ Refused why → r ≡ by_halving k op a k
+    pub power_stop : {why : Refusal} → r ≡ Err why → r ≡ by_halving k op a k
     power_stop e = e ∙ ap (λ (v : Reached). on_reached v (λ x. on_reached (op x x) (λ y. odd_too op a y (k % 2)))) (sym e) ∙ opened
 
-    module _ {x : GroupElementId} (e : r ≡ Element x) {s : Reached} (w : s ≡ op x.0 x.0) where
+    module _ {x : GroupElementId} (e : r ≡ Ok x) {s : Reached} (w : s ≡ op x.0 x.0) where
       squared : on_reached s (λ y. odd_too op a y (k % 2)) ≡ by_halving k op a k
       squared =
           ap (λ (v : Reached). on_reached v (λ y. odd_too op a y (k % 2))) w
           ∙ ap (λ (v : Reached). on_reached v (λ x. on_reached (op x x) (λ y. odd_too op a y (k % 2)))) (sym e) ∙ opened
 
-      pub square_stop : {why : Refusal} → s ≡ Refused why → s ≡ by_halving k op a k
+      pub square_stop : {why : Refusal} → s ≡ Err why → s ≡ by_halving k op a k
       square_stop z = z ∙ ap (λ (v : Reached). on_reached v (λ y. odd_too op a y (k % 2))) (sym z) ∙ squared
 
-      module _ {y : GroupElementId} (z : s ≡ Element y) where
+      module _ {y : GroupElementId} (z : s ≡ Ok y) where
         last : odd_too op a y.0 (k % 2) ≡ by_halving k op a k
         last = ap (λ (v : Reached). on_reached v (λ y. odd_too op a y (k % 2))) (sym z) ∙ squared
 
-        pub power_even : k % 2 ≡ 0 → Element y ≡ by_halving k op a k
+        pub power_even : k % 2 ≡ 0 → Ok y ≡ by_halving k op a k
         power_even u = ap (λ (n : ℕ). odd_too op a y.0 n) (sym u) ∙ last
 
         pub power_odd : (k % 2 ≡ 0 → ⊥) → {v : Reached} → v ≡ op y.0 a → v ≡ by_halving k op a k

@@ -12,8 +12,8 @@ use mir.Val.{Fits, SFits, to_z, of_z}
 use mir.Facts.{to_z-of_z}
 use Rattle.egg.specs.declared.Refusal.{Refusal}
 use Rattle.egg.specs.declared.GroupElementId.{GroupElementId}
-use Rattle.egg.specs.declared.Reached.{Reached}
-use Rattle.egg.specs.declared.Reached.TheVariants.{Element, Refused}
+use Rattle.egg.specs.Answers.{Reached}
+use Rattle.std.specs.Prelude.{Ok, Err}
 use Rattle.egg.specs.Answers.{on_reached}
 use Rattle.group_powers.specs.Powers.{by_halving, negated, powers}
 
@@ -46,15 +46,15 @@ module _ (half : ℕ) (op : ℕ → ℕ → Reached) (inv : ℕ → Reached) (a 
   powers_positive z f q p = p ∙ ap (λ (v : ℤ). by_halving (nat_abs v) op a (nat_abs v)) (read_is z f) ∙ powers_pos z (sign z f q)
 
   module _ {b : Reached} (w : b ≡ inv a) where
-    powers_ref : (z : ℤ) → le_z (pos 0) z ≡ false → {why : Refusal} → b ≡ Refused why → b ≡ powers half op inv a z
+    powers_ref : (z : ℤ) → le_z (pos 0) z ≡ false → {why : Refusal} → b ≡ Err why → b ≡ powers half op inv a z
     unfolding powers
     powers_ref (pos k) q e = no (sym q ∙ le-leb 0 k (omega arith))
     powers_ref (negsuc k) q e = e ∙ rw (← w, e)
 
-    pub powers_refused : (z : ℤ) → SFits w32 z → le_z (pos 0) (read z) ≡ false → {why : Refusal} → b ≡ Refused why → b ≡ powers half op inv a z
+    pub powers_refused : (z : ℤ) → SFits w32 z → le_z (pos 0) (read z) ≡ false → {why : Refusal} → b ≡ Err why → b ≡ powers half op inv a z
     powers_refused z f q e = powers_ref z (sign z f q) e
 
-    module _ {i : GroupElementId} (e : b ≡ Element i) where
+    module _ {i : GroupElementId} (e : b ≡ Ok i) where
       powers_neg : (k : ℕ) → negated (eqb (suc k) (half + half)) half op i.0 (suc k) ≡ powers half op inv a (negsuc k)
       unfolding powers
       powers_neg k = rw (← w, e)
@@ -73,10 +73,10 @@ module _ (half : ℕ) (op : ℕ → ℕ → Reached) (inv : ℕ → Reached) (a 
           least : on_reached r (λ x. op x x) ≡ powers half op inv a z
           least = ap (λ (v : Reached). on_reached v (λ x. op x x)) p ∙ powers_low z f (sign z f q) s d
 
-          pub least_refused : {why : Refusal} → r ≡ Refused why → r ≡ powers half op inv a z
+          pub least_refused : {why : Refusal} → r ≡ Err why → r ≡ powers half op inv a z
           least_refused h = h ∙ ap (λ (v : Reached). on_reached v (λ x. op x x)) (sym h) ∙ least
 
-          pub least_squared : {x : GroupElementId} → r ≡ Element x → {v : Reached} → v ≡ op x.0 x.0 → v ≡ powers half op inv a z
+          pub least_squared : {x : GroupElementId} → r ≡ Ok x → {v : Reached} → v ≡ op x.0 x.0 → v ≡ powers half op inv a z
           least_squared h g = g ∙ ap (λ (v : Reached). on_reached v (λ x. op x x)) (sym h) ∙ least
 
       -- All the others.
@@ -129,7 +129,7 @@ module _ (z : ℤ) (f : SFits w32 z) (q : le_z (pos 0) (read z) ≡ false) (s : 
       small (pos k) t g = omega (arith, g.sfits)
       small (negsuc k) t g = absurd t
 
-  pub powers_negative : (half : ℕ) (op : ℕ → ℕ → Reached) (inv : ℕ → Reached) (a : ℕ) → half + half ≡ 2147483648 → {b : Reached} → b ≡ inv a → {i : GroupElementId} → b ≡ Element i
+  pub powers_negative : (half : ℕ) (op : ℕ → ℕ → Reached) (inv : ℕ → Reached) (a : ℕ) → half + half ≡ 2147483648 → {b : Reached} → b ≡ inv a → {i : GroupElementId} → b ≡ Ok i
       → {r : Reached} → r ≡ by_halving (nat_abs (read (pos 0 -ℤ read z))) op i.0 (nat_abs (read (pos 0 -ℤ read z))) → r ≡ powers half op inv a z
   powers_negative half op inv a d {b} w {i} e {r} p =
       let g : nat_abs (read (pos 0 -ℤ read z)) ≡ nat_abs z = ap nat_abs back ∙ n.size in

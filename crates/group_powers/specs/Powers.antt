@@ -3,8 +3,8 @@
 use Rattle.std.specs.Prelude.{ℕ, zero, suc, ◌+◌, ◌/◌, ◌%◌, List, Bool, true, false, length, eqb, ℤ, pos, negsuc}
 use Rattle.egg.specs.declared.Factor.{Factor}
 use Rattle.egg.specs.declared.GroupElementId.{GroupElementId}
-use Rattle.egg.specs.declared.Reached.{Reached}
-use Rattle.egg.specs.declared.Reached.TheVariants.{Element}
+use Rattle.egg.specs.Answers.{Reached}
+use Rattle.std.specs.Prelude.{Ok}
 use Rattle.egg.specs.Factor.{stretch}
 use Rattle.factor.specs.Questions.{admits}
 use Rattle.egg.specs.Answers.{if_reach, on_reached}
@@ -12,13 +12,13 @@ use Rattle.factor_questions.specs.Walks.{compose_in, inverse_in}
 
 -- x, and once more a where the last argument, the exponent's remainder by 2, is not 0.
 abbrev pub odd_too : (ℕ → ℕ → Reached) → ℕ → ℕ → ℕ → Reached
-odd_too op a x zero = Element (record { 0 = x })
+odd_too op a x zero = Ok (record { 0 = x })
 odd_too op a x (suc r) = op x a
 
 -- The k-th power: the square of the power by k / 2, and once more a if k is odd. `fuel` bounds how often it halves; k times is enough.
 unfoldable pub by_halving : ℕ → (ℕ → ℕ → Reached) → ℕ → ℕ → Reached
-by_halving zero op a k = Element (record { 0 = 0 })
-by_halving (suc fuel) op a zero = Element (record { 0 = 0 })
+by_halving zero op a k = Ok (record { 0 = 0 })
+by_halving (suc fuel) op a zero = Ok (record { 0 = 0 })
 by_halving (suc fuel) op a (suc k) =
     on_reached (by_halving fuel op a (suc k / 2)) (λ x. on_reached (op x x) (λ y. odd_too op a y (suc k % 2)))
 

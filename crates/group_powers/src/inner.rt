@@ -4,7 +4,7 @@ ghost use Rattle.group_handles.specs.Handles.{handles, elements_of, all_fit};
 ghost use Rattle.group_digits.specs.Digits.{composes, inverts};
 ghost use Rattle.group_powers.specs.Powers.{by_halving, powers};
 
-use egg::{GroupElementId, Reached};
+use egg::{GroupElementId, Refusal};
 use group_handles::Group;
 
 pub mod one;
@@ -13,45 +13,38 @@ pub mod one;
 const LEAST: i32 = -2147483648;
 
 // The k-th power: the square of the power by half of k, and once more the element where k is odd.
-pub fn power(table: &[u32], g: Group, a: GroupElementId, k: u32) -> Reached
+pub fn power(table: &[u32], g: Group, a: GroupElementId, k: u32) -> Result<GroupElementId, Refusal>
     requires { (all_fit (length table.now) (handles g) ≡ true) × (elements_of (handles g) ≤ 4294967295) }
     ensures { result ≡ by_halving k (composes table.now (handles g)) a.0 k }
 {
     if k == 0 {
-        return Reached::Element(GroupElementId(0));
+        return Ok(GroupElementId(0));
     }
-    let root = power(&table[..], g, a, k / 2);
-    let Reached::Element(x) = root else {
-        return root;
-    };
-    let squared = group_digits::inner::compose_digits(&table[..], g, x, x);
-    let Reached::Element(y) = squared else {
-        return squared;
-    };
+    let x = power(table, g, a, k / 2)?;
+    let y = group_digits::inner::compose_digits(table, g, x, x)?;
     if k % 2 == 0 {
-        return Reached::Element(y);
+        return Ok(y);
     }
-    group_digits::inner::compose_digits(&table[..], g, y, a)
+    group_digits::inner::compose_digits(table, g, y, a)
 }
 
 // A negative exponent hands on to the inverse's power; the least has no negation, and squares the power by half of it.
-pub fn powi_in(table: &[u32], g: Group, a: GroupElementId, i: i32) -> Reached
+pub fn powi_in(
+    table: &[u32],
+    g: Group,
+    a: GroupElementId,
+    i: i32,
+) -> Result<GroupElementId, Refusal>
     requires { (all_fit (length table.now) (handles g) ≡ true) × (elements_of (handles g) ≤ 4294967295) }
     ensures { result ≡ powers 1073741824 (composes table.now (handles g)) (inverts table.now (handles g)) a.0 i }
 {
     if 0 <= i {
-        return power(&table[..], g, a, i as u32);
+        return power(table, g, a, i as u32);
     }
-    let back = group_digits::inner::inverse_digits(&table[..], g, a);
-    let Reached::Element(b) = back else {
-        return back;
-    };
+    let b = group_digits::inner::inverse_digits(table, g, a)?;
     if i == LEAST {
-        let root = power(&table[..], g, b, 1073741824);
-        let Reached::Element(x) = root else {
-            return root;
-        };
-        return group_digits::inner::compose_digits(&table[..], g, x, x);
+        let x = power(table, g, b, 1073741824)?;
+        return group_digits::inner::compose_digits(table, g, x, x);
     }
-    power(&table[..], g, b, (-i) as u32)
+    power(table, g, b, (-i) as u32)
 }

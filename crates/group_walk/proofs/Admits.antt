@@ -6,8 +6,8 @@ use mathlib.Core.List.{List}
 use borrow.Author.Tests.{le-leb, lt-leb, leb-true, leb-false}
 use lib.Dec.{leb}
 use Rattle.egg.specs.declared.Refusal.{Refusal}
-use Rattle.egg.specs.declared.Verdict.{Verdict}
-use Rattle.egg.specs.declared.Verdict.TheVariants.{Fine, Refused}
+use Rattle.egg.specs.Answers.{Verdict, fine}
+use Rattle.std.specs.Prelude.{Ok, Err}
 use Rattle.egg.specs.Scan.{refused_of}
 use Rattle.egg.proofs.Scans.{refused_fine}
 use Rattle.factor_walk.specs.Walked.{letters_right}
@@ -28,20 +28,20 @@ module _ (len : ℕ) (g : Group) (e : ℕ) (w : List ℕ) where
     walk_start h = rw fits (simp (le-leb _ _ h))
 
     module _ (h : e < elements_of (handles g)) {v : Verdict} (q : v ≡ letters_right (generators_of (handles g)) w) where
-      pub walk_letter : {r : Refusal} → v ≡ Refused r → v ≡ admits_walk len g e w
+      pub walk_letter : {r : Refusal} → v ≡ Err r → Err r ≡ admits_walk len g e w
       unfolding admits_walk
       walk_letter k = rw fits (simp (lt-leb _ _ h) (rw (← q, k)))
 
-      module _ (k : v ≡ Fine) where
+      module _ (k : v ≡ fine) where
         pub walk_large : limited g ≡ false → refused_of 15 0 0 0 ≡ admits_walk len g e w
         unfolding admits_walk
         walk_large z = rw fits (simp (lt-leb _ _ h) (rw (← q, k, z)))
 
-        pub walk_fine : limited g ≡ true → Fine ≡ admits_walk len g e w
+        pub walk_fine : limited g ≡ true → fine ≡ admits_walk len g e w
         unfolding admits_walk
         walk_fine z = rw fits (simp (lt-leb _ _ h) (rw (← q, k, z)))
 
-  goes : admits_walk len g e w ≡ Fine → Walkable len g e w
+  goes : admits_walk len g e w ≡ fine → Walkable len g e w
   goes q =
       by (all_fit len (handles g)) (leb (elements_of (handles g)) e) (letters_right (generators_of (handles g)) w) (limited g) refl refl refl refl
     where
@@ -49,11 +49,11 @@ module _ (len : ℕ) (g : Group) (e : ℕ) (w : List ℕ) where
           → letters_right (generators_of (handles g)) w ≡ v → limited g ≡ z → Walkable len g e w
       by false y v z a b c d = absurd (refused_fine (walk_handle a ∙ q))
       by true true v z a b c d = absurd (refused_fine (walk_start a (leb-true _ _ b) ∙ q))
-      by true false (Refused r) z a b c d = absurd (refused_fine (walk_letter a (leb-false _ _ b) (sym c) refl ∙ q))
-      by true false Fine false a b c d = absurd (refused_fine (walk_large a (leb-false _ _ b) (sym c) refl d ∙ q))
-      by true false Fine true a b c d = record { fits = a; start = leb-false _ _ b; letters = c; within = d }
+      by true false (Err r) z a b c d = absurd (refused_fine (walk_letter a (leb-false _ _ b) (sym c) refl ∙ q))
+      by true false (Ok _) false a b c d = absurd (refused_fine (walk_large a (leb-false _ _ b) (sym c) refl d ∙ q))
+      by true false (Ok _) true a b c d = record { fits = a; start = leb-false _ _ b; letters = c; within = d }
 
-  pub going : {v : Verdict} → v ≡ admits_walk len g e w → v ≡ Fine → Walkable len g e w
+  pub going : {v : Verdict} → v ≡ admits_walk len g e w → v ≡ fine → Walkable len g e w
   going q k = goes (sym q ∙ k)
 
 -- What one pass over the handles shows of the start and the letters.

@@ -13,9 +13,8 @@ use lib.Seq.{drop-cons, get_or-set_same, get_or-set_other}
 use Rattle.egg.specs.declared.Factor.{Factor}
 use Rattle.egg.specs.declared.Refusal.{Refusal}
 use Rattle.egg.specs.declared.GroupElementId.{GroupElementId}
-use Rattle.egg.specs.declared.Verdict.TheVariants.{Fine}
-use Rattle.egg.specs.declared.Reached.{Reached}
-use Rattle.egg.specs.declared.Reached.TheVariants.{Element, Refused}
+use Rattle.egg.specs.Answers.{Reached, fine}
+use Rattle.std.specs.Prelude.{Ok, Err}
 use Rattle.egg.specs.Factor.{fits_in, stretch, read_step}
 use Rattle.egg.specs.Answers.{on_reached}
 use Rattle.egg.proofs.Scans.{scan_fine}
@@ -88,14 +87,14 @@ module _ {hs : List Factor} {e : ℕ} {ds : List ℕ} (H : Held hs e ds) (k : le
   held_join : join (sizes hs) ds ≡ e
   held_join = joined (sizes hs) ds e H.small (rw (sizes_length hs) k) (λ f l. H.each f (rw (← sizes_length hs) l))
 
-  pub held_right : digits_right (sizes hs) ds ≡ Fine
+  pub held_right : digits_right (sizes hs) ds ≡ fine
   unfolding digits_right
   held_right =
       let c : fewer (length (sizes hs)) (length ds) ≡ length hs = rw (sizes_length hs) (simp (le-leb _ _ k)) in
       (scan_fine (fewer (length (sizes hs)) (length ds)) (digit_right (sizes hs) ds)).1
       (λ f l. digit_good (sizes hs) ds f refl refl (rw (H.each f (rw (← c) l)) (project_small (sizes hs) f e H.small)))
 
-pub held_joined : (g : Group) {e : ℕ} {ds : List ℕ} → Held (handles g) e ds → length (handles g) ≤ length ds → limited g ≡ true → join_tail g ds ≡ Element (record { 0 = e })
+pub held_joined : (g : Group) {e : ℕ} {ds : List ℕ} → Held (handles g) e ds → length (handles g) ≤ length ds → limited g ≡ true → join_tail g ds ≡ Ok (record { 0 = e })
 unfolding join_tail
 held_joined g {e} {ds} H k z = rw (z, le-ltb (length ds) (length (handles g)) k, held_join H k)
 
@@ -115,7 +114,7 @@ module _ {t : List ℕ} {hs : List Factor} {w : List ℕ} {i : ℕ} {whole : Rea
   pub enough : length hs ≤ length ds
   enough = omega (arith, F.long, F.few)
 
-  pub follows_end : length w ≤ i → {r : Reached} → r ≡ Element (record { 0 = F.at }) → r ≡ whole
+  pub follows_end : length w ≤ i → {r : Reached} → r ≡ Ok (record { 0 = F.at }) → r ≡ whole
   unfolding follows
   follows_end h q = q ∙ rw (drop_of_length-le w h) at F.rest
 
@@ -125,7 +124,7 @@ module _ {t : List ℕ} {hs : List Factor} {w : List ℕ} {i : ℕ} {whole : Rea
       read : r ≡ read_step (stretch t (get_or hs f no_factor)) (get_or hs f no_factor).generators (get_or hs f no_factor).elements (project (sizes hs) f F.at) (x - before)
       read = p ∙ rw (u, hq, z, F.held.each f O.there)
 
-      stepped : step_in t hs F.at x ≡ on_reached r (λ y. Element (record { 0 = replace (sizes hs) f F.at y }))
+      stepped : step_in t hs F.at x ≡ on_reached r (λ y. Ok (record { 0 = replace (sizes hs) f F.at y }))
       stepped =
           steps_found t hs f F.at x O.there F.held.small (rw (← O.earlier) O.passed) (rw (← O.earlier) O.has)
           ∙ rw (← O.earlier, ← read)
@@ -136,10 +135,10 @@ module _ {t : List ℕ} {hs : List Factor} {w : List ℕ} {i : ℕ} {whole : Rea
           let c : drop i w ≡ x ∷ drop (i + 1) w = drop-cons w i 0 h ∙ rw (q, add-one) in
           rw c at F.rest
 
-      pub follows_stops : {why : Refusal} → r ≡ Refused why → r ≡ whole
-      follows_stops e = e ∙ rw (stepped, e) at opened
+      pub follows_stops : {why : Refusal} → r ≡ Err why → Err why ≡ whole
+      follows_stops e = rw (stepped, e) at opened
 
-      pub follows_on : {y : GroupElementId} → r ≡ Element y → Following t hs w (i + 1) whole (set ds f y.0)
+      pub follows_on : {y : GroupElementId} → r ≡ Ok y → Following t hs w (i + 1) whole (set ds f y.0)
       follows_on {y} e =
           let m : y.0 < (get_or hs f no_factor).elements =
           below_element (step_below (stretch t (get_or hs f no_factor)) (get_or hs f no_factor).generators (get_or hs f no_factor).elements (project (sizes hs) f F.at) (x - before)) read e in

@@ -7,8 +7,8 @@ use native.Mathlib.Omega.{arith}
 use borrow.Author.Tests.{lt-ltb, le-ltb}
 use lib.ListN.{length, get_or, take}
 use Rattle.egg.specs.declared.Factor.{Factor}
-use Rattle.egg.specs.declared.Reached.{Reached}
-use Rattle.egg.specs.declared.Reached.TheVariants.{Element, Refused}
+use Rattle.egg.specs.Answers.{Reached}
+use Rattle.std.specs.Prelude.{Ok, Err}
 use Rattle.egg.specs.Factor.{stretch, read_step}
 use Rattle.build_lending.specs.Lending.{no_factor}
 use Rattle.egg.specs.Answers.{on_reached}
@@ -19,13 +19,13 @@ use Rattle.group_digits.specs.Digits.{above, step_in}
 use Rattle.group_handles.proofs.Lists.{sizes_length}
 
 -- The step in a product is that of the factor that has the generator: its digit is replaced, and the others stay.
-above_on : (x N : ℕ) (r : Reached) (f : ℕ → ℕ) → above x N (on_reached r (λ y. Element (record { 0 = f y }))) ≡ on_reached r (λ y. Element (record { 0 = x + N * f y }))
-above_on x N (Element y) f = refl
-above_on x N (Refused r) f = refl
+above_on : (x N : ℕ) (r : Reached) (f : ℕ → ℕ) → above x N (on_reached r (λ y. Ok (record { 0 = f y }))) ≡ on_reached r (λ y. Ok (record { 0 = x + N * f y }))
+above_on x N (Ok y) f = refl
+above_on x N (Err r) f = refl
 
-on_same : (r : Reached) {f g : ℕ → ℕ} → ((y : ℕ) → f y ≡ g y) → on_reached r (λ y. Element (record { 0 = f y })) ≡ on_reached r (λ y. Element (record { 0 = g y }))
-on_same (Element y) q = ap (λ (z : ℕ). Element (record { 0 = z })) (q y.0)
-on_same (Refused r) q = refl
+on_same : (r : Reached) {f g : ℕ → ℕ} → ((y : ℕ) → f y ≡ g y) → on_reached r (λ y. Ok (record { 0 = f y })) ≡ on_reached r (λ y. Ok (record { 0 = g y }))
+on_same (Ok y) q = ap (λ (z : ℕ). Ok (record { 0 = z })) (q y.0)
+on_same (Err r) q = refl
 
 replace_first : (N : ℕ) (Ns : List ℕ) (e y : ℕ) → y + N * (e / N) ≡ replace (N ∷ Ns) zero e y
 replace_first N Ns e y = simp (div-one, mul-one) (omega (arith, mod-add-div e N))
@@ -37,7 +37,7 @@ replace_on N Ns f e y h k =
 
 module _ (t : List ℕ) (h : Factor) (hs : List Factor) (e x : ℕ) where
   steps_here : x < h.generators → step_in t (h ∷ hs) e x
-      ≡ on_reached (read_step (stretch t h) h.generators h.elements (e % h.elements) x) (λ y. Element (record { 0 = y + h.elements * (e / h.elements) }))
+      ≡ on_reached (read_step (stretch t h) h.generators h.elements (e % h.elements) x) (λ y. Ok (record { 0 = y + h.elements * (e / h.elements) }))
   unfolding step_in
   steps_here k = simp (lt-ltb _ _ k)
 
@@ -51,15 +51,15 @@ pub steps_found : (t : List ℕ) (hs : List Factor) (f e x : ℕ) → f < length
     → step_in t hs e x
     ≡ on_reached
     (read_step (stretch t (get_or hs f no_factor)) (get_or hs f no_factor).generators (get_or hs f no_factor).elements (project (sizes hs) f e) (x - generators_of (take f hs)))
-    (λ y. Element (record { 0 = replace (sizes hs) f e y }))
+    (λ y. Ok (record { 0 = replace (sizes hs) f e y }))
 steps_found t [] f e x l k a b = absurd (omega arith)
 steps_found t (h ∷ hs) zero e x l k a b =
     let z : x ≡ x - 0 = omega arith in
     let d : e % h.elements ≡ e / 1 % h.elements = rw div-one in
     steps_here t h hs e x (omega (arith, b))
     ∙ on_same (read_step (stretch t h) h.generators h.elements (e % h.elements) x) (λ y. replace_first h.elements (sizes hs) e y)
-    ∙ ap (λ (v : ℕ). on_reached (read_step (stretch t h) h.generators h.elements v x) (λ y. Element (record { 0 = replace (sizes (h ∷ hs)) zero e y }))) d
-    ∙ ap (λ (v : ℕ). on_reached (read_step (stretch t h) h.generators h.elements (e / 1 % h.elements) v) (λ y. Element (record { 0 = replace (sizes (h ∷ hs)) zero e y }))) z
+    ∙ ap (λ (v : ℕ). on_reached (read_step (stretch t h) h.generators h.elements v x) (λ y. Ok (record { 0 = replace (sizes (h ∷ hs)) zero e y }))) d
+    ∙ ap (λ (v : ℕ). on_reached (read_step (stretch t h) h.generators h.elements (e / 1 % h.elements) v) (λ y. Ok (record { 0 = replace (sizes (h ∷ hs)) zero e y }))) z
 steps_found t (h ∷ hs) (suc f) e x l k a b =
     let N : ℕ = h.elements in
     let i : Factor = get_or hs f no_factor in
@@ -72,8 +72,8 @@ steps_found t (h ∷ hs) (suc f) e x l k a b =
     ∙ ap (above (e % N) N) (steps_found t hs f (e / N) (x - h.generators) m (high_small N (elements_of hs) e k) (omega (arith, a)) (omega (arith, a, b)))
     ∙ above_on (e % N) N (read_step (stretch t i) i.generators i.elements (project (sizes hs) f (e / N)) (x - h.generators - G)) (replace (sizes hs) f (e / N))
     ∙ on_same (read_step (stretch t i) i.generators i.elements (project (sizes hs) f (e / N)) (x - h.generators - G)) (λ y. replace_on N (sizes hs) f e y o k)
-    ∙ ap (λ (w : ℕ). on_reached (read_step (stretch t i) i.generators i.elements w (x - h.generators - G)) (λ y. Element (record { 0 = replace (sizes (h ∷ hs)) (suc f) e y }))) v
-    ∙ ap (λ (w : ℕ). on_reached (read_step (stretch t i) i.generators i.elements (project (sizes (h ∷ hs)) (suc f) e) w) (λ y. Element (record { 0 = replace (sizes (h ∷ hs)) (suc f) e y }))) u
+    ∙ ap (λ (w : ℕ). on_reached (read_step (stretch t i) i.generators i.elements w (x - h.generators - G)) (λ y. Ok (record { 0 = replace (sizes (h ∷ hs)) (suc f) e y }))) v
+    ∙ ap (λ (w : ℕ). on_reached (read_step (stretch t i) i.generators i.elements (project (sizes (h ∷ hs)) (suc f) e) w) (λ y. Ok (record { 0 = replace (sizes (h ∷ hs)) (suc f) e y }))) u
 
 -- The generators of one more factor.
 pub taken_next : (hs : List Factor) (f : ℕ) → f < length hs → generators_of (take (suc f) hs) ≡ generators_of (take f hs) + (get_or hs f no_factor).generators

@@ -3,10 +3,8 @@
 use Rattle.std.specs.Prelude.{ℕ, ◌+◌, ◌≤◌, ◌<◌, ◌≡◌, true, List, [], ◌∷◌, leb, length, get_or, take}
 use Rattle.egg.specs.declared.Factor.{Factor}
 use Rattle.egg.specs.declared.GroupElementId.{GroupElementId}
-use Rattle.egg.specs.declared.Verdict.{Verdict}
-use Rattle.egg.specs.declared.Verdict.TheVariants.{Fine}
-use Rattle.egg.specs.declared.Reached.{Reached}
-use Rattle.egg.specs.declared.Reached.TheVariants.{Element}
+use Rattle.egg.specs.Answers.{Reached, Verdict, fine}
+use Rattle.std.specs.Prelude.{Ok}
 use Rattle.egg.specs.Table.{pick}
 use Rattle.egg.specs.Scan.{refused_of, and_then}
 use Rattle.egg.specs.Answers.{on_reached, if_reach}
@@ -18,7 +16,7 @@ use Rattle.group_digits.specs.Digits.{step_in}
 
 -- The steps one after another, from e along the word. The first refusal stands.
 unfoldable pub follows : List ℕ → List Factor → ℕ → List ℕ → Reached
-follows t hs e [] = Element (record { 0 = e })
+follows t hs e [] = Ok (record { 0 = e })
 follows t hs e (x ∷ w) = on_reached (step_in t hs e x) (λ y. follows t hs y w)
 
 -- The refusals before anything is read in a table. The start of the walk is the argument at position 0, and the letters come after it.
@@ -27,7 +25,7 @@ admits_walk len g e w =
     pick (all_fit len (handles g))
     (pick (leb (elements_of (handles g)) e) (refused_of 14 0 0 0)
     (and_then (letters_right (generators_of (handles g)) w)
-    (pick (limited g) Fine (refused_of 15 0 0 0))))
+    (pick (limited g) fine (refused_of 15 0 0 0))))
     (refused_of 17 0 0 0)
 
 -- What `walk` answers: where the steps one after another lead. An empty word ends where it starts.
@@ -38,7 +36,7 @@ walk_answer t g e w = if_reach (admits_walk (length t) g e.0 w) (follows t (hand
 pub record Walkable (len : ℕ) (g : Group) (e : ℕ) (w : List ℕ) : Type 0 where
   pub fits : all_fit len (handles g) ≡ true
   pub start : e < elements_of (handles g)
-  pub letters : letters_right (generators_of (handles g)) w ≡ Fine
+  pub letters : letters_right (generators_of (handles g)) w ≡ fine
   pub within : limited g ≡ true
 
 -- The factor at place `at` has the generator x, and `before` generators come before its own.

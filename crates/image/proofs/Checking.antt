@@ -1,6 +1,7 @@
 -- Laws of the check of an image: one for each answer.
 use Prim.Native.Nat.{ℕ, zero, suc, ◌+◌, ◌*◌, ◌-◌, ◌/◌, ◌≤◌, ◌<◌}
-use mathlib.Core.Path.{◌≡◌, sym, ap, ◌∙◌}
+use mathlib.Core.Path.{◌≡◌, refl, sym, ap, ◌∙◌}
+use mathlib.Core.Bool.{Bool, true, false}
 use mathlib.Core.List.{List, ◌++◌}
 use native.Mathlib.Nat.{mul-le-mul, le_refl}
 use native.Mathlib.Omega.{arith}
@@ -9,7 +10,7 @@ use borrow.Rule.Slice.PartMut.{mid_of}
 use lib.Dec.{ltb, eqb}
 use lib.ListN.{length, take, drop, replicate, length-drop, length-replicate}
 use lib.Seq.{length-take-le}
-use Rattle.egg.specs.declared.Verdict.{Verdict}
+use Rattle.egg.specs.Answers.{Verdict, fine}
 use Rattle.egg.specs.Scan.{refused_of}
 use Rattle.egg.specs.Table.{pick}
 use Rattle.build_lending.specs.Lending.{table_need, work_need}
@@ -18,10 +19,9 @@ use Rattle.image_cells.proofs.Laws.{cells_length}
 use Rattle.image_check.specs.Short.{SomeWork, verdict_number, judged}
 use Rattle.image_check.proofs.Parts.{rest_lent, front_drop, front_count}
 use Rattle.image_check_laws.proofs.Short.{judged_is_ruled, pick_number, ruled_number}
-use Rattle.image.specs.Image.{head_generators, head_elements, head_number, bytes_need, image_number, image_work}
-use Rattle.image.specs.Read.{head_place}
+use Rattle.image.specs.Image.{head_generators, head_elements, head_number, head_place, bytes_need, image_number, image_work}
 use Rattle.image.specs.Checked.{image_verdict}
-use Rattle.image.proofs.Heads.{HeadRight, right_head}
+use Rattle.image.proofs.Heads.{HeadRight, right_head, answer_number}
 
 -- A number is at most its square; so the bytes are enough for the table and a cell for each element.
 self_square : (n : ℕ) → n ≤ n * n
@@ -101,10 +101,14 @@ module _ (l w : List ℕ) {h : ℕ} (qh : h ≡ head_number l) where
           simp (eq-eqb _ _ e, le-ltb _ _ f) (rw (front_drop w need lent p k, d, same_need))
 
 -- The number of the verdict is the check's number.
+told_by : (b : Bool) (v w : Verdict) (k : ℕ) → verdict_number (pick b fine v) ≡ k → verdict_number (pick b w v) ≡ pick b (verdict_number w) k
+told_by true v w k e = refl
+told_by false v w k e = e
+
 pub verdict_number_lem : (l : List ℕ) (size : ℕ) → verdict_number (image_verdict l size) ≡ image_number l size
 unfolding image_verdict image_number
 verdict_number_lem l size =
-    pick_number (eqb (head_number l) 0) _ _
+    told_by (eqb (head_number l) 0) (refused_of (head_number l) (head_place l) 0 0) _ (head_number l) (answer_number l)
     ∙ ap (λ (x : ℕ). pick (eqb (head_number l) 0) x (head_number l))
     (pick_number (ltb size (bytes_need (head_generators l) (head_elements l))) _ _
     ∙ ap (λ (x : ℕ). pick (ltb size (bytes_need (head_generators l) (head_elements l))) 4 x) (ruled_number _ _ _ _ _))

@@ -1,15 +1,23 @@
 -- Laws of an image's head: one for each answer, and what holds where it is right.
 use Prim.Native.Nat.{ℕ, ◌+◌, ◌*◌, ◌≤◌, ◌<◌}
-use mathlib.Core.Path.{◌≡◌, refl}
+use mathlib.Core.Path.{◌≡◌, refl, sym, ap}
 use mathlib.Core.Bool.{Bool, true, false}
 use mathlib.Core.List.{List}
 use native.Mathlib.Nat.{mul-le-mul, lt_of_le_of_lt, le_of_lt}
 use native.Mathlib.Omega.{arith}
-use borrow.Author.Tests.{eq-eqb, ne_eqb, lt-ltb, le-ltb, ltb-false, eqb-false}
+use borrow.Author.Tests.{eq-eqb, ne_eqb, lt-ltb, le-ltb, ltb-false, eqb-true, eqb-false}
 use lib.Dec.{ltb, eqb, lit<}
 use lib.ListN.{length, get_or}
+use Rattle.egg.specs.declared.Refusal.{Refusal}
+use Rattle.egg.specs.declared.Refusal.TheVariants as refusal
+use Rattle.egg.specs.Answers.{Verdict, fine}
+use Rattle.egg.specs.Refusals.{refusal_paper, numbered}
+use Rattle.egg.specs.Scan.{refused_of}
 use Rattle.egg.specs.Table.{pick}
-use Rattle.image.specs.Image.{head_length, head_generators, head_elements, head_number}
+use Rattle.egg.proofs.Scans.{refused_fine}
+use Rattle.std.specs.Prelude.{Ok, Err}
+use Rattle.image_check.specs.Short.{verdict_number}
+use Rattle.image.specs.Image.{head_length, head_generators, head_elements, head_number, head_place, head_answer}
 
 -- A product of a 32-bit number and one of 22 bits fits.
 pub product_fits : (a b : ℕ) → a < 4294967296 → b < 4194304 → a * b < 18014398509481985
@@ -101,3 +109,70 @@ head_limit l =
     (pick_below (eqb (head_elements l) 0) a (pick_below (eqb (head_length l) (4 + 2 * head_generators l * head_elements l)) z a)))
     a)
     a)
+
+-- What the check of the head answers, by the head's number.
+module _ (l : List ℕ) where
+  pub malformed_answer : 16 ≡ head_number l → Err refusal.ImageMalformed ≡ head_answer l
+  malformed_answer q = rw (← q) refl
+
+  pub many_answer : 1 ≡ head_number l → Err (refusal.TooManyGenerators (head_generators l)) ≡ head_answer l
+  many_answer q = rw (← q) refl
+
+  pub right_answer : 0 ≡ head_number l → fine ≡ head_answer l
+  right_answer q = rw (← q) refl
+
+-- And the head's number, by that answer.
+answered_fine : (b : Bool) (r : Refusal) → pick b fine (Err r) ≡ fine → b ≡ true
+answered_fine true r e = refl
+answered_fine false r e = absurd (refused_fine e)
+
+abbrev why_of : Refusal → Verdict → Refusal
+why_of d (Ok _) = d
+why_of d (Err r) = r
+
+answered_refused : (b : Bool) (r s : Refusal) → pick b fine (Err r) ≡ Err s → (b ≡ false) × (s ≡ r)
+answered_refused true r s e = absurd (refused_fine (sym e))
+answered_refused false r s e = (refl, sym (ap (why_of r) e))
+
+pub right_number : (l : List ℕ) → head_answer l ≡ fine → 0 ≡ head_number l
+right_number l e = sym (eqb-true (head_number l) 0 (answered_fine (eqb (head_number l) 0) (numbered (head_number l) (head_place l) 0 0) e))
+
+pub bad_answer : (l : List ℕ) {r : Refusal} → head_answer l ≡ Err r → (head_number l ≡ 0 → ⊥) × (r ≡ numbered (head_number l) (head_place l) 0 0)
+bad_answer l {r} e = let b = answered_refused (eqb (head_number l) 0) (numbered (head_number l) (head_place l) 0 0) r e in (eqb-false (head_number l) 0 b.0, b.1)
+
+-- A refusal by a number has that number.
+record Told (k : ℕ) : Type 0 where
+  told : (a : ℕ) → verdict_number (pick (eqb k 0) fine (refused_of k a 0 0)) ≡ k
+
+either_told : (b : Bool) {x y : ℕ} → Told x → Told y → Told (pick b x y)
+either_told true p q = p
+either_told false p q = q
+
+head_told : (l : List ℕ) → Told (head_number l)
+unfolding head_number
+head_told l =
+    either_told (ltb (length l) 8) malformed
+    (either_told (eqb (head_length l + 4) (length l))
+    (either_told (eqb (get_or l 4 0) 1)
+    (either_told (ltb 8 (head_generators l)) many
+    (either_told (eqb (head_elements l) 0) malformed
+    (either_told (eqb (head_length l) (4 + 2 * head_generators l * head_elements l)) none malformed)))
+    malformed)
+    malformed) where
+      malformed : Told 16
+      malformed = record { told = λ a. refl }
+
+      many : Told 1
+      many = record { told = λ a. refl }
+
+      none : Told 0
+      none = record { told = λ a. refl }
+
+pub answer_number : (l : List ℕ) → verdict_number (head_answer l) ≡ head_number l
+answer_number l = (head_told l).told (head_place l)
+
+pub bad_number : (l : List ℕ) → (head_number l ≡ 0 → ⊥) → (refusal_paper (numbered (head_number l) (head_place l) 0 0)).number ≡ head_number l
+bad_number l d = simp (ne_eqb _ _ d) at (answer_number l)
+
+pub refused_number : (l : List ℕ) {r : Refusal} → head_answer l ≡ Err r → (refusal_paper r).number ≡ head_number l
+refused_number l e = rw e at (answer_number l)

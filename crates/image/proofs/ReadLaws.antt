@@ -6,22 +6,16 @@ use mathlib.Core.List.{List, ◌++◌}
 use borrow.Author.Tests.{eq-eqb, ne_eqb}
 use borrow.Rule.Slice.PartMut.{mid_of, put_mid}
 use lib.ListN.{length, take, drop}
-use Rattle.egg.specs.declared.Made.{Made}
-use Rattle.egg.specs.declared.Counted.{Counted}
+use Rattle.egg.specs.Answers.{Counted, Made}
 use Rattle.build_lending.specs.Finish.{built}
 use Rattle.build_lending.specs.Lending.{table_need, work_need, lent_right, StretchEnd, refused_made, made_of, making}
 use Rattle.build_lending.proofs.Lending.{part_length, build_back}
 use Rattle.image_cells.specs.Cells.{halves}
 use Rattle.image_check.proofs.Parts.{rest_lent}
-use Rattle.image.specs.Image.{head_generators, head_elements, head_number}
+use Rattle.image.specs.Image.{head_generators, head_elements, head_number, head_place}
 use Rattle.image_reading.specs.Read.{image_in}
-use Rattle.image.specs.Read.{head_place, read_image}
+use Rattle.image.specs.Read.{read_image}
 use Rattle.image.proofs.Heads.{right_head}
-
--- The place of a bad head.
-module _ (l : List ℕ) {h : ℕ} (qh : h ≡ head_number l) where
-  pub place_none : (h ≡ 1 → ⊥) → 0 ≡ head_place l
-  place_none d = let e : head_number l ≡ 1 → ⊥ = λ z. d (qh ∙ z) in simp (ne_eqb _ _ e)
 
 pub whole_image : (l : List ℕ) {h : ℕ} → h ≡ head_number l → h ≡ 0 → 8 ≤ length l
 whole_image l qh z = (right_head l (sym qh ∙ z)).whole

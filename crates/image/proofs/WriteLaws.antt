@@ -5,14 +5,13 @@ use mathlib.Core.List.{List}
 use native.Mathlib.Nat.{mul-le-mul}
 use native.Mathlib.Omega.{arith}
 use Rattle.egg.specs.declared.Refusal.{Refusal}
-use Rattle.egg.specs.declared.Verdict.TheVariants as verdict
+use Rattle.egg.specs.Answers.{Counted, Verdict, fine}
+use Rattle.egg.specs.Refusals.{numbered}
+use Rattle.std.specs.Prelude.{Ok, Err}
 use mathlib.Core.Bool.{true, false}
 use borrow.Author.Tests.{lt-ltb, le-ltb}
 use lib.ListN.{length}
 use Rattle.egg.specs.declared.Factor.{Factor}
-use Rattle.egg.specs.declared.Verdict.{Verdict}
-use Rattle.egg.specs.declared.Counted.{Counted}
-use Rattle.egg.specs.declared.Counted.TheVariants.{Count, Refused}
 use Rattle.egg.specs.Table.{step_of}
 use Rattle.egg.specs.Factor.{fits_in, stretch}
 use Rattle.image_writing.specs.Written.{all_known, image_size, put_rows, put_head}
@@ -32,13 +31,13 @@ module _ (t : List ℕ) (f : Factor) (out : List ℕ) where
   unfolding written_image
   by_count q e = (q, e ∙ rw q)
 
-  pub write_handle : fits_in (length t) f ≡ false → {r : Counted} → r ≡ Refused (record { number = 17; a = 0; b = 0; c = 0 })
+  pub write_handle : fits_in (length t) f ≡ false → {r : Counted} → r ≡ Err (numbered 17 0 0 0)
       → (r ≡ write_count t f (length out)) × (out ≡ written_image t f out)
   unfolding write_count
   write_handle h e = by_count (e ∙ rw h) (rw e)
 
   module _ (fits : fits_in (length t) f ≡ true) {need : ℕ} (qs : need ≡ image_size f.generators f.elements) where
-    pub write_short : length out < need → {r : Counted} → r ≡ Refused (record { number = 4; a = 0; b = 0; c = 0 })
+    pub write_short : length out < need → {r : Counted} → r ≡ Err (numbered 4 0 0 0)
         → (r ≡ write_count t f (length out)) × (out ≡ written_image t f out)
     unfolding write_count
     write_short h e =
@@ -46,16 +45,16 @@ module _ (t : List ℕ) (f : Factor) (out : List ℕ) where
         by_count (e ∙ rw fits (simp (lt-ltb _ _ k))) (rw e)
 
     module _ (h : need ≤ length out) {v : Verdict} (q : v ≡ all_known (stretch t f) f.generators f.elements) where
-      pub write_unknown : {r : Refusal} → v ≡ verdict.Refused r
-          → (Refused r ≡ write_count t f (length out)) × (out ≡ written_image t f out)
+      pub write_unknown : {r : Refusal} → v ≡ Err r
+          → (Err r ≡ write_count t f (length out)) × (out ≡ written_image t f out)
       unfolding write_count
       write_unknown e =
           let k : image_size f.generators f.elements ≤ length out = rw qs at h in
           by_count (rw fits (simp (le-ltb _ _ k) (rw (← q, e)))) refl
 
-      pub write_done : {a b : List ℕ} → v ≡ verdict.Fine → a ≡ put_head (need - 4) f.generators f.elements out
+      pub write_done : {a b : List ℕ} → v ≡ fine → a ≡ put_head (need - 4) f.generators f.elements out
           → b ≡ put_rows f.elements (step_of (stretch t f) f.generators) f.generators 0 a
-          → (Count need ≡ write_count t f (length out)) × (b ≡ written_image t f out)
+          → (Ok need ≡ write_count t f (length out)) × (b ≡ written_image t f out)
       unfolding write_count
       write_done {a} {b} e pa pb =
           let k : image_size f.generators f.elements ≤ length out = rw qs at h in

@@ -1,16 +1,14 @@
 -- This file defines the check's verdict, its number with the three places, and what an image's head alone tells of the check.
 use Rattle.std.specs.Prelude.{ℕ, List, ◌&&◌, drop, replicate, ltb, eqb}
-use Rattle.egg.specs.declared.Verdict.{Verdict}
-use Rattle.egg.specs.declared.Counted.{Counted}
-use Rattle.egg.specs.declared.Counted.TheVariants.{Count, Refused}
+use Rattle.egg.specs.Answers.{Counted, Verdict}
+use Rattle.std.specs.Prelude.{Ok, Err}
 use Rattle.egg.specs.Answers.{numbered}
 use Rattle.egg.specs.Scan.{refused_of}
 use Rattle.egg.specs.Table.{pick}
 use Rattle.build_lending.specs.Lending.{table_need, work_need}
 use Rattle.image_cells.specs.Cells.{halves}
 use Rattle.image_check.specs.Short.{ruled}
-use Rattle.image.specs.Image.{head_generators, head_elements, head_number, bytes_need}
-use Rattle.image.specs.Read.{head_place}
+use Rattle.image.specs.Image.{head_generators, head_elements, head_number, head_place, bytes_need}
 
 -- The check's verdict, where `size` bytes of work are lent: `image_number` with the places, "Each carries three places, zero where none is listed."
 unfoldable pub image_verdict : List ℕ → ℕ → Verdict
@@ -26,5 +24,5 @@ image_verdict l size =
 unfoldable pub image_need : List ℕ → Counted
 image_need l =
     pick (eqb (head_number l) 0)
-    (pick (eqb (head_generators l) 0 && ltb 1 (head_elements l)) (Refused (numbered 16 0 0 0)) (Count (bytes_need (head_generators l) (head_elements l))))
-    (Refused (numbered (head_number l) (head_place l) 0 0))
+    (pick (eqb (head_generators l) 0 && ltb 1 (head_elements l)) (Err (numbered 16 0 0 0)) (Ok (bytes_need (head_generators l) (head_elements l))))
+    (Err (numbered (head_number l) (head_place l) 0 0))

@@ -1,6 +1,8 @@
 -- This file defines a stored image and the answer of its check. Document 01: "Four bytes, big-endian, the length of what follows; version byte 1; n
 -- in one byte; element count N in two; then the successors, two bytes each, by element and then generator. Length is 4 + 2nN."
 use Rattle.std.specs.Prelude.{ℕ, ◌+◌, ◌*◌, ◌<◌, ◌≡◌, List, ◌++◌, length, get_or, drop, replicate, ltb, eqb}
+use Rattle.egg.specs.Answers.{Verdict, fine}
+use Rattle.egg.specs.Scan.{refused_of}
 use Rattle.egg.specs.Table.{pick}
 use Rattle.build_lending.specs.Lending.{table_need, work_need}
 use Rattle.image_cells.specs.Cells.{spell2, spell4, halves}
@@ -29,6 +31,14 @@ head_number l =
     (pick (eqb (head_elements l) 0) 16 (pick (eqb (head_length l) (4 + 2 * head_generators l * head_elements l)) 0 16)))
     16)
     16)
+
+-- The place of a bad head's refusal: for 1, "more than 8 generators", it is "the count"; for 16 there is none.
+abbrev pub head_place : List ℕ → ℕ
+head_place l = pick (eqb (head_number l) 1) (head_generators l) 0
+
+-- What the check of the head answers: the refusal with that number and place, where there is one.
+abbrev pub head_answer : List ℕ → Verdict
+head_answer l = pick (eqb (head_number l) 0) fine (refused_of (head_number l) (head_place l) 0 0)
 
 -- How many bytes of work the check needs: "lent byte work of N(32n²+100) bytes".
 abbrev pub bytes_need : ℕ → ℕ → ℕ

@@ -4,12 +4,8 @@ use Rattle.std.specs.Prelude.{ℕ, List, length, drop, take, eqb}
 use Rattle.egg.specs.Table.{pick}
 use Rattle.build_lending.specs.Lending.{table_need, work_need, lent_right, refused_made, Making, making, lent_back}
 use Rattle.image_cells.specs.Cells.{halves}
-use Rattle.image.specs.Image.{head_generators, head_elements, head_number}
+use Rattle.image.specs.Image.{head_generators, head_elements, head_number, head_place}
 use Rattle.image_reading.specs.Read.{image_in}
-
--- The place of a bad head's refusal: for 1, "more than 8 generators", it is "the count"; for 16 there is none.
-abbrev pub head_place : List ℕ → ℕ
-head_place l = pick (eqb (head_number l) 1) (head_generators l) 0
 
 -- What `read` answers and leaves in its buffers. Refuses, with these as they were, the head's 16 or 1, then 4; else builds with room N.
 unfoldable pub read_image : List ℕ → List ℕ → ℕ → List ℕ → Making

@@ -6,13 +6,12 @@ ghost use Rattle.std.specs.Prelude.{◌≡◌, ◌*◌, ◌≤◌, length, ltb, 
 ghost use Rattle.build_lending.specs.Lending.{table_need, Making};
 ghost use Rattle.image_writing.specs.Written.{image_size};
 ghost use Rattle.image.specs.Written.{write_count, written_image};
-ghost use Rattle.image.specs.Read.{head_place, read_image};
+ghost use Rattle.image.specs.Read.{read_image};
 ghost use Rattle.image.specs.Walked.{walk_number};
 ghost use Rattle.image.specs.Checked.{image_verdict, image_need};
-ghost use Rattle.image_check.specs.Short.{verdict_number};
-ghost use Rattle.image.specs.Image.{head_length, head_generators, head_elements, head_number, bytes_need, image_number, image_work, ReadBelow};
+ghost use Rattle.image.specs.Image.{head_length, head_generators, head_elements, head_answer, bytes_need, image_number, image_work, ReadBelow};
 
-use egg::{Counted, Factor, GroupElementId, Made, Refusal, Verdict};
+use egg::{Factor, GroupElementId, Refusal};
 
 // The length of what follows, as the head says it.
 fn said_length(image: &[u8]) -> u32
@@ -37,38 +36,36 @@ pub fn generators(image: &[u8]) -> u8
 pub fn elements(image: &[u8]) -> u32
     ensures { ReadBelow result (head_elements image.now) 65536 }
 {
-    let a = egg::inner::byte(image, 6);
-    let b = egg::inner::byte(image, 7);
-    image_cells::inner::spell_half(a, b)
+    image_cells::inner::spell_half(egg::inner::byte(image, 6), egg::inner::byte(image, 7))
 }
 
-// Answers the number of the first refusal that the head gives, or 0: 16 for a wrong size, length or version, 1 for more than 8 generators, 16 for no
-// elements or a length other than 4 + 2nN.
-pub fn head(image: &[u8]) -> u32
-    ensures { result ≡ head_number image.now }
+// Refuses what the head alone decides, in this order: 16 for a wrong size, length or version, 1 for more than 8 generators, 16 for no elements or a
+// length other than 4 + 2nN.
+pub fn head(image: &[u8]) -> Result<(), Refusal>
+    ensures { result ≡ head_answer image.now }
 {
     if image.len() < 8 {
-        return 16;
+        return Err(Refusal::ImageMalformed);
     }
     let length = said_length(image) as usize;
     if length + 4 != image.len() {
-        return 16;
+        return Err(Refusal::ImageMalformed);
     }
     if egg::inner::byte(image, 4) != 1 {
-        return 16;
+        return Err(Refusal::ImageMalformed);
     }
     let n = generators(image);
     if 8 < n {
-        return 1;
+        return Err(Refusal::TooManyGenerators(n as u32));
     }
     let count = elements(image);
     if count == 0 {
-        return 16;
+        return Err(Refusal::ImageMalformed);
     }
     if length != 4 + 2 * (n as usize) * (count as usize) {
-        return 16;
+        return Err(Refusal::ImageMalformed);
     }
-    0
+    Ok(())
 }
 
 // How many of the lent bytes, from the front on, are the table of the build: four for each number.
@@ -86,61 +83,38 @@ pub fn bytes_need(n: u8, count: u32) -> usize
     (count as usize) * (32 * m * m + 100)
 }
 
-// The place of a bad head: the count of generators for 1, and none for 16.
-fn head_place(image: &[u8], found: u32) -> u32
-    requires { found ≡ head_number image.now }
-    ensures { result ≡ head_place image.now }
-{
-    if found == 1 {
-        generators(image) as u32
-    } else {
-        0
-    }
-}
-
 // True where there is no generator and more than one element, which cannot be reached then.
 fn out_of_reach(n: u8, count: u32) -> bool
     ensures { result ≡ (eqb n 0 && ltb 1 count) }
 {
-    if n == 0 { 1 < count } else { false }
+    n == 0 && 1 < count
 }
 
 // Answers how many bytes of work the check of an image needs. Refuses what the head alone decides, and what no work that is long enough can change: 16
 // or 1 for the head, then 16 where there is no generator and more than one element.
-pub fn need(image: &[u8]) -> Counted
+pub fn need(image: &[u8]) -> Result<u32, Refusal>
     ensures { result ≡ image_need image.now }
 {
-    let found = head(image);
-    if found != 0 {
-        return Counted::Refused(Refusal {
-            number: found,
-            a: head_place(image, found),
-            b: 0,
-            c: 0,
-        });
-    }
+    head(image)?;
     let n = generators(image);
     let count = elements(image);
     if out_of_reach(n, count) {
-        return egg::inner::refused_count(16);
+        return Err(Refusal::ImageMalformed);
     }
-    Counted::Count(bytes_need(n, count) as u32)
+    Ok(bytes_need(n, count) as u32)
 }
 
 // Checks an image in lent bytes. Refuses in this order: 16 or 1 for the head, 4 for short work, 7, 5 or 6 while it reads, 16 for fewer elements than
 // the head says, then 8 to 12; with the places that `read` gives.
-pub fn verdict(image: &[u8], work: &mut [u8]) -> Verdict
+pub fn verdict(image: &[u8], work: &mut [u8]) -> Result<(), Refusal>
     ensures { (result ≡ image_verdict image.now (length work.old)) × (work.new ≡ image_work image.now work.old) }
 {
-    let found = head(image);
-    if found != 0 {
-        return egg::inner::refused(found, head_place(image, found), 0, 0);
-    }
+    head(image)?;
     let n = generators(image);
     let count = elements(image);
     let need = bytes_need(n, count);
     if work.len() < need {
-        return egg::inner::refused(4, 0, 0, 0);
+        return Err(Refusal::TooShort);
     }
     let v = image_check::inner::judge(
         &mut work[..need],
@@ -153,21 +127,14 @@ pub fn verdict(image: &[u8], work: &mut [u8]) -> Verdict
     v
 }
 
-// The number of a verdict's refusal, or 0.
-fn number(v: Verdict) -> u32
-    ensures { result ≡ verdict_number v }
-{
-    match v {
-        Verdict::Fine => 0,
-        Verdict::Refused(why) => why.number,
-    }
-}
-
 // Checks an image in lent bytes and answers the number of its verdict: the refusal's, or 0 where a group has its table.
 pub fn check(image: &[u8], work: &mut [u8]) -> u32
     ensures { (result ≡ image_number image.now (length work.old)) × (work.new ≡ image_work image.now work.old) }
 {
-    number(verdict(image, work))
+    match verdict(image, work) {
+        Ok(()) => 0,
+        Err(why) => why.number(),
+    }
 }
 
 // How long the image of a factor is.
@@ -180,42 +147,40 @@ fn size(n: u8, count: u32) -> u32
 
 // Writes the image of a factor to the start of a lent byte buffer and answers its length. Refuses in this order: 17 for a handle that does not fit, 4
 // for a short buffer, 17 for a step that is missing or out of range.
-pub fn write(table: &[u32], f: Factor, out: &mut [u8]) -> Counted
+pub fn write(table: &[u32], f: Factor, out: &mut [u8]) -> Result<u32, Refusal>
     ensures { (result ≡ write_count table.now f (length out.old)) × (out.new ≡ written_image table.now f out.old) }
 {
     if !egg::fits(table, f) {
-        return egg::inner::refused_count(17);
+        return Err(Refusal::Unreadable);
     }
     let n = f.generators;
     let count = f.elements;
     let need = size(n, count);
     if out.len() < (need as usize) {
-        return egg::inner::refused_count(4);
+        return Err(Refusal::TooShort);
     }
     let s = egg::inner::part(table, f);
-    match image_writing::inner::all_known(s, n, count) {
-        Verdict::Refused(why) => Counted::Refused(why),
-        Verdict::Fine => {
-            image_writing::inner::put_head(out, need - 4, n, count);
-            image_writing::inner::put_rows(out, s, n, count);
-            Counted::Count(need)
-        }
-    }
+    image_writing::inner::all_known(s, n, count)?;
+    image_writing::inner::put_head(out, need - 4, n, count);
+    image_writing::inner::put_rows(out, s, n, count);
+    Ok(need)
 }
 
 // Builds the factor that an image stores into the stretch of `table` that starts at `start`. Refuses as `check` does, with the places; 4 is for a
 // short table or work.
-pub fn read(image: &[u8], table: &mut [u32], start: usize, work: &mut [u32]) -> Made
+pub fn read(
+    image: &[u8],
+    table: &mut [u32],
+    start: usize,
+    work: &mut [u32],
+) -> Result<Factor, Refusal>
     ensures { Making.making result table.new work.new ≡ read_image image.now table.old start work.old }
 {
-    let found = head(image);
-    if found != 0 {
-        return build_lending::inner::refused_made(found, head_place(image, found));
-    }
+    head(image)?;
     let n = generators(image);
     let count = elements(image);
     if !build_lending::inner::lent_right(table.len(), start, work.len(), count, n) {
-        return build_lending::inner::refused_made(4, 0);
+        return Err(Refusal::TooShort);
     }
     let end = build_lending::inner::stretch_end(table.len(), start, count, n);
     let need = build_lending::inner::work_need(n, count);
@@ -234,14 +199,12 @@ pub fn read(image: &[u8], table: &mut [u32], start: usize, work: &mut [u32]) -> 
 pub fn walk(image: &[u8], start: GroupElementId, word: &[u8]) -> u32
     ensures { result ≡ walk_number image.now start.0 word.now }
 {
-    let found = head(image);
-    if found != 0 {
-        return 65536 + found;
+    if let Err(why) = head(image) {
+        return 65536 + why.number();
     }
     let n = generators(image);
     let count = elements(image);
-    let from = start.0;
-    if count <= from {
+    if count <= start.0 {
         return 65550;
     }
     if !image_walk::inner::letters_below(n, word) {

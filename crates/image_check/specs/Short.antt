@@ -2,9 +2,9 @@
 -- successors are there and in range by then, the words spell their elements, and each element has n arrivals where no predecessor is missing, so
 -- these are not tested again.
 use Rattle.std.specs.Prelude.{ℕ, ◌≡◌, List, length, replicate, ltb}
-use Rattle.egg.specs.declared.Verdict.{Verdict}
-use Rattle.egg.specs.declared.Verdict.TheVariants.{Fine, Refused}
-use Rattle.egg.specs.declared.Counted.TheVariants as counted
+use Rattle.egg.specs.Answers.{Verdict}
+use Rattle.egg.specs.Refusals.{refusal_paper}
+use Rattle.std.specs.Prelude.{Ok, Err}
 use Rattle.egg.specs.Table.{pick}
 use Rattle.egg.specs.Scan.{refused_of}
 use Rattle.egg.specs.Factor.{verdict_paper}
@@ -23,8 +23,8 @@ short_table t n count =
 
 -- The check of 12, on a table that has passed the others.
 abbrev pub short_rest : Lefts → List ℕ → ℕ → ℕ → Verdict
-short_rest (left Fine t) w n count = left_verdict (lefts n t n count w 0)
-short_rest (left (Refused r) t) w n count = Refused r
+short_rest (left (Ok _) t) w n count = left_verdict (lefts n t n count w 0)
+short_rest (left (Err r) t) w n count = Err r
 
 -- All of these checks, with the work w.
 unfoldable pub short : List ℕ → List ℕ → ℕ → ℕ → Verdict
@@ -44,13 +44,13 @@ verdict_number v = (verdict_paper v).number
 -- The verdict on what a reading with this room gave: its own refusal, or 16 for fewer elements than the room, which has no places, or what the checks
 -- give then.
 abbrev pub verdict_by : (List ℕ → Verdict) → Placed → ℕ → Verdict
-verdict_by check (placed (counted.Refused r) t) room = Refused r
-verdict_by check (placed (counted.Count c) t) room = pick (ltb c room) (refused_of 16 0 0 0) (check t)
+verdict_by check (placed (Err r) t) room = Err r
+verdict_by check (placed (Ok c) t) room = pick (ltb c room) (refused_of 16 0 0 0) (check t)
 
 -- The number of that verdict.
 abbrev pub number_by : (List ℕ → Verdict) → Placed → ℕ → ℕ
-number_by check (placed (counted.Refused r) t) room = r.number
-number_by check (placed (counted.Count c) t) room = pick (ltb c room) 16 (verdict_number (check t))
+number_by check (placed (Err r) t) room = (refusal_paper r).number
+number_by check (placed (Ok c) t) room = pick (ltb c room) 16 (verdict_number (check t))
 
 -- The verdict by the short checks, after a reading of the rows into a table of `size` cells.
 unfoldable pub judged : (size : ℕ) (w rows : List ℕ) (n room : ℕ) → Verdict

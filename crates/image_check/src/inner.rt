@@ -8,7 +8,7 @@ ghost use Rattle.build_checks_inverses.specs.Hints.{Hint, Hints, inverse_by};
 ghost use Rattle.image_cells.specs.Cells.{cells, halves};
 ghost use Rattle.image_check.specs.Short.{short_table, short, SomeWork, judged};
 
-use egg::{Counted, GeneratorId, GroupElementId, Verdict};
+use egg::{GeneratorId, GroupElementId, Refusal};
 
 pub mod checking;
 
@@ -32,15 +32,13 @@ fn fill_left(b: &mut [u8], at: usize, n: u8, count: u32, s: GeneratorId)
     requires { at ≤ length b.old }
     ensures { (take at b.new ≡ take at b.old) × (cells (drop at b.new) ≡ fill_left count (cells (take at b.old)) n s.0 (cells (drop at b.old)) 0) }
 {
-    let mut x: u32 = 0;
-    while x < count {
-        let y = left_at(&b[..], at, n, s, GroupElementId(x)).0;
+    for x in 0..count {
+        let y = left_at(b, at, n, s, GroupElementId(x)).0;
         put_work(b, at, x as usize, y as usize);
-        x += 1;
     }
 }
 
-fn goes_at(b: &[u8], at: usize, n: u8, count: u32) -> Verdict
+fn goes_at(b: &[u8], at: usize, n: u8, count: u32) -> Result<(), Refusal>
     requires { at ≤ length b.now }
     ensures { result ≡ all_go (cells (take at b.now)) (cells (drop at b.now)) n count }
 {
@@ -48,20 +46,15 @@ fn goes_at(b: &[u8], at: usize, n: u8, count: u32) -> Verdict
 }
 
 // Refuses with 12 where a generator on the left does not commute with every step.
-fn check12(b: &mut [u8], at: usize, n: u8, count: u32) -> Verdict
+fn check12(b: &mut [u8], at: usize, n: u8, count: u32) -> Result<(), Refusal>
     requires { at ≤ length b.old }
     ensures { Lefts.left result (cells (drop at b.new)) ≡ lefts n (cells (take at b.old)) n count (cells (drop at b.old)) 0 }
 {
-    let mut s: u8 = 0;
-    while s < n {
+    for s in 0..n {
         fill_left(b, at, n, count, GeneratorId(s));
-        let v = goes_at(&b[..], at, n, count);
-        let Verdict::Fine = v else {
-            return v;
-        };
-        s += 1;
+        goes_at(b, at, n, count)?;
     }
-    Verdict::Fine
+    Ok(())
 }
 
 // Stores v in cell i of the table.
@@ -84,11 +77,9 @@ fn fill_hints(b: &mut [u8], at: usize, n: u8, count: u32)
     requires { at ≤ length b.old }
     ensures { (take at b.new ≡ take at b.old) × Hints (cells (take at b.old)) (cells (drop at b.new)) n count }
 {
-    let mut e: u32 = 0;
-    while e < count {
-        let h = hint_at(&b[..], at, n, GroupElementId(e));
+    for e in 0..count {
+        let h = hint_at(b, at, n, GroupElementId(e));
         put_work(b, at, e as usize, h as usize);
-        e += 1;
     }
 }
 
@@ -104,16 +95,10 @@ fn fill_inverses(b: &mut [u8], at: usize, n: u8, count: u32)
     requires { (at ≤ length b.old) × Hints (cells (take at b.old)) (cells (drop at b.old)) n count }
     ensures { cells (take at b.new) ≡ fill_inverses count (cells (take at b.old)) n 0 }
 {
-    let mut e: u32 = 0;
-    while e < count {
-        let x = inverted_at(&b[..], at, n, GroupElementId(e)).0;
-        put_table(
-            b,
-            at,
-            egg::inner::inverse_at(n, GroupElementId(e)),
-            x as usize,
-        );
-        e += 1;
+    for e in 0..count {
+        let x = inverted_at(b, at, n, GroupElementId(e)).0;
+        let i = egg::inner::inverse_at(n, GroupElementId(e));
+        put_table(b, at, i, x as usize);
     }
 }
 
@@ -127,51 +112,35 @@ fn write_inverses(b: &mut [u8], at: usize, n: u8, count: u32)
 }
 
 // Checks 8 to 11 on the table, and writes its inverses.
-fn check_table(b: &mut [u8], at: usize, n: u8, count: u32) -> Verdict
+fn check_table(b: &mut [u8], at: usize, n: u8, count: u32) -> Result<(), Refusal>
     requires { at ≤ length b.old }
     ensures { Lefts.left result (cells (take at b.new)) ≡ short_table (cells (take at b.old)) n count }
 {
-    let v = checking::missing(&b[..at], n, count, n);
-    let Verdict::Fine = v else {
-        return v;
-    };
-    let u = checking::wrong(&b[..at], n, count);
-    let Verdict::Fine = u else {
-        return u;
-    };
+    checking::missing(&b[..at], n, count, n)?;
+    checking::wrong(&b[..at], n, count)?;
     write_inverses(b, at, n, count);
-    let i = checking::inverses_right(&b[..at], n, count);
-    let Verdict::Fine = i else {
-        return i;
-    };
+    checking::inverses_right(&b[..at], n, count)?;
     checking::identity_row(&b[..at], n)
 }
 
 // Makes the checks 8 to 12, and hands back the first refusal.
-fn check_all(b: &mut [u8], at: usize, n: u8, count: u32) -> Verdict
+fn check_all(b: &mut [u8], at: usize, n: u8, count: u32) -> Result<(), Refusal>
     requires { at ≤ length b.old }
     ensures { SomeWork (length (cells (drop at b.old))) (λ w. result ≡ short (cells (take at b.old)) w n count) }
 {
-    let v = check_table(b, at, n, count);
-    let Verdict::Fine = v else {
-        return v;
-    };
+    check_table(b, at, n, count)?;
     check12(b, at, n, count)
 }
 
 // Reads the rows into the table and checks it.
-pub fn judge(b: &mut [u8], at: usize, rows: &[u8], n: u8, room: u32) -> Verdict
+pub fn judge(b: &mut [u8], at: usize, rows: &[u8], n: u8, room: u32) -> Result<(), Refusal>
     requires { at ≤ length b.old }
     ensures { SomeWork (length (cells (drop at b.old))) (λ w. result ≡ judged (at / 4) w (halves rows.now) n room) }
 {
     image_cells::inner::clear(&mut b[..at]);
-    match image_check_reading::inner::placing::read_rows(&mut b[..at], rows, n, room) {
-        Counted::Refused(why) => Verdict::Refused(why),
-        Counted::Count(k) => {
-            if k < room {
-                return egg::inner::refused(16, 0, 0, 0);
-            }
-            check_all(b, at, n, room)
-        }
+    let k = image_check_reading::inner::placing::read_rows(&mut b[..at], rows, n, room)?;
+    if k < room {
+        return Err(Refusal::ImageMalformed);
     }
+    check_all(b, at, n, room)
 }

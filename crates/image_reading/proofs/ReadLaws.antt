@@ -5,8 +5,8 @@ use mathlib.Core.List.{List}
 use borrow.Author.Tests.{lt-ltb, le-ltb}
 use lib.ListN.{replicate}
 use Rattle.egg.specs.declared.Refusal.{Refusal}
-use Rattle.egg.specs.declared.Counted.{Counted}
-use Rattle.egg.specs.declared.Counted.TheVariants.{Count, Refused}
+use Rattle.egg.specs.Answers.{Counted}
+use Rattle.std.specs.Prelude.{Ok, Err}
 use Rattle.egg.specs.Answers.{numbered}
 use Rattle.build_lending.specs.Finish.{Built, finished, finished_placed}
 use Rattle.build_reading.specs.Reading.{Placed, placed, read_all, composed_at}
@@ -14,13 +14,13 @@ use Rattle.image_reading.specs.Read.{reached_all, all_placed, image_in}
 
 -- Where a reading gave a refusal, too few, or all.
 module _ (room : ℕ) {c : Counted} where
-  pub all_refused : {r : Refusal} → c ≡ Refused r → Refused r ≡ reached_all room c
+  pub all_refused : {r : Refusal} → c ≡ Err r → Err r ≡ reached_all room c
   all_refused e = rw e
 
-  pub all_fewer : {k : ℕ} → c ≡ Count k → k < room → Refused (numbered 16 0 0 0) ≡ reached_all room c
+  pub all_fewer : {k : ℕ} → c ≡ Ok k → k < room → Err (numbered 16 0 0 0) ≡ reached_all room c
   all_fewer e h = rw e (simp (lt-ltb _ _ h))
 
-  pub all_whole : {k : ℕ} → c ≡ Count k → room ≤ k → Count k ≡ reached_all room c
+  pub all_whole : {k : ℕ} → c ≡ Ok k → room ≤ k → Ok k ≡ reached_all room c
   all_whole e h = rw e (simp (le-ltb _ _ h))
 
 -- The build: a zeroed table, read into, and finished.

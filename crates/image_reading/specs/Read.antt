@@ -1,7 +1,7 @@
 -- This file defines the build from an image's rows. Document 01: "then reading with room N; fewer than N reached is 16, before 8."
 use Rattle.std.specs.Prelude.{ℕ, List, replicate, ltb}
-use Rattle.egg.specs.declared.Counted.{Counted}
-use Rattle.egg.specs.declared.Counted.TheVariants.{Count, Refused}
+use Rattle.egg.specs.Answers.{Counted}
+use Rattle.std.specs.Prelude.{Ok, Err}
 use Rattle.egg.specs.Table.{pick}
 use Rattle.egg.specs.Answers.{numbered}
 use Rattle.build_lending.specs.Finish.{Built, finished_placed}
@@ -9,8 +9,8 @@ use Rattle.build_reading.specs.Reading.{Placed, placed, read_all, composed_at}
 
 -- Refuses with 16 a reading that reached fewer elements than the room.
 abbrev pub reached_all : ℕ → Counted → Counted
-reached_all room (Count c) = pick (ltb c room) (Refused (numbered 16 0 0 0)) (Count c)
-reached_all room (Refused r) = Refused r
+reached_all room (Ok c) = pick (ltb c room) (Err (numbered 16 0 0 0)) (Ok c)
+reached_all room (Err r) = Err r
 
 -- The same for a reading with the table that it left.
 abbrev pub all_placed : ℕ → Placed → Placed

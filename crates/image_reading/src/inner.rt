@@ -5,69 +5,54 @@ ghost use Rattle.build_reading.specs.Reading.{Placed, read_row, read_all, compos
 ghost use Rattle.image_cells.specs.Cells.{halves};
 ghost use Rattle.image_reading.specs.Read.{reached_all, image_in};
 
-use egg::{Counted, GeneratorId, GroupElementId, Refusal};
+use egg::{GeneratorId, GroupElementId, Refusal};
 
-fn read_row(t: &mut [u32], rows: &[u8], n: u8, room: u32, e: GroupElementId, first: u32) -> Counted
+fn read_row(
+    t: &mut [u32],
+    rows: &[u8],
+    n: u8,
+    room: u32,
+    e: GroupElementId,
+    first: u32,
+) -> Result<u32, Refusal>
     ensures { Placed.placed result t.new ≡ read_row n (composed_at (halves rows.now) n) n room e.0 0 first t.old }
 {
-    let row = e.0;
-    let mut g: u8 = 0;
     let mut count = first;
-    while g < n {
-        let v = image_cells::inner::half(rows, (row as usize) * (n as usize) + (g as usize));
-        let c = build_reading::inner::place(t, n, room, count, e, GeneratorId(g), v);
-        let Counted::Count(k) = c else {
-            return c;
-        };
-        count = k;
-        g += 1;
+    for g in 0..n {
+        let v = image_cells::inner::half(rows, (e.0 as usize) * (n as usize) + (g as usize));
+        count = build_reading::inner::place(t, n, room, count, e, GeneratorId(g), v)?;
     }
-    Counted::Count(count)
+    Ok(count)
 }
 
 // Reads the rows in the order of their elements, as long as there is a next element.
-fn read_rows(t: &mut [u32], rows: &[u8], n: u8, room: u32) -> Counted
+fn read_rows(t: &mut [u32], rows: &[u8], n: u8, room: u32) -> Result<u32, Refusal>
     ensures { Placed.placed result t.new ≡ read_all (composed_at (halves rows.now) n) n room t.old }
 {
-    let mut e: u32 = 0;
     let mut count: u32 = 1;
-    while e < room {
+    for e in 0..room {
         if count <= e {
-            return Counted::Count(count);
+            return Ok(count);
         }
-        let c = read_row(t, rows, n, room, GroupElementId(e), count);
-        let Counted::Count(k) = c else {
-            return c;
-        };
-        count = k;
-        e += 1;
+        count = read_row(t, rows, n, room, GroupElementId(e), count)?;
     }
-    Counted::Count(count)
+    Ok(count)
 }
 
 // Refuses with 16 where fewer elements were reached than there is room for.
-fn reached_all(room: u32, read: Counted) -> Counted
+fn reached_all(room: u32, read: Result<u32, Refusal>) -> Result<u32, Refusal>
     ensures { result ≡ reached_all room read }
 {
-    match read {
-        Counted::Refused(why) => Counted::Refused(why),
-        Counted::Count(c) => {
-            if c < room {
-                Counted::Refused(Refusal {
-                    number: 16,
-                    a: 0,
-                    b: 0,
-                    c: 0,
-                })
-            } else {
-                Counted::Count(c)
-            }
-        }
+    let c = read?;
+    if c < room {
+        Err(Refusal::ImageMalformed)
+    } else {
+        Ok(c)
     }
 }
 
 // Does the whole build from an image's rows, in its stretches.
-pub fn read_in(t: &mut [u32], w: &mut [u32], rows: &[u8], n: u8, room: u32) -> Counted
+pub fn read_in(t: &mut [u32], w: &mut [u32], rows: &[u8], n: u8, room: u32) -> Result<u32, Refusal>
     ensures { Built.built result t.new w.new ≡ image_in (length t.old) w.old (halves rows.now) n room }
 {
     egg::inner::clear(t);

@@ -10,12 +10,10 @@ use egg::{GeneratorId, GroupElementId};
 pub fn letters_below(n: u8, word: &[u8]) -> bool
     ensures { result ≡ letters_below n word.now }
 {
-    let mut i = 0;
-    while i < word.len() {
-        if n <= word[i] {
+    for &g in word {
+        if n <= g {
             return false;
         }
-        i += 1;
     }
     true
 }
@@ -24,9 +22,7 @@ pub fn letters_below(n: u8, word: &[u8]) -> bool
 fn stored(rows: &[u8], n: u8, e: GroupElementId, g: GeneratorId) -> u32
     ensures { result ≡ composed_at (halves rows.now) n e.0 g.0 }
 {
-    let row = e.0;
-    let k = g.0;
-    image_cells::inner::half(rows, (row as usize) * (n as usize) + (k as usize))
+    image_cells::inner::half(rows, (e.0 as usize) * (n as usize) + (g.0 as usize))
 }
 
 // Answers the element reached, or 65,536 + 17 where a number read is no element.
@@ -34,15 +30,12 @@ pub fn follow(rows: &[u8], n: u8, count: u32, start: GroupElementId, word: &[u8]
     ensures { result ≡ follow_rows (halves rows.now) n count start.0 word.now }
 {
     let mut x = start.0;
-    let mut i = 0;
-    while i < word.len() {
-        let g = word[i];
+    for &g in word {
         let y = stored(rows, n, GroupElementId(x), GeneratorId(g));
         if count <= y {
             return 65553;
         }
         x = y;
-        i += 1;
     }
     x
 }

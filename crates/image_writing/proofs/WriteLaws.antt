@@ -6,17 +6,16 @@ use native.Mathlib.Nat.{mul-le-mul}
 use native.Mathlib.Omega.{arith}
 use Rattle.egg.specs.declared.Refusal.{Refusal}
 use Rattle.egg.specs.declared.GroupElementId.{GroupElementId}
-use Rattle.egg.specs.declared.Verdict.TheVariants as verdict
-use Rattle.egg.specs.declared.Reached.{Reached}
-use Rattle.egg.specs.declared.Reached.TheVariants as reached
+use Rattle.egg.specs.Answers.{Reached, fine}
+use Rattle.std.specs.Prelude.{Ok, Err}
 use Rattle.egg.proofs.Scans.{left_suc}
 use Rattle.image_writing.specs.Written.{step_read, put_half, put_row, put_rows}
 
 module _ {v w : Reached} (q : v ≡ w) where
-  pub step_refused : {r : Refusal} → v ≡ reached.Refused r → verdict.Refused r ≡ step_read w
+  pub step_refused : {r : Refusal} → v ≡ Err r → Err r ≡ step_read w
   step_refused e = rw (← q, e)
 
-  pub step_read_lem : {x : GroupElementId} → v ≡ reached.Element x → verdict.Fine ≡ step_read w
+  pub step_read_lem : {x : GroupElementId} → v ≡ Ok x → fine ≡ step_read w
   step_read_lem e = rw (← q, e)
 
 pub place_small : {n e : ℕ} → n ≤ 255 → e ≤ 65535 → e * n ≤ 16711425

@@ -1,10 +1,8 @@
 -- This file defines the bytes of an image, and the stores that write them. Document 01: "Four bytes, big-endian, the length of what follows; version
 -- byte 1; n in one byte; element count N in two; then the successors, two bytes each, by element and then generator."
 use Rattle.std.specs.Prelude.{ℕ, zero, suc, ◌+◌, ◌*◌, ◌/◌, ◌%◌, List, [], ◌∷◌, ◌++◌, set}
-use Rattle.egg.specs.declared.Verdict.{Verdict}
-use Rattle.egg.specs.declared.Verdict.TheVariants as verdict
-use Rattle.egg.specs.declared.Reached.{Reached}
-use Rattle.egg.specs.declared.Reached.TheVariants as reached
+use Rattle.egg.specs.Answers.{Reached, Verdict, fine}
+use Rattle.std.specs.Prelude.{Ok, Err}
 use Rattle.egg.specs.Scan.{scan}
 use Rattle.egg.specs.Factor.{read_step}
 
@@ -57,8 +55,8 @@ put_head len n N out =
 
 -- Refuses with 17 a stored step that is missing or leads beyond the elements.
 abbrev pub step_read : Reached → Verdict
-step_read (reached.Element e) = verdict.Fine
-step_read (reached.Refused r) = verdict.Refused r
+step_read (Ok e) = fine
+step_read (Err r) = Err r
 
 -- The first of these refusals in row e.
 unfoldable pub known_row : List ℕ → ℕ → ℕ → ℕ → Verdict

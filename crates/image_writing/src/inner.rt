@@ -4,46 +4,34 @@ ghost use Rattle.egg.specs.Table.{step_of};
 ghost use Rattle.egg.specs.Factor.{read_step};
 ghost use Rattle.image_writing.specs.Written.{step_read, known_row, all_known, put_half, put_row, put_rows, put_head};
 
-use egg::{GeneratorId, GroupElementId, Reached, Verdict};
+use egg::{GeneratorId, GroupElementId, Refusal};
 
 // Refuses with 17 a stored step that is missing or leads beyond the elements.
-fn known(s: &[u32], n: u8, count: u32, e: GroupElementId, g: GeneratorId) -> Verdict
+fn known(s: &[u32], n: u8, count: u32, e: GroupElementId, g: GeneratorId) -> Result<(), Refusal>
     ensures { result ≡ step_read (read_step s.now n count e.0 g.0) }
 {
-    match egg::inner::next(s, n, count, e, g) {
-        Reached::Refused(why) => Verdict::Refused(why),
-        Reached::Element(_) => Verdict::Fine,
-    }
+    egg::inner::next(s, n, count, e, g)?;
+    Ok(())
 }
 
 // Refuses with 17 the first such step of one row.
-fn known_row(s: &[u32], n: u8, count: u32, e: GroupElementId) -> Verdict
+fn known_row(s: &[u32], n: u8, count: u32, e: GroupElementId) -> Result<(), Refusal>
     ensures { result ≡ known_row s.now n count e.0 }
 {
-    let mut g: u8 = 0;
-    while g < n {
-        let v = known(s, n, count, e, GeneratorId(g));
-        let Verdict::Fine = v else {
-            return v;
-        };
-        g += 1;
+    for g in 0..n {
+        known(s, n, count, e, GeneratorId(g))?;
     }
-    Verdict::Fine
+    Ok(())
 }
 
 // Refuses with 17 the first such step of the table, so that nothing is written where there is one.
-pub fn all_known(s: &[u32], n: u8, count: u32) -> Verdict
+pub fn all_known(s: &[u32], n: u8, count: u32) -> Result<(), Refusal>
     ensures { result ≡ all_known s.now n count }
 {
-    let mut e: u32 = 0;
-    while e < count {
-        let v = known_row(s, n, count, GroupElementId(e));
-        let Verdict::Fine = v else {
-            return v;
-        };
-        e += 1;
+    for e in 0..count {
+        known_row(s, n, count, GroupElementId(e))?;
     }
-    Verdict::Fine
+    Ok(())
 }
 
 // Stores a number in two bytes from place `at` on, the highest first.
@@ -59,16 +47,9 @@ fn put_row(out: &mut [u8], s: &[u32], n: u8, e: GroupElementId)
     requires { e.0 ≤ 65535 }
     ensures { out.new ≡ put_row n (step_of s.now n) n e.0 0 out.old }
 {
-    let row = e.0;
-    let mut g: u8 = 0;
-    while g < n {
-        let v = egg::inner::step(s, n, e, GeneratorId(g)).0;
-        put_half(
-            out,
-            8 + 2 * ((row as usize) * (n as usize) + (g as usize)),
-            v,
-        );
-        g += 1;
+    for g in 0..n {
+        let at = 8 + 2 * ((e.0 as usize) * (n as usize) + (g as usize));
+        put_half(out, at, egg::inner::step(s, n, e, GeneratorId(g)).0);
     }
 }
 
@@ -76,10 +57,8 @@ pub fn put_rows(out: &mut [u8], s: &[u32], n: u8, count: u32)
     requires { count ≤ 65535 }
     ensures { out.new ≡ put_rows count (step_of s.now n) n 0 out.old }
 {
-    let mut e: u32 = 0;
-    while e < count {
+    for e in 0..count {
         put_row(out, s, n, GroupElementId(e));
-        e += 1;
     }
 }
 

@@ -3,7 +3,7 @@
 
 ghost use Rattle.std.specs.Prelude.{IfOk, ◌≤◌, length};
 
-use egg::Counted;
+use egg::Refusal;
 use std::io;
 use std::io::Read;
 
@@ -29,7 +29,7 @@ fn main(rt: HostRuntime) -> io::Result<()> {
     let mut text = [0u8; 9268];
     let read = read_full(&mut rt.reader(), &mut input)?;
     let answer = listing_page::listing(&input[..read], &mut text);
-    if let Counted::Count(used) = answer {
+    if let Ok(used) = answer {
         rt.write_all(&text[..used as usize])?;
     }
     Ok(())

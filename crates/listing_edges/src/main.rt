@@ -2,7 +2,7 @@
 // a longer one. It prints each answer and what the buffer holds then; dots are what it held before.
 #![tactic(auto)]
 
-use egg::Counted;
+use egg::Refusal;
 use std::io;
 
 fn number(rt: &impl Print, x: u32) -> io::Result<()> {
@@ -10,12 +10,12 @@ fn number(rt: &impl Print, x: u32) -> io::Result<()> {
 }
 
 // Prints the length or the refusal, and the whole buffer.
-fn tell(rt: &impl Print, answer: Counted, out: &[u8]) -> io::Result<()> {
+fn tell(rt: &impl Print, answer: Result<u32, Refusal>, out: &[u8]) -> io::Result<()> {
     match answer {
-        Counted::Count(used) => number(rt, used)?,
-        Counted::Refused(why) => {
+        Ok(used) => number(rt, used)?,
+        Err(why) => {
             rt.write_all(b"refused ")?;
-            number(rt, why.number)?;
+            number(rt, why.number())?;
         }
     }
     rt.write_all(b"\n")?;

@@ -1,7 +1,7 @@
 // Text written into a lent byte buffer: each function stores its bytes from `at` on and answers where the next go.
 // What lies past the buffer's end is dropped and still counted, so no caller owes a proof that the text fits it.
 ghost use Rattle.std.specs.Prelude.{◌≡◌, ◌+◌, ◌<◌, [], ◌∷◌};
-ghost use Rattle.egg.specs.Table.{inverse_of, length_of};
+ghost use Rattle.egg.specs.Table.{inverse_of};
 ghost use Rattle.listing_lines.specs.Text.{
   Writes,
   EndFits,
@@ -34,20 +34,18 @@ pub fn write_word(out: &mut [u8], at: usize, word: &[u8]) -> usize
     ensures { Writes out.old at word.now out.new result }
 {
     let mut next = at;
-    let mut i = 0;
-    while i < word.len() {
+    for i in 0..word.len() {
         next = put_byte(out, next, word[i]);
-        i += 1;
     }
     next
 }
 
-// The byte of a digit: 48 is '0'.
+// The byte of a digit.
 fn digit(x: u32) -> u8
     requires { x < 10 }
     ensures { result ≡ 48 + x }
 {
-    48 + (x as u8)
+    b'0' + (x as u8)
 }
 
 // Stores the last k digits of x; no zero leads where k are enough.
@@ -88,10 +86,8 @@ fn write_steps(out: &mut [u8], at: usize, t: &[u32], n: u8, e: GroupElementId) -
     ensures { Writes out.old at (steps_text n t.now n e.0 0) out.new result }
 {
     let mut next = at;
-    let mut g: u8 = 0;
-    while g < n {
+    for g in 0..n {
         next = write_spaced(out, next, egg::inner::step(t, n, e, GeneratorId(g)).0);
-        g += 1;
     }
     next
 }
@@ -103,13 +99,6 @@ fn inverse(t: &[u32], n: u8, e: GroupElementId) -> u32
     egg::inner::get(t, egg::inner::inverse_at(n, e))
 }
 
-// Reads the word length of e, which the table holds as it is.
-fn word_length(t: &[u32], n: u8, e: GroupElementId) -> u32
-    ensures { result ≡ length_of t.now n e.0 }
-{
-    egg::inner::word_length(t, n, e)
-}
-
 // Stores one line: "element, inverse, word length, successors".
 fn write_line(out: &mut [u8], at: usize, t: &[u32], n: u8, e: GroupElementId) -> usize
     requires { EndFits at (line_text t.now n e.0) }
@@ -117,7 +106,7 @@ fn write_line(out: &mut [u8], at: usize, t: &[u32], n: u8, e: GroupElementId) ->
 {
     let a = write_decimal(out, at, e.0);
     let b = write_spaced(out, a, inverse(t, n, e));
-    let c = write_spaced(out, b, word_length(t, n, e));
+    let c = write_spaced(out, b, egg::inner::word_length(t, n, e));
     let d = write_steps(out, c, t, n, e);
     put_byte(out, d, b'\n')
 }
@@ -128,10 +117,8 @@ fn write_lines(out: &mut [u8], at: usize, t: &[u32], n: u8, count: u32) -> usize
     ensures { Writes out.old at (lines_text count t.now n 0) out.new result }
 {
     let mut next = at;
-    let mut e: u32 = 0;
-    while e < count {
+    for e in 0..count {
         next = write_line(out, next, t, n, GroupElementId(e));
-        e += 1;
     }
     next
 }

@@ -11,17 +11,16 @@ use lib.ListN.{length, get_or, replicate}
 use lib.Dec.{ltb, eqb}
 use lib.Seq.{sets}
 use Rattle.egg.specs.declared.Factor.{Factor}
-use Rattle.egg.specs.declared.Verdict.{Verdict}
-use Rattle.egg.specs.declared.Verdict.TheVariants as verdict
-use Rattle.egg.specs.declared.Counted.{Counted}
-use Rattle.egg.specs.declared.Counted.TheVariants as counted
+use Rattle.egg.specs.Answers.{Counted, Verdict}
+use Rattle.egg.specs.Refusals.{numbered, refusal_paper}
+use Rattle.std.specs.Prelude.{Ok, Err}
 use Rattle.egg.specs.Table.{pick}
 use Rattle.egg.specs.Pairs.{pair_count, orders_right}
 use Rattle.build_lending.specs.Lending.{Making, making}
 use Rattle.enumeration.specs.Calls.{enumerates}
 use Rattle.enumeration.proofs.Handle.{accepted_handle}
 use Rattle.listing_lines.specs.Text.{group_text, refused_text}
-use Rattle.listing_page.specs.Listing.{orders_in, page_by, page_of, right_page, listing_of, listing_count, listing_leaves}
+use Rattle.listing_page.specs.Listing.{orders_in, page_of, right_page, listing_of, listing_count, listing_leaves}
 use Rattle.listing_page.specs.Fits.{Fits}
 use Rattle.listing_lines.proofs.Bounds.{group_length, refused_length}
 
@@ -35,7 +34,7 @@ group_fits t n count few small =
 
 -- The buffers are any, so that no proof computes their zeros.
 module _ (table work orders : List ℕ) (n : ℕ) (few : n ≤ 4) where
-  accepted_fits : (f : Factor) (t w : List ℕ) → enumerates table 0 work orders n 120 ≡ making (record { answer = verdict.Fine; factor = f }) t w
+  accepted_fits : (f : Factor) (t w : List ℕ) → enumerates table 0 work orders n 120 ≡ making (Ok f) t w
       → Fits (group_text t f.generators f.elements)
   accepted_fits f t w q =
       let (handle, within) = accepted_handle table 0 work orders n 120 f t w q in
@@ -44,17 +43,13 @@ module _ (table work orders : List ℕ) (n : ℕ) (few : n ≤ 4) where
 
   page_fits : Fits (page_of (enumerates table 0 work orders n 120))
   page_fits = by (enumerates table 0 work orders n 120) refl where
-    told : (v : Verdict) (f : Factor) (t w : List ℕ) → enumerates table 0 work orders n 120 ≡ making (record { answer = v; factor = f }) t w
-        → Fits (page_by v t f.generators f.elements)
-    told verdict.Fine f t w q = accepted_fits f t w q
-    told (verdict.Refused r) f t w q = refused_fits r.number
-
     by : (m : Making) → enumerates table 0 work orders n 120 ≡ m → Fits (page_of m)
-    by (making m t w) q = told m.answer m.factor t w q
+    by (making (Ok f) t w) q = accepted_fits f t w q
+    by (making (Err r) t w) q = refused_fits (refusal_paper r).number
 
 right_fits : (v : Verdict) (n : ℕ) (orders : List ℕ) → Fits (right_page v n orders)
-right_fits (verdict.Refused r) n orders = refused_fits r.number
-right_fits verdict.Fine n orders = by (ltb 4 n) refl (page_fits (replicate 1440 0) (replicate 13440 0) orders n) where
+right_fits (Err r) n orders = refused_fits (refusal_paper r).number
+right_fits (Ok _) n orders = by (ltb 4 n) refl (page_fits (replicate 1440 0) (replicate 13440 0) orders n) where
   by : {page : List ℕ} (b : Bool) → ltb 4 n ≡ b → (n ≤ 4 → Fits page) → Fits (pick b (refused_text 4) page)
   by true q h = refused_fits 4
   by false q h = h (ltb-false 4 n q)
@@ -74,21 +69,21 @@ listing_fits input =
 
 -- So into a buffer of that many bytes every listing is written whole, from its front on, and none is refused.
 pub listing_whole : (input out : List ℕ) → 9268 ≤ length out
-    → (listing_count input (length out) ≡ counted.Count (length (listing_of input))) × (listing_leaves input out ≡ sets out 0 (listing_of input))
+    → (listing_count input (length out) ≡ Ok (length (listing_of input))) × (listing_leaves input out ≡ sets out 0 (listing_of input))
 unfolding listing_count listing_leaves
 listing_whole input out h =
     let q : length (listing_of input) ≤ length out = omega (arith, (listing_fits input).most) in
     (simp (le-ltb _ _ q), simp (le-ltb _ _ q))
 
 abbrev count_of : Counted → ℕ
-count_of (counted.Count k) = k
-count_of (counted.Refused r) = 0
+count_of (Ok k) = k
+count_of (Err r) = 0
 
 -- A length that was answered is a place in a buffer of that many bytes, whatever the size that was lent.
-pub count_fits : (input : List ℕ) (size : ℕ) {used room : ℕ} {answer : Counted} → answer ≡ listing_count input size → answer ≡ counted.Count used → room ≡ 9268
+pub count_fits : (input : List ℕ) (size : ℕ) {used room : ℕ} {answer : Counted} → answer ≡ listing_count input size → answer ≡ Ok used → room ≡ 9268
     → used ≤ room
 unfolding listing_count
 count_fits input size {used} {room} p q e = omega (arith, by (ltb size (length (listing_of input))) (ap count_of (sym q ∙ p))) where
-  by : (b : Bool) → used ≡ count_of (pick b (counted.Refused (record { number = 4; a = 0; b = 0; c = 0 })) (counted.Count (length (listing_of input)))) → used ≤ 9268
+  by : (b : Bool) → used ≡ count_of (pick b (Err (numbered 4 0 0 0)) (Ok (length (listing_of input)))) → used ≤ 9268
   by true u = omega arith
   by false u = omega (arith, (listing_fits input).most)

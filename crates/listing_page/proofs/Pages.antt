@@ -7,9 +7,9 @@ use borrow.Author.Tests.{eq-eqb, ne_eqb, lt-ltb, le-ltb}
 use lib.ListN.{length, get_or, replicate}
 use lib.Dec.{eqb, ltb}
 use Rattle.egg.specs.declared.Refusal.{Refusal}
-use Rattle.egg.specs.declared.Made.{Made}
-use Rattle.egg.specs.declared.Verdict.{Verdict}
-use Rattle.egg.specs.declared.Verdict.TheVariants as verdict
+use Rattle.egg.specs.Answers.{Made, Verdict, fine}
+use Rattle.egg.specs.Refusals.{refusal_paper}
+use Rattle.std.specs.Prelude.{Err}
 use Rattle.egg.specs.Table.{pick}
 use Rattle.egg.specs.Pairs.{pair_count, orders_right}
 use Rattle.build_lending.specs.Lending.{making}
@@ -19,14 +19,14 @@ use Rattle.listing_page.specs.Listing.{orders_in, page_by, page_of, right_page, 
 
 -- With as many orders as there are pairs.
 module _ (o : List ℕ) (n : ℕ) {v : Verdict} (q : v ≡ orders_right o n) where
-  pub page_refused : {r : Refusal} → v ≡ verdict.Refused r → right_page (orders_right o n) n o ≡ refused_text r.number
+  pub page_refused : {r : Refusal} → v ≡ Err r → right_page (orders_right o n) n o ≡ refused_text (refusal_paper r).number
   page_refused e = rw (← q, e)
 
-  pub page_many : v ≡ verdict.Fine → 4 < n → right_page (orders_right o n) n o ≡ refused_text 4
+  pub page_many : v ≡ fine → 4 < n → right_page (orders_right o n) n o ≡ refused_text 4
   page_many e h = rw (← q, e) (simp (lt-ltb _ _ h))
 
   -- The buffers are named by equations, so that no proof computes their zeros.
-  module _ (e : v ≡ verdict.Fine) (h : n ≤ 4) {t₀ w₀ : List ℕ} (a : t₀ ≡ replicate 1440 0) (b : w₀ ≡ replicate 13440 0) where
+  module _ (e : v ≡ fine) (h : n ≤ 4) {t₀ w₀ : List ℕ} (a : t₀ ≡ replicate 1440 0) (b : w₀ ≡ replicate 13440 0) where
     page_fine : right_page (orders_right o n) n o ≡ page_of (enumerates t₀ 0 w₀ o n 120)
     page_fine =
         ap (λ (u : Verdict). right_page u n o) (sym q ∙ e)
@@ -35,7 +35,7 @@ module _ (o : List ℕ) (n : ℕ) {v : Verdict} (q : v ≡ orders_right o n) whe
         ∙ ap (λ (x : List ℕ). page_of (enumerates t₀ 0 x o n 120)) (sym b)
 
     pub page_made : {m : Made} {t w : List ℕ} → making m t w ≡ enumerates t₀ 0 w₀ o n 120
-        → right_page (orders_right o n) n o ≡ page_by m.answer t m.factor.generators m.factor.elements
+        → right_page (orders_right o n) n o ≡ page_by m t
     page_made p = page_fine ∙ ap page_of (sym p)
 
 -- The tests in front of the orders. The orders that were read stand for those of the definition.

@@ -6,8 +6,8 @@ use native.Mathlib.Omega.{arith}
 use borrow.Author.Tests.{lt-ltb, le-ltb}
 use lib.ListN.{length, take}
 use lib.Seq.{sets}
-use Rattle.egg.specs.declared.Counted.{Counted}
-use Rattle.egg.specs.declared.Counted.TheVariants.{Count, Refused}
+use Rattle.egg.specs.Refusals.{numbered}
+use Rattle.std.specs.Prelude.{Ok, Err}
 use Rattle.listing_lines.specs.Text.{Writes, EndFits}
 use Rattle.listing_lines.proofs.Laws.{kept}
 use Rattle.listing_page.specs.Listing.{listing_of, listing_count, listing_leaves}
@@ -32,16 +32,15 @@ module _ (input : List ℕ) {page made : List ℕ} {used : ℕ} (w : Writes page
   copy_ends = rw used_front (record { fits = omega (arith, (listing_fits input).most) })
 
   module _ (out : List ℕ) where
-    pub page_short : {r : Counted} → r ≡ Refused (record { number = 4; a = 0; b = 0; c = 0 }) → length out < used
-        → (r ≡ listing_count input (length out)) × (out ≡ listing_leaves input out)
+    pub page_short : length out < used → (Err (numbered 4 0 0 0) ≡ listing_count input (length out)) × (out ≡ listing_leaves input out)
     unfolding listing_count listing_leaves
-    page_short p h =
+    page_short h =
         let q : length out < length (listing_of input) = omega (arith, used_is) in
-        (p ∙ simp (lt-ltb _ _ q), simp (lt-ltb _ _ q))
+        (simp (lt-ltb _ _ q), simp (lt-ltb _ _ q))
 
     pub page_whole : {after : List ℕ} {end : ℕ} → used ≤ length out → Writes out 0 (take used made) after end
-        → (Count used ≡ listing_count input (length out)) × (after ≡ listing_leaves input out)
+        → (Ok used ≡ listing_count input (length out)) × (after ≡ listing_leaves input out)
     unfolding listing_count listing_leaves
     page_whole h copy =
         let q : length (listing_of input) ≤ length out = omega (arith, used_is) in
-        (simp (le-ltb _ _ q) (ap Count used_is), simp (le-ltb _ _ q) (copy.holds ∙ ap (sets out 0) used_front))
+        (simp (le-ltb _ _ q) (ap Ok used_is), simp (le-ltb _ _ q) (copy.holds ∙ ap (sets out 0) used_front))

@@ -1,11 +1,9 @@
 -- This file defines the listing of an input: document 01's program as a function from bytes to bytes. "The listing program reads standard input: n in
 -- a byte, then two bytes an order. Missing or extra bytes are 2; n of 5 to 8 is 4; its room is 120."
-use Rattle.std.specs.Prelude.{ℕ, zero, suc, ◌+◌, ◌*◌, List, [], ◌∷◌, length, get_or, replicate, ltb, eqb}
+use Rattle.std.specs.Prelude.{ℕ, zero, suc, ◌+◌, ◌*◌, List, [], ◌∷◌, length, get_or, replicate, ltb, eqb, Ok, Err}
 use Rattle.std.proofs.lemmas.List.Edits.{sets}
-use Rattle.egg.specs.declared.Verdict.{Verdict}
-use Rattle.egg.specs.declared.Verdict.TheVariants as verdict
-use Rattle.egg.specs.declared.Counted.{Counted}
-use Rattle.egg.specs.declared.Counted.TheVariants as counted
+use Rattle.egg.specs.Answers.{Counted, Made, Verdict}
+use Rattle.egg.specs.Refusals.{numbered, refusal_paper}
 use Rattle.egg.specs.Table.{pick}
 use Rattle.egg.specs.Pairs.{pair_count, orders_right}
 use Rattle.build_lending.specs.Lending.{Making, making}
@@ -22,19 +20,19 @@ orders_in zero input i = []
 orders_in (suc k) input i = order_in input i ∷ orders_in k input (i + 1)
 
 -- The page of an answer: the lines of the table, or the refusal.
-abbrev pub page_by : Verdict → List ℕ → ℕ → ℕ → List ℕ
-page_by verdict.Fine t n count = group_text t n count
-page_by (verdict.Refused r) t n count = refused_text r.number
+abbrev pub page_by : Made → List ℕ → List ℕ
+page_by (Ok f) t = group_text t f.generators f.elements
+page_by (Err r) t = refused_text (refusal_paper r).number
 
 -- The page of an enumeration.
 abbrev pub page_of : Making → List ℕ
-page_of (making m t w) = page_by m.answer t m.factor.generators m.factor.elements
+page_of (making m t w) = page_by m t
 
 -- The page when the list of orders has the right length. Its first refusal is printed, if there is one; then "n of 5 to 8 is 4"; else the orders are
 -- enumerated with room 120, in buffers of the program's own that four generators need, 120 · 12 and 120 · 112 numbers.
 abbrev pub right_page : Verdict → ℕ → List ℕ → List ℕ
-right_page (verdict.Refused r) n orders = refused_text r.number
-right_page verdict.Fine n orders =
+right_page (Err r) n orders = refused_text (refusal_paper r).number
+right_page (Ok _) n orders =
     pick (ltb 4 n) (refused_text 4) (page_of (enumerates (replicate 1440 0) 0 (replicate 13440 0) orders n 120))
 
 -- The page of any input. Refuses in this order: 2 for no byte at all, 1 for more than 8 generators, 2 for missing or extra bytes, 3, 4; then as the
@@ -50,7 +48,7 @@ listing_of input =
 -- What is answered to a buffer of `size` bytes: how long the page is, or, where the buffer is shorter, "4 | .. a lent buffer short".
 unfoldable pub listing_count : List ℕ → ℕ → Counted
 listing_count input size =
-    pick (ltb size (length (listing_of input))) (counted.Refused (record { number = 4; a = 0; b = 0; c = 0 })) (counted.Count (length (listing_of input)))
+    pick (ltb size (length (listing_of input))) (Err (numbered 4 0 0 0)) (Ok (length (listing_of input)))
 
 -- What the buffer holds afterwards: the whole page from its front on, or, where it is shorter, what it held.
 unfoldable pub listing_leaves : List ℕ → List ℕ → List ℕ

@@ -4,7 +4,7 @@ ghost use Rattle.egg.specs.Pairs.{orders_right};
 ghost use Rattle.listing_lines.specs.Text.{Writes};
 ghost use Rattle.listing_page.specs.Listing.{order_in, orders_in, page_by, right_page, listing_of};
 
-use egg::Verdict;
+use egg::{Factor, Refusal};
 
 // Reads the i-th order: "then two bytes an order", the higher first.
 pub fn order_at(input: &[u8], i: usize) -> u32
@@ -19,20 +19,18 @@ pub fn read_orders(input: &[u8], orders: &mut [u32], k: usize)
     requires { (k ≤ 28) × (length orders.old ≡ 28) }
     ensures { take k orders.new ≡ orders_in k input.now 0 }
 {
-    let mut i = 0;
-    while i < k {
+    for i in 0..k {
         orders[i] = order_at(input, i);
-        i += 1;
     }
 }
 
 // Writes what an enumeration answered: its lines, or its refusal.
-pub fn write_answer(out: &mut [u8], answer: Verdict, table: &[u32], n: u8, count: u32) -> usize
-    ensures { Writes out.old 0 (page_by answer table.now n count) out.new result }
+pub fn write_answer(out: &mut [u8], made: Result<Factor, Refusal>, table: &[u32]) -> usize
+    ensures { Writes out.old 0 (page_by made table.now) out.new result }
 {
-    match answer {
-        Verdict::Fine => listing_lines::inner::write_group(out, 0, table, n, count),
-        Verdict::Refused(why) => listing_lines::inner::write_refused(out, 0, why.number),
+    match made {
+        Ok(f) => listing_lines::inner::write_group(out, 0, table, f.generators, f.elements),
+        Err(why) => listing_lines::inner::write_refused(out, 0, why.number()),
     }
 }
 
@@ -48,17 +46,14 @@ pub fn write_page(
     requires { (table.old ≡ replicate 1440 0) × (work.old ≡ replicate 13440 0) }
     ensures { Writes out.old 0 (right_page (orders_right orders.now n) n orders.now) out.new result }
 {
-    let right = factor_relations::inner::orders_right(orders, n);
-    if let Verdict::Refused(why) = right {
-        return listing_lines::inner::write_refused(out, 0, why.number);
+    if let Err(why) = factor_relations::inner::orders_right(orders, n) {
+        return listing_lines::inner::write_refused(out, 0, why.number());
     }
     if 4 < n {
         return listing_lines::inner::write_refused(out, 0, 4);
     }
     let made = enumeration::enumerate(table, 0, work, orders, n, 120);
-    let answer = made.answer;
-    let f = made.factor;
-    write_answer(out, answer, table, f.generators, f.elements)
+    write_answer(out, made, table)
 }
 
 // Writes the page of an input. Refuses in this order: 2 for no byte at all, 1 for more than 8 generators, 2 for missing or extra bytes; then as

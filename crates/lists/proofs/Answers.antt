@@ -1,25 +1,26 @@
 -- From the list that the results were gathered in to the answer of the whole call.
 -- Assumes nothing.
 use Prim.Native.Nat.{ℕ}
-use mathlib.Core.Path.{◌≡◌, refl, ap, ◌∙◌}
+use mathlib.Core.Path.{◌≡◌, refl, sym, ap, ◌∙◌}
 use mathlib.Core.Bool.{Bool, true, false}
 use mathlib.Core.List.{List, [], ◌∷◌}
 use native.Mathlib.Omega.{arith}
 use lib.ListN.{length, take, set}
 use Rattle.egg.specs.declared.Refusal.{Refusal}
 use Rattle.egg.specs.declared.GroupElementId.{GroupElementId}
-use Rattle.egg.specs.declared.Reached.{Reached}
-use Rattle.egg.specs.declared.Reached.TheVariants.{Element, Refused}
-use Rattle.lists.specs.declared.Listed.{Listed}
-use Rattle.lists.specs.declared.Listed.TheVariants.{Fine, RefusedAt, ListsRefused}
-use Rattle.lists.specs.Lists.{first_refused, numbers, left_by, Answered, answered, each_place, lists_refused, over_lists}
+use Rattle.egg.specs.Answers.{Reached}
+use Rattle.std.specs.Prelude.{Result, Ok, Err}
+use Rattle.lists.specs.Answers.{Listed, fine}
+use Rattle.lists.specs.declared.ListRefusal.TheVariants.{RefusedAt}
+use Rattle.lists.specs.declared.ListRefusal.{ListRefusal}
+use Rattle.lists.specs.Lists.{placed, first_refused, numbers, left_by, Answered, answered, each_place, lists_refused, over_lists}
 use Rattle.lists.specs.Worked.{Worked}
+use Rattle.lists.proofs.Places.{refused_at}
 
 -- Only the results of right places are looked at.
-pub left_same : (said : Listed) {results numbered : List ℕ} (out : List ℕ) → (said ≡ Fine → results ≡ numbered) → left_by said results out ≡ left_by said numbered out
-left_same Fine out h = h refl
-left_same (RefusedAt at) out h = refl
-left_same (ListsRefused why) out h = refl
+pub left_same : (said : Listed) {results numbered : List ℕ} (out : List ℕ) → (said ≡ fine → results ≡ numbered) → left_by said results out ≡ left_by said numbered out
+left_same (Ok _) out h = h refl
+left_same (Err why) out h = refl
 
 pub handed : {k : ℕ} {single : ℕ → Reached} {said : Listed} {results : List ℕ} {whole : Answered} (out : List ℕ) → Worked k single said results → length out ≡ k
     → whole ≡ answered said (left_by said (take (length out) results) out) → whole ≡ each_place k single out
@@ -30,13 +31,13 @@ handed {k} {single} {said} {results} out w long e =
 
 -- One place alone.
 module _ {said : Reached} (out : List ℕ) where
-  pub one_refused : {r : Refusal} → said ≡ Refused r → answered (RefusedAt (record { place = 0; why = r })) out ≡ each_place 1 (λ i. said) out
+  one_stopped : {r : Refusal} → said ≡ Err r → answered (Err (RefusedAt (record { place = 0; why = r }))) out ≡ each_place 1 (λ i. said) out
   unfolding each_place first_refused
-  one_refused told = rw told
+  one_stopped told = rw told
 
-  pub one_reached : {e : GroupElementId} → said ≡ Element e → length out ≡ 1 → answered Fine (set out 0 e.0) ≡ each_place 1 (λ i. said) out
+  pub one_reached : {e : GroupElementId} → said ≡ Ok e → length out ≡ 1 → answered fine (set out 0 e.0) ≡ each_place 1 (λ i. said) out
   unfolding each_place first_refused numbers
-  one_reached {e} told long = rw told (ap (answered Fine) (whole out long)) where
+  one_reached {e} told long = rw told (ap (answered fine) (whole out long)) where
     whole : (l : List ℕ) → length l ≡ 1 → set l 0 e.0 ≡ e.0 ∷ []
     whole [] h = absurd (omega (arith, h))
     whole (x ∷ []) h = refl
@@ -46,6 +47,12 @@ module _ {said : Reached} (out : List ℕ) where
       → whole ≡ each_place k single out
   unfolding each_place first_refused numbers
   only_place single one q e = e ∙ rw (one, q)
+
+pub one_refused : (said : Reached) (out : List ℕ) {at : Result GroupElementId ListRefusal} {why : ListRefusal} → at ≡ placed said 0 → at ≡ Err why
+    → answered (Err why) out ≡ each_place 1 (λ i. said) out
+one_refused said out p stop =
+    let R = refused_at said 0 (sym p ∙ stop) in
+    ap (λ (y : ListRefusal). answered (Err y) out) (sym R.2) ∙ one_stopped out R.1
 
 module _ {right test : Bool} (q : test ≡ right) (k : ℕ) (single : ℕ → Reached) (out : List ℕ) where
   pub lists_wrong : {r : Listed} → test ≡ false → r ≡ lists_refused → answered r out ≡ over_lists right k single out

@@ -11,13 +11,13 @@ use lib.IntN.{ℤ}
 use lib.Seq.{take-suc-set, set-get_or, get_or-set_same, get_or-set_other}
 use Rattle.egg.specs.declared.Refusal.{Refusal}
 use Rattle.egg.specs.declared.GroupElementId.{GroupElementId}
-use Rattle.egg.specs.declared.Reached.{Reached}
-use Rattle.egg.specs.declared.Reached.TheVariants.{Element, Refused}
+use Rattle.egg.specs.Answers.{Reached}
+use Rattle.std.specs.Prelude.{Result, Ok, Err}
 use Rattle.egg.proofs.Scans.{left_suc}
-use Rattle.lists.specs.declared.RefusedPlace.{RefusedPlace}
-use Rattle.lists.specs.declared.Listed.{Listed}
-use Rattle.lists.specs.declared.Listed.TheVariants.{Fine, RefusedAt}
-use Rattle.lists.specs.Lists.{or_here, first_refused, number_of, numbers}
+use Rattle.lists.specs.declared.ListRefusal.{ListRefusal}
+use Rattle.lists.specs.Answers.{fine}
+use Rattle.lists.specs.declared.ListRefusal.TheVariants.{RefusedAt}
+use Rattle.lists.specs.Lists.{placed, first_refused, number_of, numbers}
 use Rattle.lists.specs.Worked.{Worked, AllRight}
 
 -- One more place at the end.
@@ -37,8 +37,24 @@ numbers_at zero single i j m h e = absurd (omega arith)
 numbers_at (suc k) single i zero m h e = let q : i ≡ m = omega arith in ap (λ (x : ℕ). number_of (single x)) q
 numbers_at (suc k) single i (suc j) m h e = numbers_at k single (i + 1) j m (omega arith) (omega arith)
 
-pub refused_right : {at : RefusedPlace} → RefusedAt at ≡ Fine → ⊥
+pub refused_right : {why : ListRefusal} → Err why ≡ fine → ⊥
 refused_right h = let q : ◌≡◌ {A = ℕ} 0 1 = cc in omega arith
+
+-- What the single call's answer at a place says of the call.
+abbrev Placed : Type 0
+Placed = Result GroupElementId ListRefusal
+
+never : {why : ListRefusal} {e : GroupElementId} → ◌≡◌ {A = Placed} (Err why) (Ok e) → ⊥
+never h = let z : ◌≡◌ {A = ℕ} 0 1 = cc in omega arith
+
+pub reached_at : (said : Reached) (place : ℕ) {e : GroupElementId} → placed said place ≡ Ok e → said ≡ Ok e
+reached_at (Ok x) place {e} h = let z : x ≡ e = cc in ap (λ (y : GroupElementId). Ok y) z
+reached_at (Err r) place h = absurd (never h)
+
+pub refused_at : (said : Reached) (place : ℕ) {why : ListRefusal} → placed said place ≡ Err why
+    → (r : Refusal) × (said ≡ Err r) × (RefusedAt (record { place = place; why = r }) ≡ why)
+refused_at (Ok x) place h = absurd (never (sym h))
+refused_at (Err r) place h = (r, refl, cc)
 
 -- The invariant of a loop over k places that has come to i.
 pub record Working (k : ℕ) (single : ℕ → Reached) (i : ℕ) (results : List ℕ) : Type 0 where
@@ -52,11 +68,11 @@ working = record { within = omega arith; rest = rw sub-zero; filled = refl }
 
 module _ {k : ℕ} {single : ℕ → Reached} {i : ℕ} {results : List ℕ} (w : Working k single i results) where
   -- A right place's number is stored.
-  pub stores : {said : Reached} {e : GroupElementId} → i < k → i < length results → said ≡ single i → said ≡ Element e
+  pub stores : {said : Reached} {at : Result GroupElementId ListRefusal} {e : GroupElementId} → i < k → i < length results → said ≡ single i → at ≡ placed said i → at ≡ Ok e
       → Working k single (i + 1) (set results i e.0)
   unfolding first_refused
-  stores {said} {e} h l q told =
-      let here : single i ≡ Element e = sym q ∙ told in
+  stores {said} {at} {e} h l q p told =
+      let here : single i ≡ Ok e = sym q ∙ reached_at said i (sym p ∙ told) in
       let next : first_refused (k - i) single i ≡ first_refused (k - (i + 1)) single (i + 1) = rw (left_suc h, here) in
       let more : i + 1 ≡ suc i = omega arith in
       record {
@@ -66,22 +82,22 @@ module _ {k : ℕ} {single : ℕ → Reached} {i : ℕ} {results : List ℕ} (w 
       }
 
   -- A refused place ends it.
-  pub refuses : {said : Reached} {r : Refusal} {answer : Listed} {left : List ℕ} → i < k → said ≡ single i → said ≡ Refused r
-      → answer ≡ or_here said i Fine → Worked k single answer left
+  pub refuses : {said : Reached} {at : Result GroupElementId ListRefusal} {why : ListRefusal} {left : List ℕ} → i < k → said ≡ single i → at ≡ placed said i → at ≡ Err why
+      → Worked k single (Err why) left
   unfolding first_refused
-  refuses {said} {r} {answer} h q told e =
-      let here : single i ≡ Refused r = sym q ∙ told in
-      let this : answer ≡ RefusedAt (record { place = i; why = r }) = e ∙ rw told in
-      let whole : first_refused (k - i) single i ≡ RefusedAt (record { place = i; why = r }) = rw (left_suc h, here) in
-      record { told = this ∙ sym whole ∙ w.rest; filled = λ fine. absurd (refused_right (sym this ∙ fine)) }
+  refuses {said} {at} {why} h q p stop =
+      let R = refused_at said i (sym p ∙ stop) in
+      let here : single i ≡ Err R.0 = sym q ∙ R.1 in
+      let whole : first_refused (k - i) single i ≡ Err (RefusedAt (record { place = i; why = R.0 })) = rw (left_suc h, here) in
+      record { told = ap (λ (y : ListRefusal). Err y) (sym R.2) ∙ sym whole ∙ w.rest; filled = λ good. absurd (refused_right good) }
 
   -- All places are right.
-  pub worked : k ≤ i → Worked k single Fine results
+  pub worked : k ≤ i → Worked k single fine results
   unfolding first_refused
   worked h =
       let all : i ≡ k = omega (arith, w.within) in
       let none : k - i ≡ 0 = omega arith in
-      record { told = sym (rw none) ∙ w.rest; filled = λ fine. ap (λ (j : ℕ). take j results) (sym all) ∙ w.filled ∙ ap (λ (j : ℕ). numbers j single 0) all }
+      record { told = sym (rw none) ∙ w.rest; filled = λ good. ap (λ (j : ℕ). take j results) (sym all) ∙ w.filled ∙ ap (λ (j : ℕ). numbers j single 0) all }
 
 -- Where every place is known to be right, whichever way its number was found, that is what a loop over the places comes to.
 module _ {k : ℕ} {single : ℕ → Reached} {results : List ℕ} (a : AllRight k single results) (long : k ≤ length results) where
@@ -89,10 +105,10 @@ module _ {k : ℕ} {single : ℕ → Reached} {results : List ℕ} (a : AllRight
   come zero h = working
   come (suc i) h =
       let more : i + 1 ≡ suc i = omega arith in
-      let stored : Working k single (i + 1) (set results i (get_or results i 0)) = stores (come i (omega arith)) (omega arith) (omega arith) refl (a.each i (omega arith)) in
+      let stored : Working k single (i + 1) (set results i (get_or results i 0)) = stores (come i (omega arith)) (omega arith) (omega arith) refl refl (ap (λ (x : Reached). placed x i) (a.each i (omega arith))) in
       subst (λ (j : ℕ). Working k single j results) more (subst (λ (l : List ℕ). Working k single (i + 1) l) (set-get_or results i 0) stored)
 
-  pub all_worked : Worked k single Fine results
+  pub all_worked : Worked k single fine results
   all_worked = worked (come k (omega arith)) (omega arith)
 
 -- The same place by place, for a loop that asks each by a quick way.
@@ -102,12 +118,12 @@ none_yet = record { each = λ i u. absurd (omega arith) }
 pub all_places : {k at : ℕ} {single : ℕ → Reached} {results : List ℕ} → AllRight at single results → k ≤ at → AllRight k single results
 all_places w h = record { each = λ i u. w.each i (omega arith) }
 
-pub right_here : {single : ℕ → Reached} {i x : ℕ} {results : List ℕ} → AllRight i single results → i < length results → single i ≡ Element (record { 0 = x })
+pub right_here : {single : ℕ → Reached} {i x : ℕ} {results : List ℕ} → AllRight i single results → i < length results → single i ≡ Ok (record { 0 = x })
     → AllRight (i + 1) single (set results i x)
 right_here {single} {i} {x} {results} w h q =
-    let put : (y z : ℕ) → y ≡ z → Element (record { 0 = y }) ≡ Element (record { 0 = z }) = λ y z e. ap (λ (v : ℕ). Element (record { 0 = v })) e in
+    let put : (y z : ℕ) → y ≡ z → ◌≡◌ {A = Reached} (Ok (record { 0 = y })) (Ok (record { 0 = z })) = λ y z e. ap (λ (v : ℕ). Ok (record { 0 = v })) e in
     record {
-      each = below_more (λ (j : ℕ). single j ≡ Element (record { 0 = get_or (set results i x) j 0 })) i
+      each = below_more (λ (j : ℕ). single j ≡ Ok (record { 0 = get_or (set results i x) j 0 })) i
           (λ j u. w.each j u ∙ put _ _ (sym (get_or-set_other results i j x 0 (λ e. omega arith))))
           (q ∙ put _ _ (sym (get_or-set_same results i x 0 h)));
     }

@@ -1,11 +1,11 @@
 // What every question over lists does before and after its places.
 ghost use Rattle.std.specs.Prelude.{◌≡◌, true, ◌+◌, ◌-◌, ◌≤◌, ◌<◌, length, take, get_or, pos};
-ghost use Rattle.lists.specs.Lists.{lengths_right, lists_refused, or_here, Answered, answered, left_by, each_place};
+ghost use Rattle.lists.specs.Lists.{listed_paper, lengths_right, lists_refused, placed, Answered, answered, left_by, each_place};
 ghost use Rattle.lists.specs.Passes.{ChunkEnd};
 ghost use Rattle.lists.specs.Worked.{behind_by, PieceOver};
 
-use super::{Listed, RefusedPlace};
-use egg::{Reached, Refusal};
+use super::{ListRefusal, RefusedPlace};
+use egg::{GroupElementId, Refusal};
 
 // Whether three lists are of one length, and of at most 4,096 places.
 #[tactic(auto, using(crate::proofs::Lengths::right_second, crate::proofs::Lengths::right_out, crate::proofs::Lengths::right_long))]
@@ -34,24 +34,23 @@ pub fn one_place(first: usize, second: usize, out: usize) -> bool
     out == 1
 }
 
-pub fn lists_refused() -> Listed
+// What lists of different lengths or of too many places answer.
+pub fn lists_refused() -> Result<(), ListRefusal>
     ensures { result ≡ lists_refused }
 {
-    Listed::ListsRefused(Refusal {
-        number: 4,
-        a: 0,
-        b: 0,
-        c: 0,
-    })
+    Err(ListRefusal::ListsRefused(Refusal::TooShort))
 }
 
-// The single call's refusal at a place; where it is none, the lists are fine there.
-pub fn stopped(place: usize, said: Reached) -> Listed
-    ensures { result ≡ or_here said place Listed.Fine }
+// The single call's answer at a place: its refusal is that of the place.
+pub fn at_place(
+    place: usize,
+    said: Result<GroupElementId, Refusal>,
+) -> Result<GroupElementId, ListRefusal>
+    ensures { result ≡ placed said place }
 {
     match said {
-        Reached::Refused(why) => Listed::RefusedAt(RefusedPlace { place, why }),
-        Reached::Element(_) => Listed::Fine,
+        Ok(e) => Ok(e),
+        Err(why) => Err(ListRefusal::RefusedAt(RefusedPlace { place, why })),
     }
 }
 
@@ -71,73 +70,69 @@ pub fn chunk_end(i: usize, long: usize, most: usize) -> usize
     if long - i <= most { long } else { i + most }
 }
 
+// In a loop, and not by `copy_from_slice`: of a few numbers a call takes longer.
 fn copy_front(from: &[u32], out: &mut [u32])
     requires { length out.old ≤ length from.now }
     ensures { out.new ≡ take (length out.old) from.now }
 {
-    let mut i = 0;
-    while i < out.len() {
+    for i in 0..out.len() {
         out[i] = from[i];
-        i += 1;
     }
 }
 
 // The results go to the caller's list when every place has one, so that a refused call writes nothing.
-pub fn hand_over(said: Listed, results: &[u32], out: &mut [u32]) -> Listed
+pub fn hand_over(
+    said: Result<(), ListRefusal>,
+    results: &[u32],
+    out: &mut [u32],
+) -> Result<(), ListRefusal>
     requires { length out.old ≤ length results.now }
     ensures { Answered.answered result out.new ≡ answered said (left_by said (take (length out.old) results.now) out.old) }
 {
-    match said {
-        Listed::RefusedAt(at) => Listed::RefusedAt(at),
-        Listed::ListsRefused(why) => Listed::ListsRefused(why),
-        Listed::Fine => {
-            copy_front(results, out);
-            Listed::Fine
-        }
-    }
+    said?;
+    copy_front(results, out);
+    Ok(())
 }
 
 // The same where the lists have one place, whose single call has been made: no list of our own comes between.
-pub fn hand_over_one(said: Reached, out: &mut [u32]) -> Listed
+pub fn hand_over_one(
+    said: Result<GroupElementId, Refusal>,
+    out: &mut [u32],
+) -> Result<(), ListRefusal>
     requires { length out.old ≡ 1 }
     ensures { Answered.answered result out.new ≡ each_place 1 (λ i. said) out.old }
 {
-    match said {
-        Reached::Refused(why) => Listed::RefusedAt(RefusedPlace { place: 0, why }),
-        Reached::Element(e) => {
-            out[0] = e.0;
-            Listed::Fine
-        }
-    }
+    let e = at_place(0, said)?;
+    out[0] = e.0;
+    Ok(())
 }
 
-// The refusal of a place that was counted from i.
-pub fn behind(i: usize, at: RefusedPlace) -> Listed
-    requires { i + at.place ≤ 18446744073709551615 }
-    ensures { result ≡ behind_by i (Listed.RefusedAt at) }
+// A refusal that was given for places counted from i.
+pub fn behind(i: usize, why: ListRefusal) -> ListRefusal
+    requires { i + (listed_paper (Err why)).place ≤ 18446744073709551615 }
+    ensures { Err result ≡ behind_by i (Err why) }
 {
-    let why = at.why;
-    let place = i + at.place;
-    Listed::RefusedAt(RefusedPlace { place, why })
+    match why {
+        ListRefusal::RefusedAt(at) => {
+            let place = i + at.place;
+            ListRefusal::RefusedAt(RefusedPlace { place, why: at.why })
+        }
+        ListRefusal::ListsRefused(_) => why,
+    }
 }
 
 // Hands a piece's results over to its places, where what comes after it is fine too.
 pub fn hand_over_piece(
-    later: Listed,
+    later: Result<(), ListRefusal>,
     piece: &[u32],
     i: usize,
     end: usize,
     out: &mut [u32],
-) -> Listed
+) -> Result<(), ListRefusal>
     requires { (i ≤ end) × ((end ≤ length out.old) × (end - i ≤ length piece.now)) }
     ensures { (result ≡ later) × PieceOver later i end piece.now out.old out.new }
 {
-    match later {
-        Listed::RefusedAt(at) => Listed::RefusedAt(at),
-        Listed::ListsRefused(why) => Listed::ListsRefused(why),
-        Listed::Fine => {
-            copy_front(piece, &mut out[i..end]);
-            Listed::Fine
-        }
-    }
+    later?;
+    copy_front(piece, &mut out[i..end]);
+    Ok(())
 }

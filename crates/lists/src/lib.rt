@@ -12,10 +12,10 @@ pub struct RefusedPlace {
     pub why: Refusal,
 }
 
-// All places are right; or the first that is refused; or the lists themselves are, before any place is looked at.
+// Why a question over lists answers nothing: the first place that is refused; or the lists themselves are refused, before
+// any place is looked at.
 #[derive(Clone, Copy)]
-pub enum Listed {
-    Fine,
+pub enum ListRefusal {
     RefusedAt(RefusedPlace),
     ListsRefused(Refusal),
 }

@@ -9,7 +9,7 @@ use lib.ListN.{length, get_or}
 use lib.IntN.{ℤ, pos}
 use Rattle.egg.specs.declared.Factor.{Factor}
 use Rattle.egg.specs.Factor.{fits_in, stretch}
-use Rattle.egg.specs.declared.Reached.TheVariants.{Element}
+use Rattle.std.specs.Prelude.{Ok}
 use Rattle.factor_questions.specs.Walks.{compose_in}
 use Rattle.factor.specs.Questions.{compose_answer}
 use Rattle.factor.proofs.Admits.{admits_fine}
@@ -20,7 +20,7 @@ use Rattle.lists_powers.specs.Powers.{Power, Powered}
 use Rattle.lists_factor.specs.Each.{compose_at, powi_at}
 
 pub product_right : (t : List ℕ) (f : Factor) {s : List ℕ} {a b r : ℕ} → fits_in (length t) f ≡ true → s ≡ stretch t f → a < f.elements → b < f.elements
-    → compose_in s f.generators f.elements a b ≡ Element (record { 0 = r }) → compose_answer t f (record { 0 = a }) (record { 0 = b }) ≡ Element (record { 0 = r })
+    → compose_in s f.generators f.elements a b ≡ Ok (record { 0 = r }) → compose_answer t f (record { 0 = a }) (record { 0 = b }) ≡ Ok (record { 0 = r })
 unfolding compose_answer
 product_right t f {s} {a} {b} fits q first second p = rw (← admits_fine (length t) f a b fits first second, ← q) p
 

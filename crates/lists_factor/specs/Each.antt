@@ -2,7 +2,7 @@
 -- Assumes nothing.
 use Rattle.std.specs.Prelude.{ℕ, List, length, get_or, ℤ, pos}
 use Rattle.egg.specs.declared.Factor.{Factor}
-use Rattle.egg.specs.declared.Reached.{Reached}
+use Rattle.egg.specs.Answers.{Reached}
 use Rattle.factor.specs.Questions.{compose_answer, inverse_answer}
 use Rattle.group_powers.specs.Powers.{powi_alone}
 use Rattle.lists.specs.Lists.{Answered, lengths_right, over_lists}

@@ -6,8 +6,8 @@ ghost use Rattle.lists.specs.Worked.{Worked, WorkedFrom, AllRight};
 ghost use Rattle.factor.specs.Questions.{compose_answer};
 ghost use Rattle.lists_factor.specs.Each.{compose_at, inverse_at, powi_at};
 
-use egg::{Factor, GroupElementId, Reached};
-use lists::Listed;
+use egg::{Factor, GroupElementId};
+use lists::ListRefusal;
 
 // All the products at once, by walks that go on side by side: whether each was found. Where one was not, `results` may hold anything.
 pub fn side_by_side(table: &[u32], f: Factor, a: &[u32], b: &[u32], results: &mut [u32]) -> bool
@@ -21,29 +21,37 @@ pub fn side_by_side(table: &[u32], f: Factor, a: &[u32], b: &[u32], results: &mu
     lists_walks::inner::products(s, f.generators, f.elements, &a[..], &b[..], results)
 }
 
-fn compose_in_turn(table: &[u32], f: Factor, a: &[u32], b: &[u32], results: &mut [u32]) -> Listed
+fn compose_in_turn(
+    table: &[u32],
+    f: Factor,
+    a: &[u32],
+    b: &[u32],
+    results: &mut [u32],
+) -> Result<(), ListRefusal>
     requires { (length b.now ≡ length a.now) × (length a.now ≤ length results.old) }
     ensures { Worked (length a.now) (compose_at table.now f a.now b.now) result results.new }
 {
-    let mut i = 0;
-    while i < a.len() {
+    for i in 0..a.len() {
         let product = factor::compose(&table[..], f, GroupElementId(a[i]), GroupElementId(b[i]));
-        let Reached::Element(e) = product else {
-            return lists::inner::stopped(i, product);
-        };
+        let e = lists::inner::at_place(i, product)?;
         results[i] = e.0;
-        i += 1;
     }
-    Listed::Fine
+    Ok(())
 }
 
 // What the quick walks do not find is asked place by place: then it is known which place is refused, and why.
-fn compose_into(table: &[u32], f: Factor, a: &[u32], b: &[u32], results: &mut [u32]) -> Listed
+fn compose_into(
+    table: &[u32],
+    f: Factor,
+    a: &[u32],
+    b: &[u32],
+    results: &mut [u32],
+) -> Result<(), ListRefusal>
     requires { (length b.now ≡ length a.now) × (length a.now ≤ length results.old) }
     ensures { Worked (length a.now) (compose_at table.now f a.now b.now) result results.new }
 {
     if side_by_side(&table[..], f, &a[..], &b[..], results) {
-        return Listed::Fine;
+        return Ok(());
     }
     compose_in_turn(&table[..], f, &a[..], &b[..], results)
 }
@@ -55,7 +63,7 @@ fn compose_by(
     b: &[u32],
     results: &mut [u32],
     out: &mut [u32],
-) -> Listed
+) -> Result<(), ListRefusal>
     requires { (length b.now ≡ length a.now) × ((length out.old ≡ length a.now) × (length a.now ≤ length results.old)) }
     ensures { Answered.answered result out.new ≡ each_place (length a.now) (compose_at table.now f a.now b.now) out.old }
 {
@@ -65,27 +73,37 @@ fn compose_by(
 
 // The places from i on, a piece at a time. A piece's results wait in a list of our own until those behind it are known to be right: it is as long as a piece,
 // so that a list of few pieces has few of them.
-fn compose_from(table: &[u32], f: Factor, a: &[u32], b: &[u32], i: usize, out: &mut [u32]) -> Listed
+fn compose_from(
+    table: &[u32],
+    f: Factor,
+    a: &[u32],
+    b: &[u32],
+    i: usize,
+    out: &mut [u32],
+) -> Result<(), ListRefusal>
     requires { (length b.now ≡ length a.now) × (length out.old ≡ length a.now) }
     ensures { WorkedFrom i (length a.now) (compose_at table.now f a.now b.now) out.old result out.new }
 {
     if a.len() <= i {
-        return Listed::Fine;
+        return Ok(());
     }
     let end = lists::inner::chunk_end(i, a.len(), 256);
     let mut piece = [0; 256];
     let said = compose_into(&table[..], f, &a[i..end], &b[i..end], &mut piece);
-    match said {
-        Listed::RefusedAt(at) => lists::inner::behind(i, at),
-        Listed::ListsRefused(why) => Listed::ListsRefused(why),
-        Listed::Fine => {
-            let later = compose_from(&table[..], f, &a[..], &b[..], end, out);
-            lists::inner::hand_over_piece(later, &piece, i, end, out)
-        }
+    if let Err(why) = said {
+        return Err(lists::inner::behind(i, why));
     }
+    let later = compose_from(&table[..], f, &a[..], &b[..], end, out);
+    lists::inner::hand_over_piece(later, &piece, i, end, out)
 }
 
-pub fn compose_several(table: &[u32], f: Factor, a: &[u32], b: &[u32], out: &mut [u32]) -> Listed
+pub fn compose_several(
+    table: &[u32],
+    f: Factor,
+    a: &[u32],
+    b: &[u32],
+    out: &mut [u32],
+) -> Result<(), ListRefusal>
     requires { (length b.now ≡ length a.now) × (length out.old ≡ length a.now) }
     ensures { Answered.answered result out.new ≡ each_place (length a.now) (compose_at table.now f a.now b.now) out.old }
 {
@@ -98,7 +116,7 @@ pub fn compose_several(table: &[u32], f: Factor, a: &[u32], b: &[u32], out: &mut
 
 // The number of one product; the count of elements where it is refused.
 fn product_at_once(table: &[u32], f: Factor, a: u32, b: u32) -> u32
-    ensures { result < f.elements → compose_answer table.now f (record { 0 = a }) (record { 0 = b }) ≡ Reached.Element (record { 0 = result }) }
+    ensures { result < f.elements → compose_answer table.now f (record { 0 = a }) (record { 0 = b }) ≡ Ok (record { 0 = result }) }
 {
     let count = f.elements;
     if !egg::fits(&table[..], f) {
@@ -115,14 +133,20 @@ fn product_at_once(table: &[u32], f: Factor, a: u32, b: u32) -> u32
 }
 
 // One place: where it has a product, no list of our own comes between.
-pub fn compose_one(table: &[u32], f: Factor, a: &[u32], b: &[u32], out: &mut [u32]) -> Listed
+pub fn compose_one(
+    table: &[u32],
+    f: Factor,
+    a: &[u32],
+    b: &[u32],
+    out: &mut [u32],
+) -> Result<(), ListRefusal>
     requires { (length a.now ≡ 1) × ((length b.now ≡ length a.now) × (length out.old ≡ length a.now)) }
     ensures { Answered.answered result out.new ≡ each_place (length a.now) (compose_at table.now f a.now b.now) out.old }
 {
     let product = product_at_once(&table[..], f, a[0], b[0]);
     if product < f.elements {
         out[0] = product;
-        return Listed::Fine;
+        return Ok(());
     }
     compose_several(&table[..], f, &a[..], &b[..], out)
 }
@@ -142,43 +166,48 @@ fn one_by_one(table: &[u32], f: Factor, a: &[u32], b: &[u32], results: &mut [u32
     requires { (length b.now ≡ length a.now) × (length a.now ≤ length results.old) }
     ensures { result ≡ true → AllRight (length a.now) (compose_at table.now f a.now b.now) results.new }
 {
-    let mut i = 0;
-    while i < a.len() {
+    for i in 0..a.len() {
         let product = product_at_once(&table[..], f, a[i], b[i]);
         if f.elements <= product {
             return false;
         }
         results[i] = product;
-        i += 1;
     }
     true
 }
 
-pub fn compose_few(table: &[u32], f: Factor, a: &[u32], b: &[u32], out: &mut [u32]) -> Listed
+pub fn compose_few(
+    table: &[u32],
+    f: Factor,
+    a: &[u32],
+    b: &[u32],
+    out: &mut [u32],
+) -> Result<(), ListRefusal>
     requires { (length a.now ≤ 32) × ((length b.now ≡ length a.now) × (length out.old ≡ length a.now)) }
     ensures { Answered.answered result out.new ≡ each_place (length a.now) (compose_at table.now f a.now b.now) out.old }
 {
     let mut results = [0; 32];
     if one_by_one(&table[..], f, &a[..], &b[..], &mut results) {
-        return lists::inner::hand_over(Listed::Fine, &results, out);
+        return lists::inner::hand_over(Ok(()), &results, out);
     }
     compose_several(&table[..], f, &a[..], &b[..], out)
 }
 
-pub fn inverse_into(table: &[u32], f: Factor, a: &[u32], results: &mut [u32]) -> Listed
+pub fn inverse_into(
+    table: &[u32],
+    f: Factor,
+    a: &[u32],
+    results: &mut [u32],
+) -> Result<(), ListRefusal>
     requires { length a.now ≤ length results.old }
     ensures { Worked (length a.now) (inverse_at table.now f a.now) result results.new }
 {
-    let mut i = 0;
-    while i < a.len() {
+    for i in 0..a.len() {
         let said = factor::inverse(&table[..], f, GroupElementId(a[i]));
-        let Reached::Element(e) = said else {
-            return lists::inner::stopped(i, said);
-        };
+        let e = lists::inner::at_place(i, said)?;
         results[i] = e.0;
-        i += 1;
     }
-    Listed::Fine
+    Ok(())
 }
 
 pub fn inverse_by(
@@ -187,7 +216,7 @@ pub fn inverse_by(
     a: &[u32],
     results: &mut [u32],
     out: &mut [u32],
-) -> Listed
+) -> Result<(), ListRefusal>
     requires { (length out.old ≡ length a.now) × (length a.now ≤ length results.old) }
     ensures { Answered.answered result out.new ≡ each_place (length a.now) (inverse_at table.now f a.now) out.old }
 {
@@ -196,24 +225,27 @@ pub fn inverse_by(
 }
 
 // As `compose_from`.
-pub fn inverse_from(table: &[u32], f: Factor, a: &[u32], i: usize, out: &mut [u32]) -> Listed
+pub fn inverse_from(
+    table: &[u32],
+    f: Factor,
+    a: &[u32],
+    i: usize,
+    out: &mut [u32],
+) -> Result<(), ListRefusal>
     requires { length out.old ≡ length a.now }
     ensures { WorkedFrom i (length a.now) (inverse_at table.now f a.now) out.old result out.new }
 {
     if a.len() <= i {
-        return Listed::Fine;
+        return Ok(());
     }
     let end = lists::inner::chunk_end(i, a.len(), 256);
     let mut piece = [0; 256];
     let said = inverse_into(&table[..], f, &a[i..end], &mut piece);
-    match said {
-        Listed::RefusedAt(at) => lists::inner::behind(i, at),
-        Listed::ListsRefused(why) => Listed::ListsRefused(why),
-        Listed::Fine => {
-            let later = inverse_from(&table[..], f, &a[..], end, out);
-            lists::inner::hand_over_piece(later, &piece, i, end, out)
-        }
+    if let Err(why) = said {
+        return Err(lists::inner::behind(i, why));
     }
+    let later = inverse_from(&table[..], f, &a[..], end, out);
+    lists::inner::hand_over_piece(later, &piece, i, end, out)
 }
 
 // All the powers at once, in step: as `side_by_side` for products, but only where four walks are quicker than one: in step each place has two products for
@@ -238,21 +270,17 @@ fn powi_in_turn(
     a: &[u32],
     exponents: &[i32],
     results: &mut [u32],
-) -> Listed
+) -> Result<(), ListRefusal>
     requires { (length exponents.now ≡ length a.now) × (length a.now ≤ length results.old) }
     ensures { Worked (length a.now) (powi_at table.now f a.now exponents.now) result results.new }
 {
-    let mut i = 0;
-    while i < a.len() {
+    for i in 0..a.len() {
         let k = lists::inner::exponent(exponents, i);
         let said = group_powers::inner::one::powi(&table[..], f, GroupElementId(a[i]), k);
-        let Reached::Element(e) = said else {
-            return lists::inner::stopped(i, said);
-        };
+        let e = lists::inner::at_place(i, said)?;
         results[i] = e.0;
-        i += 1;
     }
-    Listed::Fine
+    Ok(())
 }
 
 pub fn powi_into(
@@ -261,12 +289,12 @@ pub fn powi_into(
     a: &[u32],
     exponents: &[i32],
     results: &mut [u32],
-) -> Listed
+) -> Result<(), ListRefusal>
     requires { (length exponents.now ≡ length a.now) × (length a.now ≤ length results.old) }
     ensures { Worked (length a.now) (powi_at table.now f a.now exponents.now) result results.new }
 {
     if in_step(&table[..], f, &a[..], &exponents[..], results) {
-        return Listed::Fine;
+        return Ok(());
     }
     powi_in_turn(&table[..], f, &a[..], &exponents[..], results)
 }
@@ -278,7 +306,7 @@ pub fn powi_by(
     exponents: &[i32],
     results: &mut [u32],
     out: &mut [u32],
-) -> Listed
+) -> Result<(), ListRefusal>
     requires { (length exponents.now ≡ length a.now) × ((length out.old ≡ length a.now) × (length a.now ≤ length results.old)) }
     ensures { Answered.answered result out.new ≡ each_place (length a.now) (powi_at table.now f a.now exponents.now) out.old }
 {

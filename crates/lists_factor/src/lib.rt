@@ -6,12 +6,18 @@ ghost use Rattle.lists.specs.Lists.{Answered};
 ghost use Rattle.lists_factor.specs.Each.{compose_each, inverse_each, powi_each};
 
 use egg::{Factor, GroupElementId};
-use lists::Listed;
+use lists::ListRefusal;
 
 pub mod inner;
 
 // At each place the product of the two elements there. One place needs no list of our own, and few a short one.
-pub fn compose_each(table: &[u32], f: Factor, a: &[u32], b: &[u32], out: &mut [u32]) -> Listed
+pub fn compose_each(
+    table: &[u32],
+    f: Factor,
+    a: &[u32],
+    b: &[u32],
+    out: &mut [u32],
+) -> Result<(), ListRefusal>
     ensures { Answered.answered result out.new ≡ compose_each table.now f a.now b.now out.old }
 {
     if !lists::inner::lengths_right(a.len(), b.len(), out.len()) {
@@ -27,7 +33,7 @@ pub fn compose_each(table: &[u32], f: Factor, a: &[u32], b: &[u32], out: &mut [u
 }
 
 // At each place the inverse of the element there.
-pub fn inverse_each(table: &[u32], f: Factor, a: &[u32], out: &mut [u32]) -> Listed
+pub fn inverse_each(table: &[u32], f: Factor, a: &[u32], out: &mut [u32]) -> Result<(), ListRefusal>
     ensures { Answered.answered result out.new ≡ inverse_each table.now f a.now out.old }
 {
     if !lists::inner::lengths_right(a.len(), a.len(), out.len()) {
@@ -46,7 +52,13 @@ pub fn inverse_each(table: &[u32], f: Factor, a: &[u32], out: &mut [u32]) -> Lis
 
 // At each place the power of the element there by the exponent there. Powers take so long that a long list of our own costs nothing
 // beside them, and it takes less of the stack than pieces.
-pub fn powi_each(table: &[u32], f: Factor, a: &[u32], exponents: &[i32], out: &mut [u32]) -> Listed
+pub fn powi_each(
+    table: &[u32],
+    f: Factor,
+    a: &[u32],
+    exponents: &[i32],
+    out: &mut [u32],
+) -> Result<(), ListRefusal>
     ensures { Answered.answered result out.new ≡ powi_each table.now f a.now exponents.now out.old }
 {
     if !lists::inner::lengths_right(a.len(), exponents.len(), out.len()) {

@@ -7,11 +7,9 @@ use native.Mathlib.Omega.{arith}
 use borrow.Rule.Slice.PartMut.{mid_of, put_mid}
 use lib.ListN.{length, get_or}
 use lib.IntN.{ℤ, pos}
-use Rattle.egg.specs.declared.Verdict.{Verdict}
-use Rattle.egg.specs.declared.Verdict.TheVariants.{Fine}
-use Rattle.egg.specs.declared.Reached.{Reached}
-use Rattle.egg.specs.declared.Reached.TheVariants.{Element}
-use Rattle.lists.specs.declared.Listed.{Listed}
+use Rattle.egg.specs.Answers.{Reached, Verdict, fine}
+use Rattle.std.specs.Prelude.{Ok}
+use Rattle.lists.specs.Answers.{Listed}
 use Rattle.lists.specs.Worked.{Worked, AllRight}
 use Rattle.lists.proofs.Parts.{mid_at, put_back}
 use Rattle.lists_factor.specs.Each as factor
@@ -52,7 +50,7 @@ module _ (t : List ℕ) (g : Group) (a : List ℕ) (o : Alone g) where
       subst (λ (single : ℕ → Reached). Worked k single r results) (fun_ext same) w
 
 -- What a pass over the handles has shown.
-pub sound : (len : ℕ) (g : Group) {s : Seen} {v : Verdict} → s ≡ seen len (handles g) → v ≡ admits_seen s g.count 0 (Number 1) 0 (Number 1) → v ≡ Fine
+pub sound : (len : ℕ) (g : Group) {s : Seen} {v : Verdict} → s ≡ seen len (handles g) → v ≡ admits_seen s g.count 0 (Number 1) 0 (Number 1) → v ≡ fine
     → Sound len g (s.elements % 4294967296)
 sound len g {s} q p e =
     let G : Goes len g 0 1 0 1 = goes_on len g 0 1 0 1 (none_admitted len g q p) e in
@@ -66,7 +64,7 @@ chunk_right t g a b {elements} {xs} {ys} {sums} S q x y w = record {
   each = λ i u. let v : i < length b = omega (arith, q) in
       let first : get_or a i 0 < elements_of (handles g) = rw (← S.count) (x.small i u) in
       let second : get_or b i 0 < elements_of (handles g) = rw (← S.count) (y.small i v) in
-      let whole : composes t (handles g) (get_or a i 0) (get_or b i 0) ≡ Element (record { 0 = get_or sums i 0 }) =
+      let whole : composes t (handles g) (get_or a i 0) (get_or b i 0) ≡ Ok (record { 0 = get_or sums i 0 }) =
       rw (← x.same.each i u, ← y.same.each i v) (w.each i u) in
       rw (← admits_fine (length t) g (get_or a i 0) (elements_of (handles g)) (get_or b i 0) (elements_of (handles g)) S.fits first second S.within) whole;
 }
@@ -76,7 +74,7 @@ pub inverses_right_lem : (t : List ℕ) (g : Group) (a : List ℕ) {elements : �
 unfolding inverse_answer
 inverses_right_lem t g a {elements} {xs} {sums} S x w = record {
   each = λ i u. let first : get_or a i 0 < elements_of (handles g) = rw (← S.count) (x.small i u) in
-      let whole : inverts t (handles g) (get_or a i 0) ≡ Element (record { 0 = get_or sums i 0 }) = rw (← x.same.each i u) (w.each i u) in
+      let whole : inverts t (handles g) (get_or a i 0) ≡ Ok (record { 0 = get_or sums i 0 }) = rw (← x.same.each i u) (w.each i u) in
       rw (← admits_fine (length t) g (get_or a i 0) (elements_of (handles g)) 0 1 S.fits first (omega arith) S.within) whole;
 }
 
@@ -85,7 +83,7 @@ pub next_chunk : (at e : ℕ) (results part : List ℕ) → at ≤ length result
     → ((j : ℕ) → j < e - at → single (at + j) ≡ here j) → AllRight at single results → AllRight k here part → AllRight e single (put_mid at (e - at) results part)
 next_chunk at e results part inside {single} q long same w p = record {
   each =
-      put_back at (e - at) results part inside (λ i x. single i ≡ Element (record { 0 = x })) refl long w.each (λ j u. same j u ∙ p.each j (omega (arith, q)));
+      put_back at (e - at) results part inside (λ i x. single i ≡ Ok (record { 0 = x })) refl long w.each (λ j u. same j u ∙ p.each j (omega (arith, q)));
 }
 
 -- The single calls at the places of a chunk.

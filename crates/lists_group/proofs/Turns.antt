@@ -8,8 +8,8 @@ use native.Mathlib.Omega.{arith}
 use lib.ListN.{length, get_or, take, drop}
 use lib.Seq.{get_or-take}
 use Rattle.egg.specs.declared.Factor.{Factor}
-use Rattle.egg.specs.declared.Reached.{Reached}
-use Rattle.egg.specs.declared.Reached.TheVariants.{Element}
+use Rattle.egg.specs.Answers.{Reached}
+use Rattle.std.specs.Prelude.{Ok}
 use Rattle.egg.specs.Factor.{stretch}
 use Rattle.egg.specs.Table.{inverse_of}
 use Rattle.lists.specs.Passes.{Written}
@@ -44,7 +44,7 @@ gathered w d = record { each = λ i u. sym (gathers_end (w.each i u) d) }
 -- A factor's turn at one place: what it answers about the digits, and what becomes of the sum and of the numbers they are cut off.
 record Turned (asked : PartQuestion) (t : List ℕ) (h : Factor) (s x y sum left right added : ℕ) : Type 0 where
   pub digit : ℕ
-  pub told : digit_of asked t h (x % h.elements) (y % h.elements) ≡ Element (record { 0 = digit })
+  pub told : digit_of asked t h (x % h.elements) (y % h.elements) ≡ Ok (record { 0 = digit })
   pub below : digit < h.elements
   pub grown : added ≡ sum + s * digit
   pub first : left ≡ x / h.elements

@@ -1,7 +1,7 @@
 -- The questions over lists of a product's elements: the single call of `group` at every place.
 -- Assumes nothing.
 use Rattle.std.specs.Prelude.{ℕ, List, length, get_or, ℤ, pos}
-use Rattle.egg.specs.declared.Reached.{Reached}
+use Rattle.egg.specs.Answers.{Reached}
 use Rattle.group_handles.specs.declared.Group.{Group}
 use Rattle.group.specs.Questions.{compose_answer, inverse_answer, powi_answer}
 use Rattle.lists.specs.Lists.{Answered, lengths_right, over_lists}

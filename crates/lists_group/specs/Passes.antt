@@ -1,7 +1,7 @@
 -- What the passes over a chunk of places come to. They stand in contracts of the work only, and are no part of a call's answer.
 -- Assumes nothing.
 use Rattle.std.specs.Prelude.{ℕ, ◌+◌, ◌*◌, ◌/◌, ◌%◌, ◌≤◌, ◌<◌, ◌≡◌, true, List, length, get_or}
-use Rattle.egg.specs.declared.Reached.TheVariants.{Element}
+use Rattle.std.specs.Prelude.{Ok}
 use Rattle.egg.specs.Table.{inverse_of}
 use Rattle.lists.specs.Passes.{Written}
 use Rattle.group_handles.specs.declared.Group.{Group}
@@ -42,7 +42,7 @@ pub record Ready (k : ℕ) (xs ys sums : List ℕ) : Type 0 where
 
 -- Every factor has had its turn. (For inverses ys is empty.)
 pub record Gathered (asked : PartQuestion) (t : List ℕ) (g : Group) (k : ℕ) (xs ys sums : List ℕ) : Type 0 where
-  pub each : (i : ℕ) → i < k → digitwise (digit_of asked t) (handles g) (get_or xs i 0) (get_or ys i 0) ≡ Element (record { 0 = get_or sums i 0 })
+  pub each : (i : ℕ) → i < k → digitwise (digit_of asked t) (handles g) (get_or xs i 0) (get_or ys i 0) ≡ Ok (record { 0 = get_or sums i 0 })
 
 -- What has been seen of the handles: they fit, the product is within its limits, and it has so many elements.
 pub record Sound (len : ℕ) (g : Group) (elements : ℕ) : Type 0 where

@@ -5,9 +5,9 @@ ghost use Rattle.lists.specs.Lists.{Answered, each_place};
 ghost use Rattle.lists.specs.Worked.{Worked, AllRight, WorkedFrom};
 ghost use Rattle.lists_group.specs.Each.{compose_at, inverse_at, powi_at};
 
-use egg::{GroupElementId, Reached, Verdict};
+use egg::GroupElementId;
 use group_handles::Group;
-use lists::Listed;
+use lists::ListRefusal;
 
 pub mod chunks;
 
@@ -22,36 +22,44 @@ fn side_by_side(table: &[u32], g: Group, a: &[u32], b: &[u32], results: &mut [u3
         return lists_factor::inner::side_by_side(&table[..], h, &a[..], &b[..], results);
     }
     let seen = group_handles::inner::look(&table[..], g);
-    let Verdict::Fine = group_handles::inner::admit_none_seen(seen, g.count) else {
+    let Ok(()) = group_handles::inner::admit_none_seen(seen, g.count) else {
         return false;
     };
     let elements = (seen.elements % 4294967296) as u32;
     chunks::in_chunks(&table[..], g, elements, &a[..], &b[..], results)
 }
 
-fn compose_in_turn(table: &[u32], g: Group, a: &[u32], b: &[u32], results: &mut [u32]) -> Listed
+fn compose_in_turn(
+    table: &[u32],
+    g: Group,
+    a: &[u32],
+    b: &[u32],
+    results: &mut [u32],
+) -> Result<(), ListRefusal>
     requires { (length b.now ≡ length a.now) × (length a.now ≤ length results.old) }
     ensures { Worked (length a.now) (compose_at table.now g a.now b.now) result results.new }
 {
-    let mut i = 0;
-    while i < a.len() {
+    for i in 0..a.len() {
         let said = group::compose(&table[..], g, GroupElementId(a[i]), GroupElementId(b[i]));
-        let Reached::Element(e) = said else {
-            return lists::inner::stopped(i, said);
-        };
+        let e = lists::inner::at_place(i, said)?;
         results[i] = e.0;
-        i += 1;
     }
-    Listed::Fine
+    Ok(())
 }
 
 // What the quick walks do not find is asked place by place: then it is known which place is refused, and why.
-fn compose_into(table: &[u32], g: Group, a: &[u32], b: &[u32], results: &mut [u32]) -> Listed
+fn compose_into(
+    table: &[u32],
+    g: Group,
+    a: &[u32],
+    b: &[u32],
+    results: &mut [u32],
+) -> Result<(), ListRefusal>
     requires { (length b.now ≡ length a.now) × (length a.now ≤ length results.old) }
     ensures { Worked (length a.now) (compose_at table.now g a.now b.now) result results.new }
 {
     if side_by_side(&table[..], g, &a[..], &b[..], results) {
-        return Listed::Fine;
+        return Ok(());
     }
     compose_in_turn(&table[..], g, &a[..], &b[..], results)
 }
@@ -63,7 +71,7 @@ pub fn compose_by(
     b: &[u32],
     results: &mut [u32],
     out: &mut [u32],
-) -> Listed
+) -> Result<(), ListRefusal>
     requires { (length b.now ≡ length a.now) × ((length out.old ≡ length a.now) × (length a.now ≤ length results.old)) }
     ensures { Answered.answered result out.new ≡ each_place (length a.now) (compose_at table.now g a.now b.now) out.old }
 {
@@ -80,24 +88,21 @@ pub fn compose_from(
     b: &[u32],
     i: usize,
     out: &mut [u32],
-) -> Listed
+) -> Result<(), ListRefusal>
     requires { (length b.now ≡ length a.now) × (length out.old ≡ length a.now) }
     ensures { WorkedFrom i (length a.now) (compose_at table.now g a.now b.now) out.old result out.new }
 {
     if a.len() <= i {
-        return Listed::Fine;
+        return Ok(());
     }
     let end = lists::inner::chunk_end(i, a.len(), 256);
     let mut piece = [0; 256];
     let said = compose_into(&table[..], g, &a[i..end], &b[i..end], &mut piece);
-    match said {
-        Listed::RefusedAt(at) => lists::inner::behind(i, at),
-        Listed::ListsRefused(why) => Listed::ListsRefused(why),
-        Listed::Fine => {
-            let later = compose_from(&table[..], g, &a[..], &b[..], end, out);
-            lists::inner::hand_over_piece(later, &piece, i, end, out)
-        }
+    if let Err(why) = said {
+        return Err(lists::inner::behind(i, why));
     }
+    let later = compose_from(&table[..], g, &a[..], &b[..], end, out);
+    lists::inner::hand_over_piece(later, &piece, i, end, out)
 }
 
 // All the inverses at once: its handles are looked at once, and not at each place. As `side_by_side` for products.
@@ -106,31 +111,32 @@ fn inverses_at_once(table: &[u32], g: Group, a: &[u32], results: &mut [u32]) -> 
     ensures { result ≡ true → AllRight (length a.now) (inverse_at table.now g a.now) results.new }
 {
     let seen = group_handles::inner::look(&table[..], g);
-    let Verdict::Fine = group_handles::inner::admit_none_seen(seen, g.count) else {
+    let Ok(()) = group_handles::inner::admit_none_seen(seen, g.count) else {
         return false;
     };
     let elements = (seen.elements % 4294967296) as u32;
     chunks::inverses_in_chunks(&table[..], g, elements, &a[..], results)
 }
 
-fn inverse_in_turn(table: &[u32], g: Group, a: &[u32], results: &mut [u32]) -> Listed
+fn inverse_in_turn(
+    table: &[u32],
+    g: Group,
+    a: &[u32],
+    results: &mut [u32],
+) -> Result<(), ListRefusal>
     requires { length a.now ≤ length results.old }
     ensures { Worked (length a.now) (inverse_at table.now g a.now) result results.new }
 {
-    let mut i = 0;
-    while i < a.len() {
+    for i in 0..a.len() {
         let said = group::inverse(&table[..], g, GroupElementId(a[i]));
-        let Reached::Element(e) = said else {
-            return lists::inner::stopped(i, said);
-        };
+        let e = lists::inner::at_place(i, said)?;
         results[i] = e.0;
-        i += 1;
     }
-    Listed::Fine
+    Ok(())
 }
 
 // A product of one factor is asked as the factor is.
-fn inverse_into(table: &[u32], g: Group, a: &[u32], results: &mut [u32]) -> Listed
+fn inverse_into(table: &[u32], g: Group, a: &[u32], results: &mut [u32]) -> Result<(), ListRefusal>
     requires { length a.now ≤ length results.old }
     ensures { Worked (length a.now) (inverse_at table.now g a.now) result results.new }
 {
@@ -139,7 +145,7 @@ fn inverse_into(table: &[u32], g: Group, a: &[u32], results: &mut [u32]) -> List
         return lists_factor::inner::inverse_into(&table[..], h, &a[..], results);
     }
     if inverses_at_once(&table[..], g, &a[..], results) {
-        return Listed::Fine;
+        return Ok(());
     }
     inverse_in_turn(&table[..], g, &a[..], results)
 }
@@ -150,7 +156,7 @@ pub fn inverse_by(
     a: &[u32],
     results: &mut [u32],
     out: &mut [u32],
-) -> Listed
+) -> Result<(), ListRefusal>
     requires { (length out.old ≡ length a.now) × (length a.now ≤ length results.old) }
     ensures { Answered.answered result out.new ≡ each_place (length a.now) (inverse_at table.now g a.now) out.old }
 {
@@ -159,24 +165,27 @@ pub fn inverse_by(
 }
 
 // As `compose_from`.
-pub fn inverse_from(table: &[u32], g: Group, a: &[u32], i: usize, out: &mut [u32]) -> Listed
+pub fn inverse_from(
+    table: &[u32],
+    g: Group,
+    a: &[u32],
+    i: usize,
+    out: &mut [u32],
+) -> Result<(), ListRefusal>
     requires { length out.old ≡ length a.now }
     ensures { WorkedFrom i (length a.now) (inverse_at table.now g a.now) out.old result out.new }
 {
     if a.len() <= i {
-        return Listed::Fine;
+        return Ok(());
     }
     let end = lists::inner::chunk_end(i, a.len(), 256);
     let mut piece = [0; 256];
     let said = inverse_into(&table[..], g, &a[i..end], &mut piece);
-    match said {
-        Listed::RefusedAt(at) => lists::inner::behind(i, at),
-        Listed::ListsRefused(why) => Listed::ListsRefused(why),
-        Listed::Fine => {
-            let later = inverse_from(&table[..], g, &a[..], end, out);
-            lists::inner::hand_over_piece(later, &piece, i, end, out)
-        }
+    if let Err(why) = said {
+        return Err(lists::inner::behind(i, why));
     }
+    let later = inverse_from(&table[..], g, &a[..], end, out);
+    lists::inner::hand_over_piece(later, &piece, i, end, out)
 }
 
 fn powi_in_turn(
@@ -185,24 +194,26 @@ fn powi_in_turn(
     a: &[u32],
     exponents: &[i32],
     results: &mut [u32],
-) -> Listed
+) -> Result<(), ListRefusal>
     requires { (length exponents.now ≡ length a.now) × (length a.now ≤ length results.old) }
     ensures { Worked (length a.now) (powi_at table.now g a.now exponents.now) result results.new }
 {
-    let mut i = 0;
-    while i < a.len() {
+    for i in 0..a.len() {
         let k = lists::inner::exponent(exponents, i);
         let said = group::powi(&table[..], g, GroupElementId(a[i]), k);
-        let Reached::Element(e) = said else {
-            return lists::inner::stopped(i, said);
-        };
+        let e = lists::inner::at_place(i, said)?;
         results[i] = e.0;
-        i += 1;
     }
-    Listed::Fine
+    Ok(())
 }
 
-fn powi_into(table: &[u32], g: Group, a: &[u32], exponents: &[i32], results: &mut [u32]) -> Listed
+fn powi_into(
+    table: &[u32],
+    g: Group,
+    a: &[u32],
+    exponents: &[i32],
+    results: &mut [u32],
+) -> Result<(), ListRefusal>
     requires { (length exponents.now ≡ length a.now) × (length a.now ≤ length results.old) }
     ensures { Worked (length a.now) (powi_at table.now g a.now exponents.now) result results.new }
 {
@@ -220,7 +231,7 @@ pub fn powi_by(
     exponents: &[i32],
     results: &mut [u32],
     out: &mut [u32],
-) -> Listed
+) -> Result<(), ListRefusal>
     requires { (length exponents.now ≡ length a.now) × ((length out.old ≡ length a.now) × (length a.now ≤ length results.old)) }
     ensures { Answered.answered result out.new ≡ each_place (length a.now) (powi_at table.now g a.now exponents.now) out.old }
 {

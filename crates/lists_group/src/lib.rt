@@ -7,13 +7,19 @@ ghost use Rattle.lists_group.specs.Each.{compose_each, inverse_each, powi_each};
 
 use egg::GroupElementId;
 use group_handles::Group;
-use lists::Listed;
+use lists::ListRefusal;
 
 pub mod inner;
 
 // At each place the product of the two elements there. One place is the single call, and needs no list of our own; few have a
 // short one, which is soon zeroed, and more than few are asked a piece at a time.
-pub fn compose_each(table: &[u32], g: Group, a: &[u32], b: &[u32], out: &mut [u32]) -> Listed
+pub fn compose_each(
+    table: &[u32],
+    g: Group,
+    a: &[u32],
+    b: &[u32],
+    out: &mut [u32],
+) -> Result<(), ListRefusal>
     ensures { Answered.answered result out.new ≡ compose_each table.now g a.now b.now out.old }
 {
     if !lists::inner::lengths_right(a.len(), b.len(), out.len()) {
@@ -31,7 +37,7 @@ pub fn compose_each(table: &[u32], g: Group, a: &[u32], b: &[u32], out: &mut [u3
 }
 
 // At each place the inverse of the element there.
-pub fn inverse_each(table: &[u32], g: Group, a: &[u32], out: &mut [u32]) -> Listed
+pub fn inverse_each(table: &[u32], g: Group, a: &[u32], out: &mut [u32]) -> Result<(), ListRefusal>
     ensures { Answered.answered result out.new ≡ inverse_each table.now g a.now out.old }
 {
     if !lists::inner::lengths_right(a.len(), a.len(), out.len()) {
@@ -50,7 +56,13 @@ pub fn inverse_each(table: &[u32], g: Group, a: &[u32], out: &mut [u32]) -> List
 
 // At each place the power of the element there by the exponent there. Powers take so long that a long list of our own costs nothing
 // beside them, and it takes less of the stack than pieces.
-pub fn powi_each(table: &[u32], g: Group, a: &[u32], exponents: &[i32], out: &mut [u32]) -> Listed
+pub fn powi_each(
+    table: &[u32],
+    g: Group,
+    a: &[u32],
+    exponents: &[i32],
+    out: &mut [u32],
+) -> Result<(), ListRefusal>
     ensures { Answered.answered result out.new ≡ powi_each table.now g a.now exponents.now out.old }
 {
     if !lists::inner::lengths_right(a.len(), exponents.len(), out.len()) {

@@ -11,11 +11,12 @@ use borrow.Author.Tests.{eq-eqb, le-leb}
 use lib.ListN.{length, get_or}
 use lib.Seq.{take_all}
 use Rattle.egg.specs.declared.Refusal.{Refusal}
-use Rattle.egg.specs.declared.Reached.{Reached}
-use Rattle.egg.specs.declared.Reached.TheVariants.{Element, Refused}
+use Rattle.egg.specs.Answers.{Reached}
+use Rattle.std.specs.Prelude.{Ok, Err}
 use Rattle.egg.specs.Table.{pick}
 use Rattle.egg.proofs.Scans.{here_or_later}
-use Rattle.lists.specs.declared.Listed.TheVariants.{Fine, RefusedAt}
+use Rattle.lists.specs.Answers.{fine}
+use Rattle.lists.specs.declared.ListRefusal.TheVariants.{RefusedAt}
 use Rattle.lists.specs.Lists.{lengths_right, lists_refused, first_refused, number_of, numbers, Answered, answered, each_place, over_lists}
 use Rattle.lists.specs.Worked.{Worked}
 use Rattle.lists.proofs.Lengths.{right_lengths}
@@ -31,8 +32,8 @@ lengths_exactly first second out = (
 )
 
 -- Where the first refusal is known, the search comes to it.
-first_refused_lem : (k : ℕ) (single : ℕ → Reached) (i j : ℕ) (r : Refusal) → i ≤ j → j < i + k → single j ≡ Refused r
-    → ((l : ℕ) → i ≤ l → l < j → Right (single l)) → first_refused k single i ≡ RefusedAt (record { place = j; why = r })
+first_refused_lem : (k : ℕ) (single : ℕ → Reached) (i j : ℕ) (r : Refusal) → i ≤ j → j < i + k → single j ≡ Err r
+    → ((l : ℕ) → i ≤ l → l < j → Right (single l)) → first_refused k single i ≡ Err (RefusedAt (record { place = j; why = r }))
 unfolding first_refused
 first_refused_lem zero single i j r a b e before = absurd (omega arith)
 first_refused_lem (suc k) single i j r a b e before =
@@ -44,7 +45,7 @@ first_refused_lem (suc k) single i j r a b e before =
 -- All places are right, or there is a first that is not.
 abbrev FirstOf : ℕ → (ℕ → Reached) → ℕ → Type 0
 FirstOf k single i =
-    (j : ℕ) × (r : Refusal) × (i ≤ j) × (j < i + k) × (single j ≡ Refused r) × ((l : ℕ) → i ≤ l → l < j → Right (single l))
+    (j : ℕ) × (r : Refusal) × (i ≤ j) × (j < i + k) × (single j ≡ Err r) × ((l : ℕ) → i ≤ l → l < j → Right (single l))
 
 abbrev AllOf : ℕ → (ℕ → Reached) → ℕ → Type 0
 AllOf k single i = (j : ℕ) → i ≤ j → j < i + k → Right (single j)
@@ -53,14 +54,14 @@ look : (k : ℕ) (single : ℕ → Reached) (i : ℕ) → AllOf k single i ⊎ F
 look zero single i = inl (λ j u v. absurd (omega arith))
 look (suc k) single i = go (single i) refl (look k single (i + 1)) where
   go : (x : Reached) → single i ≡ x → AllOf k single (i + 1) ⊎ FirstOf k single (i + 1) → AllOf (suc k) single i ⊎ FirstOf (suc k) single i
-  go (Refused r) e later = inr (i, r, omega arith, omega arith, e, λ l u v. absurd (omega arith))
-  go (Element x) e (inl all) =
+  go (Err r) e later = inr (i, r, omega arith, omega arith, e, λ l u v. absurd (omega arith))
+  go (Ok x) e (inl all) =
       inl (λ j u v. here_or_later (λ j. Right (single j)) u (record { element = x; reached = e }) (λ p. all j (omega arith) (omega arith)))
-  go (Element x) e (inr p) =
+  go (Ok x) e (inr p) =
       inr (p.0, p.1, omega (arith, p.2), omega (arith, p.3), p.4, λ l u v. here_or_later (λ j. Right (single j)) u (record { element = x; reached = e }) (λ q. p.5 l (omega arith) v))
 
-right_number : {x : Reached} → Right x → x ≡ Element (record { 0 = number_of x })
-right_number {x} h = h.reached ∙ ap (λ (y : Reached). Element (record { 0 = number_of y })) (sym h.reached)
+right_number : {x : Reached} → Right x → x ≡ Ok (record { 0 = number_of x })
+right_number {x} h = h.reached ∙ ap (λ (y : Reached). Ok (record { 0 = number_of y })) (sym h.reached)
 
 -- The lists are alike, or 4 is due.
 lengths_wrong : (first second out : ℕ) → lengths_right first second out ≡ false → Alike first second out → ⊥
@@ -81,7 +82,7 @@ module _ (first second : ℕ) (single : ℕ → Reached) (out : List ℕ) where
   given (stops place why l f) =
       rw ((lengths_exactly first second (length out)).1 l, first_refused_lem first single 0 place why (omega arith) (omega (arith, f.within)) f.refused (λ i u v. f.before i v))
   given (fills results l r) =
-      let w : Worked first single Fine results = all_worked r.right (omega (arith, r.long)) in
+      let w : Worked first single fine results = all_worked r.right (omega (arith, r.long)) in
       rw ((lengths_exactly first second (length out)).1 l, ← w.told, ← w.filled refl, take_all first results (omega (arith, r.long)))
 
   some : (h : Answered) × Outcome first second single out h
@@ -92,16 +93,16 @@ module _ (first second : ℕ) (single : ℕ → Reached) (out : List ℕ) where
         let l = (lengths_exactly first second (length out)).0 q in
         ⊎_elim
         (λ (all : AllOf first single 0). (
-          answered Fine (numbers first single 0),
+          answered fine (numbers first single 0),
           fills (numbers first single 0) l (record {
             long = numbers_long first single 0;
             right = record {
-              each = λ j u. right_number (all j (omega arith) (omega arith)) ∙ ap (λ (x : ℕ). Element (record { 0 = x })) (sym (numbers_at first single 0 j j u (omega arith)));
+              each = λ j u. right_number (all j (omega arith) (omega arith)) ∙ ap (λ (x : ℕ). Ok (record { 0 = x })) (sym (numbers_at first single 0 j j u (omega arith)));
             };
           }),
         ))
         (λ (p : FirstOf first single 0). (
-          answered (RefusedAt (record { place = p.0; why = p.1 })) out,
+          answered (Err (RefusedAt (record { place = p.0; why = p.1 }))) out,
           stops p.0 p.1 l (record { within = omega (arith, p.3); refused = p.4; before = λ i v. p.5 i (omega arith) v }),
         ))
         (look first single 0)
@@ -112,7 +113,7 @@ module _ (first second : ℕ) (single : ℕ → Reached) (out : List ℕ) where
 
 -- Lists that are alike, and single calls that are all known.
 module _ {first second : ℕ} (single : ℕ → Reached) (out : List ℕ) (l : Alike first second (length out)) where
-  pub filled_by_lem : (value : ℕ → ℕ) → ((place : ℕ) → place < first → single place ≡ Element (record { 0 = value place }))
+  pub filled_by_lem : (value : ℕ → ℕ) → ((place : ℕ) → place < first → single place ≡ Ok (record { 0 = value place }))
       → Filled (over_lists (lengths_right first second (length out)) first single out) first value
   filled_by_lem value at =
       let numbered : (place : ℕ) → place < first → get_or (numbers first single 0) place 0 ≡ value place =
@@ -121,17 +122,17 @@ module _ {first second : ℕ} (single : ℕ → Reached) (out : List ℕ) (l : A
         results = numbers first single 0;
         answers = given first second single out (fills (numbers first single 0) l (record {
           long = numbers_long first single 0;
-          right = record { each = λ j u. at j u ∙ ap (λ (x : ℕ). Element (record { 0 = x })) (sym (numbered j u)) };
+          right = record { each = λ j u. at j u ∙ ap (λ (x : ℕ). Ok (record { 0 = x })) (sym (numbered j u)) };
         }));
         long = numbers_long first single 0;
         each = numbered;
       }
 
-  pub stopped_by : (place : ℕ) (why : Refusal) → place < first → single place ≡ Refused why → ((before : ℕ) → before < place → Right (single before))
-      → over_lists (lengths_right first second (length out)) first single out ≡ answered (RefusedAt (record { place = place; why = why })) out
+  pub stopped_by : (place : ℕ) (why : Refusal) → place < first → single place ≡ Err why → ((before : ℕ) → before < place → Right (single before))
+      → over_lists (lengths_right first second (length out)) first single out ≡ answered (Err (RefusedAt (record { place = place; why = why }))) out
   stopped_by place why u at before = given first second single out (stops place why l (record { within = u; refused = at; before = before }))
 
 -- "Empty lists are fine", whatever the single call would say, of a bad handle too.
-pub empty_fine : (single : ℕ → Reached) → over_lists (lengths_right 0 0 0) 0 single [] ≡ answered Fine []
+pub empty_fine : (single : ℕ → Reached) → over_lists (lengths_right 0 0 0) 0 single [] ≡ answered fine []
 unfolding over_lists each_place first_refused numbers lengths_right
 empty_fine single = refl

@@ -8,7 +8,7 @@ use native.Mathlib.Omega.{arith}
 use lib.IntN.{ℤ}
 use lib.ListN.{length, get_or, replicate, get_or-replicate}
 use lib.Pow.{shr-shr, shr_mono}
-use Rattle.egg.specs.declared.Reached.TheVariants.{Element}
+use Rattle.std.specs.Prelude.{Ok}
 use Rattle.factor_questions.specs.Walks.{compose_in}
 use Rattle.group_powers.specs.Powers.{by_halving}
 use Rattle.group_powers.proofs.Powers.{power_none}
@@ -26,7 +26,7 @@ module _ {s : List ℕ} {n count : ℕ} {bs ks : List ℕ} where
         each = λ i h.
             let none : get_or ks i 0 / 2 ^ j ≡ 0 = omega (arith, shr_mono j (l.each i h), e) in
             let is : get_or xs i 0 ≡ 0 = ap (λ (v : List ℕ). get_or v i 0) z ∙ get_or-replicate (length ks) i 0 0 h in
-            sym (power_none (compose_in s n count) (get_or bs i 0) none) ∙ ap (λ (v : ℕ). Element (record { 0 = v })) (sym is);
+            sym (power_none (compose_in s n count) (get_or bs i 0) none) ∙ ap (λ (v : ℕ). Ok (record { 0 = v })) (sym is);
       }
 
   pub raised_at : {j k : ℕ} {xs : List ℕ} → Raised s n count bs ks j xs → j ≡ k → Raised s n count bs ks k xs

@@ -1,6 +1,6 @@
 -- What the rounds of powers over lists do, place by place. None of it is part of the answer.
 use Rattle.std.specs.Prelude.{ℕ, ◌/◌, ◌%◌, ◌^◌, ◌≤◌, ◌<◌, ◌≡◌, List, length, get_or, ℤ, pos, eqb}
-use Rattle.egg.specs.declared.Reached.TheVariants.{Element}
+use Rattle.std.specs.Prelude.{Ok}
 use Rattle.egg.specs.Table.{pick}
 use Rattle.factor_questions.specs.Walks.{compose_in, inverse_in}
 use Rattle.group_powers.specs.Powers.{by_halving, powers}
@@ -29,4 +29,4 @@ kept_at ks j squares products i =
 
 -- The list holds the powers by the exponents without their last j bits.
 pub record Raised (s : List ℕ) (n count : ℕ) (bs ks : List ℕ) (j : ℕ) (xs : List ℕ) : Type 0 where
-  pub each : (i : ℕ) → i < length ks → by_halving (get_or ks i 0 / 2 ^ j) (compose_in s n count) (get_or bs i 0) (get_or ks i 0 / 2 ^ j) ≡ Element (record { 0 = get_or xs i 0 })
+  pub each : (i : ℕ) → i < length ks → by_halving (get_or ks i 0 / 2 ^ j) (compose_in s n count) (get_or bs i 0) (get_or ks i 0 / 2 ^ j) ≡ Ok (record { 0 = get_or xs i 0 })

@@ -1,64 +1,49 @@
 // Powers over lists of a factor's elements. A power alone squares and multiplies; here the places of a chunk do so in step, each round by one call for all
 // the squares and one for all the products, so that the walks of many places are under way at once. A place that needs no product in a round is given one
 // with the identity, whose result is not used. Slices are passed on as `&s[..]`, since a slice parameter that is passed on as it is would be copied first.
-ghost use Rattle.std.specs.Prelude.{◌≡◌, true, false, ◌+◌, ◌/◌, ◌^◌, ◌≤◌, ◌<◌, length, replicate};
+ghost use Rattle.std.specs.Prelude.{Some, ◌≡◌, true, false, ◌+◌, ◌/◌, ◌^◌, ◌≤◌, ◌<◌, length, replicate};
 ghost use Rattle.lists.specs.Passes.{Written};
+ghost use Rattle.lists_powers.specs.declared.inner.PowerOf.{PowerOf};
 ghost use Rattle.lists_powers.specs.Powers.{Powered};
 ghost use Rattle.lists_powers.specs.Rounds.{Base, Bases, Largest, factor_at, kept_at, Raised};
 
-use egg::{GroupElementId, Reached};
+use egg::GroupElementId;
 
-// The element whose power is taken, and by how much; and whether there is one.
+// The element whose power is taken, and by how much.
 #[derive(Clone, Copy)]
 pub struct PowerOf {
-    pub fine: bool,
     pub base: u32,
     pub by: u32,
 }
 
-fn no_power() -> PowerOf
-    ensures { result.fine ≡ false }
-{
-    PowerOf {
-        fine: false,
-        base: 0,
-        by: 0,
-    }
-}
-
-// A negative exponent hands on to the inverse. The least has no negation, and is 2^31 of the inverse: the power by 2^30, squared.
-fn positive(s: &[u32], n: u8, count: u32, a: u32, e: i32) -> PowerOf
-    ensures { result.fine ≡ true → Base s.now n count a e result.base result.by }
+// A negative exponent hands on to the inverse. The least has no negation, and is 2^31 of the inverse: the power by 2^30, squared. None where a number is out
+// of range.
+fn positive(s: &[u32], n: u8, count: u32, a: u32, e: i32) -> Option<PowerOf>
+    ensures { (p : PowerOf) → result ≡ Some p → Base s.now n count a e p.base p.by }
 {
     if count <= a {
-        return no_power();
+        return None;
     }
     if 0 <= e {
         let up = e as u32;
-        return PowerOf {
-            fine: true,
-            base: a,
-            by: up,
-        };
+        return Some(PowerOf { base: a, by: up });
     }
     let back = factor_questions::inner::inverse_in(&s[..], n, count, GroupElementId(a));
-    let Reached::Element(b) = back else {
-        return no_power();
+    let Ok(b) = back else {
+        return None;
     };
     let inverse = b.0;
     if e == -2147483648 {
-        return PowerOf {
-            fine: true,
+        return Some(PowerOf {
             base: inverse,
             by: 2147483648,
-        };
+        });
     }
     let down = (-e) as u32;
-    PowerOf {
-        fine: true,
+    Some(PowerOf {
         base: inverse,
         by: down,
-    }
+    })
 }
 
 fn bases(
@@ -73,16 +58,13 @@ fn bases(
     requires { (length exponents.now ≡ length a.now) × ((length bs.old ≡ length a.now) × (length ks.old ≡ length a.now)) }
     ensures { result ≡ true → Bases s.now n count a.now exponents.now (length a.now) bs.new ks.new }
 {
-    let mut i = 0;
-    while i < a.len() {
+    for i in 0..a.len() {
         let e = lists::inner::exponent(exponents, i);
-        let p = positive(&s[..], n, count, a[i], e);
-        if !p.fine {
+        let Some(p) = positive(&s[..], n, count, a[i], e) else {
             return false;
-        }
+        };
         bs[i] = p.base;
         ks[i] = p.by;
-        i += 1;
     }
     true
 }
@@ -97,10 +79,8 @@ fn largest(ks: &[u32]) -> u32
     ensures { Largest ks.now (length ks.now) result }
 {
     let mut most = 0;
-    let mut i = 0;
-    while i < ks.len() {
+    for i in 0..ks.len() {
         most = larger(most, ks[i]);
-        i += 1;
     }
     most
 }
@@ -109,12 +89,10 @@ fn largest(ks: &[u32]) -> u32
 fn bits(k: u32) -> u32
     ensures { (result ≤ 32) × (k / 2 ^ result ≡ 0) }
 {
-    let mut j: u32 = 0;
-    while j < 32 {
+    for j in 0..32 {
         if k >> j == 0 {
             return j;
         }
-        j += 1;
     }
     32
 }
@@ -124,11 +102,9 @@ fn factors(bs: &[u32], ks: &[u32], j: u32, ms: &mut [u32])
     requires { (j < 32) × ((length ks.now ≡ length bs.now) × (length ms.old ≡ length bs.now)) }
     ensures { Written (length bs.now) (factor_at bs.now ks.now j) ms.new }
 {
-    let mut i = 0;
-    while i < bs.len() {
+    for i in 0..bs.len() {
         let m = ks[i] >> j;
         ms[i] = egg::inner::chosen(m % 2 == 0, 0, bs[i]);
-        i += 1;
     }
 }
 
@@ -137,12 +113,10 @@ fn keep(ks: &[u32], j: u32, ys: &[u32], xs: &mut [u32])
     requires { (j < 32) × ((length ys.now ≡ length ks.now) × (length xs.old ≡ length ks.now)) }
     ensures { Written (length ks.now) (kept_at ks.now j ys.now xs.old) xs.new }
 {
-    let mut i = 0;
-    while i < ks.len() {
+    for i in 0..ks.len() {
         let m = ks[i] >> j;
         let x = egg::inner::chosen(m % 2 == 0, ys[i], xs[i]);
         xs[i] = egg::inner::chosen(m == 0, 0, x);
-        i += 1;
     }
 }
 
@@ -186,9 +160,7 @@ fn rounds(
     requires { (length bs.now ≡ length ks.now) × ((length xs.old ≡ length ks.now) × ((length ys.old ≡ length ks.now) × ((length ms.old ≡ length ks.now) × (xs.old ≡ replicate (length ks.now) 0)))) }
     ensures { result ≡ true → Raised s.now n count bs.now ks.now 0 xs.new }
 {
-    let mut j = bits(largest(&ks[..]));
-    while 0 < j {
-        j -= 1;
+    for j in (0..bits(largest(&ks[..]))).rev() {
         if !round(&s[..], n, count, &bs[..], &ks[..], j, xs, ys, ms) {
             return false;
         }
@@ -256,6 +228,7 @@ pub fn powers(
     ensures { result ≡ true → Powered s.now n count a.now exponents.now results.new }
 {
     let mut i = 0;
+    // Counted by hand: a turn takes a chunk.
     while i < a.len() {
         let end = lists::inner::chunk_end(i, a.len(), 64);
         if !chunk(

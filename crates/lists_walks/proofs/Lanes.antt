@@ -9,7 +9,7 @@ use borrow.Author.Tests.{lt-ltb, le-ltb, ltb-true, ltb-false, leb-true, leb-fals
 use lib.ListN.{length, get_or, set}
 use lib.Seq.{get_or-set_same, get_or-set_other}
 use lib.Dec.{ltb, leb}
-use Rattle.egg.specs.declared.Reached.TheVariants.{Element}
+use Rattle.std.specs.Prelude.{Ok}
 use Rattle.egg.specs.Table.{hop_of, inverse_of, pick}
 use Rattle.egg.proofs.Rooms.{false_true}
 use Rattle.factor_word_letters.specs.Spell.{cell_by}
@@ -117,7 +117,7 @@ module _ {s : List ℕ} {n count : ℕ} {a b : List ℕ} where
 
   module _ {old : List ℕ} {l : Lane} (R : LanesReady s n count a b old) (W : Walking s n count a b l) (h : l.place < length a) where
     pub finishes : {c y z v : ℕ} → c ≡ hop_of s n l.at → cell_by l.left n 1 c ≡ true → l.left ≤ 5 → 0 < y → y ≤ count
-        → LettersBack s n count (l.y - 1) c l.left (Element (record { 0 = y - 1 })) → z ≡ inverse_of s n (y - 1) → z < count → v ≡ pick l.inverted z (y - 1)
+        → LettersBack s n count (l.y - 1) c l.left (Ok (record { 0 = y - 1 })) → z ≡ inverse_of s n (y - 1) → z < count → v ≡ pick l.inverted z (y - 1)
         → Finished s n count a b l old (set old l.place v)
     finishes {c} {y} {z} {v} q t k some small L p m e = record {
       after = λ i o f. set_after (λ j x. Multiplied s n count (get_or a j 0) (get_or b j 0) x) old l.place (omega (arith, R.room)) M i f;

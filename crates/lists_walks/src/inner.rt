@@ -7,7 +7,7 @@ ghost use Rattle.lists_walks.specs.Products.{Products};
 ghost use Rattle.lists_walks.specs.Letters.{EachOf, Stored, LetterBack, CellBack};
 ghost use Rattle.lists_walks.specs.Lanes.{LanesReady, Walking, Standing, lane_of, Finished, Taking, Took, Open, AllFar, Settled, AllForward, SomeLive, NoneLive};
 
-use egg::{GroupElementId, Reached};
+use egg::GroupElementId;
 
 // One walk. It is to the product at `place`, and idle where that is the lists' length. It has come to the element that is stored
 // as y, `left` letters are left, the next of them in the row of `at`, and at the end the inverse is wanted or the element itself.
@@ -65,9 +65,8 @@ fn idle(k: usize, left: u32) -> Lane
 fn failed(k: usize) -> Taken
     ensures { result.fine ≡ false }
 {
-    let lane = idle(k, 0);
     Taken {
-        lane,
+        lane: idle(k, 0),
         next: k,
         fine: false,
     }
@@ -76,15 +75,15 @@ fn failed(k: usize) -> Taken
 // The number of the product of two elements; the count where it is refused. (`compose_elements` comes to the same, as an answer.
 // That `product_number` is called here too keeps it apart from that, which is then put in line wherever somebody asks.)
 pub fn number(s: &[u32], n: u8, count: u32, a: GroupElementId, b: GroupElementId) -> u32
-    ensures { result < count → compose_in s.now n count a.0 b.0 ≡ Reached.Element (record { 0 = result }) }
+    ensures { result < count → compose_in s.now n count a.0 b.0 ≡ Ok (record { 0 = result }) }
 {
     let x = factor_compose::inner::product_number(&s[..], n, count, a, b);
     if x < count {
         return x;
     }
     match factor_questions::inner::compose_with_care(&s[..], n, count, a, b) {
-        Reached::Refused(_) => count,
-        Reached::Element(y) => y.0,
+        Err(_) => count,
+        Ok(y) => y.0,
     }
 }
 
@@ -308,35 +307,27 @@ fn settle_all(
     requires { (LanesReady s.now n count a.now b.now results.old) × Open s.now n count a.now b.now w results.old }
     ensures { result.fine ≡ true → Settled s.now n count a.now b.now w result results.new }
 {
-    let p = w.p;
-    let one = settled(s, n, count, a, b, p, w.next, results);
+    let one = settled(s, n, count, a, b, w.p, w.next, results);
     if !one.fine {
         return broken(w);
     }
-    let q = w.q;
-    let two = settled(s, n, count, a, b, q, one.next, results);
+    let two = settled(s, n, count, a, b, w.q, one.next, results);
     if !two.fine {
         return broken(w);
     }
-    let r = w.r;
-    let three = settled(s, n, count, a, b, r, two.next, results);
+    let three = settled(s, n, count, a, b, w.r, two.next, results);
     if !three.fine {
         return broken(w);
     }
-    let t = w.t;
-    let four = settled(s, n, count, a, b, t, three.next, results);
+    let four = settled(s, n, count, a, b, w.t, three.next, results);
     if !four.fine {
         return broken(w);
     }
-    let first = one.lane;
-    let second = two.lane;
-    let third = three.lane;
-    let fourth = four.lane;
     FourLanes {
-        p: first,
-        q: second,
-        r: third,
-        t: fourth,
+        p: one.lane,
+        q: two.lane,
+        r: three.lane,
+        t: four.lane,
         next: four.next,
         fine: true,
     }
@@ -412,8 +403,7 @@ fn five_back(s: &[u32], n: u8, count: u32, from: Four, cells: Four) -> Four
 {
     let mut y = from;
     let mut c = cells;
-    let mut left: u32 = 5;
-    while 0 < left {
+    for _ in 0..5u32 {
         y = four_back(s, n, count, y, c);
         if y.p == 0 {
             return y;
@@ -424,7 +414,6 @@ fn five_back(s: &[u32], n: u8, count: u32, from: Four, cells: Four) -> Four
             r: c.r / 8,
             t: c.t / 8,
         };
-        left -= 1;
     }
     if !all_below(count, c) {
         y.p = 0;
@@ -475,15 +464,11 @@ fn five_ahead(s: &[u32], n: u8, count: u32, w: FourLanes, live: bool) -> FourLan
     if y.p == 0 {
         return broken(w);
     }
-    let first = onward(p, y.p, cells.p);
-    let second = onward(q, y.q, cells.q);
-    let third = onward(r, y.r, cells.r);
-    let fourth = onward(t, y.t, cells.t);
     FourLanes {
-        p: first,
-        q: second,
-        r: third,
-        t: fourth,
+        p: onward(p, y.p, cells.p),
+        q: onward(q, y.q, cells.q),
+        r: onward(r, y.r, cells.r),
+        t: onward(t, y.t, cells.t),
         next: w.next,
         fine: true,
     }
@@ -547,10 +532,9 @@ fn side_by_side(s: &[u32], n: u8, count: u32, a: &[u32], b: &[u32], results: &mu
     if !one.fine {
         return false;
     }
-    let p = one.lane;
     let q = idle(a.len(), 0);
     let w = FourLanes {
-        p,
+        p: one.lane,
         q,
         r: q,
         t: q,
@@ -581,8 +565,7 @@ fn one_after_another(
     requires { LanesReady s.now n count a.now b.now results.old }
     ensures { result ≡ true → Products s.now n count a.now b.now results.new }
 {
-    let mut i: usize = 0;
-    while i < a.len() {
+    for i in 0..a.len() {
         let first = a[i];
         let second = b[i];
         if count <= first {
@@ -602,7 +585,6 @@ fn one_after_another(
             return false;
         }
         results[i] = x;
-        i += 1;
     }
     true
 }

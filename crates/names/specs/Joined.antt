@@ -1,8 +1,8 @@
 -- The joined name as it is asked for. Order 1: "A joined name is written into a lent buffer. .. 18, .. joined name longer than the buffer, after 17;
 -- nothing is written."
 use Rattle.std.specs.Prelude.{ℕ, List, length, ltb}
-use Rattle.egg.specs.declared.Counted.{Counted}
-use Rattle.egg.specs.declared.Counted.TheVariants.{Count, Refused}
+use Rattle.egg.specs.Answers.{Counted}
+use Rattle.std.specs.Prelude.{Ok, Err}
 use Rattle.egg.specs.Table.{pick}
 use Rattle.egg.specs.Answers.{numbered, if_count}
 use Rattle.factor.specs.Questions.{filled_by}
@@ -13,7 +13,7 @@ use Rattle.names_joined.specs.Joined.{listed_names, joined_name, joined_length, 
 
 -- 18 where a buffer of `size` bytes is shorter than a joined name of k, else k.
 abbrev pub room_for : ℕ → ℕ → Counted
-room_for size k = pick (ltb size k) (Refused (numbered 18 0 0 0)) (Count k)
+room_for size k = pick (ltb size k) (Err (numbered 18 0 0 0)) (Ok k)
 
 -- How many bytes are written into a buffer of `size` bytes. Refuses in this order: 17 for a recorded length above 32 or a handle that does not fit, 15
 -- for a product too large, as every call on a product does, then 18.
@@ -23,8 +23,8 @@ joined_answer t g size =
 
 -- What the buffer holds by the answer: the joined name at its start; where the call refuses, what it held.
 abbrev pub joined_by : Counted → List ℕ → List ℕ → List ℕ
-joined_by (Count k) name out = at_start name out
-joined_by (Refused r) name out = out
+joined_by (Ok k) name out = at_start name out
+joined_by (Err r) name out = out
 
 -- What the buffer holds afterwards.
 unfoldable pub joined_leaves : List ℕ → NamedGroup → List ℕ → List ℕ

@@ -10,11 +10,9 @@ ghost use Rattle.names.specs.Making.{NamedMaking, named_composed, named_enumerat
 ghost use Rattle.names.specs.Products.{with_names, product_of_one, named_joins};
 ghost use Rattle.names.specs.Joined.{joined_answer, joined_leaves, joined_part};
 
-use egg::{Counted, Verdict};
+use egg::Refusal;
 use group_handles::inner::Limit;
-pub use names_values::{
-    Name, Named, NamedBegun, NamedBuilder, NamedGroup, NamedGrouped, NamedMade, no_name, unnamed,
-};
+pub use names_values::{Name, Named, NamedBuilder, NamedGroup, no_name, unnamed};
 
 pub mod inner;
 
@@ -28,21 +26,18 @@ pub fn from_composed(
     n: u8,
     room: u32,
     name: &[u8],
-) -> NamedMade
+) -> Result<Named, Refusal>
     ensures { NamedMaking.named_making result table.new work.new ≡ named_composed table.old start work.old rows.now n room name.now }
 {
     if 32 < name.len() {
-        return inner::too_long(inner::composed_right(
-            table.len(),
-            start,
-            work.len(),
-            rows.len(),
-            n,
-            room,
-        ));
+        inner::composed_right(table.len(), start, work.len(), rows.len(), n, room)?;
+        return Err(Refusal::NameLength);
     }
-    let made = factor::from_composed(table, start, work, rows, n, room);
-    inner::with_name(made, names_values::inner::name_of(name))
+    let factor = factor::from_composed(table, start, work, rows, n, room)?;
+    Ok(Named {
+        factor,
+        name: names_values::inner::name_of(name),
+    })
 }
 
 // Makes a factor of the group that the pair orders present as `enumeration::enumerate` does, with a name. Refuses as that one does, and after
@@ -55,51 +50,64 @@ pub fn enumerate(
     n: u8,
     room: u32,
     name: &[u8],
-) -> NamedMade
+) -> Result<Named, Refusal>
     ensures { NamedMaking.named_making result table.new work.new ≡ named_enumerates table.old start work.old orders.now n room name.now }
 {
     if 32 < name.len() {
-        return inner::too_long(inner::enumerate_right(
-            table.len(),
-            start,
-            work.len(),
-            orders,
-            n,
-            room,
-        ));
+        inner::enumerate_right(table.len(), start, work.len(), orders, n, room)?;
+        return Err(Refusal::NameLength);
     }
-    let made = enumeration::enumerate(table, start, work, orders, n, room);
-    inner::with_name(made, names_values::inner::name_of(name))
+    let factor = enumeration::enumerate(table, start, work, orders, n, room)?;
+    Ok(Named {
+        factor,
+        name: names_values::inner::name_of(name),
+    })
 }
 
 // Begins a build as `builder::begin` does, of a factor with a name. Refuses as that one does, and then with 18 a name of more than 32 bytes; no
 // buffer is touched then.
-pub fn begin(table: &mut [u32], start: usize, room: u32, n: u8, name: &[u8]) -> NamedBegun
+pub fn begin(
+    table: &mut [u32],
+    start: usize,
+    room: u32,
+    n: u8,
+    name: &[u8],
+) -> Result<NamedBuilder, Refusal>
     ensures { Leaving.leaving result table.new ≡ named_begins table.old start room n name.now }
 {
     if 32 < name.len() {
-        return inner::not_begun(inner::begin_right(table.len(), start, room, n));
+        inner::begin_right(table.len(), start, room, n)?;
+        return Err(Refusal::NameLength);
     }
-    let b = builder::begin(table, start, room, n);
-    inner::begun_with(b, names_values::inner::name_of(name))
+    let builder = builder::begin(table, start, room, n)?;
+    Ok(NamedBuilder {
+        builder,
+        name: names_values::inner::name_of(name),
+    })
 }
 
 // Makes a factor of what was built, as `builder::build` does. It has the name that the build was begun with.
-pub fn build(table: &mut [u32], b: NamedBuilder, work: &mut [u32]) -> NamedMade
+pub fn build(table: &mut [u32], b: NamedBuilder, work: &mut [u32]) -> Result<Named, Refusal>
     ensures { NamedMaking.named_making result table.new work.new ≡ named_builds table.old b work.old }
 {
-    let builder = b.builder;
-    let name = b.name;
-    let made = builder::build(table, builder, work);
-    inner::with_name(made, name)
+    let factor = builder::build(table, b.builder, work)?;
+    Ok(Named {
+        factor,
+        name: b.name,
+    })
 }
 
 // Reads a factor from an image, as `image::read` does. It has the empty name.
-pub fn read(image: &[u8], table: &mut [u32], start: usize, work: &mut [u32]) -> NamedMade
+pub fn read(
+    image: &[u8],
+    table: &mut [u32],
+    start: usize,
+    work: &mut [u32],
+) -> Result<Named, Refusal>
     ensures { NamedMaking.named_making result table.new work.new ≡ named_read image.now table.old start work.old }
 {
-    let made = image::read(image, table, start, work);
-    inner::with_name(made, no_name())
+    let factor = image::read(image, table, start, work)?;
+    Ok(unnamed(factor))
 }
 
 // Builds one factor that is the product, as `group::flatten` does. It has the empty name.
@@ -110,23 +118,20 @@ pub fn flatten(
     start: usize,
     work: &mut [u32],
     room: u32,
-) -> NamedMade
+) -> Result<Named, Refusal>
     ensures { NamedMaking.named_making result table.new work.new ≡ named_flat from.now g table.old start work.old room }
 {
-    let group = g.group;
-    let made = group::flatten(from, group, table, start, work, room);
-    inner::with_name(made, no_name())
+    let factor = group::flatten(from, g.group, table, start, work, room)?;
+    Ok(unnamed(factor))
 }
 
 // The group of one element: the product of no factors, with no names.
 pub fn trivial() -> NamedGroup
     ensures { result ≡ with_names (group_of []) [] }
 {
-    let none = no_name();
-    let names = [none, none, none, none, none, none, none, none];
     NamedGroup {
         group: group_handles::trivial(),
-        names,
+        names: [no_name(); 8],
     }
 }
 
@@ -134,47 +139,38 @@ pub fn trivial() -> NamedGroup
 pub fn of(f: Named) -> NamedGroup
     ensures { result ≡ product_of_one f }
 {
-    let factor = f.factor;
-    let name = f.name;
-    let none = no_name();
-    let names = [name, none, none, none, none, none, none, none];
+    let mut names = [no_name(); 8];
+    names[0] = f.name;
     NamedGroup {
-        group: group_handles::of(factor),
+        group: group_handles::of(f.factor),
         names,
     }
 }
 
 // Answers the product of two as `group::product` does, with the names of the first and then those of the second. Refuses as that one does.
-pub fn product(table: &[u32], a: NamedGroup, b: NamedGroup) -> NamedGrouped
+pub fn product(table: &[u32], a: NamedGroup, b: NamedGroup) -> Result<NamedGroup, Refusal>
     ensures { result ≡ named_joins (length table.now) a b }
 {
-    let first = a.group;
-    let second = b.group;
-    let made = group_handles::product(table, first, second);
-    inner::both_named(made, a, b)
+    let group = group_handles::product(table, a.group, b.group)?;
+    Ok(NamedGroup {
+        group,
+        names: inner::both_names(a, b),
+    })
 }
 
 // Writes the joined name of a product, the names of its factors in order with " x " between each two, to the start of a lent byte buffer, and
 // answers its length. Refuses in this order: 17 for a handle that does not fit or a recorded length above 32, 15 for a product too large, 18 for
 // a buffer shorter than the joined name.
-pub fn write_joined(table: &[u32], g: NamedGroup, out: &mut [u8]) -> Counted
+pub fn write_joined(table: &[u32], g: NamedGroup, out: &mut [u8]) -> Result<u32, Refusal>
     ensures { (result ≡ joined_answer table.now g (length out.old)) × (out.new ≡ joined_leaves table.now g out.old) }
 {
-    let r = names_joined::inner::joined_length(g);
-    let Counted::Count(k) = r else {
-        return r;
-    };
-    let group = g.group;
-    match group_handles::inner::admit_one(table, group, 0, Limit::Number(1)) {
-        Verdict::Refused(why) => Counted::Refused(why),
-        Verdict::Fine => {
-            if out.len() < (k as usize) {
-                return egg::inner::refused_count(18);
-            }
-            names_joined::inner::write(g, out);
-            Counted::Count(k)
-        }
+    let k = names_joined::inner::joined_length(g)?;
+    group_handles::inner::admit_one(table, g.group, 0, Limit::Number(1))?;
+    if out.len() < (k as usize) {
+        return Err(Refusal::NameLength);
     }
+    names_joined::inner::write(g, out);
+    Ok(k)
 }
 
 // The same as `write_joined`, but hands back the filled part of the buffer. Where it refuses this is the empty start, and `write_joined` tells
@@ -183,7 +179,7 @@ pub fn joined<'a>(table: &[u32], g: NamedGroup, out: &'a mut [u8]) -> &'a mut [u
     ensures { result.now ≡ joined_part table.now g out.old }
 {
     match write_joined(table, g, out) {
-        Counted::Count(len) => &mut out[..len as usize],
-        Counted::Refused(_) => &mut out[..0],
+        Ok(len) => &mut out[..len as usize],
+        Err(_) => &mut out[..0],
     }
 }

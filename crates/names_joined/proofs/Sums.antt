@@ -9,7 +9,7 @@ use borrow.Author.Tests.{le-leb, lt-leb}
 use lib.ListN.{length, drop, length-append}
 use lib.Seq.{length-take-le}
 use lib.Dec.{leb}
-use Rattle.egg.specs.declared.Counted.TheVariants.{Count, Refused}
+use Rattle.std.specs.Prelude.{Ok, Err}
 use Rattle.egg.specs.Answers.{numbered}
 use Rattle.egg.proofs.Rooms.{and_second}
 use Rattle.names_values.specs.declared.Name.{Name}
@@ -61,11 +61,11 @@ module _ {ms : List Name} {f n : ℕ} (a : Adding ms f n) where
           small = omega (arith, a.small, s);
         }
 
-    pub adds_long : 32 < m.length → Refused (numbered 17 0 0 0) ≡ joined_length ms
+    pub adds_long : 32 < m.length → Err (numbered 17 0 0 0) ≡ joined_length ms
     unfolding joined_length names_fit
     adds_long h = rw (← a.fit, turn) (simp (lt-leb _ _ h))
 
-  pub adds_all : drop f ms ≡ [] → Count n ≡ joined_length ms
+  pub adds_all : drop f ms ≡ [] → Ok n ≡ joined_length ms
   unfolding joined_length names_fit joined_from
   adds_all e =
       let z : n ≡ length (joined_name ms) = omega (arith, a.sum, ap (λ l. length (joined_from f l)) e) in

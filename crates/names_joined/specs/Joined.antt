@@ -1,7 +1,7 @@
 -- The joined name of a product. Order 1: "a product to show them joined by " x "", which is 32, 120, 32 in bytes.
 use Rattle.std.specs.Prelude.{ℕ, zero, suc, ◌+◌, ◌≡◌, List, [], ◌∷◌, ◌++◌, Bool, true, ◌&&◌, length, take, drop, leb}
-use Rattle.egg.specs.declared.Counted.{Counted}
-use Rattle.egg.specs.declared.Counted.TheVariants.{Count, Refused}
+use Rattle.egg.specs.Answers.{Counted}
+use Rattle.std.specs.Prelude.{Ok, Err}
 use Rattle.egg.specs.Answers.{numbered}
 use Rattle.egg.specs.Table.{pick}
 use Rattle.names_values.specs.declared.Name.{Name}
@@ -37,7 +37,7 @@ joined_name ms = joined_from 0 ms
 
 -- How long the joined name is: 17, "the handle doesn't fit its buffer", for a recorded length that is no name's.
 unfoldable pub joined_length : List Name → Counted
-joined_length ms = pick (names_fit ms) (Count (length (joined_name ms))) (Refused (numbered 17 0 0 0))
+joined_length ms = pick (names_fit ms) (Ok (length (joined_name ms))) (Err (numbered 17 0 0 0))
 
 -- A buffer with these bytes at its start; what is behind them stays.
 abbrev pub at_start : List ℕ → List ℕ → List ℕ

@@ -3,15 +3,14 @@ ghost use Rattle.std.specs.Prelude.{◌≡◌, true, ◌+◌, ◌≤◌, length}
 ghost use Rattle.names_values.specs.Names.{bytes_of};
 ghost use Rattle.names_joined.specs.Joined.{listed_names, names_fit, gap_at, joined_name, joined_length, at_start, PutFrom};
 
-use egg::Counted;
+use egg::Refusal;
 use names_values::{Name, NamedGroup};
 
 // How many names are listed: as many as handles.
 pub fn names_listed(g: NamedGroup) -> usize
     ensures { (result ≡ length (listed_names g)) × (result ≤ 8) }
 {
-    let group = g.group;
-    group_handles::inner::listed(group)
+    group_handles::inner::listed(g.group)
 }
 
 // How many bytes the name at f adds, with those of " x " before each but the first.
@@ -24,21 +23,19 @@ fn added(f: usize, m: Name) -> u32
 }
 
 // Answers how many bytes the joined name has. Refuses 17 where a recorded length is above 32.
-pub fn joined_length(g: NamedGroup) -> Counted
+pub fn joined_length(g: NamedGroup) -> Result<u32, Refusal>
     ensures { result ≡ joined_length (listed_names g) }
 {
     let c = names_listed(g);
-    let mut f: usize = 0;
     let mut length: u32 = 0;
-    while f < c {
+    for f in 0..c {
         let m = g.names[f];
         if 32 < m.length {
-            return egg::inner::refused_count(17);
+            return Err(Refusal::Unreadable);
         }
         length += added(f, m);
-        f += 1;
     }
-    Counted::Count(length)
+    Ok(length)
 }
 
 // Writes bytes into a buffer from `at` on, and answers where they end.
@@ -68,7 +65,7 @@ fn put_gap(out: &mut [u8], at: usize, f: usize) -> usize
     if f == 0 {
         return at;
     }
-    put_at(out, at, &[32, 120, 32])
+    put_at(out, at, b" x ")
 }
 
 // Writes the joined name to the start of a buffer that has the room.
@@ -77,12 +74,10 @@ pub fn write(g: NamedGroup, out: &mut [u8])
     ensures { out.new ≡ at_start (joined_name (listed_names g)) out.old }
 {
     let c = names_listed(g);
-    let mut f: usize = 0;
     let mut at: usize = 0;
-    while f < c {
+    for f in 0..c {
         let m = g.names[f];
         at = put_gap(out, at, f);
         at = put_name(out, at, m);
-        f += 1;
     }
 }

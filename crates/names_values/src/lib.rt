@@ -6,7 +6,7 @@ ghost use Rattle.std.specs.Prelude.{◌≡◌};
 ghost use Rattle.names_values.specs.Names.{no_name, unnamed_of};
 
 use builder::Builder;
-use egg::{Factor, Verdict};
+use egg::{Factor, Refusal};
 use group_handles::Group;
 
 pub mod inner;
@@ -25,14 +25,6 @@ pub struct Named {
     pub name: Name,
 }
 
-// What a call that makes a factor answers: a verdict, and beside it the record, whose handle fits no buffer and whose name is empty
-// where the call was refused.
-#[derive(Clone, Copy)]
-pub struct NamedMade {
-    pub answer: Verdict,
-    pub named: Named,
-}
-
 // A build that is under way, and the name that its factor is to have.
 #[derive(Clone, Copy)]
 pub struct NamedBuilder {
@@ -40,25 +32,11 @@ pub struct NamedBuilder {
     pub name: Name,
 }
 
-// What beginning a build answers: a verdict, and the builder, which fits no buffer where the call was refused.
-#[derive(Clone, Copy)]
-pub struct NamedBegun {
-    pub answer: Verdict,
-    pub begun: NamedBuilder,
-}
-
 // A product, and beside it the name of each of its factors, of which only the first `count` are looked at.
 #[derive(Clone, Copy)]
 pub struct NamedGroup {
     pub group: Group,
     pub names: [Name; 8],
-}
-
-// What a call that makes a product answers; where it was refused the product fits no buffer and has no names.
-#[derive(Clone, Copy)]
-pub struct NamedGrouped {
-    pub answer: Verdict,
-    pub product: NamedGroup,
 }
 
 // The empty name.

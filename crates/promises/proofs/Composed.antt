@@ -10,13 +10,13 @@ use lib.Dec.{leb, ltb}
 use lib.ListN.{length, take, replicate}
 use Rattle.egg.specs.declared.Refusal.{Refusal}
 use Rattle.egg.specs.declared.Factor.{Factor}
-use Rattle.egg.specs.declared.Verdict.TheVariants as verdict
+use Rattle.egg.specs.Refusals.{numbered, refusal_paper}
+use Rattle.std.specs.Prelude.{Ok, Err}
 use Rattle.egg.specs.Table.{pick}
-use Rattle.egg.specs.Scan.{refused_of}
 use Rattle.egg.specs.Factor.{has_room, stretch}
 use Rattle.egg.proofs.Rooms.{and_first, and_second, positive, limited}
 use Rattle.build_lending.specs.Finish.{Built}
-use Rattle.build_lending.specs.Lending.{table_need, work_need, lent_right, within, no_factor, making, lent_back, refused_made, Making}
+use Rattle.build_lending.specs.Lending.{table_need, work_need, lent_right, within, making, lent_back, refused_made, Making}
 use Rattle.build_lending.proofs.Lending.{lent_table_lem}
 use Rattle.factor.specs.Composed.{composed_in, composed}
 use Rattle.build_reading.specs.Reading.{composed_at}
@@ -28,10 +28,10 @@ use Rattle.build_laws.proofs.Twelve.{built_12, groupless_built}
 
 module _ (table : List ℕ) (start : ℕ) (work rows : List ℕ) (n room : ℕ) (f : Factor) (t w : List ℕ) where
   abbrev accepted : Making
-  accepted = making (record { answer = verdict.Fine; factor = f }) t w
+  accepted = making (Ok f) t w
 
   -- Where the call is accepted, 1 and 4 have passed.
-  pub begun : composed table start work rows n room ≡ making (record { answer = verdict.Fine; factor = f }) t w → RowsRight table start work rows n room
+  pub begun : composed table start work rows n room ≡ making (Ok f) t w → RowsRight table start work rows n room
   unfolding composed
   begun h = first (lent_back table start work n room (composed_in (table_need n room) (take (work_need n room) work) rows n room)) (ltb 8 n) refl h where
     second : (m : Making) (b : Bool) → ltb 8 n ≡ false → lent_right (length table) start (length work) room n && leb (room * n) (length rows) ≡ b
@@ -99,7 +99,7 @@ module _ (table : List ℕ) (start : ℕ) (work rows : List ℕ) (n room : ℕ) 
 
   -- An accepted call gives all of this.
   accepted_given : {f : Factor} {t w : List ℕ}
-      → composed table start work rows n room ≡ making (record { answer = verdict.Fine; factor = f }) t w
+      → composed table start work rows n room ≡ making (Ok f) t w
       → Given table start work rows n room f t w
   unfolding composed_in
   accepted_given {f} {t} {w} q =
@@ -111,7 +111,7 @@ module _ (table : List ℕ) (start : ℕ) (work rows : List ℕ) (n room : ℕ) 
   -- Accepted exactly when: "a table within 01's limits and the given room is accepted exactly when some group has it as its right steps under the
   -- numbering rule".
   pub composed_exactly : ((f : Factor) × (t : List ℕ) × (w : List ℕ)
-      × (composed table start work rows n room ≡ making (record { answer = verdict.Fine; factor = f }) t w))
+      × (composed table start work rows n room ≡ making (Ok f) t w))
       ↔ ((N : ℕ) × Taken (composed_at rows n) n room N)
   unfolding composed_in
   composed_exactly = (
@@ -125,24 +125,23 @@ module _ (table : List ℕ) (start : ℕ) (work rows : List ℕ) (n room : ℕ) 
         ),
   )
 
-  refused_groupless : {r : Refusal} {f : Factor} {t w : List ℕ}
-      → composed table start work rows n room ≡ making (record { answer = verdict.Refused r; factor = f }) t w → r.number ≡ 12
-      → (r ≡ record { number = 12; a = 0; b = 0; c = 0 }) × ((N : ℕ) × Groupless (composed_at rows n) n room N)
+  refused_groupless : {r : Refusal} {t w : List ℕ}
+      → composed table start work rows n room ≡ making (Err r) t w → (refusal_paper r).number ≡ 12
+      → (r ≡ numbered 12 0 0 0) × ((N : ℕ) × Groupless (composed_at rows n) n room N)
   unfolding composed_in
   refused_groupless q number =
       let b = by_refused table start work n room build (sym composed_is_build ∙ q) in
       built_12 (composed_at rows n) n room (table_need n room) (take (work_need n room) work) hn lo hi (le_refl (table_need n room)) work_lent b.2 number
 
   -- Refused by 12 exactly when reading and 8 to 11 pass and "no group has these right steps".
-  pub composed_12 : ((f : Factor) × (t : List ℕ) × (w : List ℕ)
-      × (composed table start work rows n room ≡ making (record { answer = refused_of 12 0 0 0; factor = f }) t w))
+  pub composed_12 : ((t : List ℕ) × (w : List ℕ)
+      × (composed table start work rows n room ≡ making (Err (numbered 12 0 0 0)) t w))
       ↔ ((N : ℕ) × Groupless (composed_at rows n) n room N)
   unfolding composed_in
   composed_12 = (
-    λ a. (refused_groupless a.3 refl).1,
+    λ a. (refused_groupless a.2 refl).1,
     λ g.
         let b = groupless_built (composed_at rows n) n room (table_need n room) (take (work_need n room) work) hn lo hi (le_refl (table_need n room)) work_lent g.1 in (
-          no_factor,
           within table start (start + table_need n room) b.0,
           within work 0 (work_need n room) b.1,
           composed_is_build ∙ ap (lent_back table start work n room) b.2,
@@ -150,13 +149,13 @@ module _ (table : List ℕ) (start : ℕ) (work rows : List ℕ) (n room : ℕ) 
   )
 
   -- "Each carries three places, zero where none is listed": no other 12 is given.
-  pub composed_12_places : {r : Refusal} {f : Factor} {t w : List ℕ}
-      → composed table start work rows n room ≡ making (record { answer = verdict.Refused r; factor = f }) t w → r.number ≡ 12
-      → r ≡ record { number = 12; a = 0; b = 0; c = 0 }
+  pub composed_12_places : {r : Refusal} {t w : List ℕ}
+      → composed table start work rows n room ≡ making (Err r) t w → (refusal_paper r).number ≡ 12
+      → r ≡ numbered 12 0 0 0
   composed_12_places q number = (refused_groupless q number).0
 
 -- What an accepted call gives, whatever the arguments: it has passed 1 and 4.
 module _ (table : List ℕ) (start : ℕ) (work rows : List ℕ) (n room : ℕ) (f : Factor) (t w : List ℕ) where
-  pub composed_given : composed table start work rows n room ≡ making (record { answer = verdict.Fine; factor = f }) t w
+  pub composed_given : composed table start work rows n room ≡ making (Ok f) t w
       → Given table start work rows n room f t w
   composed_given h = let B = begun table start work rows n room f t w h in accepted_given table start work rows n room B.generators B.lent B.listed h

@@ -5,8 +5,8 @@ use mathlib.Core.List.{List}
 use native.Mathlib.Nat.{mul-le-mul, le_refl, div-add-mod', mod-lt, le-div_iff_mul-le}
 use native.Mathlib.Omega.{arith}
 use lib.ListN.{length, get_or, replicate}
-use Rattle.egg.specs.declared.Verdict.TheVariants as verdict
-use Rattle.egg.specs.declared.Counted.TheVariants.{Count}
+use Rattle.egg.specs.Answers.{fine}
+use Rattle.std.specs.Prelude.{Ok}
 use Rattle.egg.specs.Table.{start_of, step_of}
 use Rattle.egg.specs.Pairs.{orders_right}
 use Rattle.build_word_cells.specs.Hops.{Hops}
@@ -44,7 +44,7 @@ trace_same {p' = p'} a b (suc k) (suc e) = rw (a (suc e), b (suc e), trace_same 
 pub word_same : {n : ℕ} {word : ℕ → List ℕ} {count : ℕ} {t t' : List ℕ} {N : ℕ} → RecordsWords n word count t → Kept t t' n N → (x : ℕ) → x < count → word_of t' n x ≡ word x
 word_same W K x h = trace_same K.parent_same K.last_same x x ∙ words_traced W x h
 
-module _ (o : List ℕ) (n room lt lw : ℕ) (L : Limits n o room lt lw) (right : orders_right o n ≡ verdict.Fine) where
+module _ (o : List ℕ) (n room lt lw : ℕ) (L : Limits n o room lt lw) (right : orders_right o n ≡ fine) where
   -- Rows from N on are zero, so every number from there on is.
   blank_beyond : {N : ℕ} {t : List ℕ} → run.FromOrders n o room lt N t → (i : ℕ) → N * (2 * n + 4) ≤ i → get_or t i 0 ≡ 0
   unfolding start_of
@@ -56,9 +56,9 @@ module _ (o : List ℕ) (n room lt lw : ℕ) (L : Limits n o room lt lw) (right 
   pub record Steps (N : ℕ) (t w : List ℕ) : Type 0 where
     pub finish : (enumerated n o room lt lw).answer ≡ ran.Done N
     pub end : Settled n N (check_group (enumerated n o room lt lw).table (enumerated n o room lt lw).work n N) t w
-    pub identity : relations_row t n N o 0 ≡ verdict.Fine
+    pub identity : relations_row t n N o 0 ≡ fine
 
-  pub enumerated_steps : {N : ℕ} {t w : List ℕ} → enumerated_in lt lw o n room ≡ built (Count N) t w → Steps N t w
+  pub enumerated_steps : {N : ℕ} {t w : List ℕ} → enumerated_in lt lw o n room ≡ built (Ok N) t w → Steps N t w
   unfolding enumerated_in
   enumerated_steps q =
       let a = by_relations n o (finished (ran_count (enumerated n o room lt lw).answer) n (enumerated n o room lt lw).table (enumerated n o room lt lw).work) q in
@@ -71,7 +71,7 @@ module _ (o : List ℕ) (n room lt lw : ℕ) (L : Limits n o room lt lw) (right 
 
   -- And the other way round.
   pub steps_enumerated : {N : ℕ} {t₀ w₀ t w : List ℕ} → (enumerated n o room lt lw).answer ≡ ran.Done N → (enumerated n o room lt lw).table ≡ t₀
-      → (enumerated n o room lt lw).work ≡ w₀ → Settled n N (check_group t₀ w₀ n N) t w → relations_row t n N o 0 ≡ verdict.Fine → enumerated_in lt lw o n room ≡ built (Count N) t w
+      → (enumerated n o room lt lw).work ≡ w₀ → Settled n N (check_group t₀ w₀ n N) t w → relations_row t n N o 0 ≡ fine → enumerated_in lt lw o n room ≡ built (Ok N) t w
   unfolding enumerated_in finished
   steps_enumerated a b c E e = rw (a, b, c, E.checks, ← E.lettered, e, E.wiped)
 
@@ -83,12 +83,12 @@ module _ (o : List ℕ) (n room lt lw : ℕ) (L : Limits n o room lt lw) (right 
     pub within_room : N ≤ room
     pub size_kept : length t ≡ lt
     pub derived : Derived n N (order_of o) (step_of t n) (word_of t n)
-    pub all_related : relations t n N o ≡ verdict.Fine
+    pub all_related : relations t n N o ≡ fine
     pub holds : Holds n N (order_of o) (step_of t n)
     pub beyond : {i : ℕ} → N * (2 * n + 4) ≤ i → get_or t i 0 ≡ 0
     pub work_zero : w ≡ replicate lw 0
 
-  pub enumerated_related : {N : ℕ} {t w : List ℕ} → enumerated_in lt lw o n room ≡ built (Count N) t w → Related N t w
+  pub enumerated_related : {N : ℕ} {t w : List ℕ} → enumerated_in lt lw o n room ≡ built (Ok N) t w → Related N t w
   enumerated_related {N} {t} {w} q =
       let t₀ = (enumerated n o room lt lw).table in
       let w₀ = (enumerated n o room lt lw).work in

@@ -5,7 +5,7 @@ use mathlib.Core.Bool.{true}
 use mathlib.Core.List.{List}
 use lib.ListN.{length}
 use Rattle.egg.specs.declared.Factor.{Factor}
-use Rattle.egg.specs.declared.Verdict.TheVariants as verdict
+use Rattle.std.specs.Prelude.{Ok}
 use Rattle.egg.specs.Factor.{has_room, stretch}
 use Rattle.build_lending.specs.Lending.{table_need, work_need, within, Making, making}
 use Rattle.build_lending.proofs.Lending.{lent_table_lem}
@@ -24,7 +24,7 @@ use Rattle.promises.proofs.Derived.{Related, enumerated_related}
 
 module _ (table : List ℕ) (start : ℕ) (work orders : List ℕ) (n room : ℕ) (f : Factor) (t w : List ℕ) where
   abbrev pub accepted : Making
-  accepted = making (record { answer = verdict.Fine; factor = f }) t w
+  accepted = making (Ok f) t w
 
   -- Where the call is accepted, 1 to 4 have passed.
   pub begun : enumerates table start work orders n room ≡ accepted → EnumerationRight table start work orders n room
@@ -76,7 +76,7 @@ module _ (table : List ℕ) (start : ℕ) (work orders : List ℕ) (n room : ℕ
   at a b c E = rw (a, b, c) E
 
   -- For any pair orders whose enumeration is accepted.
-  pub enumeration_accepted : enumerates table start work orders n room ≡ making (record { answer = verdict.Fine; factor = f }) t w
+  pub enumeration_accepted : enumerates table start work orders n room ≡ making (Ok f) t w
       → Enumerated table start work orders n room f t w
   enumeration_accepted h =
       let B = begun h in

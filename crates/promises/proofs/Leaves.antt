@@ -1,4 +1,5 @@
 -- What a refused call leaves: with wrong arguments both buffers as they were, else zeros in the needed stretches and everything else as it was.
+use Rattle.egg.specs.Answers.{Made, Verdict}
 use Prim.Native.Nat.{ℕ, ◌+◌, ◌*◌}
 use mathlib.Core.Path.{◌≡◌, refl, sym, ap, ◌∙◌, subst}
 use mathlib.Core.Logic.{◌⊎◌, inl, inr, ⊎_elim}
@@ -9,12 +10,10 @@ use native.Mathlib.Omega.{arith}
 use borrow.Author.Tests.{le-leb, leb-true, ltb-true, ltb-false}
 use lib.Dec.{leb, ltb}
 use lib.ListN.{length, take}
-use Rattle.egg.specs.declared.Refusal.{Refusal}
 use Rattle.egg.specs.declared.Factor.{Factor}
-use Rattle.egg.specs.declared.Made.{Made}
-use Rattle.egg.specs.declared.Verdict.{Verdict}
-use Rattle.egg.specs.declared.Verdict.TheVariants as verdict
-use Rattle.egg.specs.declared.Counted.TheVariants.{Count, Refused}
+use Rattle.egg.specs.declared.Refusal.{Refusal}
+use Rattle.egg.specs.Refusals.{numbered, refusal_paper}
+use Rattle.std.specs.Prelude.{Ok, Err}
 use Rattle.egg.specs.Table.{pick}
 use Rattle.egg.specs.Pairs.{orders_right}
 use Rattle.egg.specs.Factor.{has_room, fits_in}
@@ -36,57 +35,51 @@ use Rattle.enumeration.proofs.Calls.{limits}
 use Rattle.promises.proofs.Zeros.{Zeros, read_zeros, enumerated_zeros}
 
 -- Two refusals that are the same.
-same_refusal : {s r : Refusal} {f f' : Factor} {t₀ t w₀ w : List ℕ}
-    → making (record { answer = verdict.Refused s; factor = f }) t₀ w₀ ≡ making (record { answer = verdict.Refused r; factor = f' }) t w
-    → (s ≡ r) × (f' ≡ f) × (t ≡ t₀) × (w ≡ w₀)
-same_refusal {s} {r} {f} {f'} h =
-    let m : ◌≡◌ {A = Made} (record { answer = verdict.Refused s; factor = f }) (record { answer = verdict.Refused r; factor = f' }) = cc in
-    let a : verdict.Refused s ≡ verdict.Refused r = ap (λ (x : Made). x.answer) m in
-    (cc, sym (ap (λ (x : Made). x.factor) m), cc, cc)
+same_refusal : {s r : Refusal} {t₀ t w₀ w : List ℕ} → making (Err s) t₀ w₀ ≡ making (Err r) t w → (s ≡ r) × (t ≡ t₀) × (w ≡ w₀)
+same_refusal {s} {r} h =
+    let m : ◌≡◌ {A = Made} (Err s) (Err r) = cc in
+    (cc, cc, cc)
 
 -- A refused call: refused for its arguments, with both buffers as they were, or a refused build that was put back into its stretches.
-pub record Early (right : Type 0) (l : List ℕ) (table work : List ℕ) (r : Refusal) (f : Factor) (t w : List ℕ) : Type 0 where
+pub record Early (right : Type 0) (l : List ℕ) (table work : List ℕ) (r : Refusal) (t w : List ℕ) : Type 0 where
   pub wrong : ¬ right
   pub number : RefusalIn l r
-  pub no_handle : f ≡ no_factor
   pub table_same : t ≡ table
   pub work_same : w ≡ work
 
-pub record Late (table : List ℕ) (start : ℕ) (work : List ℕ) (n room : ℕ) (b : Built) (r : Refusal) (f : Factor) (t w : List ℕ) : Type 0 where
+pub record Late (table : List ℕ) (start : ℕ) (work : List ℕ) (n room : ℕ) (b : Built) (r : Refusal) (t w : List ℕ) : Type 0 where
   pub stretch_table : List ℕ
   pub stretch_work : List ℕ
-  pub is : b ≡ built (Refused r) stretch_table stretch_work
-  pub no_handle : f ≡ no_factor
+  pub is : b ≡ built (Err r) stretch_table stretch_work
   pub table_put : t ≡ within table start (start + table_need n room) stretch_table
   pub work_put : w ≡ within work 0 (work_need n room) stretch_work
 
 module _ (table : List ℕ) (start : ℕ) (work : List ℕ) (n room : ℕ) where
-  pub early : {right : Type 0} (l : List ℕ) {s r : Refusal} {f : Factor} {t w : List ℕ} → ¬ right → RefusalIn l s
-      → making (record { answer = verdict.Refused s; factor = no_factor }) table work ≡ making (record { answer = verdict.Refused r; factor = f }) t w
-      → Early right l table work r f t w
-  early l not_right m q = let a = same_refusal q in record { wrong = not_right; number = rw a.0 at m; no_handle = a.1; table_same = a.2; work_same = a.3 }
+  pub early : {right : Type 0} (l : List ℕ) {s r : Refusal} {t w : List ℕ} → ¬ right → RefusalIn l s
+      → making (Err s) table work ≡ making (Err r) t w
+      → Early right l table work r t w
+  early l not_right m q = let a = same_refusal q in record { wrong = not_right; number = rw a.0 at m; table_same = a.1; work_same = a.2 }
 
-  pub late : (b : Built) {r : Refusal} {f : Factor} {t w : List ℕ}
-      → lent_back table start work n room b ≡ making (record { answer = verdict.Refused r; factor = f }) t w → Late table start work n room b r f t w
-  late (built (Count N) s v) q = absurd (refused_making_lem (sym q))
-  late (built (Refused x) s v) q =
+  pub late : (b : Built) {r : Refusal} {t w : List ℕ}
+      → lent_back table start work n room b ≡ making (Err r) t w → Late table start work n room b r t w
+  late (built (Ok N) s v) q = absurd (refused_making_lem (sym q))
+  late (built (Err x) s v) q =
       let a = same_refusal q in
       record {
         stretch_table = s;
         stretch_work = v;
-        is = ap (λ (x : Refusal). built (Refused x) s v) a.0;
-        no_handle = a.1;
-        table_put = a.2;
-        work_put = a.3;
+        is = ap (λ (x : Refusal). built (Err x) s v) a.0;
+        table_put = a.1;
+        work_put = a.2;
       }
 
   -- What both leave.
-  pub leaves_early : {right : Type 0} {l : List ℕ} (after : List ℕ) {r : Refusal} {f : Factor} {t w : List ℕ} → Early right l table work r f t w
+  pub leaves_early : {right : Type 0} {l : List ℕ} (after : List ℕ) {r : Refusal} {t w : List ℕ} → Early right l table work r t w
       → Leaves right l after (lent_for table start work n room t w) r
   leaves_early after E = untouched E.wrong E.number (E.table_same, (E.work_same, tt))
 
-  pub leaves_late : {right : Type 0} (before : List ℕ) {l : List ℕ} {b : Built} {r : Refusal} {f : Factor} {t w : List ℕ} → right
-      → lent_right (length table) start (length work) room n ≡ true → (B : Late table start work n room b r f t w)
+  pub leaves_late : {right : Type 0} (before : List ℕ) {l : List ℕ} {b : Built} {r : Refusal} {t w : List ℕ} → right
+      → lent_right (length table) start (length work) room n ≡ true → (B : Late table start work n room b r t w)
       → Zeros r l (table_need n room) (work_need n room) B.stretch_table B.stretch_work → Leaves right before l (lent_for table start work n room t w) r
   leaves_late before ok lent B z =
       let end : 0 + work_need n room ≡ work_need n room = omega arith in
@@ -96,21 +89,21 @@ module _ (table : List ℕ) (start : ℕ) (work : List ℕ) (n room : ℕ) where
       )
 
 -- The call on composed rows.
-module _ (table : List ℕ) (start : ℕ) (work rows : List ℕ) (n room : ℕ) (r : Refusal) (f : Factor) (t w : List ℕ) where
+module _ (table : List ℕ) (start : ℕ) (work rows : List ℕ) (n room : ℕ) (r : Refusal) (t w : List ℕ) where
   abbrev rows_build : Built
   rows_build = composed_in (table_need n room) (take (work_need n room) work) rows n room
 
   abbrev refused : Making
-  refused = making (record { answer = verdict.Refused r; factor = f }) t w
+  refused = making (Err r) t w
 
-  pub composed_refused : composed table start work rows n room ≡ making (record { answer = verdict.Refused r; factor = f }) t w
-      → Early (RowsRight table start work rows n room) (1 ∷ 4 ∷ []) table work r f t w
-      ⊎ (RowsRight table start work rows n room × Late table start work n room (composed_in (table_need n room) (take (work_need n room) work) rows n room) r f t w)
+  pub composed_refused : composed table start work rows n room ≡ making (Err r) t w
+      → Early (RowsRight table start work rows n room) (1 ∷ 4 ∷ []) table work r t w
+      ⊎ (RowsRight table start work rows n room × Late table start work n room (composed_in (table_need n room) (take (work_need n room) work) rows n room) r t w)
   unfolding composed
   composed_refused h = first (ltb 8 n) refl h where
     Told : Type 0
-    Told = Early (RowsRight table start work rows n room) (1 ∷ 4 ∷ []) table work r f t w
-        ⊎ (RowsRight table start work rows n room × Late table start work n room rows_build r f t w)
+    Told = Early (RowsRight table start work rows n room) (1 ∷ 4 ∷ []) table work r t w
+        ⊎ (RowsRight table start work rows n room × Late table start work n room rows_build r t w)
 
     short : lent_right (length table) start (length work) room n && leb (room * n) (length rows) ≡ false → ¬ (RowsRight table start work rows n room)
     short l R = false_true (sym l ∙ simp (R.lent, le-leb _ _ R.listed))
@@ -125,17 +118,17 @@ module _ (table : List ℕ) (start : ℕ) (work rows : List ℕ) (n room : ℕ) 
       },
       late table start work n room rows_build e,
     )
-    second false g l e = inl (early table start work n room (1 ∷ 4 ∷ []) {s = record { number = 4; a = 0; b = 0; c = 0 }} (short l) refl e)
+    second false g l e = inl (early table start work n room (1 ∷ 4 ∷ []) {s = numbered 4 0 0 0} (short l) refl e)
 
     first : (a : Bool) → ltb 8 n ≡ a
         → pick a (making (refused_made 1 n) table work)
         (pick (lent_right (length table) start (length work) room n && leb (room * n) (length rows)) (lent_back table start work n room rows_build) (making (refused_made 4 0) table work)) ≡ refused
         → Told
     first true g e =
-        inl (early table start work n room (1 ∷ 4 ∷ []) {s = record { number = 1; a = n; b = 0; c = 0 }} (λ R. omega (arith, R.generators, ltb-true 8 n g)) refl e)
+        inl (early table start work n room (1 ∷ 4 ∷ []) {s = numbered 1 n 0 0} (λ R. omega (arith, R.generators, ltb-true 8 n g)) refl e)
     first false g e = second (lent_right (length table) start (length work) room n && leb (room * n) (length rows)) g refl e
 
-  rows_zeros : RowsRight table start work rows n room → (B : Late table start work n room rows_build r f t w)
+  rows_zeros : RowsRight table start work rows n room → (B : Late table start work n room rows_build r t w)
       → Zeros r composed_numbers (table_need n room) (work_need n room) B.stretch_table B.stretch_work
   unfolding composed_in
   rows_zeros R B =
@@ -144,63 +137,66 @@ module _ (table : List ℕ) (start : ℕ) (work rows : List ℕ) (n room : ℕ) 
       (read_zeros (composed_at rows n) n room (table_need n room) (take (work_need n room) work) R.generators (positive (length table) start room n has)
       (limited (length table) start room n has) (le_refl (table_need n room)) B.is)
 
-  pub composed_leaves : composed table start work rows n room ≡ making (record { answer = verdict.Refused r; factor = f }) t w
+  pub composed_leaves : composed table start work rows n room ≡ making (Err r) t w
       → Leaves (RowsRight table start work rows n room) (1 ∷ 4 ∷ []) composed_numbers (lent_for table start work n room t w) r
   composed_leaves h = ⊎_elim (λ E. leaves_early table start work n room composed_numbers E)
       (λ B. leaves_late table start work n room (1 ∷ 4 ∷ []) B.0 B.0.lent B.1 (rows_zeros B.0 B.1)) (composed_refused h)
 
   -- No factor comes with a refusal.
-  pub composed_no_factor : composed table start work rows n room ≡ making (record { answer = verdict.Refused r; factor = f }) t w → f ≡ no_factor
-  composed_no_factor h = ⊎_elim (λ E. E.no_handle) (λ B. B.1.no_handle) (composed_refused h)
+  pub composed_no_factor : composed table start work rows n room ≡ making (Err r) t w
+      → (f : Factor) {t' w' : List ℕ} → composed table start work rows n room ≡ making (Ok f) t' w' → ⊥
+  composed_no_factor h f q = refused_making_lem (sym h ∙ q)
 
 -- The enumeration.
-module _ (table : List ℕ) (start : ℕ) (work orders : List ℕ) (n room : ℕ) (r : Refusal) (f : Factor) (t w : List ℕ) where
+module _ (table : List ℕ) (start : ℕ) (work orders : List ℕ) (n room : ℕ) (r : Refusal) (t w : List ℕ) where
   abbrev orders_build : Built
   orders_build = enumerated_in (table_need n room) (work_need n room) orders n room
 
   abbrev refusal : Making
-  refusal = making (record { answer = verdict.Refused r; factor = f }) t w
+  refusal = making (Err r) t w
 
-  pub enumeration_refused : enumerates table start work orders n room ≡ making (record { answer = verdict.Refused r; factor = f }) t w
-      → Early (EnumerationRight table start work orders n room) (1 ∷ 2 ∷ 3 ∷ 4 ∷ []) table work r f t w
-      ⊎ (EnumerationRight table start work orders n room × Late table start work n room (enumerated_in (table_need n room) (work_need n room) orders n room) r f t w)
+  pub enumeration_refused : enumerates table start work orders n room ≡ making (Err r) t w
+      → Early (EnumerationRight table start work orders n room) (1 ∷ 2 ∷ 3 ∷ 4 ∷ []) table work r t w
+      ⊎ (EnumerationRight table start work orders n room × Late table start work n room (enumerated_in (table_need n room) (work_need n room) orders n room) r t w)
   unfolding enumerates
   enumeration_refused h = first (ltb 8 n) refl h where
     Told : Type 0
-    Told = Early (EnumerationRight table start work orders n room) (1 ∷ 2 ∷ 3 ∷ 4 ∷ []) table work r f t w
-        ⊎ (EnumerationRight table start work orders n room × Late table start work n room orders_build r f t w)
+    Told = Early (EnumerationRight table start work orders n room) (1 ∷ 2 ∷ 3 ∷ 4 ∷ []) table work r t w
+        ⊎ (EnumerationRight table start work orders n room × Late table start work n room orders_build r t w)
 
     third : (v : Verdict) → orders_right orders n ≡ v → ltb 8 n ≡ false → (b : Bool) → lent_right (length table) start (length work) room n ≡ b
         → refused_making v table work (pick b (lent_back table start work n room orders_build) (making (refused_made 4 0) table work)) ≡ refusal → Told
-    third verdict.Fine o g true l e = inr (record { generators = ltb-false 8 n g; right = o; lent = l }, late table start work n room orders_build e)
-    third verdict.Fine o g false l e =
-        inl (early table start work n room (1 ∷ 2 ∷ 3 ∷ 4 ∷ []) {s = record { number = 4; a = 0; b = 0; c = 0 }} (λ R. false_true (sym l ∙ R.lent)) refl e)
-    third (verdict.Refused s) o g b l e =
+    third (Ok _) o g true l e = inr (record { generators = ltb-false 8 n g; right = o; lent = l }, late table start work n room orders_build e)
+    third (Ok _) o g false l e =
+        inl (early table start work n room (1 ∷ 2 ∷ 3 ∷ 4 ∷ []) {s = numbered 4 0 0 0} (λ R. false_true (sym l ∙ R.lent)) refl e)
+    third (Err s) o g b l e =
         inl (early table start work n room (1 ∷ 2 ∷ 3 ∷ 4 ∷ []) {s = s} (λ R. refused_fine (sym o ∙ R.right))
-        (each_in (λ x. member x (1 ∷ 2 ∷ 3 ∷ 4 ∷ [])) s.number (2 ∷ 3 ∷ []) refl (orders_number orders n o)) e)
+        (each_in (λ x. member x (1 ∷ 2 ∷ 3 ∷ 4 ∷ [])) (refusal_paper s).number (2 ∷ 3 ∷ []) refl (orders_number orders n o)) e)
 
     first : (a : Bool) → ltb 8 n ≡ a
         → pick a (making (refused_made 1 n) table work)
         (refused_making (orders_right orders n) table work
         (pick (lent_right (length table) start (length work) room n) (lent_back table start work n room orders_build) (making (refused_made 4 0) table work))) ≡ refusal → Told
     first true g e =
-        inl (early table start work n room (1 ∷ 2 ∷ 3 ∷ 4 ∷ []) {s = record { number = 1; a = n; b = 0; c = 0 }} (λ R. omega (arith, R.generators, ltb-true 8 n g)) refl e)
+        inl (early table start work n room (1 ∷ 2 ∷ 3 ∷ 4 ∷ []) {s = numbered 1 n 0 0} (λ R. omega (arith, R.generators, ltb-true 8 n g)) refl e)
     first false g e = third (orders_right orders n) refl g (lent_right (length table) start (length work) room n) refl e
 
-  orders_zeros : EnumerationRight table start work orders n room → (B : Late table start work n room orders_build r f t w)
+  orders_zeros : EnumerationRight table start work orders n room → (B : Late table start work n room orders_build r t w)
       → Zeros r enumeration_numbers (table_need n room) (work_need n room) B.stretch_table B.stretch_work
   orders_zeros R B =
       enumerated_zeros orders n room (table_need n room) (work_need n room) (limits table start work orders n room R.generators R.right R.lent) R.right B.is
 
-  pub tested_leaves : enumerates table start work orders n room ≡ making (record { answer = verdict.Refused r; factor = f }) t w
+  pub tested_leaves : enumerates table start work orders n room ≡ making (Err r) t w
       → Leaves (EnumerationRight table start work orders n room) (1 ∷ 2 ∷ 3 ∷ 4 ∷ []) enumeration_numbers (lent_for table start work n room t w) r
   tested_leaves h = ⊎_elim (λ E. leaves_early table start work n room enumeration_numbers E)
       (λ B. leaves_late table start work n room (1 ∷ 2 ∷ 3 ∷ 4 ∷ []) B.0 B.0.lent B.1 (orders_zeros B.0 B.1)) (enumeration_refused h)
 
-  pub enumeration_no_factor : enumerates table start work orders n room ≡ making (record { answer = verdict.Refused r; factor = f }) t w → f ≡ no_factor
-  enumeration_no_factor h = ⊎_elim (λ E. E.no_handle) (λ B. B.1.no_handle) (enumeration_refused h)
+  -- No factor comes with a refusal.
+  pub enumeration_no_factor : enumerates table start work orders n room ≡ making (Err r) t w
+      → (f : Factor) {t' w' : List ℕ} → enumerates table start work orders n room ≡ making (Ok f) t' w' → ⊥
+  enumeration_no_factor h f q = refused_making_lem (sym h ∙ q)
 
--- And no factor fits no buffer: every question about it is refused by 17.
+-- No factor fits no buffer: every question about it is refused by 17.
 pub no_factor_fits : (len : ℕ) → fits_in len no_factor ≡ false
 unfolding fits_in
 no_factor_fits len = refl

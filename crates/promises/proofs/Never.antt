@@ -6,8 +6,8 @@ use mathlib.Core.List.{List, [], ◌∷◌}
 use native.Mathlib.Omega.{arith}
 use lib.ListN.{length, replicate, length-replicate, get_or-replicate}
 use Rattle.egg.specs.declared.Refusal.{Refusal}
-use Rattle.egg.specs.declared.Factor.{Factor}
-use Rattle.egg.specs.declared.Verdict.TheVariants as verdict
+use Rattle.egg.specs.Refusals.{refusal_paper}
+use Rattle.std.specs.Prelude.{Err}
 use Rattle.build_lending.specs.Lending.{making}
 use Rattle.factor.specs.Composed.{composed}
 use Rattle.enumeration.specs.Calls.{enumerates}
@@ -20,23 +20,23 @@ use Rattle.promises.proofs.Leaves.{composed_leaves, tested_leaves}
 -- A refusal has a number of those that its call may give.
 pub leaves_number : {right : Type 0} {before after : List ℕ} {buffers : List Lent} {r : Refusal} (l : List ℕ) → every (λ x. member x l) before ≡ true
     → every (λ x. member x l) after ≡ true → Leaves right before after buffers r → RefusalIn l r
-leaves_number {before = before} {r = r} l a b (untouched wrong m s) = each_in (λ x. member x l) r.number before a m
-leaves_number {after = after} {r = r} l a b (zeros ok m z) = each_in (λ x. member x l) r.number after b m
+leaves_number {before = before} {r = r} l a b (untouched wrong m s) = each_in (λ x. member x l) (refusal_paper r).number before a m
+leaves_number {after = after} {r = r} l a b (zeros ok m z) = each_in (λ x. member x l) (refusal_paper r).number after b m
 
 -- Composed rows are refused by 1, 4, or 5 to 12, so never by 2, 3, or 13 to 17.
-module _ (table : List ℕ) (start : ℕ) (work rows : List ℕ) (n room : ℕ) (r : Refusal) (f : Factor) (t w : List ℕ)
-    (h : composed table start work rows n room ≡ making (record { answer = verdict.Refused r; factor = f }) t w) where
+module _ (table : List ℕ) (start : ℕ) (work rows : List ℕ) (n room : ℕ) (r : Refusal) (t w : List ℕ)
+    (h : composed table start work rows n room ≡ making (Err r) t w) where
   pub composed_number : RefusalIn (1 ∷ 4 ∷ composed_numbers) r
-  composed_number = leaves_number (1 ∷ 4 ∷ composed_numbers) refl refl (composed_leaves table start work rows n room r f t w h)
+  composed_number = leaves_number (1 ∷ 4 ∷ composed_numbers) refl refl (composed_leaves table start work rows n room r t w h)
 
   pub composed_never : ¬ (RefusalIn (2 ∷ 3 ∷ 13 ∷ 14 ∷ 15 ∷ 16 ∷ 17 ∷ []) r)
-  composed_never m = none_of r.number (2 ∷ 3 ∷ 13 ∷ 14 ∷ 15 ∷ 16 ∷ 17 ∷ []) (1 ∷ 4 ∷ composed_numbers) refl m composed_number
+  composed_never m = none_of (refusal_paper r).number (2 ∷ 3 ∷ 13 ∷ 14 ∷ 15 ∷ 16 ∷ 17 ∷ []) (1 ∷ 4 ∷ composed_numbers) refl m composed_number
 
 -- What the definition for pair orders has a place for: 1 to 6, and 9 to 13, which never come (`enumeration_refuses` of `promises_enumeration`).
-module _ (table : List ℕ) (start : ℕ) (work orders : List ℕ) (n room : ℕ) (r : Refusal) (f : Factor) (t w : List ℕ)
-    (h : enumerates table start work orders n room ≡ making (record { answer = verdict.Refused r; factor = f }) t w) where
+module _ (table : List ℕ) (start : ℕ) (work orders : List ℕ) (n room : ℕ) (r : Refusal) (t w : List ℕ)
+    (h : enumerates table start work orders n room ≡ making (Err r) t w) where
   pub enumeration_number : RefusalIn (1 ∷ 2 ∷ 3 ∷ 4 ∷ enumeration_numbers) r
-  enumeration_number = leaves_number (1 ∷ 2 ∷ 3 ∷ 4 ∷ enumeration_numbers) refl refl (tested_leaves table start work orders n room r f t w h)
+  enumeration_number = leaves_number (1 ∷ 2 ∷ 3 ∷ 4 ∷ enumeration_numbers) refl refl (tested_leaves table start work orders n room r t w h)
 
 -- A cleared buffer, number by number.
 pub cleared_cells : {b : Lent} → Cleared b → Cells b

@@ -21,8 +21,8 @@ use Rattle.theory.proofs.Recording.{recorded_spelled}
 use Rattle.theory.proofs.Relations.{relator_word}
 use Rattle.theory.proofs.Presented.{derived_walk, presented, presented_some_group}
 use Rattle.egg.specs.declared.Factor.{Factor}
-use Rattle.egg.specs.declared.Verdict.TheVariants as verdict
-use Rattle.egg.specs.declared.Counted.TheVariants.{Count}
+use Rattle.egg.specs.Answers.{fine}
+use Rattle.std.specs.Prelude.{Ok}
 use Rattle.egg.specs.Table.{start_of, parent_of, last_of, step_of, back_of}
 use Rattle.egg.specs.Pairs.{orders_right}
 use Rattle.build_word_cells.specs.Hops.{with_hops}
@@ -173,7 +173,7 @@ presented_none_twice T H S D first = record {
   generators = λ {g} {h} hg hh q. omega (arith, (presented T H S D (letter hg empty) (letter hh empty)).1 q, first g hg, first h hh);
 }
 
-module _ (o : List ℕ) (n room lt lw : ℕ) (L : Limits n o room lt lw) (right : orders_right o n ≡ verdict.Fine)
+module _ (o : List ℕ) (n room lt lw : ℕ) (L : Limits n o room lt lw) (right : orders_right o n ≡ fine)
     {N : ℕ} (finish : (enumerated n o room lt lw).answer ≡ ran.Done N) where
   abbrev T : List ℕ
   T = (enumerated n o room lt lw).table
@@ -184,7 +184,7 @@ module _ (o : List ℕ) (n room lt lw : ℕ) (L : Limits n o room lt lw) (right 
   F : Finished n o room lt lw N T W
   F = done_finished L finish
 
-  accepted_by : NoneTwice n N (order_of o) F.run.word → (t : List ℕ) × (w : List ℕ) × (enumerated_in lt lw o n room ≡ built (Count N) t w)
+  accepted_by : NoneTwice n N (order_of o) F.run.word → (t : List ℕ) × (w : List ℕ) × (enumerated_in lt lw o n room ≡ built (Ok N) t w)
   accepted_by D =
       let small : N ≤ 65535 = omega (arith, F.run.fits, L.limit) in
       let fits : N * (2 * n + 4) ≤ length T = omega (arith, F.run.table_length, L.table_room, mul-le-mul F.run.fits (le_refl (2 * n + 4))) in
@@ -202,7 +202,7 @@ module _ (o : List ℕ) (n room lt lw : ℕ) (L : Limits n o room lt lw) (right 
       let fine = sym (relations_identity S L.few o long) ∙ (relations_exact S L.few o long).1 H in
       (t, zeroed C.1, steps_enumerated o n room lt lw L right finish refl refl E fine)
 
-  none_twice_by : {t w : List ℕ} → enumerated_in lt lw o n room ≡ built (Count N) t w → NoneTwice n N (order_of o) F.run.word
+  none_twice_by : {t w : List ℕ} → enumerated_in lt lw o n room ≡ built (Ok N) t w → NoneTwice n N (order_of o) F.run.word
   none_twice_by {t} {w} q =
       let P = enumerated_steps o n room lt lw L right q in
       let R = enumerated_related o n room lt lw L right q in
@@ -212,7 +212,7 @@ module _ (o : List ℕ) (n room lt lw : ℕ) (L : Limits n o room lt lw) (right 
 
   -- A finished run is accepted exactly when no two of the words that it records, and no two generators, are equal under the relations: so 9 to 13 could come
   -- after a finished run only if an element was made twice, or two generators were equal, and neither happens (`enumeration_done`).
-  pub finished_exactly : ((t : List ℕ) × (w : List ℕ) × (enumerated_in lt lw o n room ≡ built (Count N) t w)) ↔ NoneTwice n N (order_of o) (run.words n T)
+  pub finished_exactly : ((t : List ℕ) × (w : List ℕ) × (enumerated_in lt lw o n room ≡ built (Ok N) t w)) ↔ NoneTwice n N (order_of o) (run.words n T)
   finished_exactly =
       let agree : (e : ℕ) → e < N → run.words n T e ≡ F.run.word e = λ e he. word_same F.run.table.words (kept_same {N = N}) e he in (
         λ a. none_twice_agree (none_twice_by a.2) agree,
@@ -220,10 +220,10 @@ module _ (o : List ℕ) (n room lt lw : ℕ) (L : Limits n o room lt lw) (right 
       )
 
 -- The call: with right arguments it is accepted exactly when its run is done and no two of the words that it records, and no two generators, are equal.
-module _ (table : List ℕ) (start : ℕ) (work orders : List ℕ) (n room : ℕ) (hn : n ≤ 8) (right : orders_right orders n ≡ verdict.Fine)
+module _ (table : List ℕ) (start : ℕ) (work orders : List ℕ) (n room : ℕ) (hn : n ≤ 8) (right : orders_right orders n ≡ fine)
     (lent : lent_right (length table) start (length work) room n ≡ true) where
   pub enumeration_exactly : ((f : Factor) × (t : List ℕ) × (w : List ℕ)
-      × (enumerates table start work orders n room ≡ making (record { answer = verdict.Fine; factor = f }) t w))
+      × (enumerates table start work orders n room ≡ making (Ok f) t w))
       ↔ ((N : ℕ) × ((enumerated n orders room (table_need n room) (work_need n room)).answer ≡ ran.Done N)
       × NoneTwice n N (order_of orders) (run.words n (enumerated n orders room (table_need n room) (work_need n room)).table))
   enumeration_exactly =

@@ -6,8 +6,7 @@ use mathlib.Core.Bool.{false}
 use mathlib.Core.List.{List, ◌∷◌}
 use Rattle.egg.specs.declared.Refusal.{Refusal}
 use Rattle.egg.specs.declared.Factor.{Factor}
-use Rattle.egg.specs.declared.Verdict.{Verdict}
-use Rattle.egg.specs.declared.Verdict.TheVariants as verdict
+use Rattle.std.specs.Prelude.{Ok, Err}
 use Rattle.build_lending.specs.Lending.{table_need, work_need, Making, making}
 use Rattle.factor.specs.Composed.{composed}
 use Rattle.build_reading.specs.Reading.{composed_at}
@@ -19,6 +18,7 @@ use Rattle.enumeration_run_laws.specs.Recorded.{words}
 use Rattle.build_checks_laws.specs.Numbers.{member, RefusalIn}
 use Rattle.factor_laws.specs.Papers.{value_paper}
 use Rattle.factor_laws.proofs.Papers.{paper_fine}
+use Rattle.egg.proofs.Scans.{refused_fine}
 use Rattle.promises.specs.Composed.{RowsRight, Given}
 use Rattle.build_laws.specs.Taken.{Taken}
 use Rattle.promises.specs.Enumerated.{EnumerationRight, Enumerated}
@@ -32,17 +32,16 @@ use Rattle.promises.proofs.NoneTwice.{enumeration_exactly}
 
 -- A call none of whose refusals has the number 0, and whose paper has it, is accepted.
 pub made_fine : (l : List ℕ) → member 0 l ≡ false → (m : Making)
-    → ((r : Refusal) (f : Factor) (t w : List ℕ) → m ≡ making (record { answer = verdict.Refused r; factor = f }) t w → RefusalIn l r)
-    → made_paper m ≡ value_paper 0 → (f : Factor) × (t : List ℕ) × (w : List ℕ) × (m ≡ making (record { answer = verdict.Fine; factor = f }) t w)
-made_fine l none (making m t w) numbers q =
-    let with : (v : Verdict) → m.answer ≡ v → making m t w ≡ making (record { answer = v; factor = m.factor }) t w =
-    λ v h. ap (λ (x : Verdict). making (record { answer = x; factor = m.factor }) t w) h in
-    (m.factor, t, w, with verdict.Fine (paper_fine l none m.answer (record { of = λ r h. numbers r m.factor t w (with (verdict.Refused r) h) }) q))
+    → ((r : Refusal) (t w : List ℕ) → m ≡ making (Err r) t w → RefusalIn l r)
+    → made_paper m ≡ value_paper 0 → (f : Factor) × (t : List ℕ) × (w : List ℕ) × (m ≡ making (Ok f) t w)
+made_fine l none (making (Ok f) t w) numbers q = (f, t, w, refl)
+made_fine l none (making (Err r) t w) numbers q =
+    absurd (refused_fine (paper_fine l none (Err r) (record { of = λ s h. let e : r ≡ s = cc in numbers s t w (ap (λ (x : Refusal). making (Err x) t w) e) }) q))
 
 module _ (table : List ℕ) (start : ℕ) (work rows : List ℕ) (n room : ℕ) where
   -- Where the paper's number is 0, the call gives all that an accepted call gives.
   pub composed_paper_given : made_paper (composed table start work rows n room) ≡ value_paper 0
-      → (f : Factor) × (t : List ℕ) × (w : List ℕ) × (composed table start work rows n room ≡ making (record { answer = verdict.Fine; factor = f }) t w)
+      → (f : Factor) × (t : List ℕ) × (w : List ℕ) × (composed table start work rows n room ≡ making (Ok f) t w)
       × Given table start work rows n room f t w
   composed_paper_given q =
       let (f, t, w, h) = made_fine (1 ∷ 4 ∷ composed_numbers) refl (composed table start work rows n room) (composed_number table start work rows n room) q in
@@ -64,7 +63,7 @@ module _ (table : List ℕ) (start : ℕ) (work rows : List ℕ) (n room : ℕ) 
 
 module _ (table : List ℕ) (start : ℕ) (work orders : List ℕ) (n room : ℕ) where
   pub enumeration_paper_given : made_paper (enumerates table start work orders n room) ≡ value_paper 0
-      → (f : Factor) × (t : List ℕ) × (w : List ℕ) × (enumerates table start work orders n room ≡ making (record { answer = verdict.Fine; factor = f }) t w)
+      → (f : Factor) × (t : List ℕ) × (w : List ℕ) × (enumerates table start work orders n room ≡ making (Ok f) t w)
       × Enumerated table start work orders n room f t w
   enumeration_paper_given q =
       let (f, t, w, h) = made_fine (1 ∷ 2 ∷ 3 ∷ 4 ∷ enumeration_numbers) refl (enumerates table start work orders n room) (enumeration_number table start work orders n room) q in

@@ -1,12 +1,12 @@
 -- 12 is given exactly where live and delayed viewers would part.
+use Rattle.std.specs.Prelude.{Err}
+use Rattle.egg.specs.Refusals.{numbered}
 use Prim.Native.Nat.{ℕ, ◌*◌, ◌≤◌}
 use mathlib.Core.Path.{◌≡◌}
 use mathlib.Core.Logic.{◌↔◌}
 use mathlib.Core.Bool.{true}
 use mathlib.Core.List.{List}
 use lib.ListN.{length}
-use Rattle.egg.specs.declared.Factor.{Factor}
-use Rattle.egg.specs.Scan.{refused_of}
 use Rattle.build_lending.specs.Lending.{lent_right, making}
 use Rattle.factor.specs.Composed.{composed}
 use Rattle.build_reading.specs.Reading.{composed_at}
@@ -39,8 +39,8 @@ groupless_parted = (
 
 module _ (table : List ℕ) (start : ℕ) (work rows : List ℕ) (n room : ℕ) (hn : n ≤ 8)
     (lent : lent_right (length table) start (length work) room n ≡ true) (listed : room * n ≤ length rows) where
-  pub composed_12_parted : ((f : Factor) × (t : List ℕ) × (w : List ℕ)
-      × (composed table start work rows n room ≡ making (record { answer = refused_of 12 0 0 0; factor = f }) t w))
+  pub composed_12_parted : ((t : List ℕ) × (w : List ℕ)
+      × (composed table start work rows n room ≡ making (Err (numbered 12 0 0 0)) t w))
       ↔ ((N : ℕ) × ViewersPart (composed_at rows n) n room N)
   composed_12_parted =
       let both = composed_12 table start work rows n room hn lent listed in (

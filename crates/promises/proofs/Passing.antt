@@ -5,7 +5,7 @@ use mathlib.Core.List.{List}
 use native.Mathlib.Decide.{dec_lt}
 use native.Mathlib.Omega.{arith}
 use lib.ListN.{get_or}
-use Rattle.egg.specs.declared.Verdict.TheVariants.{Fine}
+use Rattle.egg.specs.Answers.{fine}
 use Rattle.egg.specs.Table.{start_of}
 use Rattle.build_checks.specs.Checks.{check8, ranges}
 use Rattle.theory.proofs.Counting.{numbered_table}
@@ -26,21 +26,21 @@ steps_small t n N e succ back k hk = by (get_or t (start_of n e + k) 0) refl (de
 
 module _ {n : ℕ} {o : List ℕ} {room lt lw N : ℕ} {t w : List ℕ} (F : Finished n o room lt lw N t w) where
   -- 8 is never given after a finished run.
-  pub finished_8 : check8 t n N ≡ Fine
+  pub finished_8 : check8 t n N ≡ fine
   finished_8 = (check8_fine t n N).1 (
     λ e he g hg. F.seen e g he hg,
     λ e he g hg. let i : start_of n e + n + g ≡ start_of n e + (n + g) = omega arith in rw i (F.backs e g he hg),
   )
 
   -- Nor 17 in what is read.
-  pub finished_ranges : ranges t n N ≡ Fine
+  pub finished_ranges : ranges t n N ≡ fine
   finished_ranges = (ranges_fine t n N).1 (λ e he. (
     steps_small t n N e (λ g r hg q. ((F.run.table.marks (start_of n e + g)).succ e g r hg refl q).to_below)
         (λ g r hg q. ((F.run.table.marks (start_of n e + n + g)).back e g r hg refl q).from_below),
     (F.short e he, λ pos. (F.run.table.words.earlier e pos he, F.run.table.words.generator e pos he)),
   ))
 
-pub read_ranges : {src : ℕ → ℕ → ℕ} {n room size N : ℕ} {t : List ℕ} → Read src n room size N t → ranges t n N ≡ Fine
+pub read_ranges : {src : ℕ → ℕ → ℕ} {n room size N : ℕ} {t : List ℕ} → Read src n room size N t → ranges t n N ≡ fine
 read_ranges {src} {n} {room} {size} {N} {t} R = (ranges_fine t n N).1 (λ e he. (
   steps_small t n N e
       (λ g r hg q. omega (arith, (numbered_table R.by_rule).closed he hg, R.successor he hg))

@@ -5,15 +5,12 @@ use mathlib.Core.Bool.{Bool, true, false}
 use mathlib.Core.List.{List}
 use lib.Dec.{leb, ltb}
 use lib.ListN.{length}
-use Rattle.egg.specs.declared.Reached.{Reached}
-use Rattle.egg.specs.declared.Reached.TheVariants as reached
-use Rattle.egg.specs.declared.Counted.{Counted}
-use Rattle.egg.specs.declared.Counted.TheVariants.{Count, Refused}
+use Rattle.egg.specs.Answers.{Counted, Reached, numbered}
+use Rattle.std.specs.Prelude.{Ok, Err}
 use Rattle.egg.specs.declared.GroupElementId.{GroupElementId}
 use Rattle.egg.specs.declared.GeneratorId.{GeneratorId}
 use Rattle.egg.specs.Table.{pick, length_of}
 use Rattle.build_reading.specs.Build.{set_step, set_word, Adds, adds}
-use Rattle.egg.specs.Answers.{numbered}
 use Rattle.build_reading.specs.Reading.{Placed, placed, then_placed, on_adds, read_place, read_row, read_from, read_all}
 use Rattle.enumeration_run_laws.proofs.Marking.{set_length}
 use Rattle.enumeration_run_laws.proofs.Growing.{word_length}
@@ -22,8 +19,8 @@ abbrev pub placed_table : Placed → List ℕ
 placed_table (placed c t) = t
 
 on_adds_table : (count : ℕ) (a : Reached) (t : List ℕ) → placed_table (on_adds count a t) ≡ t
-on_adds_table count (reached.Element e) t = refl
-on_adds_table count (reached.Refused r) t = refl
+on_adds_table count (Ok e) t = refl
+on_adds_table count (Err r) t = refl
 
 pub adds_length : (t : List ℕ) (n room count : ℕ) (e : GroupElementId) (g : GeneratorId) → length (adds t n room count e g).table ≡ length t
 unfolding adds
@@ -31,9 +28,9 @@ adds_length t n room count e g = by (leb room count) (leb 4096 (length_of t n e.
   new : GroupElementId
   new = record { 0 = count }
 
-  by : (a b : Bool) → length (pick {A = Adds} a (record { answer = reached.Refused (numbered 5 e.0 g.0 0); table = t })
-      (pick b (record { answer = reached.Refused (numbered 6 e.0 g.0 0); table = t })
-      (record { answer = reached.Element new; table = set_step (set_word t n new e g (length_of t n e.0 + 1)) n e g new }))).table ≡ length t
+  by : (a b : Bool) → length (pick {A = Adds} a (record { answer = Err (numbered 5 e.0 g.0 0); table = t })
+      (pick b (record { answer = Err (numbered 6 e.0 g.0 0); table = t })
+      (record { answer = Ok new; table = set_step (set_word t n new e g (length_of t n e.0 + 1)) n e g new }))).table ≡ length t
   by true b = refl
   by false true = refl
   by false false = set_length (set_word t n new e g (length_of t n e.0 + 1)) n e g new ∙ word_length t n count e g (length_of t n e.0 + 1)
@@ -47,8 +44,8 @@ place_length t n room count e g v = by (ltb count v) (ltb v count) where
   gen : GeneratorId
   gen = record { 0 = g }
 
-  by : (a b : Bool) → length (placed_table (pick {A = Placed} a (placed (Refused (numbered 7 e g v)) t)
-      (pick b (placed (Count count) (set_step t n ident gen (record { 0 = v })))
+  by : (a b : Bool) → length (placed_table (pick {A = Placed} a (placed (Err (numbered 7 e g v)) t)
+      (pick b (placed (Ok count) (set_step t n ident gen (record { 0 = v })))
       (on_adds count (adds t n room count ident gen).answer (adds t n room count ident gen).table)))) ≡ length t
   by true b = refl
   by false true = set_length t n ident gen (record { 0 = v })
@@ -56,8 +53,8 @@ place_length t n room count e g v = by (ltb count v) (ltb v count) where
 
 then_length : (k : ℕ) (p : Placed) (f : ℕ → List ℕ → Placed) → length (placed_table p) ≡ k
     → ((c : ℕ) (t : List ℕ) → length t ≡ k → length (placed_table (f c t)) ≡ k) → length (placed_table (then_placed p f)) ≡ k
-then_length k (placed (Count c) t) f h rest = rest c t h
-then_length k (placed (Refused r) t) f h rest = h
+then_length k (placed (Ok c) t) f h rest = rest c t h
+then_length k (placed (Err r) t) f h rest = h
 
 pub row_length : (k : ℕ) (src : ℕ → ℕ → ℕ) (n room e g count : ℕ) (t : List ℕ) → length (placed_table (read_row k src n room e g count t)) ≡ length t
 unfolding read_row
@@ -72,7 +69,7 @@ from_length zero src n room e count t = refl
 from_length (suc k) src n room e count t = by (ltb e count)
     (then_length (length t) (read_row n src n room e 0 count t) _ (row_length n src n room e 0 count t) (λ c t' h. from_length k src n room (e + 1) c t' ∙ h)) where
       by : (b : Bool) → length (placed_table (then_placed (read_row n src n room e 0 count t) (λ c t'. read_from k src n room (e + 1) c t'))) ≡ length t
-          → length (placed_table (pick {A = Placed} b (then_placed (read_row n src n room e 0 count t) (λ c t'. read_from k src n room (e + 1) c t')) (placed (Count count) t))) ≡ length t
+          → length (placed_table (pick {A = Placed} b (then_placed (read_row n src n room e 0 count t) (λ c t'. read_from k src n room (e + 1) c t')) (placed (Ok count) t))) ≡ length t
       by true h = h
       by false h = refl
 

@@ -11,12 +11,10 @@ use lib.ListN.{length, get_or, take, replicate, get_or-eq_default}
 use lib.Seq.{ext_get_or}
 use lib.Dec.{ltb}
 use Rattle.egg.specs.declared.Factor.{Factor}
-use Rattle.egg.specs.declared.Verdict.TheVariants as verdict
-use Rattle.egg.specs.declared.Counted.TheVariants.{Count}
+use Rattle.egg.specs.Answers.{Reached, fine, on_reached}
+use Rattle.std.specs.Prelude.{Ok, Err}
 use Rattle.egg.specs.Table.{put_at, start_of, parent_of, last_of, length_of, step_of, back_of}
 use Rattle.egg.specs.Pairs.{orders_right}
-use Rattle.egg.specs.declared.Reached.{Reached}
-use Rattle.egg.specs.declared.Reached.TheVariants.{Element, Refused}
 use Rattle.egg.specs.Factor.{read_step, has_room}
 use Rattle.egg.proofs.Cells.{put_length, inside, cell_inside}
 use Rattle.build_word_cells.specs.Hops.{hop_from, with_hops}
@@ -26,7 +24,6 @@ use Rattle.build_checks_inverses.specs.Inverses.{invert_from, invert_of, fill_in
 use Rattle.build_lending.specs.Finish.{built, zeroed, finished_placed}
 use Rattle.build_lending.specs.Lending.{table_need, work_need, lent_right, within, making, lent_back, Making}
 use Rattle.build_lending.proofs.Lending.{lent_table_lem}
-use Rattle.egg.specs.Answers.{on_reached}
 use Rattle.factor_relations.specs.Relations.{turned, doubled_row, pairs_row, relations_row}
 use Rattle.build_reading.specs.Reading.{placed, read_all, composed_at}
 use Rattle.factor.specs.Composed.{composed_in, composed}
@@ -96,14 +93,14 @@ turned_longer k l n N e a b zero = refl
 turned_longer k l n N e a b (suc j) = rw (read_longer k l n N e a) (first (read_step l n N e a) (λ y. turned_longer k l n N y a b j)) where
   second : (r : Reached) → ((y : ℕ) → turned j (longer k l) n N y a b ≡ turned j l n N y a b)
       → on_reached r (λ y. turned j (longer k l) n N y a b) ≡ on_reached r (λ y. turned j l n N y a b)
-  second (Element y) ih = ih y.0
-  second (Refused r) ih = refl
+  second (Ok y) ih = ih y.0
+  second (Err r) ih = refl
 
   first : (r : Reached) → ((y : ℕ) → turned j (longer k l) n N y a b ≡ turned j l n N y a b)
       → on_reached r (λ x. on_reached (read_step (longer k l) n N x b) (λ y. turned j (longer k l) n N y a b))
       ≡ on_reached r (λ x. on_reached (read_step l n N x b) (λ y. turned j l n N y a b))
-  first (Element x) ih = rw (read_longer k l n N x.0 b) (second (read_step l n N x.0 b) ih)
-  first (Refused r) ih = refl
+  first (Ok x) ih = rw (read_longer k l n N x.0 b) (second (read_step l n N x.0 b) ih)
+  first (Err r) ih = refl
 
 relations_longer : (k : ℕ) (l : List ℕ) (n N : ℕ) (o : List ℕ) → relations_row (longer k l) n N o 0 ≡ relations_row l n N o 0
 unfolding doubled_row pairs_row
@@ -137,7 +134,7 @@ module _ {n N : ℕ} (few : n ≤ 8) (some : 0 < N) (small : N ≤ 65535) where
 module _ (table : List ℕ) (start n room : ℕ) (has : has_room (length table) start room n ≡ true) (table' : List ℕ) (start' : ℕ) (work' : List ℕ) (room' : ℕ)
     (has' : has_room (length table') start' room' n ≡ true) (more : room ≤ room') where
   pub lent_roomier : {N : ℕ} (s v : List ℕ) {m : Making} → length s ≡ table_need n room
-      → m ≡ lent_back table' start' work' n room' (built (Count N) (longer (table_need n room' - table_need n room) s) v)
+      → m ≡ lent_back table' start' work' n room' (built (Ok N) (longer (table_need n room' - table_need n room) s) v)
       → Roomier n start room (handle start n room N) (lent_table table start n room s) start' room' m
   lent_roomier {N} s v size q =
       let k = table_need n room' - table_need n room in
@@ -158,10 +155,10 @@ pub roomier_at : {n start room start' room' : ℕ} {f f₀ : Factor} {t t₀ : L
 roomier_at a b r = rw (a, b) r
 
 -- The enumeration: its run is the same with more room, then the checks, then 13.
-module _ (o : List ℕ) (n room lt lw : ℕ) (L : Limits n o room lt lw) (right : orders_right o n ≡ verdict.Fine)
+module _ (o : List ℕ) (n room lt lw : ℕ) (L : Limits n o room lt lw) (right : orders_right o n ≡ fine)
     (room' lt' lw' : ℕ) (L' : Limits n o room' lt' lw') (more : room ≤ room') (wider : lt ≤ lt') (deeper : lw ≤ lw') where
-  pub enumerated_roomier : {N : ℕ} {t w : List ℕ} → enumerated_in lt lw o n room ≡ built (Count N) t w
-      → (w' : List ℕ) × (enumerated_in lt' lw' o n room' ≡ built (Count N) (longer (lt' - lt) t) w')
+  pub enumerated_roomier : {N : ℕ} {t w : List ℕ} → enumerated_in lt lw o n room ≡ built (Ok N) t w
+      → (w' : List ℕ) × (enumerated_in lt' lw' o n room' ≡ built (Ok N) (longer (lt' - lt) t) w')
   unfolding longer
   enumerated_roomier {N} {t} q =
       let P = enumerated_steps o n room lt lw L right q in
@@ -174,12 +171,12 @@ module _ (o : List ℕ) (n room lt lw : ℕ) (L : Limits n o room lt lw) (right 
       let one : 1 ≤ 6 * n * n + 4 * n = omega arith in
       omega (arith, D.fits, L'.work_room, work_long L' R.answer, mul-le-mul (le_refl room') one) in
       let C = settled_longer L.few D.some (omega (arith, D.fits, L.limit)) k (enumerated n o room lt lw).table (enumerated n o room lt lw).work w₁ fits work P.end in
-      let fine : relations_row (longer k t) n N o 0 ≡ verdict.Fine = relations_longer k t n N o ∙ P.identity in
+      let fine : relations_row (longer k t) n N o 0 ≡ fine = relations_longer k t n N o ∙ P.identity in
       (C.0, steps_enumerated o n room' lt' lw' L' right R.answer R.table refl C.1 fine)
 
 module _ (table : List ℕ) (start : ℕ) (work orders : List ℕ) (n room : ℕ) (f : Factor) (t w table' : List ℕ) (start' : ℕ) (work' : List ℕ) (room' : ℕ) where
   -- Nothing is asked but that the first call is accepted and that the second is lent enough for at least the same room.
-  pub enumeration_roomier : enumerates table start work orders n room ≡ making (record { answer = verdict.Fine; factor = f }) t w
+  pub enumeration_roomier : enumerates table start work orders n room ≡ making (Ok f) t w
       → room ≤ room' → lent_right (length table') start' (length work') room' n ≡ true
       → Roomier n start room f t start' room' (enumerates table' start' work' orders n room')
   enumeration_roomier h more lent' =
@@ -224,8 +221,8 @@ module _ (src : ℕ → ℕ → ℕ) (n room size : ℕ) (w : List ℕ) (few : n
     (work : work_need n room ≤ length w) (room' size' : ℕ) (w' : List ℕ) (hi' : room' ≤ 65535) (fits' : room' * (2 * n + 4) ≤ size')
     (work' : work_need n room' ≤ length w') (more : room ≤ room') (wider : size ≤ size') where
   -- The build in its stretches: what was read is the same, then the checks.
-  pub built_roomier : {N : ℕ} {t w₁ : List ℕ} → finished_placed (read_all src n room (replicate size 0)) n w ≡ built (Count N) t w₁
-      → (w₂ : List ℕ) × (finished_placed (read_all src n room' (replicate size' 0)) n w' ≡ built (Count N) (longer (size' - size) t) w₂)
+  pub built_roomier : {N : ℕ} {t w₁ : List ℕ} → finished_placed (read_all src n room (replicate size 0)) n w ≡ built (Ok N) t w₁
+      → (w₂ : List ℕ) × (finished_placed (read_all src n room' (replicate size' 0)) n w' ≡ built (Ok N) (longer (size' - size) t) w₂)
   built_roomier {N} {t} q =
       let p = passed (read_all src n room (replicate size 0)) n w q in
       let R = accepted_read src n room size few lo hi fits p.count in
@@ -237,11 +234,11 @@ module _ (src : ℕ → ℕ → ℕ) (n room size : ℕ) (w : List ℕ) (few : n
       let same = read_longer_same R (accepted_read src n room' size' few lo' hi' fits' a.1) (columns r.group r.steps) wider in
       let C = settled_longer few R.origin (omega (arith, R.within)) (size' - size) p.before w w' (rows_fit src n room size w few lo hi fits work R.within R.whole)
       (work_enough src n room' size' w' few lo' hi' fits' work' within_room) p.end in
-      (C.0, passes n w' (a.1 ∙ ap (placed (Count N)) same) C.1)
+      (C.0, passes n w' (a.1 ∙ ap (placed (Ok N)) same) C.1)
 
 module _ (table : List ℕ) (start : ℕ) (work rows : List ℕ) (n room : ℕ) (f : Factor) (t w table' : List ℕ) (start' : ℕ) (work' : List ℕ) (room' : ℕ) where
   -- The same of the call on composed rows, which needs them for the larger room too.
-  pub composed_roomier : composed table start work rows n room ≡ making (record { answer = verdict.Fine; factor = f }) t w
+  pub composed_roomier : composed table start work rows n room ≡ making (Ok f) t w
       → room ≤ room' → lent_right (length table') start' (length work') room' n ≡ true → room' * n ≤ length rows
       → Roomier n start room f t start' room' (composed table' start' work' rows n room')
   unfolding composed_in

@@ -8,15 +8,15 @@ use mathlib.Core.List.{List, [], ◌∷◌}
 use native.Mathlib.Nat.{le_refl}
 use lib.ListN.{length, take, replicate}
 use Rattle.egg.specs.declared.Refusal.{Refusal}
-use Rattle.egg.specs.declared.Factor.{Factor}
-use Rattle.egg.specs.declared.Verdict.TheVariants as verdict
-use Rattle.egg.specs.declared.Counted.TheVariants.{Count, Refused}
+use Rattle.egg.specs.Answers.{fine}
+use Rattle.egg.specs.Refusals.{refusal_paper}
+use Rattle.std.specs.Prelude.{Ok, Err}
 use Rattle.egg.specs.Pairs.{orders_right}
 use Rattle.egg.specs.Factor.{has_room}
 use Rattle.egg.proofs.Rooms.{positive, limited}
 use Rattle.build_checks.specs.Checks.{check_group}
 use Rattle.build_lending.specs.Finish.{built, zeroed, finished, finished_placed}
-use Rattle.build_lending.specs.Lending.{table_need, work_need, lent_right, within, no_factor, making, lent_back}
+use Rattle.build_lending.specs.Lending.{table_need, work_need, lent_right, within, making, lent_back}
 use Rattle.build_lending.proofs.Lending.{lent_table_lem}
 use Rattle.build_reading.specs.Reading.{Placed, placed, read_all, composed_at}
 use Rattle.factor.specs.Composed.{composed_in, composed}
@@ -37,7 +37,7 @@ use Rattle.promises.proofs.Passing.{read_ranges}
 use Rattle.promises.proofs.Zeros.{check_zeros, enumerated_stops, stopped_built, stopped_number}
 use Rattle.promises.proofs.Leaves.{composed_refused, enumeration_refused}
 
-module _ (table : List ℕ) (start : ℕ) (work orders : List ℕ) (n room : ℕ) (hn : n ≤ 8) (right : orders_right orders n ≡ verdict.Fine)
+module _ (table : List ℕ) (start : ℕ) (work orders : List ℕ) (n room : ℕ) (hn : n ≤ 8) (right : orders_right orders n ≡ fine)
     (lent : lent_right (length table) start (length work) room n ≡ true) where
   abbrev run : RunResult
   run = enumerated n orders room (table_need n room) (work_need n room)
@@ -47,15 +47,14 @@ module _ (table : List ℕ) (start : ℕ) (work orders : List ℕ) (n room : ℕ
 
   -- 5 and 6 exactly where the run is refused.
   pub enumeration_stops : (r : Refusal)
-      → ((f : Factor) × (t : List ℕ) × (w : List ℕ) × (enumerates table start work orders n room ≡ making (record { answer = verdict.Refused r; factor = f }) t w)
-      × (member r.number (5 ∷ 6 ∷ []) ≡ true)) ↔ ((enumerated n orders room (table_need n room) (work_need n room)).answer ≡ ran.Refused r)
+      → ((t : List ℕ) × (w : List ℕ) × (enumerates table start work orders n room ≡ making (Err r) t w)
+      × (member (refusal_paper r).number (5 ∷ 6 ∷ []) ≡ true)) ↔ ((enumerated n orders room (table_need n room) (work_need n room)).answer ≡ ran.Refused r)
   enumeration_stops r = (
     λ a. ⊎_elim
-        (λ E. absurd (none_of r.number (5 ∷ 6 ∷ []) (1 ∷ 2 ∷ 3 ∷ 4 ∷ []) refl a.4 E.number))
-        (λ B. enumerated_stops orders n room (table_need n room) (work_need n room) L right B.1.is a.4)
-        (enumeration_refused table start work orders n room r a.0 a.1 a.2 a.3),
+        (λ E. absurd (none_of (refusal_paper r).number (5 ∷ 6 ∷ []) (1 ∷ 2 ∷ 3 ∷ 4 ∷ []) refl a.3 E.number))
+        (λ B. enumerated_stops orders n room (table_need n room) (work_need n room) L right B.1.is a.3)
+        (enumeration_refused table start work orders n room r a.0 a.1 a.2),
     λ q. (
-      no_factor,
       within table start (start + table_need n room) (zeroed run.table),
       within work 0 (work_need n room) (zeroed run.work),
       enumerates_is_build table start work orders n room hn right lent
@@ -72,22 +71,22 @@ module _ (table : List ℕ) (start : ℕ) (work orders : List ℕ) (n room : ℕ
 
 -- A build from the numbers of any source.
 module _ (src : ℕ → ℕ → ℕ) (n room size : ℕ) (w₀ : List ℕ) (few : n ≤ 8) (lo : 1 ≤ room) (hi : room ≤ 65535) (fits : room * (2 * n + 4) ≤ size) where
-  stops_by : (p : Placed) → read_all src n room (replicate size 0) ≡ p → {r : Refusal} {t w : List ℕ} → finished_placed p n w₀ ≡ built (Refused r) t w
-      → member r.number (5 ∷ 6 ∷ 7 ∷ []) ≡ true → ReadingRefused src n room r
+  stops_by : (p : Placed) → read_all src n room (replicate size 0) ≡ p → {r : Refusal} {t w : List ℕ} → finished_placed p n w₀ ≡ built (Err r) t w
+      → member (refusal_paper r).number (5 ∷ 6 ∷ 7 ∷ []) ≡ true → ReadingRefused src n room r
   unfolding finished
-  stops_by (placed (Count c) t₀) e {r} q five =
+  stops_by (placed (Ok c) t₀) e {r} q five =
       let Z = check_zeros (8 ∷ late_numbers) refl t₀ w₀ n c (ranged_numbers t₀ n c (read_ranges (accepted_read src n room size few lo hi fits e)))
       (check_group t₀ w₀ n c) refl q in
-      absurd (none_of r.number (5 ∷ 6 ∷ 7 ∷ []) (8 ∷ late_numbers) refl five Z.number)
-  stops_by (placed (Refused s) t₀) e {r} q five =
+      absurd (none_of (refusal_paper r).number (5 ∷ 6 ∷ 7 ∷ []) (8 ∷ late_numbers) refl five Z.number)
+  stops_by (placed (Err s) t₀) e {r} q five =
       let i : s ≡ r = cc in
-      refused_read src n room size few lo hi fits (e ∙ ap (λ (x : Refusal). placed (Refused x) t₀) i)
+      refused_read src n room size few lo hi fits (e ∙ ap (λ (x : Refusal). placed (Err x) t₀) i)
 
-  pub built_stops : {r : Refusal} {t w : List ℕ} → finished_placed (read_all src n room (replicate size 0)) n w₀ ≡ built (Refused r) t w → member r.number (5 ∷ 6 ∷ 7 ∷ []) ≡ true
+  pub built_stops : {r : Refusal} {t w : List ℕ} → finished_placed (read_all src n room (replicate size 0)) n w₀ ≡ built (Err r) t w → member (refusal_paper r).number (5 ∷ 6 ∷ 7 ∷ []) ≡ true
       → ReadingRefused src n room r
   built_stops q = stops_by (read_all src n room (replicate size 0)) refl q
 
-  pub stops_built : {r : Refusal} → ReadingRefused src n room r → (t : List ℕ) × (finished_placed (read_all src n room (replicate size 0)) n w₀ ≡ built (Refused r) t (zeroed w₀))
+  pub stops_built : {r : Refusal} → ReadingRefused src n room r → (t : List ℕ) × (finished_placed (read_all src n room (replicate size 0)) n w₀ ≡ built (Err r) t (zeroed w₀))
   unfolding finished
   stops_built S = let a = refuses_refused src n room size few lo hi fits S in (zeroed a.0, rw a.1)
 
@@ -103,19 +102,18 @@ module _ (table : List ℕ) (start : ℕ) (work rows : List ℕ) (n room : ℕ) 
 
   -- 5, 6 and 7 exactly where reading first cannot go on.
   pub composed_stops : (r : Refusal)
-      → ((f : Factor) × (t : List ℕ) × (w : List ℕ) × (composed table start work rows n room ≡ making (record { answer = verdict.Refused r; factor = f }) t w)
-      × (member r.number (5 ∷ 6 ∷ 7 ∷ []) ≡ true)) ↔ ReadingRefused (composed_at rows n) n room r
+      → ((t : List ℕ) × (w : List ℕ) × (composed table start work rows n room ≡ making (Err r) t w)
+      × (member (refusal_paper r).number (5 ∷ 6 ∷ 7 ∷ []) ≡ true)) ↔ ReadingRefused (composed_at rows n) n room r
   unfolding composed_in
   composed_stops r = (
     λ a. ⊎_elim
-        (λ E. absurd (none_of r.number (5 ∷ 6 ∷ 7 ∷ []) (1 ∷ 4 ∷ []) refl a.4 E.number))
+        (λ E. absurd (none_of (refusal_paper r).number (5 ∷ 6 ∷ 7 ∷ []) (1 ∷ 4 ∷ []) refl a.3 E.number))
         (λ B. built_stops (composed_at rows n) n room (table_need n room) (take (work_need n room) work) hn (positive (length table) start room n has)
-        (limited (length table) start room n has) (le_refl (table_need n room)) B.1.is a.4)
-        (composed_refused table start work rows n room r a.0 a.1 a.2 a.3),
+        (limited (length table) start room n has) (le_refl (table_need n room)) B.1.is a.3)
+        (composed_refused table start work rows n room r a.0 a.1 a.2),
     λ S.
         let b = stops_built (composed_at rows n) n room (table_need n room) (take (work_need n room) work) hn (positive (length table) start room n has)
         (limited (length table) start room n has) (le_refl (table_need n room)) S in (
-          no_factor,
           within table start (start + table_need n room) b.0,
           within work 0 (work_need n room) (zeroed (take (work_need n room) work)),
           composed_is_build table start work rows n room hn lent listed ∙ ap (lent_back table start work n room) b.1,

@@ -8,8 +8,8 @@ use lib.ListN.{length, drop, replicate, length-replicate, length-drop}
 use lib.Seq.{length-take-le}
 use Rattle.egg.specs.declared.Refusal.{Refusal}
 use Rattle.egg.specs.declared.Factor.{Factor}
-use Rattle.egg.specs.declared.Verdict.{Verdict}
-use Rattle.egg.specs.declared.Verdict.TheVariants as verdict
+use Rattle.egg.specs.Answers.{Made}
+use Rattle.std.specs.Prelude.{Ok, Err}
 use Rattle.egg.specs.Factor.{fits_in, stretch}
 use Rattle.egg.proofs.Rooms.{has, within_length}
 use Rattle.build_lending.specs.Lending.{table_need, within, making}
@@ -62,27 +62,27 @@ given_wrote table start n room {f} {t} is A fits q =
     part (stretch t f) fits (stretch_long t f A.fits ∙ size) q
 
 -- Whatever a call on composed rows answers, a factor elsewhere in the buffer is as it was.
-module _ (table : List ℕ) (start : ℕ) (work rows : List ℕ) (n room : ℕ) (f : Factor) (t w : List ℕ) where
-  pub composed_wrote : (v : Verdict) → composed table start work rows n room ≡ making (record { answer = v; factor = f }) t w → Wrote (table_for table start n room t)
-  composed_wrote verdict.Fine h =
+module _ (table : List ℕ) (start : ℕ) (work rows : List ℕ) (n room : ℕ) (t w : List ℕ) where
+  pub composed_wrote : (m : Made) → composed table start work rows n room ≡ making m t w → Wrote (table_for table start n room t)
+  composed_wrote (Ok f) h =
       let G = rows-call.composed_given table start work rows n room f t w h in
       let B = rows-call.begun table start work rows n room f t w h in
       given_wrote table start n room G.handle G.accepted (within_length (length table) start room n (lent_table_lem (length table) start (length work) room n B.lent)) G.table_kept
-  composed_wrote (verdict.Refused r) h = leaves_wrote (composed_leaves table start work rows n room r f t w h)
+  composed_wrote (Err r) h = leaves_wrote (composed_leaves table start work rows n room r t w h)
 
-  pub composed_unaltered : (v : Verdict) → composed table start work rows n room ≡ making (record { answer = v; factor = f }) t w
+  pub composed_unaltered : (m : Made) → composed table start work rows n room ≡ making m t w
       → {f' : Factor} → Accepted table f' → Apart f' (table_for table start n room t) → Unaltered table t f'
-  composed_unaltered v h A apart = kept (table_for table start n room t) A apart (composed_wrote v h)
+  composed_unaltered m h A apart = kept (table_for table start n room t) A apart (composed_wrote m h)
 
 -- The same of an enumeration.
-module _ (table : List ℕ) (start : ℕ) (work orders : List ℕ) (n room : ℕ) (f : Factor) (t w : List ℕ) where
-  pub enumeration_wrote : (v : Verdict) → enumerates table start work orders n room ≡ making (record { answer = v; factor = f }) t w → Wrote (table_for table start n room t)
-  enumeration_wrote verdict.Fine h =
+module _ (table : List ℕ) (start : ℕ) (work orders : List ℕ) (n room : ℕ) (t w : List ℕ) where
+  pub enumeration_wrote : (m : Made) → enumerates table start work orders n room ≡ making m t w → Wrote (table_for table start n room t)
+  enumeration_wrote (Ok f) h =
       let G = orders-call.enumeration_accepted table start work orders n room f t w h in
       let B = orders-call.begun table start work orders n room f t w h in
       given_wrote table start n room G.handle G.accepted (within_length (length table) start room n (lent_table_lem (length table) start (length work) room n B.lent)) G.table_kept
-  enumeration_wrote (verdict.Refused r) h = leaves_wrote (tested_leaves table start work orders n room r f t w h)
+  enumeration_wrote (Err r) h = leaves_wrote (tested_leaves table start work orders n room r t w h)
 
-  pub enumeration_unaltered : (v : Verdict) → enumerates table start work orders n room ≡ making (record { answer = v; factor = f }) t w
+  pub enumeration_unaltered : (m : Made) → enumerates table start work orders n room ≡ making m t w
       → {f' : Factor} → Accepted table f' → Apart f' (table_for table start n room t) → Unaltered table t f'
-  enumeration_unaltered v h A apart = kept (table_for table start n room t) A apart (enumeration_wrote v h)
+  enumeration_unaltered m h A apart = kept (table_for table start n room t) A apart (enumeration_wrote m h)

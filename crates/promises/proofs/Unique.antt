@@ -3,8 +3,12 @@
 use mathlib.Core.Path.{sym, ◌∙◌, ap}
 use mathlib.Core.List.{List}
 use Prim.Native.Nat.{ℕ}
-use Rattle.egg.specs.declared.Counted.{Counted}
+use Rattle.egg.specs.Answers.{Counted}
 use Rattle.build_lending.specs.Lending.{making}
+use Rattle.egg.proofs.Refusal.number.Kinds as number-kinds
+use Rattle.egg.proofs.Refusal.number.Reads as number-reads
+use Rattle.egg.proofs.Refusal.places.Kinds as places-kinds
+use Rattle.egg.proofs.Refusal.places.Reads as places-reads
 use Rattle.egg.proofs.has_room.Kinds as has-room-kinds
 use Rattle.egg.proofs.has_room.Reads as has-room-reads
 use Rattle.egg.proofs.fits.Kinds as fits-kinds
@@ -38,6 +42,12 @@ use Rattle.enumeration.proofs.enumerate.Reads as enumerate-reads
 use Rattle.promises.specs.Unique.{Unique}
 
 -- egg.
+pub number_unique : Unique 0 number-kinds.ps number-kinds.r number-reads.Post (λ κs a x. a)
+number_unique = λ κs args a b x y p q. p ∙ sym q
+
+pub places_unique : Unique 0 places-kinds.ps places-kinds.r places-reads.Post (λ κs a x. a)
+places_unique = λ κs args a b x y p q. p ∙ sym q
+
 pub has_room_unique : Unique 0 has-room-kinds.ps has-room-kinds.r has-room-reads.Post (λ κs a x. a)
 has_room_unique = λ κs args a b x y p q. p ∙ sym q
 

@@ -8,10 +8,9 @@ use native.Mathlib.Nat.{le_refl, mul-le-mul}
 use native.Mathlib.Omega.{arith}
 use lib.ListN.{length, replicate, length-replicate}
 use Rattle.egg.specs.declared.Refusal.{Refusal}
-use Rattle.egg.specs.declared.Verdict.{Verdict}
-use Rattle.egg.specs.declared.Verdict.TheVariants as verdict
-use Rattle.egg.specs.declared.Counted.{Counted}
-use Rattle.egg.specs.declared.Counted.TheVariants.{Count, Refused}
+use Rattle.egg.specs.Answers.{Counted, Verdict, fine}
+use Rattle.egg.specs.Refusals.{refusal_paper}
+use Rattle.std.specs.Prelude.{Ok, Err}
 use Rattle.egg.specs.Pairs.{orders_right}
 use Rattle.egg.proofs.Scans.{Says}
 use Rattle.build_word_cells.specs.Hops.{with_hops}
@@ -44,36 +43,36 @@ use Rattle.promises.proofs.Passing.{finished_8, finished_ranges, read_ranges}
 
 -- A refused build leaves zeros in its stretches, and has one of these numbers.
 pub record Zeros (r : Refusal) (l : List ℕ) (lt lw : ℕ) (t w : List ℕ) : Type 0 where
-  pub number : member r.number l ≡ true
+  pub number : member (refusal_paper r).number l ≡ true
   pub table : t ≡ replicate lt 0
   pub work : w ≡ replicate lw 0
 
 -- Whatever is refused at the end of a build, both lists are zero then.
-pub settled_zeros : (c : ℕ) (k : Checked) (t₀ w₀ : List ℕ) (n : ℕ) → check_group t₀ w₀ n c ≡ k → {r : Refusal} {t w : List ℕ} → settled_by n c k ≡ built (Refused r) t w
+pub settled_zeros : (c : ℕ) (k : Checked) (t₀ w₀ : List ℕ) (n : ℕ) → check_group t₀ w₀ n c ≡ k → {r : Refusal} {t w : List ℕ} → settled_by n c k ≡ built (Err r) t w
     → (t ≡ replicate (length t₀) 0) × (w ≡ replicate (length w₀) 0)
-settled_zeros c (checked verdict.Fine t₁ w₁) t₀ w₀ n h q = absurd (refused_counted (sym q))
-settled_zeros c (checked (verdict.Refused s) t₁ w₁) t₀ w₀ n h {r} {t} {w} q =
+settled_zeros c (checked (Ok _) t₁ w₁) t₀ w₀ n h q = absurd (refused_counted (sym q))
+settled_zeros c (checked (Err s) t₁ w₁) t₀ w₀ n h {r} {t} {w} q =
     let a : t ≡ zeroed t₁ = cc in
     let b : w ≡ zeroed w₁ = cc in
     (a ∙ ap (λ (k : ℕ). replicate k 0) (checks_kept t₀ w₀ n c h).size, b ∙ ap (λ (k : ℕ). replicate k 0) (checks_work t₀ w₀ n c h))
 
-pub finished_zeros : (c : Counted) (n : ℕ) (t₀ w₀ : List ℕ) {r : Refusal} {t w : List ℕ} → finished c n t₀ w₀ ≡ built (Refused r) t w
+pub finished_zeros : (c : Counted) (n : ℕ) (t₀ w₀ : List ℕ) {r : Refusal} {t w : List ℕ} → finished c n t₀ w₀ ≡ built (Err r) t w
     → (t ≡ replicate (length t₀) 0) × (w ≡ replicate (length w₀) 0)
 unfolding finished
-finished_zeros (Count c) n t₀ w₀ q = settled_zeros c (check_group t₀ w₀ n c) t₀ w₀ n refl q
-finished_zeros (Refused s) n t₀ w₀ {r} {t} {w} q = (cc, cc)
+finished_zeros (Ok c) n t₀ w₀ q = settled_zeros c (check_group t₀ w₀ n c) t₀ w₀ n refl q
+finished_zeros (Err s) n t₀ w₀ {r} {t} {w} q = (cc, cc)
 
 pub check_zeros : (l : List ℕ) → every (λ x. member x l) late_numbers ≡ true → (t₀ w₀ : List ℕ) (n c : ℕ) → Says (RefusalIn l) (check_table t₀ n c)
-    → (k : Checked) → check_group t₀ w₀ n c ≡ k → {r : Refusal} {t w : List ℕ} → settled_by n c k ≡ built (Refused r) t w
+    → (k : Checked) → check_group t₀ w₀ n c ≡ k → {r : Refusal} {t w : List ℕ} → settled_by n c k ≡ built (Err r) t w
     → Zeros r l (length t₀) (length w₀) t w
-check_zeros l late t₀ w₀ n c says (checked verdict.Fine t₁ w₂) h q = absurd (refused_counted (sym q))
-check_zeros l late t₀ w₀ n c says (checked (verdict.Refused s) t₁ w₂) h {r} q =
+check_zeros l late t₀ w₀ n c says (checked (Ok _) t₁ w₂) h q = absurd (refused_counted (sym q))
+check_zeros l late t₀ w₀ n c says (checked (Err s) t₁ w₂) h {r} q =
     let e : s ≡ r = cc in
-    let z = settled_zeros c (checked (verdict.Refused s) t₁ w₂) t₀ w₀ n h q in
+    let z = settled_zeros c (checked (Err s) t₁ w₂) t₀ w₀ n h q in
     record { number = rw e at (checks_number l late t₀ w₀ n c says h); table = z.0; work = z.1 }
 
 pub zeros_widen : {r : Refusal} {l : List ℕ} (m : List ℕ) {lt lw : ℕ} {t w : List ℕ} → every (λ x. member x m) l ≡ true → Zeros r l lt lw t w → Zeros r m lt lw t w
-zeros_widen {r} {l} m h Z = record { number = each_in (λ x. member x m) r.number l h Z.number; table = Z.table; work = Z.work }
+zeros_widen {r} {l} m h Z = record { number = each_in (λ x. member x m) (refusal_paper r).number l h Z.number; table = Z.table; work = Z.work }
 
 read_numbers : {k : ℕ} → (k ≡ 7) ⊎ ((k ≡ 5) ⊎ (k ≡ 6)) → member k composed_numbers ≡ true
 read_numbers (inl a) = rw a
@@ -82,15 +81,15 @@ read_numbers (inr (inr a)) = rw a
 
 -- A build from the numbers of any source.
 module _ (src : ℕ → ℕ → ℕ) (n room size : ℕ) (w₀ : List ℕ) (few : n ≤ 8) (lo : 1 ≤ room) (hi : room ≤ 65535) (fits : room * (2 * n + 4) ≤ size) where
-  read_by : (p : Placed) → read_all src n room (replicate size 0) ≡ p → {r : Refusal} {t w : List ℕ} → finished_placed p n w₀ ≡ built (Refused r) t w
+  read_by : (p : Placed) → read_all src n room (replicate size 0) ≡ p → {r : Refusal} {t w : List ℕ} → finished_placed p n w₀ ≡ built (Err r) t w
       → Zeros r composed_numbers size (length w₀) t w
   unfolding finished
-  read_by (placed (Count c) t₀) e {r} {t} {w} q =
+  read_by (placed (Ok c) t₀) e {r} {t} {w} q =
       let long : length t₀ ≡ size = read_length src n room (replicate size 0) e ∙ length-replicate size 0 in
       subst (λ (k : ℕ). Zeros r composed_numbers k (length w₀) t w) long (zeros_widen composed_numbers refl
       (check_zeros (8 ∷ late_numbers) refl t₀ w₀ n c (ranged_numbers t₀ n c (read_ranges (accepted_read src n room size few lo hi fits e)))
       (check_group t₀ w₀ n c) refl q))
-  read_by (placed (Refused s) t₀) e {r} {t} {w} q =
+  read_by (placed (Err s) t₀) e {r} {t} {w} q =
       let long : length t₀ ≡ size = read_length src n room (replicate size 0) e ∙ length-replicate size 0 in
       let i : s ≡ r = cc in
       let a : t ≡ zeroed t₀ = cc in
@@ -101,14 +100,14 @@ module _ (src : ℕ → ℕ → ℕ) (n room size : ℕ) (w₀ : List ℕ) (few 
         work = b;
       }
 
-  pub read_zeros : {r : Refusal} {t w : List ℕ} → finished_placed (read_all src n room (replicate size 0)) n w₀ ≡ built (Refused r) t w
+  pub read_zeros : {r : Refusal} {t w : List ℕ} → finished_placed (read_all src n room (replicate size 0)) n w₀ ≡ built (Err r) t w
       → Zeros r composed_numbers size (length w₀) t w
   read_zeros q = read_by (read_all src n room (replicate size 0)) refl q
 
-fails_number : {n : ℕ} {m step : ℕ → ℕ → ℕ} {e : ℕ} {r : Refusal} → Fails n m step e r → r.number ≡ 13
-fails_number F = ap (λ (x : Refusal). x.number) F.places
+fails_number : {n : ℕ} {m step : ℕ → ℕ → ℕ} {e : ℕ} {r : Refusal} → Fails n m step e r → (refusal_paper r).number ≡ 13
+fails_number F = ap (λ (x : Refusal). (refusal_paper x).number) F.places
 
-module _ (o : List ℕ) (n room lt lw : ℕ) (L : Limits n o room lt lw) (right : orders_right o n ≡ verdict.Fine) where
+module _ (o : List ℕ) (n room lt lw : ℕ) (L : Limits n o room lt lw) (right : orders_right o n ≡ fine) where
   module _ (N : ℕ) (D : (enumerated n o room lt lw).answer ≡ ran.Done N) where
     abbrev T : List ℕ
     T = (enumerated n o room lt lw).table
@@ -117,8 +116,8 @@ module _ (o : List ℕ) (n room lt lw : ℕ) (L : Limits n o room lt lw) (right 
     W = (enumerated n o room lt lw).work
 
     -- 13, where 8 to 12 have passed.
-    thirteen : {t₁ w₂ : List ℕ} → check_group T W n N ≡ checked verdict.Fine t₁ w₂ → {r : Refusal} → relations_row (with_hops N t₁ n) n N o 0 ≡ verdict.Refused r
-        → r.number ≡ 13
+    thirteen : {t₁ w₂ : List ℕ} → check_group T W n N ≡ checked fine t₁ w₂ → {r : Refusal} → relations_row (with_hops N t₁ n) n N o 0 ≡ Err r
+        → (refusal_paper r).number ≡ 13
     thirteen {t₁} c {r} q =
         let F = done_sound L D in
         let small : N ≤ 65535 = omega (arith, F.fits, L.limit) in
@@ -126,35 +125,35 @@ module _ (o : List ℕ) (n room lt lw : ℕ) (L : Limits n o room lt lw) (right 
         let S = hopping_sound (checks_sound T W n N c F.some small fits) in
         fails_number (relations_fail S L.few o (orders_long o n right) (relations_identity S L.few o (orders_long o n right) ∙ q))
 
-    related_by : {t₁ w₂ : List ℕ} → check_group T W n N ≡ checked verdict.Fine t₁ w₂ → (v : Verdict) → relations_row (with_hops N t₁ n) n N o 0 ≡ v → {r : Refusal} {t w : List ℕ}
-        → with_work (zeroed w₂) (relating_by v N (with_hops N t₁ n)) ≡ built (Refused r) t w → Zeros r (13 ∷ late_numbers) (length T) (length W) t w
-    related_by c verdict.Fine e q = absurd (refused_counted (sym q))
-    related_by {t₁} {w₂} c (verdict.Refused s) e {r} {t} {w} q =
+    related_by : {t₁ w₂ : List ℕ} → check_group T W n N ≡ checked fine t₁ w₂ → (v : Verdict) → relations_row (with_hops N t₁ n) n N o 0 ≡ v → {r : Refusal} {t w : List ℕ}
+        → with_work (zeroed w₂) (relating_by v N (with_hops N t₁ n)) ≡ built (Err r) t w → Zeros r (13 ∷ late_numbers) (length T) (length W) t w
+    related_by c (Ok _) e q = absurd (refused_counted (sym q))
+    related_by {t₁} {w₂} c (Err s) e {r} {t} {w} q =
         let i : s ≡ r = cc in
         let a : t ≡ zeroed (with_hops N t₁ n) = cc in
         let b : w ≡ zeroed w₂ = cc in
-        let k : r.number ≡ 13 = ap (λ (x : Refusal). x.number) (sym i) ∙ thirteen c e in
+        let k : (refusal_paper r).number ≡ 13 = ap (λ (x : Refusal). (refusal_paper x).number) (sym i) ∙ thirteen c e in
         record {
           number = rw k;
           table = a ∙ ap (λ (k : ℕ). replicate k 0) (hops_long N t₁ n ∙ (checks_kept T W n N c).size);
           work = b ∙ ap (λ (k : ℕ). replicate k 0) (checks_work T W n N c);
         }
 
-    checked_by : (k : Checked) → check_group T W n N ≡ k → {r : Refusal} {t w : List ℕ} → related n o (settled_by n N k) ≡ built (Refused r) t w
+    checked_by : (k : Checked) → check_group T W n N ≡ k → {r : Refusal} {t w : List ℕ} → related n o (settled_by n N k) ≡ built (Err r) t w
         → Zeros r (13 ∷ late_numbers) (length T) (length W) t w
-    checked_by (checked verdict.Fine t₁ w₂) e q = related_by e (relations_row (with_hops N t₁ n) n N o 0) refl q
-    checked_by (checked (verdict.Refused s) t₁ w₂) e q =
+    checked_by (checked (Ok _) t₁ w₂) e q = related_by e (relations_row (with_hops N t₁ n) n N o 0) refl q
+    checked_by (checked (Err s) t₁ w₂) e q =
         let F = done_finished L D in
         zeros_widen (13 ∷ late_numbers) refl
-        (check_zeros late_numbers refl T W n N (full_numbers T n N (finished_8 F) (finished_ranges F)) (checked (verdict.Refused s) t₁ w₂) e q)
+        (check_zeros late_numbers refl T W n N (full_numbers T n N (finished_8 F) (finished_ranges F)) (checked (Err s) t₁ w₂) e q)
 
-  broken_number : {t w : List ℕ} {r : Refusal} → Broken n o room lt lw t w r → (member r.number enumeration_numbers ≡ true) × (length t ≡ lt) × (length w ≡ lw)
+  broken_number : {t w : List ℕ} {r : Refusal} → Broken n o room lt lw t w r → (member (refusal_paper r).number enumeration_numbers ≡ true) × (length t ≡ lt) × (length w ≡ lw)
   broken_number (no_room e g a b G z) = (refl, G.run.table_length, G.run.work_length)
   broken_number (long_word e g c a b d G z l) = (refl, G.run.table_length, G.run.work_length)
 
   -- What the checks or 13 refused, or what the run did.
   enumerated_by : (a : Ran) → (enumerated n o room lt lw).answer ≡ a → {r : Refusal} {t w : List ℕ}
-      → related n o (finished (ran_count a) n (enumerated n o room lt lw).table (enumerated n o room lt lw).work) ≡ built (Refused r) t w
+      → related n o (finished (ran_count a) n (enumerated n o room lt lw).table (enumerated n o room lt lw).work) ≡ built (Err r) t w
       → Zeros r (13 ∷ late_numbers) lt lw t w ⊎ (Zeros r enumeration_numbers lt lw t w × ((enumerated n o room lt lw).answer ≡ ran.Refused r))
   unfolding finished
   enumerated_by (ran.Done c) e {r} {t} {w} q =
@@ -177,7 +176,7 @@ module _ (o : List ℕ) (n room lt lw : ℕ) (L : Limits n o room lt lw) (right 
         e ∙ ap ran.Refused i,
       )
 
-  pub enumerated_zeros : {r : Refusal} {t w : List ℕ} → enumerated_in lt lw o n room ≡ built (Refused r) t w → Zeros r enumeration_numbers lt lw t w
+  pub enumerated_zeros : {r : Refusal} {t w : List ℕ} → enumerated_in lt lw o n room ≡ built (Err r) t w → Zeros r enumeration_numbers lt lw t w
   unfolding enumerated_in
   enumerated_zeros {r} {t} {w} q = by (enumerated_by (enumerated n o room lt lw).answer refl q) where
     by : Zeros r (13 ∷ late_numbers) lt lw t w ⊎ (Zeros r enumeration_numbers lt lw t w × ((enumerated n o room lt lw).answer ≡ ran.Refused r)) → Zeros r enumeration_numbers lt lw t w
@@ -185,19 +184,19 @@ module _ (o : List ℕ) (n room lt lw : ℕ) (L : Limits n o room lt lw) (right 
     by (inr Z) = Z.0
 
   -- 5 and 6 are the run's, and what the run refuses is refused.
-  pub enumerated_stops : {r : Refusal} {t w : List ℕ} → enumerated_in lt lw o n room ≡ built (Refused r) t w → member r.number (5 ∷ 6 ∷ []) ≡ true
+  pub enumerated_stops : {r : Refusal} {t w : List ℕ} → enumerated_in lt lw o n room ≡ built (Err r) t w → member (refusal_paper r).number (5 ∷ 6 ∷ []) ≡ true
       → (enumerated n o room lt lw).answer ≡ ran.Refused r
   unfolding enumerated_in
   enumerated_stops {r} {t} {w} q five =
-      ⊎_elim (λ Z. absurd (none_of r.number (5 ∷ 6 ∷ []) (13 ∷ late_numbers) refl five Z.number)) (λ Z. Z.1) (enumerated_by (enumerated n o room lt lw).answer refl q)
+      ⊎_elim (λ Z. absurd (none_of (refusal_paper r).number (5 ∷ 6 ∷ []) (13 ∷ late_numbers) refl five Z.number)) (λ Z. Z.1) (enumerated_by (enumerated n o room lt lw).answer refl q)
 
   pub stopped_built : {r : Refusal} → (enumerated n o room lt lw).answer ≡ ran.Refused r
-      → enumerated_in lt lw o n room ≡ built (Refused r) (zeroed (enumerated n o room lt lw).table) (zeroed (enumerated n o room lt lw).work)
+      → enumerated_in lt lw o n room ≡ built (Err r) (zeroed (enumerated n o room lt lw).table) (zeroed (enumerated n o room lt lw).work)
   unfolding enumerated_in finished
   stopped_built q = rw q
 
-  pub stopped_number : {r : Refusal} → (enumerated n o room lt lw).answer ≡ ran.Refused r → member r.number (5 ∷ 6 ∷ []) ≡ true
+  pub stopped_number : {r : Refusal} → (enumerated n o room lt lw).answer ≡ ran.Refused r → member (refusal_paper r).number (5 ∷ 6 ∷ []) ≡ true
   stopped_number q = by (refused_broken L q) where
-    by : {r : Refusal} {t w : List ℕ} → Broken n o room lt lw t w r → member r.number (5 ∷ 6 ∷ []) ≡ true
+    by : {r : Refusal} {t w : List ℕ} → Broken n o room lt lw t w r → member (refusal_paper r).number (5 ∷ 6 ∷ []) ≡ true
     by (no_room e g a b G z) = refl
     by (long_word e g c a b d G z l) = refl

@@ -1,7 +1,7 @@
 -- This file states demand 3, and what an accepted enumeration gives.
 use Rattle.std.specs.Prelude.{ℕ, ◌+◌, ◌*◌, ◌≤◌, ◌≡◌, ◌↔◌, true, List, ◌++◌, length, get_or, replicate}
 use Rattle.egg.specs.declared.Factor.{Factor}
-use Rattle.egg.specs.declared.Verdict.TheVariants as verdict
+use Rattle.egg.specs.Answers.{fine}
 use Rattle.egg.specs.Pairs.{orders_right}
 use Rattle.egg.specs.Factor.{stretch}
 use Rattle.build_lending.specs.Lending.{table_need, work_need, lent_right, within}
@@ -15,7 +15,7 @@ use Rattle.factor_laws.specs.Accepted.{Accepted, factor_step, reach}
 -- "room 0 or above 65,535, or a lent buffer short", have passed.
 pub record EnumerationRight (table : List ℕ) (start : ℕ) (work orders : List ℕ) (n room : ℕ) : Type 0 where
   pub generators : n ≤ 8
-  pub right : orders_right orders n ≡ verdict.Fine
+  pub right : orders_right orders n ≡ fine
   pub lent : lent_right (length table) start (length work) room n ≡ true
 
 -- The element that a word reaches from the identity, by the steps of the factor.
@@ -38,7 +38,7 @@ pub record Enumerated (table : List ℕ) (start : ℕ) (work orders : List ℕ) 
   pub accepted : Accepted t f
   pub demand_3 : Demand3 orders f t
   pub holds : Holds n f.elements (order_of orders) (factor_step t f)
-  pub all_related : relations (stretch t f) n f.elements orders ≡ verdict.Fine
+  pub all_related : relations (stretch t f) n f.elements orders ≡ fine
   pub beyond : {i : ℕ} → f.elements * (2 * n + 4) ≤ i → get_or (stretch t f) i 0 ≡ 0
   pub table_kept : t ≡ within table start (start + table_need n room) (stretch t f)
   pub work_zero : w ≡ within work 0 (work_need n room) (replicate (work_need n room) 0)

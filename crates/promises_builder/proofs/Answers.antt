@@ -8,8 +8,8 @@ use borrow.Author.Tests.{leb-true, leb-false, lt-leb}
 use lib.Dec.{leb}
 use lib.ListN.{length}
 use Rattle.egg.specs.declared.Refusal.{Refusal}
-use Rattle.egg.specs.declared.Verdict.{Verdict}
-use Rattle.egg.specs.declared.Verdict.TheVariants as verdict
+use Rattle.egg.specs.Answers.{Made, answer_of}
+use Rattle.std.specs.Prelude.{Ok, Err}
 use Rattle.egg.specs.Factor.{Paper, refusal_paper, verdict_paper, fits_in}
 use Rattle.egg.specs.Answers.{numbered}
 use Rattle.builder.specs.declared.Builder.{Builder}
@@ -26,9 +26,9 @@ use Rattle.promises_builder.proofs.Faults.{build_faults}
 
 module _ (t : List ℕ) (b : Builder) (w : List ℕ) where
   started : BuildRight t b w → (m : Making) → builds t b w ≡ m → BuildPaper t b w (made_paper m)
-  started R (making m t' w') q = by m.answer refl where
-    with : (v : Verdict) → m.answer ≡ v → builds t b w ≡ making (record { answer = v; factor = m.factor }) t' w'
-    with v h = q ∙ ap (λ (x : Verdict). making (record { answer = x; factor = m.factor }) t' w') h
+  started R (making m t' w') q = by m refl where
+    with : (x : Made) → m ≡ x → builds t b w ≡ making x t' w'
+    with x h = q ∙ ap (λ (y : Made). making y t' w') h
 
     refused : {r : Refusal} → RefusedBy t b w r → BuildPaper t b w (refusal_paper r)
     refused {r} a = ⊎_elim
@@ -38,9 +38,9 @@ module _ (t : List ℕ) (b : Builder) (w : List ℕ) where
         (λ x. late R x.0 x.2 ((build_faults t b w R.fits R.enough x.0 x.2 r).0 a) x.1)))
         (ways t b w R.fits R.enough a)
 
-    by : (v : Verdict) → m.answer ≡ v → BuildPaper t b w (verdict_paper m.answer)
-    by verdict.Fine h = let p = (build_exactly t b w R.fits R.enough).0 (m.factor, t', w', with verdict.Fine h) in rw h (taken R p.0 p.1)
-    by (verdict.Refused r) h = rw h (refused (m.factor, t', w', with (verdict.Refused r) h))
+    by : (x : Made) → m ≡ x → BuildPaper t b w (verdict_paper (answer_of m))
+    by (Ok f) h = let p = (build_exactly t b w R.fits R.enough).0 (f, t', w', with (Ok f) h) in rw h (taken R p.0 p.1)
+    by (Err r) h = rw h (refused (t', w', with (Err r) h))
 
   is_unfit : fits_in (length t) b.0 ≡ false → builds t b w ≡ making (refused_made 17 0) t w
   unfolding builds
@@ -60,7 +60,7 @@ module _ (t : List ℕ) (b : Builder) (w : List ℕ) where
 
   -- The other way: what is refused by r has r for its paper.
   paper_of_lem : {r : Refusal} → RefusedBy t b w r → made_paper (builds t b w) ≡ refusal_paper r
-  paper_of_lem a = ap made_paper a.3
+  paper_of_lem a = ap made_paper a.2
 
   given : {p : Paper} → BuildPaper t b w p → made_paper (builds t b w) ≡ p
   given (no_handle h) = ap made_paper (is_unfit h)

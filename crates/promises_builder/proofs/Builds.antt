@@ -9,7 +9,7 @@ use borrow.Author.Tests.{leb-true}
 use lib.Dec.{leb}
 use lib.ListN.{length}
 use Rattle.egg.specs.declared.Factor.{Factor}
-use Rattle.egg.specs.declared.Verdict.TheVariants as verdict
+use Rattle.std.specs.Prelude.{Ok}
 use Rattle.egg.specs.Table.{pick}
 use Rattle.egg.specs.Factor.{fits_in}
 use Rattle.builder.specs.declared.Builder.{Builder}
@@ -43,7 +43,7 @@ module _ (t : List ℕ) (b : Builder) (w : List ℕ) (fits : fits_in (length t) 
 
   -- Accepted exactly when every step is there and leads to one of the elements, all of them are reached, and the rows are some group's under the numbering
   -- rule, with words within 4,096.
-  pub build_exactly : ((x : Factor) × (t' : List ℕ) × (w' : List ℕ) × (builds t b w ≡ making (record { answer = verdict.Fine; factor = x }) t' w'))
+  pub build_exactly : ((x : Factor) × (t' : List ℕ) × (w' : List ℕ) × (builds t b w ≡ making (Ok x) t' w'))
       ↔ (Filled t b.0 × Taken (composed_at (own_rows t b.0) b.0.generators) b.0.generators b.0.room b.0.elements)
   build_exactly = (
     λ a.
@@ -58,18 +58,18 @@ module _ (t : List ℕ) (b : Builder) (w : List ℕ) (fits : fits_in (length t) 
 
 -- What an accepted build gives, whatever the arguments: it has passed 17 in the handle and 4.
 module _ (t : List ℕ) (b : Builder) (w : List ℕ) (x : Factor) (t' w' : List ℕ) where
-  pub begun : builds t b w ≡ making (record { answer = verdict.Fine; factor = x }) t' w' → BuildRight t b w
+  pub begun : builds t b w ≡ making (Ok x) t' w' → BuildRight t b w
   unfolding builds
   begun h = by (fits_in (length t) b.0) refl (leb (work_need b.0.generators b.0.room) (length w)) refl _ h where
     by : (c : Bool) → fits_in (length t) b.0 ≡ c → (d : Bool) → leb (work_need b.0.generators b.0.room) (length w) ≡ d → (m : Making)
-        → pick c (pick d m (making (refused_made 4 0) t w)) (making (refused_made 17 0) t w) ≡ making (record { answer = verdict.Fine; factor = x }) t' w' → BuildRight t b w
+        → pick c (pick d m (making (refused_made 4 0) t w)) (making (refused_made 17 0) t w) ≡ making (Ok x) t' w' → BuildRight t b w
     by true p true q m e = record { fits = p; enough = leb-true _ _ q }
     by true p false q m e = absurd (refused_making_lem e)
     by false p d q m e = absurd (refused_making_lem e)
 
   -- The handle of the builder's stretch with its elements; an accepted factor, whose steps are the builder's; zeros in its rows beyond the last element and in
   -- the needed work; and everything else in both buffers as it was.
-  pub build_given : builds t b w ≡ making (record { answer = verdict.Fine; factor = x }) t' w'
+  pub build_given : builds t b w ≡ making (Ok x) t' w'
       → Given t b.0.start w (own_rows t b.0) b.0.generators b.0.room x t' w'
   build_given h =
       let B = begun h in
@@ -77,7 +77,7 @@ module _ (t : List ℕ) (b : Builder) (w : List ℕ) (x : Factor) (t' w' : List 
       composed_given t b.0.start w (own_rows t b.0) b.0.generators b.0.room x t' w' (sym p.2 ∙ h)
 
   -- With all the builder's elements, and the steps that it had stored.
-  pub build_same : builds t b w ≡ making (record { answer = verdict.Fine; factor = x }) t' w'
+  pub build_same : builds t b w ≡ making (Ok x) t' w'
       → (x ≡ b.0) × ((e g : ℕ) → e < b.0.elements → g < b.0.generators → suc (factor_step t' x e g) ≡ own_at t b.0 e g)
   build_same h =
       let B = begun h in

@@ -1,4 +1,5 @@
 -- `begin`, `add_successor` and `set_successor` come to each answer, builder and table exactly in the case that is set out for it.
+use Rattle.std.specs.Prelude.{Ok}
 use Prim.Native.Nat.{ℕ, ◌+◌, ◌≤◌, ◌<◌}
 use mathlib.Core.Path.{◌≡◌, refl, sym, ap, ◌∙◌, subst}
 use mathlib.Core.Logic.{◌↔◌, ◌⊎◌, inl, inr, ⊎_elim}
@@ -12,7 +13,8 @@ use lib.ListN.{length, replicate}
 use Rattle.egg.specs.declared.Refusal.{Refusal}
 use Rattle.egg.specs.declared.GroupElementId.{GroupElementId}
 use Rattle.egg.specs.declared.GeneratorId.{GeneratorId}
-use Rattle.egg.specs.declared.Verdict.TheVariants as verdict
+use Rattle.egg.specs.Answers.{fine}
+use Rattle.std.specs.Prelude.{Err}
 use Rattle.egg.specs.Factor.{Paper, refusal_paper, has_room, fits_in, stretch}
 use Rattle.build_reading.specs.Build.{is_new, adds}
 use Rattle.builder.specs.declared.Builder.{Builder}
@@ -29,13 +31,13 @@ use Rattle.promises_builder.specs.Calls.{SetAnswer, wrong_place, no_end, beyond,
 module _ (table : List ℕ) (start room n : ℕ) where
   begin_fine : n ≤ 8 → has_room (length table) start room n ≡ true
       → begins table start room n
-      ≡ leaving (record { answer = verdict.Fine; builder = builder_of start room n 1 }) (within table start (start + table_need n room) (replicate (table_need n room) 0))
+      ≡ leaving (Ok (builder_of start room n 1)) (within table start (start + table_need n room) (replicate (table_need n room) 0))
   unfolding begins
   begin_fine h k = rw k (simp (le-ltb _ _ h))
 
   begin_given : {h : Handed} → BeginAnswer table start room n h → begun_paper (begins table start room n) ≡ h
-  begin_given (many l) = ap begun_paper (sym (begin_many table start room n refl l))
-  begin_given (short l k) = ap begun_paper (sym (begin_short table start room n refl l k))
+  begin_given (many l) = ap begun_paper (sym (begin_many table start room n l))
+  begin_given (short l k) = ap begun_paper (sym (begin_short table start room n l k))
   begin_given (begun l k) = ap begun_paper (begin_fine l k)
 
   begin_some : (h : Handed) × BeginAnswer table start room n h
@@ -52,12 +54,12 @@ module _ (table : List ℕ) (start room n : ℕ) where
   )
 
 module _ (t : List ℕ) (b : Builder) (e : GroupElementId) (g : GeneratorId) where
-  out : {x : Refusal} → Misplaced t b e g x → verdict.Refused x ≡ placed (length t) b.0 e g
+  out : {x : Refusal} → Misplaced t b e g x → Err x ≡ placed (length t) b.0 e g
   out (no_handle h) = place_handle (length t) b.0 e g h
   out (no_element h l) = place_element (length t) b.0 e g h l
   out (no_generator h l k) = place_generator (length t) b.0 e g h l k
 
-  right : RightPlace t b e g → verdict.Fine ≡ placed (length t) b.0 e g
+  right : RightPlace t b e g → fine ≡ placed (length t) b.0 e g
   right R = place_fine (length t) b.0 e g R.fits R.element R.generator
 
   place_or_not : RightPlace t b e g ⊎ ((x : Refusal) × Misplaced t b e g x)
@@ -71,16 +73,16 @@ module _ (t : List ℕ) (b : Builder) (e : GroupElementId) (g : GeneratorId) whe
 
   -- `set_successor`.
   module _ (r : GroupElementId) where
-    ends : RightPlace t b e g → r.0 < b.0.elements → verdict.Fine ≡ placed_step (length t) b.0 e g r
+    ends : RightPlace t b e g → r.0 < b.0.elements → fine ≡ placed_step (length t) b.0 e g r
     ends R l = end_fine (length t) b.0 e g r (right R) refl l
 
     stored : RightPlace t b e g → r.0 < b.0.elements → own_at t b.0 e.0 g.0 ≤ b.0.elements → {c : Bool}
-        → is_new (stretch t b.0) b.0.generators e g ≡ c → stores t b e g r ≡ leaving (new_or c) (with_step t b e g r)
+        → is_new (stretch t b.0) b.0.generators e g ≡ c → stores t b e g r ≡ leaving (Ok (new_or c)) (with_step t b e g r)
     unfolding stores
     stored R l k z = rw (← store_fine t b.0 e g r (ends R l) refl k, z)
 
     -- 17 in the handle or 14.
-    set_early : {x : Refusal} → verdict.Refused x ≡ placed_step (length t) b.0 e g r → noted_paper (stores t b e g r) ≡ leaving (refusal_paper x) t
+    set_early : {x : Refusal} → Err x ≡ placed_step (length t) b.0 e g r → noted_paper (stores t b e g r) ≡ leaving (refusal_paper x) t
     set_early q = ap noted_paper (sym (stores_refused t b e g r (store_refused t b.0 e g r q refl) refl))
 
     set_given : {l : Leaving Paper} → SetAnswer t b e g r l → noted_paper (stores t b e g r) ≡ l
@@ -109,7 +111,7 @@ module _ (t : List ℕ) (b : Builder) (e : GroupElementId) (g : GeneratorId) whe
     )
 
   -- `add_successor`.
-  started : RightPlace t b e g → grows t b e g ≡ grows_by t b.0 verdict.Fine (grown (stretch t b.0) b.0 e g)
+  started : RightPlace t b e g → grows t b e g ≡ grows_by t b.0 fine (grown (stretch t b.0) b.0 e g)
   unfolding grows
   started R = rw (← right R)
 

@@ -10,7 +10,7 @@ use lib.ListN.{length, take, drop, replicate, length-replicate, length-drop, len
 use lib.Seq.{length-take-le}
 use Rattle.egg.specs.declared.Refusal.{Refusal}
 use Rattle.egg.specs.declared.Factor.{Factor}
-use Rattle.egg.specs.declared.Counted.TheVariants.{Count, Refused}
+use Rattle.std.specs.Prelude.{Ok, Err}
 use Rattle.egg.specs.Factor.{has_room, fits_in, stretch}
 use Rattle.egg.proofs.Rooms.{has, some, room_enough, few, limited, within_length}
 use Rattle.build_reading.specs.Reading.{Placed, placed, read_place, read_all, composed_at}
@@ -37,10 +37,10 @@ abbrev Equal : ℕ → List ℕ → List ℕ → Type 0
 Equal c t t' = t ≡ t'
 
 alike_equal : (lo N : ℕ) (p p' : Placed) → EndAlike lo N Same Equal p p' → p ≡ p'
-alike_equal lo N (placed (Count c) t) (placed (Count c') t') a = let z : c' ≡ c = a.0 in let y : t ≡ t' = a.3 in cc
-alike_equal lo N (placed (Count c) t) (placed (Refused r) t') a = absurd a
-alike_equal lo N (placed (Refused s) t) (placed (Count c) t') a = absurd a
-alike_equal lo N (placed (Refused s) t) (placed (Refused r) t') a = let z : s ≡ r = a.0 in let y : t ≡ t' = a.1 in cc
+alike_equal lo N (placed (Ok c) t) (placed (Ok c') t') a = let z : c' ≡ c = a.0 in let y : t ≡ t' = a.3 in cc
+alike_equal lo N (placed (Ok c) t) (placed (Err r) t') a = absurd a
+alike_equal lo N (placed (Err s) t) (placed (Ok c) t') a = absurd a
+alike_equal lo N (placed (Err s) t) (placed (Err r) t') a = let z : s ≡ r = a.0 in let y : t ≡ t' = a.1 in cc
 
 -- Where each place holds the source's number, both readings are one.
 module _ (own src : ℕ → ℕ → ℕ) (n room N : ℕ) (lo : 1 ≤ N) (hi : N ≤ room)
@@ -53,7 +53,7 @@ module _ (own src : ℕ → ℕ → ℕ) (n room N : ℕ) (lo : 1 ≤ N) (hi : N
       let v : own x g - 1 ≡ src x g = omega arith in
       subst (λ (u : List ℕ). EndAlike (suc x) N Same Equal (own_place t n room N c x g (own x g)) (read_place u n room c x g (src x g))) q
       (rw (← own_read t n room N c x g (own x g) (λ z. omega arith) (omega arith), v)
-      (read_alike N Same Equal n room x g c (src x g) t t (λ k a b d h. (refl, refl)) i hi hc most refl (λ k. refl) (λ k l. refl)))
+      (read_alike N Same Equal n room x g c (src x g) t t (λ r h. (refl, refl)) i hi hc most refl (λ k. refl) (λ k l. refl)))
 
   pub own_is_read : (t : List ℕ) → own_all own n room N t ≡ read_all src n room t
   own_is_read t = alike_equal 1 N (own_all own n room N t) (read_all src n room t) (all_alike N Same Equal own src n room place lo hi refl)
@@ -65,11 +65,11 @@ module _ (s w : List ℕ) (src : ℕ → ℕ → ℕ) (n room size N : ℕ) (lea
     (reached : (c : ℕ) → Numbered n c src → c ≡ N) where
   end : (p : Placed) → read_all src n room (replicate size 0) ≡ p → finished_placed (reaches_all n N p) n (zeroed w) ≡ finished_placed p n w
   unfolding all_reached
-  end (placed (Refused r) t) q = any_work (Refused r) n t (zeroed w) w (length-replicate (length w) 0)
-  end (placed (Count c) t) q =
+  end (placed (Err r) t) q = any_work (Err r) n t (zeroed w) w (length-replicate (length w) 0)
+  end (placed (Ok c) t) q =
       let R = accepted_read src n room size least (omega arith) limit fits q in
       let e : c ≡ N = reached c R.by_rule in
-      rw (le-leb N c (omega arith)) (any_work (Count c) n t (zeroed w) w (length-replicate (length w) 0))
+      rw (le-leb N c (omega arith)) (any_work (Ok c) n t (zeroed w) w (length-replicate (length w) 0))
 
   pub own_reads : own_in s w n room N ≡ finished_placed (read_all src n room (replicate size 0)) n w
   own_reads =

@@ -1,4 +1,5 @@
 -- 9 to 12 of a builder in theory's words: where all is there and all is reached, it is refused exactly by what its rows have for a fault.
+use Rattle.egg.specs.Refusals.{refusal_paper}
 use Prim.Native.Nat.{ℕ, ◌+◌, ◌≤◌}
 use mathlib.Core.Path.{◌≡◌, sym, ap, ◌∙◌}
 use mathlib.Core.Logic.{◌↔◌}
@@ -12,7 +13,7 @@ use Rattle.egg.specs.declared.Factor.{Factor}
 use Rattle.egg.specs.Factor.{fits_in}
 use Rattle.egg.proofs.Rooms.{some, room_enough}
 use Rattle.builder.specs.declared.Builder.{Builder}
-use Rattle.build_lending.specs.Lending.{table_need, work_need, within, no_factor, lent_back}
+use Rattle.build_lending.specs.Lending.{table_need, work_need, within, lent_back}
 use Rattle.factor.specs.Composed.{composed_in, composed}
 use Rattle.build_reading.specs.Reading.{composed_at}
 use Rattle.theory.specs.Numbering.{Numbered}
@@ -56,13 +57,12 @@ module _ (t : List ℕ) (b : Builder) (w : List ℕ) (fits : fits_in (length t) 
   build_faults F K r =
       let e = build_own_rows t b w fits enough F (λ c q. numbered_once q K) in (
         λ a.
-            let z = by_refused t f.start w n room _ (sym is_build ∙ sym e ∙ a.3) in
+            let z = by_refused t f.start w n room _ (sym is_build ∙ sym e ∙ a.2) in
             built_fault (composed_at rows n) n room (table_need n room) (take (work_need n room) w) (least t b w fits enough) lo (limit t b w fits enough)
             (le_refl (table_need n room)) long z.2,
         λ G.
             let z = fault_built (composed_at rows n) n room (table_need n room) (take (work_need n room) w) (least t b w fits enough) lo (limit t b w fits enough)
             (le_refl (table_need n room)) long G in (
-              no_factor,
               within t f.start (f.start + table_need n room) z.0,
               within w 0 (work_need n room) z.1,
               e ∙ is_build ∙ ap (lent_back t f.start w n room) z.2,
@@ -70,9 +70,9 @@ module _ (t : List ℕ) (b : Builder) (w : List ℕ) (fits : fits_in (length t) 
       )
 
   -- 9, 10, 11 and 12 exactly.
-  pub build_late_exactly : (r : Refusal) → (RefusedBy t b w r × (member r.number (9 ∷ 10 ∷ 11 ∷ 12 ∷ []) ≡ true))
+  pub build_late_exactly : (r : Refusal) → (RefusedBy t b w r × (member (refusal_paper r).number (9 ∷ 10 ∷ 11 ∷ 12 ∷ []) ≡ true))
       ↔ (Filled t b.0 × Numbered b.0.generators b.0.elements (composed_at (own_rows t b.0) b.0.generators)
-      × Fault (composed_at (own_rows t b.0) b.0.generators) b.0.generators b.0.room r × (member r.number (9 ∷ 10 ∷ 11 ∷ 12 ∷ []) ≡ true))
+      × Fault (composed_at (own_rows t b.0) b.0.generators) b.0.generators b.0.room r × (member (refusal_paper r).number (9 ∷ 10 ∷ 11 ∷ 12 ∷ []) ≡ true))
   build_late_exactly r = (
     λ a. let p = build_late t b w fits enough a.0 a.1 in (p.0, p.1, (build_faults p.0 p.1 r).0 a.0, a.1),
     λ p. ((build_faults p.0 p.1 r).1 p.2, p.3),

@@ -11,8 +11,9 @@ use borrow.Author.Tests.{eqb-true, le-ltb, lt-ltb, eq-eqb}
 use lib.Dec.{eqb}
 use lib.ListN.{get_or}
 use Rattle.egg.specs.declared.Refusal.{Refusal}
-use Rattle.egg.specs.declared.Verdict.{Verdict}
-use Rattle.egg.specs.declared.Verdict.TheVariants.{Fine, Refused}
+use Rattle.egg.specs.Answers.{Verdict, fine}
+use Rattle.egg.specs.Refusals.{refusal_paper}
+use Rattle.std.specs.Prelude.{Ok, Err}
 use Rattle.egg.specs.Table.{pick, start_of}
 use Rattle.egg.specs.Scan.{refused_of, and_then, scan}
 use Rattle.egg.proofs.Scans.{refused_fine, and_then_fine, scan_first, scan_each}
@@ -38,17 +39,17 @@ pub record FirstZero (t : List ℕ) (n N shift : ℕ) (r : Refusal) : Type 0 whe
   pub before : (y h : ℕ) → y < N → h < n → Ahead y h element generator → get_or t (start_of n y + shift + h) 0 ≡ 0 → ⊥
 
 module _ (t : List ℕ) (n N shift : ℕ) where
-  at_zero : (e g : ℕ) {r : Refusal} → missing_at t n shift e g ≡ Refused r → (r ≡ numbered 8 e g 0) × (get_or t (start_of n e + shift + g) 0 ≡ 0)
+  at_zero : (e g : ℕ) {r : Refusal} → missing_at t n shift e g ≡ Err r → (r ≡ numbered 8 e g 0) × (get_or t (start_of n e + shift + g) 0 ≡ 0)
   at_zero e g {r} h = by (eqb (get_or t (start_of n e + shift + g) 0) 0) refl h where
-    by : (b : Bool) → eqb (get_or t (start_of n e + shift + g) 0) 0 ≡ b → pick b (refused_of 8 e g 0) Fine ≡ Refused r
+    by : (b : Bool) → eqb (get_or t (start_of n e + shift + g) 0) 0 ≡ b → pick b (refused_of 8 e g 0) fine ≡ Err r
         → (r ≡ numbered 8 e g 0) × (get_or t (start_of n e + shift + g) 0 ≡ 0)
     by true q p = (cc, eqb-true _ _ q)
     by false q p = absurd (refused_fine (sym p))
 
-  at_fine : (e g : ℕ) → missing_at t n shift e g ≡ Fine → get_or t (start_of n e + shift + g) 0 ≡ 0 → ⊥
+  at_fine : (e g : ℕ) → missing_at t n shift e g ≡ fine → get_or t (start_of n e + shift + g) 0 ≡ 0 → ⊥
   at_fine e g h z = refused_fine {r = numbered 8 e g 0} (rw (eq-eqb _ _ z) at h)
 
-  pub missing_first : {r : Refusal} → missing t n N shift ≡ Refused r → FirstZero t n N shift r
+  pub missing_first : {r : Refusal} → missing t n N shift ≡ Err r → FirstZero t n N shift r
   unfolding missing missing_row
   missing_first {r} h =
       let p = scan_first N (λ e. missing_row t n shift e) 0 h in
@@ -63,8 +64,8 @@ module _ (t : List ℕ) (n N shift : ℕ) where
         zero_here = z.1;
         before = λ y k hy hk a. earlier p q y k hk a;
       } where
-        earlier : (p : (j : ℕ) × (0 ≤ j) × (j < 0 + N) × (scan n (λ g. missing_at t n shift j g) 0 ≡ Refused r) × ((l : ℕ) → 0 ≤ l → l < j → scan n (λ g. missing_at t n shift l g) 0 ≡ Fine))
-            (q : (j : ℕ) × (0 ≤ j) × (j < 0 + n) × (missing_at t n shift p.0 j ≡ Refused r) × ((l : ℕ) → 0 ≤ l → l < j → missing_at t n shift p.0 l ≡ Fine))
+        earlier : (p : (j : ℕ) × (0 ≤ j) × (j < 0 + N) × (scan n (λ g. missing_at t n shift j g) 0 ≡ Err r) × ((l : ℕ) → 0 ≤ l → l < j → scan n (λ g. missing_at t n shift l g) 0 ≡ fine))
+            (q : (j : ℕ) × (0 ≤ j) × (j < 0 + n) × (missing_at t n shift p.0 j ≡ Err r) × ((l : ℕ) → 0 ≤ l → l < j → missing_at t n shift p.0 l ≡ fine))
             (y k : ℕ) → k < n → Ahead y k p.0 q.0 → get_or t (start_of n y + shift + k) 0 ≡ 0 → ⊥
         earlier p q y k hk (row l) = at_fine y k (scan_each n (λ g. missing_at t n shift y g) 0 (p.4 y (omega arith) l) k (omega arith) (omega arith))
         earlier p q y k hk (column e l) = rw e (at_fine p.0 k (q.4 k (omega arith) l))
@@ -113,10 +114,10 @@ module _ {own : ℕ → ℕ → ℕ} {n room size N c : ℕ} {t : List ℕ} (O :
         absurd (none y p.0 p.1)
 
   -- What each answer of 8's search says of the rows.
-  there : missing t n c 0 ≡ Fine → AllThere own n c
+  there : missing t n c 0 ≡ fine → AllThere own n c
   there h y k hy hk z = let i : start_of n y + 0 + k ≡ start_of n y + k = omega arith in (missing_fine t n c 0).0 h y hy k hk (rw i (own_cell y k hy hk ∙ z))
 
-  pub all_there : check8 t n c ≡ Fine → AllThere own n c × AllLedTo own n c
+  pub all_there : check8 t n c ≡ fine → AllThere own n c × AllLedTo own n c
   unfolding check8
   all_there h =
       let p = (and_then_fine (missing t n c 0) (missing t n c n)).0 h in
@@ -144,14 +145,14 @@ module _ {own : ℕ → ℕ → ℕ} {n room size N c : ℕ} {t : List ℕ} (O :
       (no_predecessor F.element F.generator A all F.inside F.column (own_led F.element F.generator F.inside F.column F.zero_here)
       (λ y k hy hk a none. F.before y k hy hk a (own_none y k hy hk none)))
 
-  pub lacks : {r : Refusal} → c ≡ N → check8 t n c ≡ Refused r → BuilderLacks own n N c r
+  pub lacks : {r : Refusal} → c ≡ N → check8 t n c ≡ Err r → BuilderLacks own n N c r
   unfolding check8
   lacks {r} all h = by (missing t n c 0) refl h where
-    by : (v : Verdict) → missing t n c 0 ≡ v → and_then v (missing t n c n) ≡ Refused r → BuilderLacks own n N c r
-    by Fine q p = first_predecessor (there q) all (missing_first t n c n p)
-    by (Refused s) q p =
+    by : (v : Verdict) → missing t n c 0 ≡ v → and_then v (missing t n c n) ≡ Err r → BuilderLacks own n N c r
+    by (Ok _) q p = first_predecessor (there q) all (missing_first t n c n p)
+    by (Err s) q p =
         let i : s ≡ r = cc in
-        let F = missing_first t n c 0 (q ∙ ap Refused i) in
+        let F = missing_first t n c 0 (q ∙ ap Err i) in
         first_successor (le_refl c) F F.inside
 
   -- Where an element is not reached, nothing stands in its row, and it is found at the latest.
@@ -171,14 +172,14 @@ module _ {own : ℕ → ℕ → ℕ} {n room size N c : ℕ} {t : List ℕ} (O :
           rw i (not_reached (λ y h hy hh. before_there O.most F y h hy hh (row (omega arith))) pos less)
       by (later a) = absurd (F.before c 0 less pos a row_empty)
 
-    pub unreached : {r : Refusal} → check8 t n N ≡ Refused r → BuilderLacks own n N c r
+    pub unreached : {r : Refusal} → check8 t n N ≡ Err r → BuilderLacks own n N c r
     unfolding check8
     unreached {r} h = by (missing t n N 0) refl h where
-      by : (v : Verdict) → missing t n N 0 ≡ v → and_then v (missing t n N n) ≡ Refused r → BuilderLacks own n N c r
-      by Fine q p = absurd ((missing_fine t n N 0).0 q c less 0 pos row_empty)
-      by (Refused s) q p = let i : s ≡ r = cc in first_unreached (missing_first t n N 0 (q ∙ ap Refused i))
+      by : (v : Verdict) → missing t n N 0 ≡ v → and_then v (missing t n N n) ≡ Err r → BuilderLacks own n N c r
+      by (Ok _) q p = absurd ((missing_fine t n N 0).0 q c less 0 pos row_empty)
+      by (Err s) q p = let i : s ≡ r = cc in first_unreached (missing_first t n N 0 (q ∙ ap Err i))
 
-    pub never_fine : check8 t n N ≡ Fine → ⊥
+    pub never_fine : check8 t n N ≡ fine → ⊥
     unfolding check8
     never_fine h = (missing_fine t n N 0).0 ((and_then_fine (missing t n N 0) (missing t n N n)).0 h).0 c less 0 pos row_empty
 
@@ -204,7 +205,7 @@ module _ {own : ℕ → ℕ → ℕ} {n N c : ℕ} where
     by (later a) = absurd (b e' g' he' hg' a x')
 
   -- And its number is 8.
-  pub lacks_8 : {r : Refusal} → BuilderLacks own n N c r → r.number ≡ 8
+  pub lacks_8 : {r : Refusal} → BuilderLacks own n N c r → (refusal_paper r).number ≡ 8
   lacks_8 (no_successor e g he hg z b) = refl
   lacks_8 (not_reached A pos less) = refl
   lacks_8 (no_predecessor e g A all he hg x b) = refl

@@ -9,6 +9,7 @@ use native.Mathlib.Decide.{ℕ_discrete, dec_lt}
 use native.Mathlib.Omega.{arith}
 use borrow.Author.Tests.{lt-ltb, le-ltb}
 use lib.ListN.{length, get_or, replicate, length-replicate}
+use Rattle.egg.specs.Refusals.{refusal_paper}
 use Rattle.egg.specs.declared.Refusal.{Refusal}
 use Rattle.egg.specs.Table.{start_of, length_of}
 use Rattle.build_reading.specs.Build.{set_step, set_word}
@@ -163,7 +164,7 @@ module _ (own : ℕ → ℕ → ℕ) (n room size N : ℕ) (lo : 1 ≤ N) (hi : 
         let is : own x g ≡ suc v = ⊎_elim (λ q. absurd (z q)) (λ q. omega arith) (eq-zero-or-pos (own x g)) in
         let len : length_of t n x ≡ length_of t' n x = letters_at x t t' (B.letters x) in
         rw (← own_read t n room N c x g (own x g) z l, le-ltb N (own x g) l)
-        (read_alike N (OwnRefusal N size) (TableBeside own n size) n room x g c v t t' (λ k a b d h. (rw (le-ltb N d h), B.whole)) (omega arith) hi hc most len
+        (read_alike N (OwnRefusal N size) (TableBeside own n size) n room x g c v t t' (λ r h. (rw (le-ltb N (refusal_paper r).c h), B.whole)) (omega arith) hi hc most len
         (λ k. beside_step B hg is hc k (rows_fit most B.whole) (omega arith))
         (λ q k. grown (is ∙ ap suc q) (omega arith) len))
 

@@ -22,7 +22,7 @@ module _ (t : List ℕ) (b : Builder) (w : List ℕ) where
       ↔ (BuildRight t b w × Filled t b.0 × Taken (composed_at (own_rows t b.0) b.0.generators) b.0.generators b.0.room b.0.elements)
   build_paper = (
     λ q.
-        let a = made_fine (4 ∷ 6 ∷ 7 ∷ 8 ∷ 17 ∷ late_numbers) refl (builds t b w) (λ r x t' w' h. leaves_number (4 ∷ 6 ∷ 7 ∷ 8 ∷ 17 ∷ late_numbers) refl refl (builds_leaves t b w r x t' w' h)) q in
+        let a = made_fine (4 ∷ 6 ∷ 7 ∷ 8 ∷ 17 ∷ late_numbers) refl (builds t b w) (λ r t' w' h. leaves_number (4 ∷ 6 ∷ 7 ∷ 8 ∷ 17 ∷ late_numbers) refl refl (builds_leaves t b w r t' w' h)) q in
         let R = begun t b w a.0 a.1 a.2 a.3 in
         let p = (build_exactly t b w R.fits R.enough).0 a in
         (R, p.0, p.1),

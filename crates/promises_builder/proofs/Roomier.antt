@@ -7,7 +7,7 @@ use native.Mathlib.Nat.{le_refl, mul-le-mul}
 use native.Mathlib.Omega.{arith}
 use lib.ListN.{length}
 use Rattle.egg.specs.declared.Factor.{Factor}
-use Rattle.egg.specs.declared.Verdict.TheVariants as verdict
+use Rattle.std.specs.Prelude.{Ok}
 use Rattle.builder.specs.declared.Builder.{Builder}
 use Rattle.build_lending.specs.Lending.{Making, making}
 use Rattle.builder.specs.Calls.{builder_of, builds}
@@ -25,7 +25,7 @@ use Rattle.promises_builder.proofs.Builds.{begun}
 
 module _ (t : List ℕ) (b : Builder) (w : List ℕ) (x : Factor) (t₁ w₁ t' : List ℕ) (start' room' : ℕ) (w' : List ℕ) where
   -- Nothing is asked but that the first call is accepted, and that the second builder is right, with as many generators and elements and the same steps.
-  pub build_roomier : builds t b w ≡ making (record { answer = verdict.Fine; factor = x }) t₁ w₁ → b.0.room ≤ room'
+  pub build_roomier : builds t b w ≡ making (Ok x) t₁ w₁ → b.0.room ≤ room'
       → BuildRight t' (builder_of start' room' b.0.generators b.0.elements) w'
       → SameSteps t b.0 t' (builder_of start' room' b.0.generators b.0.elements).0
       → Roomier b.0.generators b.0.start b.0.room x t₁ start' room' (builds t' (builder_of start' room' b.0.generators b.0.elements) w')

@@ -1,4 +1,5 @@
 -- By which numbers a reading of a builder's own rows is refused, and what a builder that lacks something has.
+use Rattle.egg.specs.Refusals.{refusal_paper}
 use Prim.Native.Nat.{ℕ, ◌≤◌, ◌<◌}
 use mathlib.Core.Path.{◌≡◌, refl}
 use mathlib.Core.Logic.{⊎_elim}
@@ -27,9 +28,9 @@ module _ (own : ℕ → ℕ → ℕ) (n room N : ℕ) (lo : 1 ≤ N) (hi : N ≤
     by (yes l) = omega (arith, rw (lt-ltb N (own y h) l) at q)
     by (no l) = let k : own y h ≤ N = omega arith in omega (arith, rw (le-ltb N (own y h) k) at q)
 
-  never_5 : {r : Refusal} → ReadingRefused (own_number N own) n room r → r.number ≡ 5 → ⊥
+  never_5 : {r : Refusal} → ReadingRefused (own_number N own) n room r → (refusal_paper r).number ≡ 5 → ⊥
   never_5 F five = go F.before.known F.stops five where
-    go : {x g c : ℕ} {r : Refusal} → Known n (own_number N own) x g c → Stops (own_number N own) n room x g c r → r.number ≡ 5 → ⊥
+    go : {x g c : ℕ} {r : Refusal} → Known n (own_number N own) x g c → Stops (own_number N own) n room x g c r → (refusal_paper r).number ≡ 5 → ⊥
     go K (skips_ahead l) q = omega arith
     go K (long_word p l w) q = omega arith
     go {x} {g} {c} K (no_room is full) q = by (dec_lt N c) where
@@ -38,9 +39,9 @@ module _ (own : ℕ → ℕ → ℕ) (n room N : ℕ) (lo : 1 ≤ N) (hi : N ≤
       by (no l) = never_N x g (omega arith)
 
   -- So a reading of the builder's rows is refused by 6, 7 or 17.
-  pub own_stop_number : {r : Refusal} → ReadingRefused (own_number N own) n room r → member (own_refusal N r).number (6 ∷ 7 ∷ 17 ∷ []) ≡ true
-  own_stop_number {r} F = by (ltb N r.c) where
-    by : (d : Bool) → member (pick d (numbered 17 0 0 0) r).number (6 ∷ 7 ∷ 17 ∷ []) ≡ true
+  pub own_stop_number : {r : Refusal} → ReadingRefused (own_number N own) n room r → member (refusal_paper (own_refusal N r)).number (6 ∷ 7 ∷ 17 ∷ []) ≡ true
+  own_stop_number {r} F = by (ltb N (refusal_paper r).c) where
+    by : (d : Bool) → member (refusal_paper (pick d (numbered 17 0 0 0) r)).number (6 ∷ 7 ∷ 17 ∷ []) ≡ true
     by true = refl
     by false = ⊎_elim (λ q. rw q) (λ a. ⊎_elim (λ q. absurd (never_5 F q)) (λ q. rw q) a) (refused_number F)
 

@@ -8,10 +8,8 @@ use lib.ListN.{length, replicate, length-replicate}
 use Rattle.egg.specs.declared.Factor.{Factor}
 use Rattle.egg.specs.declared.GroupElementId.{GroupElementId}
 use Rattle.egg.specs.declared.GeneratorId.{GeneratorId}
-use Rattle.egg.specs.declared.Verdict.{Verdict}
-use Rattle.egg.specs.declared.Verdict.TheVariants as verdict
-use Rattle.egg.specs.declared.Reached.{Reached}
-use Rattle.egg.specs.declared.Reached.TheVariants as reached
+use Rattle.egg.specs.Answers.{Made, Reached, Verdict}
+use Rattle.std.specs.Prelude.{Ok, Err}
 use Rattle.egg.specs.Table.{pick}
 use Rattle.egg.specs.Factor.{has_room, fits_in, stretch, refused_reach}
 use Rattle.egg.proofs.Rooms.{has, within_length}
@@ -41,15 +39,15 @@ unfolding begins
 begins_wrote table start room n = by (ltb 8 n) (has_room (length table) start room n) refl where
   by : (a b : Bool) → has_room (length table) start room n ≡ b
       → Wrote (table_for table start n room (left_in (pick a (leaving (refused_begun 1 n) table)
-      (pick b (leaving (record { answer = verdict.Fine; builder = builder_of start room n 1 }) (within table start (start + table_need n room) (replicate (table_need n room) 0)))
+      (pick b (leaving (Ok (builder_of start room n 1)) (within table start (start + table_need n room) (replicate (table_need n room) 0)))
       (leaving (refused_begun 4 0) table)))))
   by true b q = nothing refl
   by false true q = part (replicate (table_need n room) 0) (within_length (length table) start room n q) (length-replicate (table_need n room) 0) refl
   by false false q = nothing refl
 
 grown_by_length : (f : Factor) (x : Reached) (s : List ℕ) → length (left_in (grown_by f x s)) ≡ length s
-grown_by_length f (reached.Element e) s = refl
-grown_by_length f (reached.Refused r) s = length-replicate (length s) 0
+grown_by_length f (Ok e) s = refl
+grown_by_length f (Err r) s = length-replicate (length s) 0
 
 module _ (t : List ℕ) (b : Builder) (e : GroupElementId) (g : GeneratorId) where
   grown_length : length (left_in (grown (stretch t b.0) b.0 e g)) ≡ length (stretch t b.0)
@@ -70,29 +68,28 @@ module _ (t : List ℕ) (b : Builder) (e : GroupElementId) (g : GeneratorId) whe
   grows_wrote = by (placed (length t) b.0 e g) refl (grown (stretch t b.0) b.0 e g) grown_length where
     by : (v : Verdict) → placed (length t) b.0 e g ≡ v → (l : Leaving Grown) → length (left_in l) ≡ length (stretch t b.0)
         → Wrote (own_lent t b (left_in (grows_by t b.0 v l)))
-    by verdict.Fine q (leaving x s) long = wrote_stretch t b (place_fits (length t) b.0 e g refl q) s long
-    by (verdict.Refused r) q l long = nothing refl
+    by (Ok _) q (leaving x s) long = wrote_stretch t b (place_fits (length t) b.0 e g refl q) s long
+    by (Err r) q l long = nothing refl
 
   pub stores_wrote : (r : GroupElementId) → Wrote (own_lent t b (left_in (stores t b e g r)))
   unfolding stores
   stores_wrote r = by (storable t b.0 e g r) refl where
     by : (v : Verdict) → storable t b.0 e g r ≡ v
         → Wrote (own_lent t b (left_in (stores_by t v (is_new (stretch t b.0) b.0.generators e g) (with_stretch t b.0 (set_step (stretch t b.0) b.0.generators e g r)))))
-    by verdict.Fine q =
+    by (Ok _) q =
         wrote_stretch t b (store_fits t b.0 e g r refl q) (set_step (stretch t b.0) b.0.generators e g r)
         (set_length (stretch t b.0) b.0.generators e g r)
-    by (verdict.Refused x) q = nothing refl
+    by (Err x) q = nothing refl
 
 -- `build`, accepted or refused.
-pub builds_wrote : (t : List ℕ) (b : Builder) (w : List ℕ) (v : Verdict) (x : Factor) (t' w' : List ℕ)
-    → builds t b w ≡ making (record { answer = v; factor = x }) t' w' → Wrote (own_lent t b t')
-builds_wrote t b w verdict.Fine x t' w' h =
+pub builds_wrote : (t : List ℕ) (b : Builder) (w : List ℕ) (m : Made) (t' w' : List ℕ) → builds t b w ≡ making m t' w' → Wrote (own_lent t b t')
+builds_wrote t b w (Ok x) t' w' h =
     let G = build_given t b w x t' w' h in
     let B = begun t b w x t' w' h in
     let e = (build_same t b w x t' w' h).0 in
     part (stretch t' x) (within_length (length t) b.0.start b.0.room b.0.generators (has (length t) b.0 B.fits))
     (stretch_long t' x G.accepted.fits ∙ rw e) G.table_kept
-builds_wrote t b w (verdict.Refused r) x t' w' h = leaves_wrote (builds_leaves t b w r x t' w' h)
+builds_wrote t b w (Err r) t' w' h = leaves_wrote (builds_leaves t b w r t' w' h)
 
 -- So a factor elsewhere is as it was.
 module _ (t : List ℕ) (b : Builder) {f' : Factor} (A : Accepted t f') where
@@ -103,9 +100,9 @@ module _ (t : List ℕ) (b : Builder) {f' : Factor} (A : Accepted t f') where
       → Unaltered t (left_in (stores t b e g r)) f'
   stores_unaltered e g r apart = kept (own_lent t b (left_in (stores t b e g r))) A apart (stores_wrote t b e g r)
 
-  pub builds_unaltered : (w : List ℕ) (v : Verdict) (x : Factor) (t' w' : List ℕ) → builds t b w ≡ making (record { answer = v; factor = x }) t' w'
+  pub builds_unaltered : (w : List ℕ) (m : Made) (t' w' : List ℕ) → builds t b w ≡ making m t' w'
       → Apart f' (own_lent t b t') → Unaltered t t' f'
-  builds_unaltered w v x t' w' h apart = kept (own_lent t b t') A apart (builds_wrote t b w v x t' w' h)
+  builds_unaltered w m t' w' h apart = kept (own_lent t b t') A apart (builds_wrote t b w m t' w' h)
 
 pub begins_unaltered : (table : List ℕ) (start room n : ℕ) {f' : Factor} → Accepted table f'
     → Apart f' (table_for table start n room (left_in (begins table start room n))) → Unaltered table (left_in (begins table start room n)) f'

@@ -10,9 +10,9 @@ use lib.ListN.{length, take, replicate, length-replicate}
 use lib.Seq.{length-take-le}
 use Rattle.egg.specs.declared.Refusal.{Refusal}
 use Rattle.egg.specs.declared.Factor.{Factor}
-use Rattle.egg.specs.declared.Made.{Made}
-use Rattle.egg.specs.declared.Verdict.TheVariants as verdict
-use Rattle.egg.specs.declared.Counted.TheVariants.{Count, Refused}
+use Rattle.egg.specs.Answers.{Made, fine}
+use Rattle.egg.specs.Refusals.{refusal_paper}
+use Rattle.std.specs.Prelude.{Result, Ok, Err}
 use Rattle.egg.specs.Factor.{fits_in, stretch}
 use Rattle.egg.proofs.Rooms.{some, room_enough}
 use Rattle.egg.specs.Answers.{numbered}
@@ -21,7 +21,7 @@ use Rattle.build_checks.specs.Checks.{checked, check8, check_group}
 use Rattle.builder.specs.declared.Builder.{Builder}
 use Rattle.build_lending.specs.Finish.{Built, built, zeroed}
 use Rattle.build_lending.proofs.Finishing.{refused_counted}
-use Rattle.build_lending.specs.Lending.{table_need, work_need, within, no_factor, making, lent_back}
+use Rattle.build_lending.specs.Lending.{table_need, work_need, within, making, lent_back}
 use Rattle.builder_rereading.specs.Own.{own_all, own_in}
 use Rattle.builder.specs.Calls.{builds}
 use Rattle.factor.specs.Composed.{composed}
@@ -48,8 +48,8 @@ use Rattle.promises_builder.proofs.Stopping.{own_stop_number}
 pub parts : {m m' : Made} {t t' w w' : List ℕ} → making m t w ≡ making m' t' w' → (m ≡ m') × (t ≡ t') × (w ≡ w')
 parts q = (cc, cc, cc)
 
-pub same_refusal : {s r : Refusal} {x y : Factor} → ◌≡◌ {A = Made} (record { answer = verdict.Refused s; factor = x }) (record { answer = verdict.Refused r; factor = y }) → s ≡ r
-same_refusal {s} {r} q = let a : verdict.Refused s ≡ verdict.Refused r = ap (λ (m : Made). m.answer) q in cc
+pub why_is : {A : Type 0} {s r : Refusal} → ◌≡◌ {A = Result A Refusal} (Err s) (Err r) → s ≡ r
+why_is q = cc
 
 -- A handle that fits, and a work that is long enough.
 module _ (t : List ℕ) (b : Builder) (w : List ℕ) (fits : fits_in (length t) b.0 ≡ true) (enough : work_need b.0.generators b.0.room ≤ length w) where
@@ -79,7 +79,7 @@ module _ (t : List ℕ) (b : Builder) (w : List ℕ) (fits : fits_in (length t) 
       (limit t b w fits enough) (le_refl (table_need n room)) (stretch_long t b w fits enough)
 
   -- Where all is read and 8 passes, every step is there, and all elements are reached.
-  module _ (t₁ : List ℕ) (O : ReadOwn own n room (table_need n room) N N t₁) (fine : check8 t₁ n N ≡ verdict.Fine) where
+  module _ (t₁ : List ℕ) (O : ReadOwn own n room (table_need n room) N N t₁) (fine : check8 t₁ n N ≡ fine) where
     pub filled : Filled t f
     filled = record {
       there = λ {e} {g} he hg. ⊎_elim (λ z. absurd ((all_there O fine).0 e g he hg z)) (λ p. p) (eq-zero-or-pos (own e g));
@@ -93,8 +93,8 @@ module _ (t : List ℕ) (b : Builder) (w : List ℕ) (fits : fits_in (length t) 
     is_composed = build_own_rows t b w fits enough filled (λ c q. numbered_once q rows_numbered)
 
     -- The checks then refuse by 9 to 12.
-    late_number : own_all own n room N (replicate (table_need n room) 0) ≡ placed (Count N) t₁ → {r : Refusal} {s v : List ℕ}
-        → check_group t₁ (zeroed W) n N ≡ checked (verdict.Refused r) s v → member r.number late_numbers ≡ true
+    late_number : own_all own n room N (replicate (table_need n room) 0) ≡ placed (Ok N) t₁ → {r : Refusal} {s v : List ℕ}
+        → check_group t₁ (zeroed W) n N ≡ checked (Err r) s v → member (refusal_paper r).number late_numbers ≡ true
     late_number all {r} q =
         let same : (e g : ℕ) → e < N → g < n → own e g ≡ suc (own_number N own e g) = λ e g he hg. omega (arith, own_number_lem O e g he hg, filled.there he hg) in
         let inside : (e g : ℕ) → e < N → g < n → own_number N own e g < N = λ e g he hg. omega (arith, same e g he hg, filled.inside he hg) in
@@ -104,29 +104,29 @@ module _ (t : List ℕ) (b : Builder) (w : List ℕ) (fits : fits_in (length t) 
         let R = accepted_read (own_number N own) n room (table_need n room) (least t b w fits enough) (omega (arith, lo, hi)) (limit t b w fits enough) (le_refl (table_need n room)) (sym z ∙ all) in
         checks_number late_numbers refl t₁ (zeroed W) n N (full_numbers t₁ n N fine (read_ranges R)) q
 
-  one : {r r' : Refusal} {s s' v v' : List ℕ} {B : Built} → B ≡ built (Refused r) s v → B ≡ built (Refused r') s' v' → r ≡ r'
+  one : {r r' : Refusal} {s s' v v' : List ℕ} {B : Built} → B ≡ built (Err r) s v → B ≡ built (Err r') s' v' → r ≡ r'
   one p q = cc
 
   -- The call, from the build in its stretches.
-  pub refused_call : {r : Refusal} {s v : List ℕ} → own_in (stretch t f) W n room N ≡ built (Refused r) s v → RefusedBy t b w r
+  pub refused_call : {r : Refusal} {s v : List ℕ} → own_in (stretch t f) W n room N ≡ built (Err r) s v → RefusedBy t b w r
   refused_call {s = s} {v} q =
-      (no_factor, within t f.start (f.start + table_need n room) s, within w 0 (work_need n room) v, builds_is t b w fits enough ∙ ap (lent_back t f.start w n room) q)
+      (within t f.start (f.start + table_need n room) s, within w 0 (work_need n room) v, builds_is t b w fits enough ∙ ap (lent_back t f.start w n room) q)
 
-  refused_in : {r : Refusal} → RefusedBy t b w r → (s : List ℕ) × (v : List ℕ) × (own_in (stretch t f) W n room N ≡ built (Refused r) s v)
-  refused_in a = let z = by_refused t f.start w n room (own_in (stretch t f) W n room N) (sym (builds_is t b w fits enough) ∙ a.3) in (z.0, z.1, z.2)
+  refused_in : {r : Refusal} → RefusedBy t b w r → (s : List ℕ) × (v : List ℕ) × (own_in (stretch t f) W n room N ≡ built (Err r) s v)
+  refused_in a = let z = by_refused t f.start w n room (own_in (stretch t f) W n room N) (sym (builds_is t b w fits enough) ∙ a.2) in (z.0, z.1, z.2)
 
   -- Where the call is accepted, it is `from_composed` on the builder's rows.
-  pub accepted_composed : {x : Factor} {t' w' : List ℕ} → builds t b w ≡ making (record { answer = verdict.Fine; factor = x }) t' w'
+  pub accepted_composed : {x : Factor} {t' w' : List ℕ} → builds t b w ≡ making (Ok x) t' w'
       → Filled t f × Numbered n N (composed_at (own_rows t f) n) × (builds t b w ≡ composed t f.start w (own_rows t f) n room)
   accepted_composed {x} {t'} {w'} q = by came (by_build t f.start w n room (own_in (stretch t f) W n room N) (sym (builds_is t b w fits enough) ∙ q)).3.0 where
-    by : {M : ℕ} {s v : List ℕ} → Came → own_in (stretch t f) W n room N ≡ built (Count M) s v
+    by : {M : ℕ} {s v : List ℕ} → Came → own_in (stretch t f) W n room N ≡ built (Ok M) s v
         → Filled t f × Numbered n N (composed_at (own_rows t f) n) × (builds t b w ≡ composed t f.start w (own_rows t f) n room)
     by (stopped r F e) z = absurd (refused_counted (sym e ∙ z))
     by (nowhere a c e) z = absurd (refused_counted (sym e ∙ z))
     by (lacking c r R L e) z = absurd (refused_counted (sym e ∙ z))
-    by (whole t₁ all O fine e) z = (filled t₁ O fine, rows_numbered t₁ O fine, is_composed t₁ O fine)
+    by (whole t₁ all O passed e) z = (filled t₁ O passed, rows_numbered t₁ O passed, is_composed t₁ O passed)
 
-  pub stop_number : {r : Refusal} → ReadingRefused (own_number N own) n room r → member (own_refusal N r).number (6 ∷ 7 ∷ 17 ∷ []) ≡ true
+  pub stop_number : {r : Refusal} → ReadingRefused (own_number N own) n room r → member (refusal_paper (own_refusal N r)).number (6 ∷ 7 ∷ 17 ∷ []) ≡ true
   stop_number F = own_stop_number own n room N (some (length t) f fits) (room_enough (length t) f fits) F
 
   -- A refused build: by which of its ways, and with which numbers.
@@ -134,44 +134,44 @@ module _ (t : List ℕ) (b : Builder) (w : List ℕ) (fits : fits_in (length t) 
       → ((x : Refusal) × ReadingRefused (own_number N own) n room x × (r ≡ own_refusal N x))
       ⊎ (((n ≡ 0) × (1 < N) × (r ≡ numbered 17 0 0 0))
       ⊎ (((c : ℕ) × Readable (own_number N own) n room c × BuilderLacks own n N c r)
-      ⊎ (Filled t f × (member r.number late_numbers ≡ true) × Numbered n N (composed_at (own_rows t f) n)
+      ⊎ (Filled t f × (member (refusal_paper r).number late_numbers ≡ true) × Numbered n N (composed_at (own_rows t f) n)
       × (builds t b w ≡ composed t f.start w (own_rows t f) n room))))
   ways {r} a = by came where
-    z : own_in (stretch t f) W n room N ≡ built (Refused r) (refused_in a).0 (refused_in a).1
+    z : own_in (stretch t f) W n room N ≡ built (Err r) (refused_in a).0 (refused_in a).1
     z = (refused_in a).2
 
     by : Came
         → ((x : Refusal) × ReadingRefused (own_number N own) n room x × (r ≡ own_refusal N x))
         ⊎ (((n ≡ 0) × (1 < N) × (r ≡ numbered 17 0 0 0))
         ⊎ (((c : ℕ) × Readable (own_number N own) n room c × BuilderLacks own n N c r)
-        ⊎ (Filled t f × (member r.number late_numbers ≡ true) × Numbered n N (composed_at (own_rows t f) n)
+        ⊎ (Filled t f × (member (refusal_paper r).number late_numbers ≡ true) × Numbered n N (composed_at (own_rows t f) n)
         × (builds t b w ≡ composed t f.start w (own_rows t f) n room))))
     by (stopped x F e) = inl (x, F, one z e)
     by (nowhere p q e) = inr (inl (p, q, one z e))
     by (lacking c x R L e) = inr (inr (inl (c, R, subst (λ (y : Refusal). BuilderLacks own n N c y) (one e z) L)))
-    by (whole t₁ all O fine e) =
+    by (whole t₁ all O passed e) =
         let k = check_refused n N (check_group t₁ (zeroed W) n N) (sym e ∙ z) in
-        inr (inr (inr (filled t₁ O fine, late_number t₁ O fine all k.2, rows_numbered t₁ O fine, is_composed t₁ O fine)))
+        inr (inr (inr (filled t₁ O passed, late_number t₁ O passed all k.2, rows_numbered t₁ O passed, is_composed t₁ O passed)))
 
   -- By which numbers.
-  pub build_number : {r : Refusal} → RefusedBy t b w r → member r.number (6 ∷ 7 ∷ 8 ∷ 17 ∷ late_numbers) ≡ true
+  pub build_number : {r : Refusal} → RefusedBy t b w r → member (refusal_paper r).number (6 ∷ 7 ∷ 8 ∷ 17 ∷ late_numbers) ≡ true
   build_number {r} a = ⊎_elim
-      (λ x. rw x.2 (each_in (λ k. member k (6 ∷ 7 ∷ 8 ∷ 17 ∷ late_numbers)) (own_refusal N x.0).number (6 ∷ 7 ∷ 17 ∷ []) refl (stop_number x.1)))
+      (λ x. rw x.2 (each_in (λ k. member k (6 ∷ 7 ∷ 8 ∷ 17 ∷ late_numbers)) (refusal_paper (own_refusal N x.0)).number (6 ∷ 7 ∷ 17 ∷ []) refl (stop_number x.1)))
       (⊎_elim (λ x. rw x.2)
-      (⊎_elim (λ x. rw (lacks_8 x.2)) (λ x. each_in (λ k. member k (6 ∷ 7 ∷ 8 ∷ 17 ∷ late_numbers)) r.number late_numbers refl x.1)))
+      (⊎_elim (λ x. rw (lacks_8 x.2)) (λ x. each_in (λ k. member k (6 ∷ 7 ∷ 8 ∷ 17 ∷ late_numbers)) (refusal_paper r).number late_numbers refl x.1)))
       (ways a)
 
   -- A refusal leaves zeros in both stretches.
   work_long : length W ≡ work_need n room
   work_long = length-take-le (work_need n room) w enough
 
-  refused_in_zeros : {r : Refusal} {s v : List ℕ} → own_in (stretch t f) W n room N ≡ built (Refused r) s v
+  refused_in_zeros : {r : Refusal} {s v : List ℕ} → own_in (stretch t f) W n room N ≡ built (Err r) s v
       → (s ≡ replicate (table_need n room) 0) × (v ≡ replicate (work_need n room) 0)
   refused_in_zeros {r} {s} {v} z = by came where
-    the_same : {x : Refusal} {s' v' : List ℕ} → own_in (stretch t f) W n room N ≡ built (Refused x) s' v' → (s ≡ s') × (v ≡ v')
+    the_same : {x : Refusal} {s' v' : List ℕ} → own_in (stretch t f) W n room N ≡ built (Err x) s' v' → (s ≡ s') × (v ≡ v')
     the_same e = (cc, cc)
 
-    plain : {x : Refusal} → own_in (stretch t f) W n room N ≡ built (Refused x) (replicate (table_need n room) 0) (replicate (length W) 0)
+    plain : {x : Refusal} → own_in (stretch t f) W n room N ≡ built (Err x) (replicate (table_need n room) 0) (replicate (length W) 0)
         → (s ≡ replicate (table_need n room) 0) × (v ≡ replicate (work_need n room) 0)
     plain e = let p = the_same e in (p.0, p.1 ∙ ap (λ (k : ℕ). replicate k 0) work_long)
 
@@ -179,15 +179,15 @@ module _ (t : List ℕ) (b : Builder) (w : List ℕ) (fits : fits_in (length t) 
     by (stopped x F e) = plain e
     by (nowhere p q e) = plain e
     by (lacking c x R L e) = plain e
-    by (whole t₁ all O fine e) =
+    by (whole t₁ all O passed e) =
         let p = settled_zeros N (check_group t₁ (zeroed W) n N) t₁ (zeroed W) n refl (sym e ∙ z) in
         (p.0 ∙ ap (λ (x : ℕ). replicate x 0) O.beside.whole, p.1 ∙ ap (λ (x : ℕ). replicate x 0) (length-replicate (length W) 0 ∙ work_long))
 
-  pub build_zeros : {r : Refusal} {x : Factor} {t' w' : List ℕ} → builds t b w ≡ making (record { answer = verdict.Refused r; factor = x }) t' w'
+  pub build_zeros : {r : Refusal} {t' w' : List ℕ} → builds t b w ≡ making (Err r) t' w'
       → (t' ≡ within t b.0.start (b.0.start + table_need b.0.generators b.0.room) (replicate (table_need b.0.generators b.0.room) 0))
       × (w' ≡ within w 0 (work_need b.0.generators b.0.room) (replicate (work_need b.0.generators b.0.room) 0))
-  build_zeros {r} {x} {t'} {w'} h =
-      let a = refused_in (x, t', w', h) in
+  build_zeros {r} {t'} {w'} h =
+      let a = refused_in (t', w', h) in
       let z = refused_in_zeros a.2 in
       let p = parts (sym h ∙ builds_is t b w fits enough ∙ ap (lent_back t f.start w n room) a.2) in
       (p.1 ∙ rw z.0, p.2 ∙ rw z.1)

@@ -2,7 +2,7 @@
 use Rattle.std.specs.Prelude.{ℕ, ◌≤◌, ◌<◌, ◌≡◌, true, List, length}
 use Rattle.egg.specs.declared.Refusal.{Refusal}
 use Rattle.egg.specs.declared.Factor.{Factor}
-use Rattle.egg.specs.declared.Verdict.TheVariants as verdict
+use Rattle.std.specs.Prelude.{Err}
 use Rattle.egg.specs.Factor.{fits_in}
 use Rattle.builder.specs.declared.Builder.{Builder}
 use Rattle.build_lending.specs.Lending.{work_need, making}
@@ -16,7 +16,7 @@ pub record BuildRight (t : List ℕ) (b : Builder) (w : List ℕ) : Type 0 where
 
 -- `build` refuses the builder b by r, whatever it leaves.
 abbrev pub RefusedBy : List ℕ → Builder → List ℕ → Refusal → Type 0
-RefusedBy t b w r = (f : Factor) × (t' : List ℕ) × (w' : List ℕ) × (builds t b w ≡ making (record { answer = verdict.Refused r; factor = f }) t' w')
+RefusedBy t b w r = (t' : List ℕ) × (w' : List ℕ) × (builds t b w ≡ making (Err r) t' w')
 
 -- The other builder, with the marked table and handle, has stored the same steps of the same elements. Document 01:
 -- "More room never changes an accepted table."

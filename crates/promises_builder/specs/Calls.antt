@@ -8,11 +8,11 @@ use Rattle.egg.specs.declared.GeneratorId.{GeneratorId}
 use Rattle.egg.specs.Table.{length_of}
 use Rattle.egg.specs.Factor.{Paper, refusal_paper, verdict_paper, reached_paper, has_room, fits_in, stretch}
 use Rattle.build_reading.specs.Build.{set_step, set_word}
-use Rattle.egg.specs.Answers.{numbered}
+use Rattle.std.specs.Prelude.{Ok, Err}
+use Rattle.egg.specs.Answers.{numbered, answer_of}
 use Rattle.builder.specs.declared.Builder.{Builder}
-use Rattle.builder.specs.declared.Begun.{Begun}
+use Rattle.builder.specs.Answers.{Begun, Storing}
 use Rattle.builder.specs.declared.Grown.{Grown}
-use Rattle.builder.specs.declared.Stored.{Stored}
 use Rattle.build_lending.specs.Lending.{table_need, within}
 use Rattle.builder.specs.Calls.{stored_paper, Leaving, leaving, with_stretch, builder_of, no_builder}
 use Rattle.factor_laws.specs.Papers.{value_paper}
@@ -23,16 +23,21 @@ use Rattle.promises_builder.specs.Own.{own_at}
 pub data Handed : Type 0 where
   handed : Paper → Builder → List ℕ → Handed
 
+-- The builder that `begin` hands back. A refused one hands none back; then the handle stands here that fits no buffer.
+abbrev pub begun_builder : Begun → Builder
+begun_builder (Ok b) = b
+begun_builder (Err r) = no_builder
+
 -- What `begin` comes to.
 abbrev pub begun_paper : Leaving Begun → Handed
-begun_paper (leaving x t) = handed (verdict_paper x.answer) x.builder t
+begun_paper (leaving x t) = handed (verdict_paper (answer_of x)) (begun_builder x) t
 
 -- What `add_successor` comes to.
 abbrev pub grown_paper : Leaving Grown → Handed
 grown_paper (leaving x t) = handed (reached_paper x.answer) x.builder t
 
 -- What `set_successor` comes to, which hands no builder back.
-abbrev pub noted_paper : Leaving Stored → Leaving Paper
+abbrev pub noted_paper : Leaving Storing → Leaving Paper
 noted_paper (leaving x t) = leaving (stored_paper x) t
 
 -- What a call leaves in the table.

@@ -1,15 +1,15 @@
 -- This file states what `build` answers for some builders whose steps were overwritten or altered; each is made by the calls that make a builder.
 use Rattle.std.specs.Prelude.{ℕ, ◌+◌, ◌≡◌, List, [], ◌∷◌, replicate, set}
-use Rattle.egg.specs.declared.Verdict.{Verdict}
-use Rattle.egg.specs.declared.Verdict.TheVariants.{Fine}
+use Rattle.egg.specs.Answers.{Verdict, fine}
 use Rattle.egg.specs.Scan.{refused_of}
 use Rattle.egg.specs.Factor.{refused_reach}
-use Rattle.egg.specs.Answers.{numbered}
+use Rattle.std.specs.Prelude.{Err}
+use Rattle.egg.specs.Answers.{numbered, answer_of}
 use Rattle.builder.specs.declared.Builder.{Builder}
-use Rattle.builder.specs.declared.Stored.TheVariants as stored
 use Rattle.build_lending.specs.Lending.{table_need, work_need}
 use Rattle.builder.specs.Calls.{leaving, builder_of, begins, grows, stores, builds}
 use Rattle.promises_refusals.specs.Parts.{made_by}
+use Rattle.promises_builder.specs.Calls.{begun_builder}
 
 -- A builder, and the table that holds it and nothing else.
 pub record Building : Type 0 where
@@ -18,7 +18,7 @@ pub record Building : Type 0 where
 
 -- A build begun, in a table of sevens.
 abbrev pub begun_with : ℕ → ℕ → Building
-begun_with n room = elim (begins (replicate (table_need n room) 7) 0 room n) [ leaving x t ↦ record { table = t; builder = x.builder } ]
+begun_with n room = elim (begins (replicate (table_need n room) 7) 0 room n) [ leaving x t ↦ record { table = t; builder = begun_builder x } ]
 
 -- The builder after an element was added, reached from e by g.
 abbrev pub adding : ℕ → ℕ → Building → Building
@@ -35,7 +35,7 @@ altering i x b = record { table = set b.table i x; builder = b.builder }
 
 -- The verdict of `build` with a work that is just long enough.
 abbrev pub build_answer : Building → Verdict
-build_answer b = (made_by (builds b.table b.builder (replicate (work_need b.builder.0.generators b.builder.0.room) 7))).answer
+build_answer b = answer_of (made_by (builds b.table b.builder (replicate (work_need b.builder.0.generators b.builder.0.room) 7)))
 
 -- The builder after all steps of two generators were set, row by row.
 abbrev pub setting_rows : List ℕ → ℕ → Building → Building
@@ -46,7 +46,7 @@ setting_rows [] e b = b
 -- The cases, each with its answer.
 pub record Cases : Type 0 where
   -- Z3 with its elements added in another order than they stand in the rows: it is taken, with the numbers as they stand.
-  pub z3 : build_answer (setting_rows (1 ∷ 2 ∷ 2 ∷ 0 ∷ 0 ∷ 1 ∷ []) 0 (adding 0 0 (adding 0 1 (begun_with 2 3)))) ≡ Fine
+  pub z3 : build_answer (setting_rows (1 ∷ 2 ∷ 2 ∷ 0 ∷ 0 ∷ 1 ∷ []) 0 (adding 0 0 (adding 0 1 (begun_with 2 3)))) ≡ fine
   -- S3 with an element that skips ahead: 7 at (1,1) with 4.
   pub s3_skips : build_answer (setting_rows (1 ∷ 2 ∷ 0 ∷ 4 ∷ 3 ∷ 0 ∷ 2 ∷ 5 ∷ 5 ∷ 1 ∷ 4 ∷ 3 ∷ []) 0
       (adding 4 0 (adding 1 1 (adding 2 0 (adding 0 1 (adding 0 0 (begun_with 2 6))))))) ≡ refused_of 7 1 1 4
@@ -54,7 +54,7 @@ pub record Cases : Type 0 where
   pub beyond : build_answer (altering 0 4 (setting 1 0 0 (adding 0 0 (begun_with 1 2)))) ≡ refused_of 17 0 0 0
   -- The same, to a number that is one too high: the step is not set, by 17, and the table is as it was.
   pub set_beyond : stores (altering 0 3 (adding 0 0 (begun_with 1 2))).table (builder_of 0 2 1 2) (record { 0 = 0 }) (record { 0 = 0 }) (record { 0 = 1 })
-      ≡ leaving (stored.Refused (numbered 17 0 0 0)) (altering 0 3 (adding 0 0 (begun_with 1 2))).table
+      ≡ leaving (Err (numbered 17 0 0 0)) (altering 0 3 (adding 0 0 (begun_with 1 2))).table
   -- A step missing: 8 at its place.
   pub no_successor : build_answer (adding 0 0 (begun_with 1 2)) ≡ refused_of 8 1 0 0
   -- A chain of three whose last element was cut off: it is not reached, so its row is not read, and its successor is missing.

@@ -1,4 +1,5 @@
 -- This file defines what a builder's rows say, in the words of a reading of composed numbers.
+use Rattle.egg.specs.Refusals.{refusal_paper}
 use Rattle.std.specs.Prelude.{ℕ, suc, ◌*◌, ◌-◌, ◌≤◌, ◌<◌, List, map, ltb, replicate}
 use Rattle.egg.specs.declared.Refusal.{Refusal}
 use Rattle.egg.specs.declared.Factor.{Factor}
@@ -18,7 +19,7 @@ own_number N own e g = pick (ltb N (own e g)) (suc N) (own e g - 1)
 
 -- Where such a reading skips ahead to a number that is no element's, the builder's own is refused by 17; else both are refused alike.
 abbrev pub own_refusal : ℕ → Refusal → Refusal
-own_refusal N r = pick (ltb N r.c) (numbered 17 0 0 0) r
+own_refusal N r = pick (ltb N (refusal_paper r).c) (numbered 17 0 0 0) r
 
 -- The builder's rows as a list of composed numbers: "A composed list needs Rn entries."
 unfoldable pub own_rows : List ℕ → Factor → List ℕ

@@ -2,7 +2,7 @@
 use Prim.Native.Nat.{ℕ}
 use mathlib.Core.Path.{sym, ◌∙◌, ap}
 use mathlib.Core.List.{List}
-use Rattle.egg.specs.declared.Counted.{Counted}
+use Rattle.egg.specs.Answers.{Counted}
 use Rattle.listing_page.proofs.listing.Kinds as listing-kinds
 use Rattle.listing_page.proofs.listing.Reads as listing-reads
 use Rattle.promises.specs.Unique.{Unique}

@@ -4,8 +4,9 @@ use mathlib.Core.Path.{◌≡◌, refl}
 use mathlib.Core.List.{List}
 use borrow.Author.Tests.{le-leb}
 use lib.ListN.{length}
+use Rattle.std.specs.Prelude.{Ok, Err}
 use Rattle.build_lending.specs.Lending.{Making, making}
-use Rattle.builder.specs.declared.Begun.{Begun}
+use Rattle.builder.specs.Answers.{Begun}
 use Rattle.builder.specs.Calls.{Leaving, leaving, begins}
 use Rattle.factor.specs.Composed.{composed}
 use Rattle.enumeration.specs.Calls.{enumerates}
@@ -18,10 +19,12 @@ use Rattle.capi_names.specs.Told.{named_told, named_begun_told}
 use Rattle.promises_capi.specs.Records.{record_aside}
 
 made_aside : (m : Name) (x : Making) (out kept : List ℕ) → record_aside 2 (named_told (with_name m x) out kept) ≡ bridged x out
-made_aside m (making x t w) out kept = refl
+made_aside m (making (Ok f) t w) out kept = refl
+made_aside m (making (Err r) t w) out kept = refl
 
 begun_aside_lem : (m : Name) (x : Leaving Begun) (out kept : List ℕ) → record_aside 1 (named_begun_told (named_begun m x) out kept) ≡ begun_told x out
-begun_aside_lem m (leaving x t) out kept = refl
+begun_aside_lem m (leaving (Ok b) t) out kept = refl
+begun_aside_lem m (leaving (Err r) t) out kept = refl
 
 module _ (name : List ℕ) (short : length name ≤ 32) (out kept : List ℕ) where
   pub hg_composed_aside : (table : List ℕ) (start : ℕ) (work rows : List ℕ) (n room : ℕ)

@@ -3,7 +3,7 @@
 use Rattle.std.specs.Prelude.{ℕ, ◌≡◌, List, [], ◌∷◌, ◌++◌, replicate}
 use Rattle.theory.specs.Examples.{crossed_rows}
 use Rattle.egg.specs.declared.Factor.{Factor}
-use Rattle.egg.specs.declared.Verdict.TheVariants as verdict
+use Rattle.std.specs.Prelude.{Ok}
 use Rattle.egg.specs.Factor.{counted_paper}
 use Rattle.build_lending.specs.Lending.{refused_made, making}
 use Rattle.factor.specs.Composed.{composed}
@@ -66,7 +66,7 @@ pub record KnownImages : Type 0 where
   pub step_beyond : counted_paper (write_count z2_table (factor_at1 3 1) 14) ≡ paper 17 0 0 0
   -- Reading fills each row with successors, predecessors, parent, last generator, length and inverse, and leaves everything else as it was.
   pub z2_read : read_image z2_image (replicate 14 7) 1 (replicate 21 9)
-      ≡ making (record { answer = verdict.Fine; factor = factor_at1 2 2 }) (7 ∷ 2 ∷ 2 ∷ 0 ∷ 0 ∷ 0 ∷ 0 ∷ 1 ∷ 1 ∷ 0 ∷ 0 ∷ 1 ∷ 1 ∷ 7 ∷ []) (replicate 20 0 ++ 9 ∷ [])
+      ≡ making (Ok (factor_at1 2 2)) (7 ∷ 2 ∷ 2 ∷ 0 ∷ 0 ∷ 0 ∷ 0 ∷ 1 ∷ 1 ∷ 0 ∷ 0 ∷ 1 ∷ 1 ∷ 7 ∷ []) (replicate 20 0 ++ 9 ∷ [])
   -- The first three are refused before the build starts, the last in it.
   pub short_read : read_image z2_image (replicate 12 7) 1 (replicate 20 9) ≡ making (refused_made 4 0) (replicate 12 7) (replicate 20 9)
   pub many_read : read_image nine [] 0 [] ≡ making (refused_made 1 9) [] []

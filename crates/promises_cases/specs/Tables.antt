@@ -3,8 +3,8 @@
 use Rattle.std.specs.Prelude.{ℕ, zero, suc, ◌+◌, List, [], ◌∷◌, replicate}
 use Rattle.theory.specs.Examples.{s3_rows}
 use Rattle.egg.specs.declared.Factor.{Factor}
-use Rattle.egg.specs.declared.Made.{Made}
-use Rattle.egg.specs.declared.Verdict.TheVariants.{Fine}
+use Rattle.egg.specs.Answers.{Made}
+use Rattle.std.specs.Prelude.{Ok}
 use Rattle.egg.specs.Factor.{Paper}
 use Rattle.egg.specs.Table.{inverse_of}
 use Rattle.build_lending.specs.Lending.{table_need, work_need, Making}
@@ -57,7 +57,7 @@ factor_of n room count = record { start = 0; room = room; generators = n; elemen
 
 -- The answer of an accepted call, with that handle.
 abbrev pub accepted_as : ℕ → ℕ → ℕ → Made
-accepted_as n room count = record { answer = Fine; factor = factor_of n room count }
+accepted_as n room count = Ok (factor_of n room count)
 
 -- A question's answer on paper, where it is not refused.
 abbrev pub answer : ℕ → Paper

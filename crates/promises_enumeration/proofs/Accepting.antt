@@ -6,7 +6,8 @@ use mathlib.Core.List.{List, [], ◌∷◌}
 use native.Mathlib.Omega.{arith}
 use lib.ListN.{length}
 use Rattle.egg.specs.declared.Factor.{Factor}
-use Rattle.egg.specs.declared.Verdict.TheVariants as verdict
+use Rattle.egg.specs.Answers.{fine}
+use Rattle.std.specs.Prelude.{Ok}
 use Rattle.egg.specs.Pairs.{orders_right}
 use Rattle.egg.specs.Table.{parent_of, last_of}
 use Rattle.build_lending.specs.Lending.{table_need, work_need, lent_right, making}
@@ -63,10 +64,10 @@ module _ {n N : ℕ} {m step : ℕ → ℕ → ℕ} (P : PresentedTable n N m st
 -- The call is accepted.
 abbrev pub Takes : (table : List ℕ) (start : ℕ) (work orders : List ℕ) (n room : ℕ) → Type 0
 Takes table start work orders n room =
-    (f : Factor) × (t : List ℕ) × (w : List ℕ) × (enumerates table start work orders n room ≡ making (record { answer = verdict.Fine; factor = f }) t w)
+    (f : Factor) × (t : List ℕ) × (w : List ℕ) × (enumerates table start work orders n room ≡ making (Ok f) t w)
 
 -- With right arguments, orders whose group fits the room are accepted.
-module _ (table : List ℕ) (start : ℕ) (work orders : List ℕ) (n room : ℕ) (hn : n ≤ 8) (right : orders_right orders n ≡ verdict.Fine)
+module _ (table : List ℕ) (start : ℕ) (work orders : List ℕ) (n room : ℕ) (hn : n ≤ 8) (right : orders_right orders n ≡ fine)
     (lent : lent_right (length table) start (length work) room n ≡ true) where
   pub fitting_done : (F : FittingTable n (order_of orders) room) → (enumerated n orders room (table_need n room) (work_need n room)).answer ≡ ran.Done F.N
   fitting_done F =

@@ -7,9 +7,8 @@ use mathlib.Core.Bool.{true}
 use mathlib.Core.List.{List}
 use native.Mathlib.Omega.{arith}
 use lib.ListN.{length}
-use Rattle.egg.specs.declared.Factor.{Factor}
-use Rattle.egg.specs.declared.Verdict.{Verdict}
-use Rattle.egg.specs.declared.Verdict.TheVariants as verdict
+use Rattle.egg.specs.Answers.{fine}
+use Rattle.std.specs.Prelude.{Ok, Err}
 use Rattle.egg.specs.Pairs.{orders_right}
 use Rattle.egg.specs.Table.{start_of, step_of, parent_of}
 use Rattle.build_lending.specs.Lending.{table_need, work_need, lent_right, Making, making}
@@ -73,17 +72,13 @@ decided n N m word f =
     (λ x. not_not_all (λ y. Dec (Equiv n m (word x) (word y))) N (λ y g. g (no (λ e. g (yes e)))))
     (λ all. f (record { decide = λ x y hx hy. all x hx y hy }))
 
-module _ (table : List ℕ) (start : ℕ) (work orders : List ℕ) (n room : ℕ) (hn : n ≤ 8) (right : orders_right orders n ≡ verdict.Fine)
+module _ (table : List ℕ) (start : ℕ) (work orders : List ℕ) (n room : ℕ) (hn : n ≤ 8) (right : orders_right orders n ≡ fine)
     (lent : lent_right (length table) start (length work) room n ≡ true) where
   takes_decided : Dec (Takes table start work orders n room)
   takes_decided = by (enumerates table start work orders n room) refl where
-    at : (v : Verdict) (f : Factor) (t w : List ℕ) → enumerates table start work orders n room ≡ making (record { answer = v; factor = f }) t w
-        → Dec (Takes table start work orders n room)
-    at verdict.Fine f t w q = yes (f, t, w, q)
-    at (verdict.Refused r) f t w q = no (λ a. refused_making_lem (sym q ∙ a.3))
-
     by : (x : Making) → enumerates table start work orders n room ≡ x → Dec (Takes table start work orders n room)
-    by (making m t w) q = at m.answer m.factor t w q
+    by (making (Ok f) t w) q = yes (f, t, w, q)
+    by (making (Err r) t w) q = no (λ a. refused_making_lem (sym q ∙ a.3))
 
   -- A run that is done is accepted.
   pub done_accepted : {N : ℕ} → (enumerated n orders room (table_need n room) (work_need n room)).answer ≡ ran.Done N → Takes table start work orders n room

@@ -6,10 +6,9 @@ use mathlib.Core.Bool.{true}
 use mathlib.Core.List.{List}
 use native.Mathlib.Omega.{arith}
 use lib.ListN.{length}
-use Rattle.egg.specs.declared.Factor.{Factor}
 use Rattle.egg.specs.declared.Refusal.{Refusal}
-use Rattle.egg.specs.declared.Counted.TheVariants as counted
-use Rattle.egg.specs.declared.Verdict.TheVariants as verdict
+use Rattle.egg.specs.Answers.{fine}
+use Rattle.std.specs.Prelude.{Err}
 use Rattle.egg.specs.Pairs.{orders_right}
 use Rattle.build_lending.specs.Lending.{table_need, work_need, lent_right, making}
 use Rattle.build_reading.specs.Reading.{placed}
@@ -35,13 +34,13 @@ refuses_once {n} {room} {lt} L {step} {r} {s} A B =
     let a = refuses_refused step n room lt L.few L.some L.limit L.table_room A in
     let b = refuses_refused step n room lt L.few L.some L.limit L.table_room B in
     one (sym a.1 ∙ b.1) where
-      one : {t t' : List ℕ} → placed (counted.Refused r) t ≡ placed (counted.Refused s) t' → r ≡ s
+      one : {t t' : List ℕ} → placed (Err r) t ≡ placed (Err s) t' → r ≡ s
       one e = cc
 
 one_ran : {r s : Refusal} → ran.Refused r ≡ ran.Refused s → r ≡ s
 one_ran e = cc
 
-module _ (table : List ℕ) (start : ℕ) (work orders : List ℕ) (n room : ℕ) (hn : n ≤ 8) (right : orders_right orders n ≡ verdict.Fine)
+module _ (table : List ℕ) (start : ℕ) (work orders : List ℕ) (n room : ℕ) (hn : n ≤ 8) (right : orders_right orders n ≡ fine)
     (lent : lent_right (length table) start (length work) room n ≡ true) {N : ℕ} {step : ℕ → ℕ → ℕ} (P : PresentedTable n N (order_of orders) step) where
   L : Limits n orders room (table_need n room) (work_need n room)
   L = limits table start work orders n room hn right lent
@@ -66,10 +65,10 @@ module _ (table : List ℕ) (start : ℕ) (work orders : List ℕ) (n room : ℕ
         absurd (readable orders L P (right_exact orders n right) D.run.fits (λ e he. omega (arith, d.1.letters e he, D.short e he)) r F)
     back F (inr R) = R.1 ∙ ap ran.Refused (refuses_once L R.2 F)
 
-  pub finite_refused : (r : Refusal) → ((f : Factor) × (t : List ℕ) × (w : List ℕ)
-      × (enumerates table start work orders n room ≡ making (record { answer = verdict.Refused r; factor = f }) t w)) ↔ ReadingRefused step n room r
+  pub finite_refused : (r : Refusal) → ((t : List ℕ) × (w : List ℕ)
+      × (enumerates table start work orders n room ≡ making (Err r) t w)) ↔ ReadingRefused step n room r
   finite_refused r = (
     λ a. (run_refused r).0 ((enumeration_stops table start work orders n room hn right lent r).0
-        (a.0, a.1, a.2, a.3, enumeration_stopped table start work orders n room hn right lent a.3)),
-    λ F. let a = (enumeration_stops table start work orders n room hn right lent r).1 ((run_refused r).1 F) in (a.0, a.1, a.2, a.3),
+        (a.0, a.1, a.2, enumeration_stopped table start work orders n room hn right lent a.2)),
+    λ F. let a = (enumeration_stops table start work orders n room hn right lent r).1 ((run_refused r).1 F) in (a.0, a.1, a.2),
   )

@@ -7,8 +7,8 @@ use mathlib.Core.Bool.{true}
 use mathlib.Core.List.{List}
 use lib.ListN.{length}
 use Rattle.egg.specs.declared.Refusal.{Refusal}
-use Rattle.egg.specs.declared.Verdict.TheVariants as verdict
-use Rattle.egg.specs.declared.Counted.TheVariants.{Count}
+use Rattle.egg.specs.Answers.{Counted, fine}
+use Rattle.std.specs.Prelude.{Ok}
 use Rattle.egg.specs.Pairs.{orders_right}
 use Rattle.build_lending.specs.Finish.{built, finished}
 use Rattle.build_lending.specs.Lending.{table_need, work_need, lent_right}
@@ -37,7 +37,7 @@ use Rattle.promises_enumeration.proofs.Orders.{right_exact}
 use Rattle.promises_enumeration.proofs.Accepting.{fitting_accepted}
 use Rattle.promises_enumeration.proofs.Finite.{run_refused}
 
-module _ (table : List ℕ) (start : ℕ) (work orders : List ℕ) (n room : ℕ) (hn : n ≤ 8) (right : orders_right orders n ≡ verdict.Fine)
+module _ (table : List ℕ) (start : ℕ) (work orders : List ℕ) (n room : ℕ) (hn : n ≤ 8) (right : orders_right orders n ≡ fine)
     (lent : lent_right (length table) start (length work) room n ≡ true) where
   L : Limits n orders room (table_need n room) (work_need n room)
   L = limits table start work orders n room hn right lent
@@ -71,8 +71,8 @@ module _ (table : List ℕ) (start : ℕ) (work orders : List ℕ) (n room : ℕ
 
   -- And that table passes the checks and the relations, in the work that the other run leaves.
   passes_beside : (F : FittingTable n (order_of orders) room) → (t : List ℕ) × (w : List ℕ)
-      × (finished (Count F.N) n (swiftly n orders room (table_need n room)).table (enumerated n orders room (table_need n room) (work_need n room)).work ≡ built (Count F.N) t w)
-      × (relations_row t n F.N orders 0 ≡ verdict.Fine)
+      × (finished (Ok F.N) n (swiftly n orders room (table_need n room)).table (enumerated n orders room (table_need n room) (work_need n room)).work ≡ built (Ok F.N) t w)
+      × (relations_row t n F.N orders 0 ≡ fine)
   unfolding enumerated_in
   passes_beside F =
       let a = fitting_accepted table start work orders n room hn right lent F in
@@ -80,25 +80,25 @@ module _ (table : List ℕ) (start : ℕ) (work orders : List ℕ) (n room : ℕ
       (sym (enumerates_is_build table start work orders n room hn right lent) ∙ a.3) in
       let d = (enumerated_done orders L F.presented (right_exact orders n right) F.within_room F.short).0 in
       let same : quick.table ≡ slow.table = ap (λ (x : Sweep). x.table) (quick_table F) in
-      let e : related n orders (finished (Count F.N) n quick.table slow.work) ≡ built (Count b.0) b.1 b.2 =
-      ap (λ (x : List ℕ). related n orders (finished (Count F.N) n x slow.work)) same
+      let e : related n orders (finished (Ok F.N) n quick.table slow.work) ≡ built (Ok b.0) b.1 b.2 =
+      ap (λ (x : List ℕ). related n orders (finished (Ok F.N) n x slow.work)) same
       ∙ ap (λ (x : Ran). related n orders (finished (ran_count x) n slow.table slow.work)) (sym d) ∙ b.3.0 in
-      let c = by_relations n orders (finished (Count F.N) n quick.table slow.work) e in
-      let k = by_count (Count F.N) n quick.table slow.work c.0 in
+      let c = by_relations n orders (finished (Ok F.N) n quick.table slow.work) e in
+      let k = by_count (Ok F.N) n quick.table slow.work c.0 in
       let one : b.0 ≡ F.N = sym (counts k.0) in (
         b.1,
         b.2,
-        subst (λ (M : ℕ). finished (Count F.N) n quick.table slow.work ≡ built (Count M) b.1 b.2) one c.0,
-        subst (λ (M : ℕ). relations_row b.1 n M orders 0 ≡ verdict.Fine) one c.1,
+        subst (λ (M : ℕ). finished (Ok F.N) n quick.table slow.work ≡ built (Ok M) b.1 b.2) one c.0,
+        subst (λ (M : ℕ). relations_row b.1 n M orders 0 ≡ fine) one c.1,
       ) where
-        counts : {a b : ℕ} → Count a ≡ Count b → a ≡ b
+        counts : {a b : ℕ} → ◌≡◌ {A = Counted} (Ok a) (Ok b) → a ≡ b
         counts e = cc
 
   -- And that table passes the checks and the relations, whatever stands in the work.
   pub quick_passes : (F : FittingTable n (order_of orders) room) (v : List ℕ) → length v ≡ work_need n room → (t : List ℕ) × (w : List ℕ)
-      × (finished (Count F.N) n (swiftly n orders room (table_need n room)).table v ≡ built (Count F.N) t w)
-      × (relations_row t n F.N orders 0 ≡ verdict.Fine)
+      × (finished (Ok F.N) n (swiftly n orders room (table_need n room)).table v ≡ built (Ok F.N) t w)
+      × (relations_row t n F.N orders 0 ≡ fine)
   quick_passes F v long =
       let (t, w, f, r) = passes_beside F in
       let d = (enumerated_done orders L F.presented (right_exact orders n right) F.within_room F.short).0 in
-      (t, w, any_work (Count F.N) n quick.table v slow.work (long ∙ sym (work_long L d)) ∙ f, r)
+      (t, w, any_work (Ok F.N) n quick.table v slow.work (long ∙ sym (work_long L d)) ∙ f, r)

@@ -5,7 +5,7 @@ use mathlib.Core.Bool.{true}
 use mathlib.Core.List.{List, [], ◌∷◌}
 use native.Mathlib.Omega.{arith}
 use lib.ListN.{length, replicate}
-use Rattle.egg.specs.declared.Verdict.TheVariants as verdict
+use Rattle.egg.specs.Answers.{fine}
 use Rattle.egg.specs.Scan.{scan}
 use Rattle.egg.specs.Pairs.{pair_count, orders_right}
 use Rattle.egg.specs.Factor.{has_room}
@@ -15,7 +15,7 @@ use Rattle.enumeration_quick_laws.proofs.Sample.{triangle_swift}
 use Rattle.promises_enumeration.specs.Presented.{FittingGroup}
 use Rattle.promises_enumeration.proofs.Complete.{enumeration_done, enumeration_complete}
 
-triangle_right : orders_right (3 ∷ []) 2 ≡ verdict.Fine
+triangle_right : orders_right (3 ∷ []) 2 ≡ fine
 unfolding orders_right pair_count scan
 triangle_right = refl
 

@@ -9,8 +9,8 @@ use lib.ListN.{length, get_or, drop}
 use lib.Seq.{take-append_seam}
 use lib.IntN.{ℤ}
 use Rattle.egg.specs.declared.Factor.{Factor}
-use Rattle.egg.specs.declared.Counted.TheVariants.{Count}
-use Rattle.egg.specs.declared.Verdict.TheVariants.{Fine}
+use Rattle.egg.specs.Answers.{fine}
+use Rattle.std.specs.Prelude.{Ok}
 use Rattle.egg.proofs.Scans.{scan_fine}
 use Rattle.theory.specs.Table.{generator}
 use Rattle.theory.specs.Group.{integer_power, Period}
@@ -39,7 +39,7 @@ take_shorter (suc n) [] = omega arith
 take_shorter (suc n) (x ∷ l) = omega (arith, take_shorter n l)
 
 -- The digits of an element are in range.
-digits_fine : (hs : List Factor) (e : ℕ) → e < elements_of hs → digits_right (sizes hs) (split (sizes hs) e) ≡ Fine
+digits_fine : (hs : List Factor) (e : ℕ) → e < elements_of hs → digits_right (sizes hs) (split (sizes hs) e) ≡ fine
 unfolding digits_right
 digits_fine hs e he =
     (scan_fine (fewer (length (sizes hs)) (length (split (sizes hs) e))) (digit_right (sizes hs) (split (sizes hs) e))).1
@@ -52,31 +52,31 @@ module _ {t : List ℕ} {g : Group} (A : AcceptedProduct t g) where
   fits : all_fit (length t) (handles g) ≡ true
   fits = all_fit_lem t A.factors
 
-  admitted : (a la b lb : ℕ) → a < la → b < lb → admits (length t) g a la b lb ≡ Fine
+  admitted : (a la b lb : ℕ) → a < la → b < lb → admits (length t) g a la b lb ≡ fine
   admitted a la b lb ha hb = sym (admits_fine (length t) g a la b lb fits ha hb A.within)
 
   inside : {e : ℕ} → e < (direct t g).elements → e < elements_of (handles g)
   inside {e} h = subst (λ (n : ℕ). e < n) (parts_elements t (handles g)) h
 
-  single : {e : ℕ} → e < (direct t g).elements → admits (length t) g e (elements_of (handles g)) 0 1 ≡ Fine
+  single : {e : ℕ} → e < (direct t g).elements → admits (length t) g e (elements_of (handles g)) 0 1 ≡ fine
   single {e} h = admitted e (elements_of (handles g)) 0 1 (inside h) (omega arith)
 
-  double : {a b : ℕ} → a < (direct t g).elements → b < (direct t g).elements → admits (length t) g a (elements_of (handles g)) b (elements_of (handles g)) ≡ Fine
+  double : {a b : ℕ} → a < (direct t g).elements → b < (direct t g).elements → admits (length t) g a (elements_of (handles g)) b (elements_of (handles g)) ≡ fine
   double {a} {b} ha hb = admitted a (elements_of (handles g)) b (elements_of (handles g)) (inside ha) (inside hb)
 
-  bare : admits (length t) g 0 1 0 1 ≡ Fine
+  bare : admits (length t) g 0 1 0 1 ≡ fine
   bare = admitted 0 1 0 1 (omega arith) (omega arith)
 
   named : {x : ℕ} → x < (direct t g).generators → x < generators_of (handles g)
   named {x} h = subst (λ (n : ℕ). x < n) (parts_generators t (handles g)) h
 
-  counts_are : count_answer t g ≡ Count (direct t g).elements
+  counts_are : count_answer t g ≡ Ok (direct t g).elements
   unfolding count_answer
-  counts_are = rw bare (ap Count (sym (parts_elements t (handles g))))
+  counts_are = rw bare (ap Ok (sym (parts_elements t (handles g))))
 
-  generators_count : generators_answer t g ≡ Count (direct t g).generators
+  generators_count : generators_answer t g ≡ Ok (direct t g).generators
   unfolding generators_answer
-  generators_count = rw bare (ap Count (sym (parts_generators t (handles g))))
+  generators_count = rw bare (ap Ok (sym (parts_generators t (handles g))))
 
   origin : 0 < (direct t g).elements
   origin = (product_group (all_groups t A.factors)).laws.identity
@@ -111,11 +111,11 @@ module _ {t : List ℕ} {g : Group} (A : AcceptedProduct t g) where
       rw (single ha)
       (powers_are (product_group (all_groups t A.factors)).laws (record { is = λ a b ha hb. composes_are t A.factors a b ha hb }) 1073741824 (inverts t (handles g)) (inverts_are t A.factors a ha) ha z)
 
-  period_are : {a : ℕ} → a < (direct t g).elements → (k : ℕ) × (period_answer t g (record { 0 = a }) ≡ Count k) × Period (direct t g).op a k
+  period_are : {a : ℕ} → a < (direct t g).elements → (k : ℕ) × (period_answer t g (record { 0 = a }) ≡ Ok k) × Period (direct t g).op a k
   unfolding period_answer
   period_are {a} ha = let (k, q, K) = periods_are t A.factors a ha in (k, rw (single ha) q, K)
 
-  split_counts : {e : ℕ} (size : ℕ) → e < (direct t g).elements → length (handles g) ≤ size → split_answer t g (record { 0 = e }) size ≡ Count (length (handles g))
+  split_counts : {e : ℕ} (size : ℕ) → e < (direct t g).elements → length (handles g) ≤ size → split_answer t g (record { 0 = e }) size ≡ Ok (length (handles g))
   unfolding split_answer split_tail
   split_counts {e} size he room = rw (single he, le-ltb size (length (handles g)) room)
 
@@ -143,11 +143,11 @@ module _ {t : List ℕ} {g : Group} (A : AcceptedProduct t g) where
   unfolding inject_answer
   injects_are {f} {x} hf hx = rw (admitted f (length (handles g)) x (get_or (sizes (handles g)) f 1) hf hx)
 
-  length_are : {e : ℕ} → e < (direct t g).elements → length_answer t g (record { 0 = e }) ≡ Count (length ((direct t g).word e))
+  length_are : {e : ℕ} → e < (direct t g).elements → length_answer t g (record { 0 = e }) ≡ Ok (length ((direct t g).word e))
   unfolding length_answer
   length_are {e} he = rw (single he) (lengths_are t A.factors e he)
 
-  write_are : {e : ℕ} (size : ℕ) → e < (direct t g).elements → length ((direct t g).word e) ≤ size → write_answer t g (record { 0 = e }) size ≡ Count (length ((direct t g).word e))
+  write_are : {e : ℕ} (size : ℕ) → e < (direct t g).elements → length ((direct t g).word e) ≤ size → write_answer t g (record { 0 = e }) size ≡ Ok (length ((direct t g).word e))
   unfolding write_answer
   write_are {e} size he room = rw (single he) (writes_are t A.factors short he size room)
 

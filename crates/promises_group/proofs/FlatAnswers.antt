@@ -12,10 +12,8 @@ use lib.Dec.{ltb}
 use lib.ListN.{length, take, replicate}
 use Rattle.egg.specs.declared.Refusal.{Refusal}
 use Rattle.egg.specs.declared.Factor.{Factor}
-use Rattle.egg.specs.declared.Verdict.{Verdict}
-use Rattle.egg.specs.declared.Verdict.TheVariants as verdict
-use Rattle.egg.specs.declared.Reached.{Reached}
-use Rattle.egg.specs.declared.Counted.TheVariants.{Refused}
+use Rattle.egg.specs.Answers.{Reached, Verdict, fine}
+use Rattle.std.specs.Prelude.{Ok, Err}
 use Rattle.egg.specs.Factor.{Paper, refusal_paper, verdict_paper, refused_reach}
 use Rattle.egg.proofs.Rooms.{false_true}
 use Rattle.egg.specs.Answers.{numbered}
@@ -82,18 +80,18 @@ module _ (from : List ℕ) (g : Group) (table : List ℕ) (start : ℕ) (work : 
   abbrev numbers : Making
   numbers = lent_back table start work n room (finished_placed (read_all src n room (replicate size 0)) n w)
 
-  accepts : answer_of numbers ≡ verdict.Fine ↔ ((N : ℕ) × Taken src n room N)
+  accepts : answer_of numbers ≡ fine ↔ ((N : ℕ) × Taken src n room N)
   accepts = lent_accepted table start work src n room size w R.generators enough.some_room enough.most_room (le_refl size) work_long
 
-  refuses : (r : Refusal) → answer_of numbers ≡ verdict.Refused r ↔ Fault src n room r
+  refuses : (r : Refusal) → answer_of numbers ≡ Err r ↔ Fault src n room r
   refuses = lent_refused table start work src n room size w R.generators enough.some_room enough.most_room (le_refl size) work_long
 
   -- A number that skips ahead is the reading's.
-  ahead : {r : Refusal} → Fault src n room r → r.number ≡ 7 → (t : List ℕ) × (read_all src n room (replicate size 0) ≡ placed (Refused r) t)
+  ahead : {r : Refusal} → Fault src n room r → (refusal_paper r).number ≡ 7 → (t : List ℕ) × (read_all src n room (replicate size 0) ≡ placed (Err r) t)
   ahead F k = refuses_refused src n room size R.generators enough.some_room enough.most_room (le_refl size) (fault_reading F (omega arith))
 
   -- A step that cannot be read, where the numbers skip ahead.
-  met : {e x : ℕ} {t : List ℕ} → read_all src n room (replicate size 0) ≡ placed (Refused (numbered 7 e x 65536)) t → Fault src n room (numbered 7 e x 65536)
+  met : {e x : ℕ} {t : List ℕ} → read_all src n room (replicate size 0) ≡ placed (Err (numbered 7 e x 65536)) t → Fault src n room (numbered 7 e x 65536)
   met q = faults.unread (refused_read src n room size R.generators enough.some_room enough.most_room (le_refl size) q)
 
   stopped : {e x : ℕ} → Fault src n room (numbered 7 e x 65536) → step_in from (handles g) e x ≡ refused_reach 17 0 → StepUnread from (handles g) room
@@ -118,8 +116,8 @@ module _ (from : List ℕ) (g : Group) (table : List ℕ) (start : ℕ) (work : 
       → FlatPaper from g table start work room (paper_of (flat from g table start work room))
   started_some (by_numbers e own) = rw (is_numbers e) (by (answer_of numbers) refl) where
     by : (v : Verdict) → answer_of numbers ≡ v → FlatPaper from g table start work room (verdict_paper v)
-    by verdict.Fine q = taken R (accepts.0 q).1
-    by (verdict.Refused r) q = let F = (refuses r).0 q in fault R F (λ k. let a = ahead F k in own r a.0 a.1 k)
+    by (Ok _) q = taken R (accepts.0 q).1
+    by (Err r) q = let F = (refuses r).0 q in fault R F (λ k. let a = ahead F k in own r a.0 a.1 k)
   started_some (not_read e x t s q z) = rw (is_numbers z) (unread R (stopped (met q) s))
 
   unread_given : StepUnread from (handles g) room
@@ -159,7 +157,7 @@ module _ (from : List ℕ) (g : Group) (table : List ℕ) (start : ℕ) (work : 
   unfolding flat admits
   is_large q l = rw (q, l)
 
-  admitted : all_fit (length from) (handles g) ≡ true → GroupWithin g → admits (length from) g 0 1 0 1 ≡ verdict.Fine
+  admitted : all_fit (length from) (handles g) ≡ true → GroupWithin g → admits (length from) g 0 1 0 1 ≡ fine
   admitted q L = sym (admits_fine (length from) g 0 1 0 1 q (omega arith) (omega arith) (within_limits g L))
 
   is_many : all_fit (length from) (handles g) ≡ true → GroupWithin g → 8 < generators_of (handles g)

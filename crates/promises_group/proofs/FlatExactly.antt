@@ -10,13 +10,12 @@ use native.Mathlib.Nat.{le_refl}
 use lib.ListN.{length, take, replicate}
 use Rattle.egg.specs.declared.Refusal.{Refusal}
 use Rattle.egg.specs.declared.Factor.{Factor}
-use Rattle.egg.specs.declared.Verdict.TheVariants as verdict
-use Rattle.egg.specs.declared.Counted.TheVariants.{Count, Refused}
+use Rattle.std.specs.Prelude.{Ok, Err}
 use Rattle.egg.specs.Factor.{has_room}
 use Rattle.egg.proofs.Rooms.{positive, limited}
 use Rattle.build_reading.specs.Reading.{Placed, placed, read_all}
 use Rattle.build_lending.specs.Finish.{Built, built, zeroed, finished, finished_placed}
-use Rattle.build_lending.specs.Lending.{table_need, work_need, lent_right, no_factor, within, making, lent_back}
+use Rattle.build_lending.specs.Lending.{table_need, work_need, lent_right, within, making, lent_back}
 use Rattle.build_lending.proofs.Lending.{lent_table_lem}
 use Rattle.theory.specs.Numbering.{Numbered}
 use Rattle.theory.specs.AnyGroup.{SomeGroup}
@@ -119,7 +118,7 @@ module _ {from : List ℕ} {g : Group} (A : AcceptedProduct from g) (table : Lis
     work_lent = taken_enough table start work n room lent
 
     flattened : Flattens (direct from g) room
-        → (f : Factor) × (t : List ℕ) × (w : List ℕ) × (flat from g table start work room ≡ making (record { answer = verdict.Fine; factor = f }) t w)
+        → (f : Factor) × (t : List ℕ) × (w : List ℕ) × (flat from g table start work room ≡ making (Ok f) t w)
     flattened F =
         let b = taken_built (direct from g).step n room (table_need n room) (take (work_need n room) work) few lo hi (le_refl (table_need n room)) work_lent
         (flattens_taken A room F) in (
@@ -131,7 +130,7 @@ module _ {from : List ℕ} {g : Group} (A : AcceptedProduct from g) (table : Lis
 
     -- Accepted exactly when.
     pub flat_exactly : ((f : Factor) × (t : List ℕ) × (w : List ℕ)
-        × (flat from g table start work room ≡ making (record { answer = verdict.Fine; factor = f }) t w))
+        × (flat from g table start work room ≡ making (Ok f) t w))
         ↔ Flattens (direct from g) room
     flat_exactly = (
       λ a.
@@ -144,27 +143,26 @@ module _ {from : List ℕ} {g : Group} (A : AcceptedProduct from g) (table : Lis
 
     -- A build that is refused stopped in reading: what reading takes is accepted.
     refused_by : (p : Placed) → read_all (direct from g).step n room (replicate (table_need n room) 0) ≡ p → {r : Refusal} {s v : List ℕ}
-        → finished_placed p n (take (work_need n room) work) ≡ built (Refused r) s v → build ≡ built (Refused r) s v → ReadingRefused (direct from g).step n room r
+        → finished_placed p n (take (work_need n room) work) ≡ built (Err r) s v → build ≡ built (Err r) s v → ReadingRefused (direct from g).step n room r
     unfolding finished
-    refused_by (placed (Count N) t₀) e {r} {s} {v} q h =
+    refused_by (placed (Ok N) t₀) e {r} {s} {v} q h =
         let F = flattened (readable_flattens A room ((accepts_exactly (direct from g).step n room (table_need n room) few lo hi (le_refl (table_need n room)) N).0 (t₀, e))) in
         absurd (refused_making_lem (ap (lent_back table start work n room) (sym h) ∙ sym is_build ∙ F.3))
-    refused_by (placed (Refused s) t₀) e {r} q h =
+    refused_by (placed (Err s) t₀) e {r} q h =
         let i : s ≡ r = cc in
         (refuses_exactly (direct from g).step n room (table_need n room) few lo hi (le_refl (table_need n room)) r).0
-        (t₀, e ∙ ap (λ (x : Refusal). placed (Refused x) t₀) i)
+        (t₀, e ∙ ap (λ (x : Refusal). placed (Err x) t₀) i)
 
     -- Refused exactly by 7, 5 or 6, at the first place that cannot be read.
     pub flat_stops : (r : Refusal)
-        → ((f : Factor) × (t : List ℕ) × (w : List ℕ) × (flat from g table start work room ≡ making (record { answer = verdict.Refused r; factor = f }) t w))
+        → ((t : List ℕ) × (w : List ℕ) × (flat from g table start work room ≡ making (Err r) t w))
         ↔ ReadingRefused (direct from g).step n room r
     flat_stops r = (
       λ a.
-          let b = by_refused table start work n room build (sym is_build ∙ a.3) in
+          let b = by_refused table start work n room build (sym is_build ∙ a.2) in
           refused_by (read_all (direct from g).step n room (replicate (table_need n room) 0)) refl b.2 b.2,
       λ S.
           let b = stops_built (direct from g).step n room (table_need n room) (take (work_need n room) work) few lo hi (le_refl (table_need n room)) S in (
-            no_factor,
             within table start (start + table_need n room) b.0,
             within work 0 (work_need n room) (zeroed (take (work_need n room) work)),
             is_build ∙ ap (lent_back table start work n room) b.1,

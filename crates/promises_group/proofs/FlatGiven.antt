@@ -5,7 +5,7 @@ use mathlib.Core.List.{List}
 use native.Mathlib.Omega.{arith}
 use lib.ListN.{length}
 use Rattle.egg.specs.declared.Factor.{Factor}
-use Rattle.egg.specs.declared.Verdict.TheVariants.{Fine}
+use Rattle.std.specs.Prelude.{Ok}
 use Rattle.egg.proofs.Rooms.{room_enough}
 use Rattle.build_lending.specs.Lending.{making}
 use Rattle.theory.specs.Table.{Table}
@@ -85,7 +85,7 @@ is_part {p} W {t} {f} A gens agree =
     }
 
 module _ {from : List ℕ} {g : Group} (A : AcceptedProduct from g) (table : List ℕ) (start : ℕ) (work : List ℕ) (room : ℕ) where
-  pub flat_given : {f : Factor} {t w : List ℕ} → flat from g table start work room ≡ making (record { answer = Fine; factor = f }) t w → FlatGiven (direct from g) t f
+  pub flat_given : {f : Factor} {t w : List ℕ} → flat from g table start work room ≡ making (Ok f) t w → FlatGiven (direct from g) t f
   flat_given {f} {t} {w} q =
       let W : Worded (direct from g) = product_worded (all_worded from A.factors) in
       let n : ℕ = generators_of (handles g) in
@@ -98,7 +98,7 @@ module _ {from : List ℕ} {g : Group} (A : AcceptedProduct from g) (table : Lis
       let hn : x < n = subst (λ (m : ℕ). x < m) gens hx in
       G.steps he hn ∙ row_at (direct from g).step n room e x (omega (arith, room_enough (length t) f G.accepted.fits, rooms)) hn)
 
-  pub flat_made : {f : Factor} {t w : List ℕ} → flat from g table start work room ≡ making (record { answer = Fine; factor = f }) t w
+  pub flat_made : {f : Factor} {t w : List ℕ} → flat from g table start work room ≡ making (Ok f) t w
       → FlatMade table start work (generators_of (handles g)) room f t w
   flat_made {f} {t} {w} q =
       let n : ℕ = generators_of (handles g) in

@@ -11,13 +11,13 @@ use lib.ListN.{length, take, replicate}
 use lib.Dec.{ltb}
 use Rattle.egg.specs.declared.Refusal.{Refusal}
 use Rattle.egg.specs.declared.Factor.{Factor}
-use Rattle.egg.specs.declared.Verdict.{Verdict}
-use Rattle.egg.specs.declared.Verdict.TheVariants as verdict
+use Rattle.egg.specs.Answers.{Verdict, fine}
+use Rattle.std.specs.Prelude.{Ok, Err}
 use Rattle.egg.specs.Table.{pick}
 use Rattle.build_reading.specs.Reading.{read_all}
 use Rattle.build_lending.specs.Finish.{finished_placed}
 use Rattle.build_lending.specs.Lending.{table_need, work_need, lent_right, refused_made, Making, making, lent_back}
-use Rattle.egg.specs.Factor.{Paper, verdict_paper}
+use Rattle.egg.specs.Factor.{Paper}
 use Rattle.build_reading_laws.proofs.Readings.{refused_number}
 use Rattle.build_checks_laws.specs.Numbers.{RefusalIn}
 use Rattle.promises_refusals.specs.Papers.{paper_of, paper}
@@ -43,14 +43,14 @@ use Rattle.promises_group.proofs.FlatAnswers.{flat_17}
 -- An accepted call had right arguments.
 module _ (from : List ℕ) (g : Group) (table : List ℕ) (start : ℕ) (work : List ℕ) (room : ℕ) (f : Factor) (t w : List ℕ) where
   abbrev accepted : Making
-  accepted = making (record { answer = verdict.Fine; factor = f }) t w
+  accepted = making (Ok f) t w
 
   abbrev whole : Making
   whole =
       lent_back table start work (generators_of (handles g)) room
       (flat_in (table_need (generators_of (handles g)) room) (take (work_need (generators_of (handles g)) room) work) from (handles g) (generators_of (handles g)) room)
 
-  into_begun : admits (length from) g 0 1 0 1 ≡ verdict.Fine → flat_into from (handles g) table start work room ≡ accepted → FlatRight from g table start work room
+  into_begun : admits (length from) g 0 1 0 1 ≡ fine → flat_into from (handles g) table start work room ≡ accepted → FlatRight from g table start work room
   unfolding flat_into
   into_begun ok e = first (ltb 8 (generators_of (handles g))) refl e where
     second : generators_of (handles g) ≤ 8 → (b : Bool) → lent_right (length table) start (length work) room (generators_of (handles g)) ≡ b
@@ -65,18 +65,18 @@ module _ (from : List ℕ) (g : Group) (table : List ℕ) (start : ℕ) (work : 
     first true l h = absurd (refused_making_lem h)
     first false l h = second (ltb-false 8 (generators_of (handles g)) l) (lent_right (length table) start (length work) room (generators_of (handles g))) refl h
 
-  pub flat_begun : flat from g table start work room ≡ making (record { answer = verdict.Fine; factor = f }) t w → FlatRight from g table start work room
+  pub flat_begun : flat from g table start work room ≡ making (Ok f) t w → FlatRight from g table start work room
   unfolding flat
   flat_begun h = by (admits (length from) g 0 1 0 1) refl h where
     by : (v : Verdict) → admits (length from) g 0 1 0 1 ≡ v → if_making v table work (flat_into from (handles g) table start work room) ≡ accepted
         → FlatRight from g table start work room
-    by verdict.Fine q e = into_begun q e
-    by (verdict.Refused s) q e = absurd (refused_making_lem e)
+    by (Ok _) q e = into_begun q e
+    by (Err s) q e = absurd (refused_making_lem e)
 
 -- Only these numbers are given, with any handles and buffers.
-pub flat_number : (from : List ℕ) (g : Group) (table : List ℕ) (start : ℕ) (work : List ℕ) (room : ℕ) (r : Refusal) (f : Factor) (t w : List ℕ)
-    → flat from g table start work room ≡ making (record { answer = verdict.Refused r; factor = f }) t w → RefusalIn (17 ∷ 15 ∷ 1 ∷ 4 ∷ composed_numbers) r
-flat_number from g table start work room r f t w h = leaves_number (17 ∷ 15 ∷ 1 ∷ 4 ∷ composed_numbers) refl refl (flat_leaves from g table start work room r f t w h)
+pub flat_number : (from : List ℕ) (g : Group) (table : List ℕ) (start : ℕ) (work : List ℕ) (room : ℕ) (r : Refusal) (t w : List ℕ)
+    → flat from g table start work room ≡ making (Err r) t w → RefusalIn (17 ∷ 15 ∷ 1 ∷ 4 ∷ composed_numbers) r
+flat_number from g table start work room r t w h = leaves_number (17 ∷ 15 ∷ 1 ∷ 4 ∷ composed_numbers) refl refl (flat_leaves from g table start work room r t w h)
 
 -- Over factors that are accepted wherever their handles fit: neither 17 in a handle nor 15 is excluded.
 module _ (from : List ℕ) (g : Group) (unaltered : all_fit (length from) (handles g) ≡ true → AllAccepted from (handles g)) (table : List ℕ) (start : ℕ)
@@ -114,17 +114,13 @@ module _ (from : List ℕ) (g : Group) (unaltered : all_fit (length from) (handl
       never (inr (inr z)) q = omega arith
 
       not_met : FlatRight from g table start work room → (m : Making) → flat from g table start work room ≡ m → paper_of m ≡ paper 17 a b c → ⊥
-      not_met R (making m t w) e = by m.answer refl where
-        by : (v : Verdict) → m.answer ≡ v → verdict_paper v ≡ paper 17 a b c → ⊥
-        by verdict.Fine i z = omega (arith, ap (λ (p : Paper). p.number) z)
-        by (verdict.Refused r) i z =
-            let h : flat from g table start work room ≡ making (record { answer = verdict.Refused r; factor = m.factor }) t w =
-            e ∙ ap (λ (v : Verdict). making (record { answer = v; factor = m.factor }) t w) i in
-            never (refused_number ((exactly.flat_stops (right_product_lem R) table start work room R r).0 (m.factor, t, w, h))) (ap (λ (p : Paper). p.number) z)
+      not_met R (making (Ok f) t w) e z = omega (arith, ap (λ (p : Paper). p.number) z)
+      not_met R (making (Err r) t w) e z =
+          never (refused_number ((exactly.flat_stops (right_product_lem R) table start work room R r).0 (t, w, e))) (ap (λ (p : Paper). p.number) z)
 
 module _ {from : List ℕ} {g : Group} (A : AcceptedProduct from g) (table : List ℕ) (start : ℕ) (work : List ℕ) (room : ℕ) where
   module _ (f : Factor) (t w table' : List ℕ) (start' : ℕ) (work' : List ℕ) (room' : ℕ) where
-    pub flat_roomier : flat from g table start work room ≡ making (record { answer = verdict.Fine; factor = f }) t w → room ≤ room'
+    pub flat_roomier : flat from g table start work room ≡ making (Ok f) t w → room ≤ room'
         → FlatRight from g table' start' work' room'
         → Roomier (direct from g).generators start room f t start' room' (flat from g table' start' work' room')
     flat_roomier h more R' =

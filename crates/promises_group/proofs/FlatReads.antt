@@ -12,9 +12,8 @@ use Rattle.egg.specs.declared.Refusal.{Refusal}
 use Rattle.egg.specs.declared.Factor.{Factor}
 use Rattle.egg.specs.declared.GroupElementId.{GroupElementId}
 use Rattle.egg.specs.declared.GeneratorId.{GeneratorId}
-use Rattle.egg.specs.declared.Reached.{Reached}
-use Rattle.egg.specs.declared.Reached.TheVariants as reached
-use Rattle.egg.specs.declared.Counted.TheVariants.{Count, Refused}
+use Rattle.egg.specs.Answers.{Reached}
+use Rattle.std.specs.Prelude.{Ok, Err}
 use Rattle.egg.specs.Table.{pick, start_of, length_of}
 use Rattle.egg.specs.Factor.{stretch, refused_reach, read_step}
 use Rattle.build_reading.specs.Build.{set_step, set_word, Adds, adds}
@@ -31,7 +30,7 @@ use Rattle.promises_group.specs.Flattening.{number_read, step_number, StepsAnswe
 
 -- An answer that is no refusal but 17, which has no places.
 data Only17 : Reached → Type 0 where
-  element : (e : GroupElementId) → Only17 (reached.Element e)
+  element : (e : GroupElementId) → Only17 (Ok e)
   refusal : Only17 (refused_reach 17 0)
 
 on_17 : {f : ℕ → Reached} {r : Reached} → Only17 r → ((y : ℕ) → Only17 (f y)) → Only17 (on_reached r f)
@@ -61,19 +60,19 @@ step_17 t (h ∷ hs) e x k = by (λ z. step_17 t hs (e / h.elements) (x - h.gene
 module _ (from : List ℕ) (hs : List Factor) (room size : ℕ) where
   -- The count is within the room and the table as long as it was; a refusal by 7 has the product's own number.
   abbrev Fair : Placed → Type 0
-  Fair (placed (Count c) t) = (c ≤ room) × (length t ≡ size)
-  Fair (placed (Refused r) t) = StepsAnswered from hs r
+  Fair (placed (Ok c) t) = (c ≤ room) × (length t ≡ size)
+  Fair (placed (Err r) t) = StepsAnswered from hs r
 
   -- Two readings go the same way; or the first is stopped by 17, where the second meets a number beyond every count.
   data Came (p q : Placed) : Type 0 where
     same : p ≡ q → Fair q → Came p q
-    stopped : (t : List ℕ) (e x : ℕ) → p ≡ placed (Refused (numbered 17 0 0 0)) t → q ≡ placed (Refused (numbered 7 e x 65536)) t
+    stopped : (t : List ℕ) (e x : ℕ) → p ≡ placed (Err (numbered 17 0 0 0)) t → q ≡ placed (Err (numbered 7 e x 65536)) t
         → step_in from hs e x ≡ refused_reach 17 0 → length t ≡ size → Came p q
 
   came_then : (p : Placed) {f f' : ℕ → List ℕ → Placed} → Fair p → ((c : ℕ) (t : List ℕ) → c ≤ room → length t ≡ size → Came (f c t) (f' c t))
       → Came (then_placed p f) (then_placed p f')
-  came_then (placed (Count c) t) h rest = rest c t h.0 h.1
-  came_then (placed (Refused r) t) h rest = same refl h
+  came_then (placed (Ok c) t) h rest = rest c t h.0 h.1
+  came_then (placed (Err r) t) h rest = same refl h
 
   came_both : {p q : Placed} {f f' : ℕ → List ℕ → Placed} → Came p q → ((c : ℕ) (t : List ℕ) → c ≤ room → length t ≡ size → Came (f c t) (f' c t))
       → Came (then_placed p f) (then_placed q f')
@@ -87,13 +86,13 @@ module _ (from : List ℕ) (hs : List Factor) (room size : ℕ) where
 
   -- One place whose number was answered.
   Told : Placed → Type 0
-  Told (placed (Count c) t) = c ≤ room
-  Told (placed (Refused r) t) = StepsAnswered from hs r
+  Told (placed (Ok c) t) = c ≤ room
+  Told (placed (Err r) t) = StepsAnswered from hs r
 
   told_fair : (p : Placed) → length (placed_table p) ≡ size → Told p → Fair p
   unfolding Told
-  told_fair (placed (Count c) t) l h = (h, l)
-  told_fair (placed (Refused r) t) l h = h
+  told_fair (placed (Ok c) t) l h = (h, l)
+  told_fair (placed (Err r) t) l h = h
 
   place_told : (t : List ℕ) (n count e x v : ℕ) → count ≤ room → step_in from hs e x ≡ reach v → Told (read_place t n room count e x v)
   unfolding Told read_place adds
@@ -108,15 +107,15 @@ module _ (from : List ℕ) (hs : List Factor) (room size : ℕ) where
     new = record { 0 = count }
 
     by : (a b c : Bool) → leb room count ≡ c → (d : Bool)
-        → Told (pick {A = Placed} a (placed (Refused (numbered 7 e x v)) t)
-        (pick b (placed (Count count) (set_step t n ident gen (record { 0 = v })))
+        → Told (pick {A = Placed} a (placed (Err (numbered 7 e x v)) t)
+        (pick b (placed (Ok count) (set_step t n ident gen (record { 0 = v })))
         (on_adds count
-        (pick {A = Adds} c (record { answer = reached.Refused (numbered 5 e x 0); table = t })
-        (pick d (record { answer = reached.Refused (numbered 6 e x 0); table = t })
-        (record { answer = reached.Element new; table = set_step (set_word t n new ident gen (length_of t n e + 1)) n ident gen new }))).answer
-        (pick {A = Adds} c (record { answer = reached.Refused (numbered 5 e x 0); table = t })
-        (pick d (record { answer = reached.Refused (numbered 6 e x 0); table = t })
-        (record { answer = reached.Element new; table = set_step (set_word t n new ident gen (length_of t n e + 1)) n ident gen new }))).table)))
+        (pick {A = Adds} c (record { answer = Err (numbered 5 e x 0); table = t })
+        (pick d (record { answer = Err (numbered 6 e x 0); table = t })
+        (record { answer = Ok new; table = set_step (set_word t n new ident gen (length_of t n e + 1)) n ident gen new }))).answer
+        (pick {A = Adds} c (record { answer = Err (numbered 5 e x 0); table = t })
+        (pick d (record { answer = Err (numbered 6 e x 0); table = t })
+        (record { answer = Ok new; table = set_step (set_word t n new ident gen (length_of t n e + 1)) n ident gen new }))).table)))
     by true b c q d = λ k. s
     by false true c q d = h
     by false false true q d = λ k. absurd (omega arith)
@@ -154,11 +153,11 @@ module _ (from : List ℕ) (hs : List Factor) (room size : ℕ) where
 -- are refused by 7, and all is zero.
 pub data Reads (from : List ℕ) (hs : List Factor) (room size : ℕ) (w : List ℕ) : Type 0 where
   by_numbers : flat_in size w from hs (generators_of hs) room ≡ finished_placed (read_all (step_number from hs) (generators_of hs) room (replicate size 0)) (generators_of hs) w
-      → ((r : Refusal) (t : List ℕ) → read_all (step_number from hs) (generators_of hs) room (replicate size 0) ≡ placed (Refused r) t → StepsAnswered from hs r)
+      → ((r : Refusal) (t : List ℕ) → read_all (step_number from hs) (generators_of hs) room (replicate size 0) ≡ placed (Err r) t → StepsAnswered from hs r)
       → Reads from hs room size w
   not_read : (e x : ℕ) (t : List ℕ) → step_in from hs e x ≡ refused_reach 17 0
-      → read_all (step_number from hs) (generators_of hs) room (replicate size 0) ≡ placed (Refused (numbered 7 e x 65536)) t
-      → flat_in size w from hs (generators_of hs) room ≡ built (Refused (numbered 17 0 0 0)) (replicate size 0) (zeroed w) → Reads from hs room size w
+      → read_all (step_number from hs) (generators_of hs) room (replicate size 0) ≡ placed (Err (numbered 7 e x 65536)) t
+      → flat_in size w from hs (generators_of hs) room ≡ built (Err (numbered 17 0 0 0)) (replicate size 0) (zeroed w) → Reads from hs room size w
 
 pub reads : (from : List ℕ) (hs : List Factor) (room size : ℕ) (w : List ℕ) → 1 ≤ room → room ≤ 65535 → Reads from hs room size w
 unfolding flat_in finished
@@ -167,4 +166,4 @@ reads from hs room size w lo hi = by (came_rows from hs room size hi room 0 1 (r
       → Reads from hs room size w
   by (same e h) = by_numbers (ap (λ (p : Placed). finished_placed p (generators_of hs) w) e) (λ r t q. subst (Fair from hs room size) q h)
   by (stopped t e x a b s long) =
-      not_read e x t s b (ap (λ (p : Placed). finished_placed p (generators_of hs) w) a ∙ ap (λ (k : ℕ). built (Refused (numbered 17 0 0 0)) (replicate k 0) (zeroed w)) long)
+      not_read e x t s b (ap (λ (p : Placed). finished_placed p (generators_of hs) w) a ∙ ap (λ (k : ℕ). built (Err (numbered 17 0 0 0)) (replicate k 0) (zeroed w)) long)

@@ -9,11 +9,8 @@ use native.Mathlib.Omega.{arith}
 use lib.ListN.{length, take, replicate, length-replicate}
 use Rattle.egg.specs.declared.Refusal.{Refusal}
 use Rattle.egg.specs.declared.Factor.{Factor}
-use Rattle.egg.specs.declared.Verdict.{Verdict}
-use Rattle.egg.specs.declared.Verdict.TheVariants as verdict
-use Rattle.egg.specs.declared.Reached.{Reached}
-use Rattle.egg.specs.declared.Reached.TheVariants as reached
-use Rattle.egg.specs.declared.Counted.TheVariants.{Count}
+use Rattle.egg.specs.Answers.{Reached, Made}
+use Rattle.std.specs.Prelude.{Ok, Err}
 use Rattle.egg.specs.Factor.{has_room, stretch}
 use Rattle.build_reading.specs.Reading.{read_all}
 use Rattle.build_lending.specs.Finish.{built, finished_placed}
@@ -42,8 +39,8 @@ use Rattle.promises_group.proofs.FlatMore.{flat_begun}
 
 -- A number below 65,536 was answered.
 answered_of : (r : Reached) → number_read r < 65536 → r ≡ reach (number_read r)
-answered_of (reached.Element v) h = refl
-answered_of (reached.Refused r) h = absurd (omega arith)
+answered_of (Ok v) h = refl
+answered_of (Err r) h = absurd (omega arith)
 
 module _ (from : List ℕ) (g : Group) (table : List ℕ) (start : ℕ) (work : List ℕ) (room : ℕ) (R : FlatRight from g table start work room) where
   abbrev n : ℕ
@@ -63,8 +60,8 @@ module _ (from : List ℕ) (g : Group) (table : List ℕ) (start : ℕ) (work : 
 
   -- What a build counted, it counted of the numbers that are read.
   counted_numbers : {N : ℕ} {s v : List ℕ} → Reads from (handles g) room (table_need n room) w₀
-      → flat_in (table_need n room) w₀ from (handles g) n room ≡ built (Count N) s v
-      → finished_placed (read_all src n room (replicate (table_need n room) 0)) n w₀ ≡ built (Count N) s v
+      → flat_in (table_need n room) w₀ from (handles g) n room ≡ built (Ok N) s v
+      → finished_placed (read_all src n room (replicate (table_need n room) 0)) n w₀ ≡ built (Ok N) s v
   counted_numbers (by_numbers e own) q = sym e ∙ q
   counted_numbers (not_read e x t s r z) q = absurd (refused_counted (sym z ∙ q))
 
@@ -95,7 +92,7 @@ module _ (from : List ℕ) (g : Group) (table : List ℕ) (start : ℕ) (work : 
       → FlatRegardless from g table start work room f t w
   regardless_at a b c G = rw (a, b, c) G
 
-  regardless : {f : Factor} {t w : List ℕ} → flat from g table start work room ≡ making (record { answer = verdict.Fine; factor = f }) t w
+  regardless : {f : Factor} {t w : List ℕ} → flat from g table start work room ≡ making (Ok f) t w
       → FlatRegardless from g table start work room f t w
   regardless h =
       let b = by_build table start work n room (flat_in (table_need n room) w₀ from (handles g) n room) (sym (flat_is from g table start work room R) ∙ h) in
@@ -110,24 +107,24 @@ leaves_rest : {right : Type 0} {before after : List ℕ} {b : Lent} {l : List Le
 leaves_rest (untouched wrong m s) = untouched wrong m s.1
 leaves_rest (zeros ok m z) = zeros ok m z.1
 
-module _ (from : List ℕ) (g : Group) (table : List ℕ) (start : ℕ) (work : List ℕ) (room : ℕ) (f : Factor) (t w : List ℕ) where
+module _ (from : List ℕ) (g : Group) (table : List ℕ) (start : ℕ) (work : List ℕ) (room : ℕ) where
   -- What is accepted is an accepted factor, whatever the handles and the buffers.
-  pub flat_regardless : flat from g table start work room ≡ making (record { answer = verdict.Fine; factor = f }) t w → FlatRegardless from g table start work room f t w
-  flat_regardless h = regardless from g table start work room (flat_begun from g table start work room f t w h) h
+  pub flat_regardless : (f : Factor) (t w : List ℕ) → flat from g table start work room ≡ making (Ok f) t w → FlatRegardless from g table start work room f t w
+  flat_regardless f t w h = regardless from g table start work room (flat_begun from g table start work room f t w h) h
 
   -- What it wrote is its stretch of the table and the needed work, or nothing, whatever the handles and the buffers; so factors and products elsewhere in the
   -- table's buffer are as they were.
-  pub flat_wrote : (v : Verdict) → flat from g table start work room ≡ making (record { answer = v; factor = f }) t w
+  pub flat_wrote : (m : Made) (t w : List ℕ) → flat from g table start work room ≡ making m t w
       → Wrote (table_for table start (generators_of (handles g)) room t) × Wrote (work_for work (generators_of (handles g)) room w)
-  flat_wrote verdict.Fine h =
+  flat_wrote (Ok f) t w h =
       let k : ℕ = generators_of (handles g) in
-      let G = flat_regardless h in
+      let G = flat_regardless f t w h in
       let E = right_enough table start work k room G.right.lent in
       let size : table_need f.generators f.room ≡ table_need k room = ap (λ (x : Factor). table_need x.generators x.room) G.made.handle in
       let end : 0 + work_need k room ≡ work_need k room = omega arith in (
         part (stretch t f) E.table_long (stretch_long t f G.accepted.fits ∙ size) G.made.table_kept,
         part (replicate (work_need k room) 0) (rw end E.work_long) (length-replicate (work_need k room) 0) (rw end G.made.work_zero),
       )
-  flat_wrote (verdict.Refused r) h =
-      let L = flat_leaves from g table start work room r f t w h in
+  flat_wrote (Err r) t w h =
+      let L = flat_leaves from g table start work room r t w h in
       (leaves_wrote L, leaves_wrote (leaves_rest L))

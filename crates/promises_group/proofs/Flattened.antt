@@ -10,7 +10,7 @@ use borrow.Author.Tests.{le-leb, le-ltb, ltb-true}
 use lib.ListN.{length, get_or, take, replicate}
 use lib.Dec.{ltb}
 use Rattle.egg.specs.declared.Factor.{Factor}
-use Rattle.egg.specs.declared.Counted.TheVariants.{Count, Refused}
+use Rattle.std.specs.Prelude.{Ok, Err}
 use Rattle.build_lending.specs.Finish.{finished_placed}
 use Rattle.build_lending.specs.Lending.{table_need, work_need, lent_right, lent_back}
 use Rattle.build_reading.specs.Reading.{Placed, placed, then_placed, read_place, read_row, read_from, read_all, composed_at}
@@ -45,8 +45,8 @@ row_at step n room e g he hg =
     listed_at (room * n) (λ i. step (i / n) (i % n)) (e * n + g) l ∙ rw (q, low hg e, high hg e)
 
 then_within : {M : ℕ} (p : Placed) {f f' : ℕ → List ℕ → Placed} → Counts M p → ((c : ℕ) (t : List ℕ) → c ≤ M → f c t ≡ f' c t) → then_placed p f ≡ then_placed p f'
-then_within (placed (Count k) t) (counts h) q = q k t h
-then_within (placed (Refused r) t) refuses q = refl
+then_within (placed (Ok k) t) (counts h) q = q k t h
+then_within (placed (Err r) t) refuses q = refl
 
 -- Reading by the product's own answers is reading from any source that has its steps.
 module _ (from : List ℕ) {hs : List Factor} (As : AllAccepted from hs) (n room : ℕ) (gens : n ≡ (product (parts from hs)).generators)

@@ -9,7 +9,7 @@ use borrow.Author.Tests.{le-ltb}
 use lib.ListN.{length, drop, set, length-append, length-drop}
 use lib.Seq.{drop-drop}
 use Rattle.egg.specs.declared.Factor.{Factor}
-use Rattle.egg.specs.declared.Counted.TheVariants.{Count}
+use Rattle.std.specs.Prelude.{Ok}
 use Rattle.egg.specs.Table.{hop_of, length_of}
 use Rattle.egg.specs.Factor.{stretch}
 use Rattle.egg.proofs.Rooms.{has, few}
@@ -40,14 +40,14 @@ module _ (s : List ℕ) (n o : ℕ) (xs : List ℕ) where
   behind (suc k) (suc j) c ys = rw (zero-add k, set_behind xs ys k ((o + c % 8) % 256)) (behind k j (c / 8) (set ys k ((o + c % 8) % 256)))
 
 module _ (t : List ℕ) where
-  pub lengths_are : {hs : List Factor} → AllAccepted t hs → (e : ℕ) → e < (product (parts t hs)).elements → lengths t hs e ≡ Count (length ((product (parts t hs)).word e))
+  pub lengths_are : {hs : List Factor} → AllAccepted t hs → (e : ℕ) → e < (product (parts t hs)).elements → lengths t hs e ≡ Ok (length ((product (parts t hs)).word e))
   unfolding lengths
   lengths_are none e he = refl
   lengths_are (more {h} {hs} A As) e he =
       let N : ℕ = h.elements in
       let M : ℕ = (product (parts t hs)).elements in
       rw (length_in_lem A.sound (low_small N M e he), lengths_are As (e / N) (high_small N M e he))
-      (ap Count (sym (length-append (factor_word t h (e % N)) (shift h.generators ((product (parts t hs)).word (e / N)))
+      (ap Ok (sym (length-append (factor_word t h (e % N)) (shift h.generators ((product (parts t hs)).word (e / N)))
       ∙ ap (λ (k : ℕ). length (factor_word t h (e % N)) + k) (shift_length h.generators ((product (parts t hs)).word (e / N))))))
 
   pub readables_are : {hs : List Factor} → AllAccepted t hs → (e : ℕ) → e < (product (parts t hs)).elements → readables t hs e ≡ true
@@ -97,7 +97,7 @@ module _ (t : List ℕ) where
       omega (arith, few_generators As)
 
   module _ {hs : List Factor} (As : AllAccepted t hs) (short : length hs ≤ 8) {e : ℕ} (he : e < (product (parts t hs)).elements) where
-    pub writes_are : (size : ℕ) → length ((product (parts t hs)).word e) ≤ size → writes t hs e size ≡ Count (length ((product (parts t hs)).word e))
+    pub writes_are : (size : ℕ) → length ((product (parts t hs)).word e) ≤ size → writes t hs e size ≡ Ok (length ((product (parts t hs)).word e))
     unfolding writes
     writes_are size room = rw (lengths_are As e he, readables_are As e he) (simp (le-ltb _ _ room))
 

@@ -9,8 +9,10 @@ use borrow.Author.Tests.{le-leb, leb-true}
 use lib.ListN.{length}
 use lib.Dec.{leb}
 use Rattle.egg.specs.declared.Factor.{Factor}
-use Rattle.egg.specs.declared.Verdict.TheVariants.{Fine}
+use Rattle.egg.specs.Answers.{fine, answer_of}
+use Rattle.std.specs.Prelude.{Ok}
 use Rattle.egg.specs.Scan.{refused_of}
+use Rattle.egg.proofs.Scans.{refused_fine}
 use Rattle.egg.proofs.Rooms.{and_first, and_second}
 use Rattle.build_lending.proofs.Fits.{fits_small}
 use Rattle.factor_laws.specs.Accepted.{Accepted}
@@ -40,12 +42,9 @@ pub all_both : {t : List ℕ} {xs ys : List Factor} → AllAccepted t xs → All
 all_both none Bs = Bs
 all_both (more A As) Bs = more A (all_both As Bs)
 
-never : {k a b c : ℕ} → refused_of k a b c ≡ Fine → ⊥
-never q = let z : ◌≡◌ {A = ℕ} 0 1 = cc in omega arith
-
 -- Where `product` is fine, what it made is the product of all the factors of both.
-pub joined_accepted : {t : List ℕ} {a b : Group} → AcceptedProduct t a → AcceptedProduct t b → (joins (length t) a b).answer ≡ Fine
-    → ((joins (length t) a b).group ≡ group_of (handles a ++ handles b)) × AcceptedProduct t (group_of (handles a ++ handles b))
+pub joined_accepted : {t : List ℕ} {a b : Group} → AcceptedProduct t a → AcceptedProduct t b → answer_of (joins (length t) a b) ≡ fine
+    → (joins (length t) a b ≡ Ok (group_of (handles a ++ handles b))) × AcceptedProduct t (group_of (handles a ++ handles b))
 unfolding joins
 joined_accepted {t} {a} {b} A B e = by (all_fit (length t) l) (leb a.count 8 && (leb b.count 8 && (leb (length l) 8 && leb (elements_of l) 4294967295))) refl refl where
   l : List Factor
@@ -53,9 +52,9 @@ joined_accepted {t} {a} {b} A B e = by (all_fit (length t) l) (leb a.count 8 && 
 
   by : (x y : Bool) → all_fit (length t) (handles a ++ handles b) ≡ x
       → leb a.count 8 && (leb b.count 8 && (leb (length (handles a ++ handles b)) 8 && leb (elements_of (handles a ++ handles b)) 4294967295)) ≡ y
-      → ((joins (length t) a b).group ≡ group_of (handles a ++ handles b)) × AcceptedProduct t (group_of (handles a ++ handles b))
-  by false y p q = absurd (never (rw p at e))
-  by true false p q = absurd (never (rw (p, q) at e))
+      → (joins (length t) a b ≡ Ok (group_of (handles a ++ handles b))) × AcceptedProduct t (group_of (handles a ++ handles b))
+  by false y p q = let z : refused_of 17 0 0 0 ≡ fine = rw p at e in absurd (refused_fine z)
+  by true false p q = let z : refused_of 15 0 0 0 ≡ fine = rw (p, q) at e in absurd (refused_fine z)
   by true true p q =
       let r = and_second (leb b.count 8) _ (and_second (leb a.count 8) _ q) in (
         rw (p, q),

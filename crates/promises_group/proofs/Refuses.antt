@@ -11,10 +11,8 @@ use Rattle.egg.specs.declared.Refusal.{Refusal}
 use Rattle.egg.specs.declared.Factor.{Factor}
 use Rattle.egg.specs.declared.GroupElementId.{GroupElementId}
 use Rattle.egg.specs.declared.GeneratorId.{GeneratorId}
-use Rattle.egg.specs.declared.Reached.{Reached}
-use Rattle.egg.specs.declared.Reached.TheVariants as reached
-use Rattle.egg.specs.declared.Counted.{Counted}
-use Rattle.egg.specs.declared.Counted.TheVariants as counted
+use Rattle.egg.specs.Answers.{Counted, Reached, answer_of}
+use Rattle.std.specs.Prelude.{Ok, Err}
 use Rattle.egg.specs.Table.{length_of}
 use Rattle.egg.specs.Factor.{stretch}
 use Rattle.factor_questions.specs.Walks.{compose_in}
@@ -124,12 +122,12 @@ module _ {l : List ℕ} (op : ℕ → ℕ → Reached) (is : (x y : ℕ) → Rea
 -- Periods and lengths.
 module _ {l : List ℕ} where
   counted_on : (x : Counted) {f : ℕ → Counted} → CountedIn l x → ((k : ℕ) → CountedIn l (f k)) → CountedIn l (on_counted x f)
-  counted_on (counted.Count k) p q = q k
-  counted_on (counted.Refused r) p q = p
+  counted_on (Ok k) p q = q k
+  counted_on (Err r) p q = p
 
   element_on : (x : Reached) {f : ℕ → Counted} → ReachedIn l x → ((k : ℕ) → CountedIn l (f k)) → CountedIn l (on_element x f)
-  element_on (reached.Element e) p q = q e.0
-  element_on (reached.Refused r) p q = counted_refused r (p.of r refl)
+  element_on (Ok e) p q = q e.0
+  element_on (Err r) p q = counted_refused r (p.of r refl)
 
 period_in : (left : ℕ) (op : ℕ → ℕ → Reached) → ((x y : ℕ) → ReachedIn (14 ∷ 15 ∷ 17 ∷ []) (op x y)) → (a x k : ℕ) → CountedIn (14 ∷ 15 ∷ 17 ∷ []) (period_from left op a x k)
 unfolding period_from
@@ -160,23 +158,23 @@ unfolding length_in
 one_lent s n e = counted_pick (ltb 4096 (length_of s n e)) _ _ (counted_refused _ refl) (counted_count _)
 
 writes_by_lem : (c : Counted) → CountedIn (4 ∷ 14 ∷ 15 ∷ 17 ∷ []) c → (b : Bool) (size : ℕ) → CountedIn (4 ∷ 14 ∷ 15 ∷ 17 ∷ []) (writes_by c b size)
-writes_by_lem (counted.Count k) p b size = counted_pick (ltb size k) _ _ (counted_refused _ refl) (counted_pick b _ _ (counted_count k) (counted_refused _ refl))
-writes_by_lem (counted.Refused r) p b size = p
+writes_by_lem (Ok k) p b size = counted_pick (ltb size k) _ _ (counted_refused _ refl) (counted_pick b _ _ (counted_count k) (counted_refused _ refl))
+writes_by_lem (Err r) p b size = p
 
 -- A refusal leaves what was there.
-digits_kept : (c : Counted) (Ns : List ℕ) (e : ℕ) (out : List ℕ) (r : Refusal) → c ≡ counted.Refused r → digits_left c Ns e out ≡ out
+digits_kept : (c : Counted) (Ns : List ℕ) (e : ℕ) (out : List ℕ) (r : Refusal) → c ≡ Err r → digits_left c Ns e out ≡ out
 digits_kept c Ns e out r q = rw q
 
-letters_kept : (c : Counted) (t : List ℕ) (hs : List Factor) (e : ℕ) (out : List ℕ) (r : Refusal) → c ≡ counted.Refused r → leaves c t hs e out ≡ out
+letters_kept : (c : Counted) (t : List ℕ) (hs : List Factor) (e : ℕ) (out : List ℕ) (r : Refusal) → c ≡ Err r → leaves c t hs e out ≡ out
 letters_kept c t hs e out r q = rw q
 
 module _ (t : List ℕ) (g : Group) where
-  makes : (b : Group) → VerdictIn (15 ∷ 17 ∷ []) (joins (length t) g b).answer
+  makes : (b : Group) → VerdictIn (15 ∷ 17 ∷ []) (answer_of (joins (length t) g b))
   unfolding joins
   makes b = by (all_fit (length t) (handles g ++ handles b)) (leb g.count 8 && (leb b.count 8 && (leb (length (handles g ++ handles b)) 8 && leb (elements_of (handles g ++ handles b)) 4294967295))) refl refl where
     by : (x y : Bool) → all_fit (length t) (handles g ++ handles b) ≡ x
         → leb g.count 8 && (leb b.count 8 && (leb (length (handles g ++ handles b)) 8 && leb (elements_of (handles g ++ handles b)) 4294967295)) ≡ y
-        → VerdictIn (15 ∷ 17 ∷ []) (joins (length t) g b).answer
+        → VerdictIn (15 ∷ 17 ∷ []) (answer_of (joins (length t) g b))
     by false y p q = rw p (verdict_refused _ refl)
     by true false p q = rw (p, q) (verdict_refused _ refl)
     by true true p q = rw (p, q) verdict_fine
@@ -257,15 +255,15 @@ module _ (t : List ℕ) (g : Group) where
   writes_asked e size =
       counted_if _ _ (admits_lent (length t) g _ _ _ _) (writes_by_lem (lengths t (handles g) e.0) (length_in_lem one_lent t (handles g) e.0) (readables t (handles g) e.0) size)
 
-  split_untouched : (e : GroupElementId) (out : List ℕ) (r : Refusal) → split_answer t g e (length out) ≡ counted.Refused r → split_leaves t g e out ≡ out
+  split_untouched : (e : GroupElementId) (out : List ℕ) (r : Refusal) → split_answer t g e (length out) ≡ Err r → split_leaves t g e out ≡ out
   unfolding split_leaves
   split_untouched e out r q = digits_kept (split_answer t g e (length out)) (sizes (handles g)) e.0 out r q
 
-  write_untouched : (e : GroupElementId) (out : List ℕ) (r : Refusal) → write_answer t g e (length out) ≡ counted.Refused r → written t g e out ≡ out
+  write_untouched : (e : GroupElementId) (out : List ℕ) (r : Refusal) → write_answer t g e (length out) ≡ Err r → written t g e out ≡ out
   unfolding written
   write_untouched e out r q = letters_kept (write_answer t g e (length out)) t (handles g) e.0 out r q
 
-  nothing_handed : (e : GroupElementId) (out : List ℕ) (r : Refusal) → write_answer t g e (length out) ≡ counted.Refused r → word_part t g e out ≡ []
+  nothing_handed : (e : GroupElementId) (out : List ℕ) (r : Refusal) → write_answer t g e (length out) ≡ Err r → word_part t g e out ≡ []
   unfolding word_part
   nothing_handed e out r q = rw q
 

@@ -10,8 +10,8 @@ use borrow.Author.Tests.{eq-eqb, ne_eqb}
 use lib.Dec.{eqb}
 use lib.IntN.{ℤ, pos, negsuc}
 use Rattle.egg.specs.declared.Factor.{Factor}
-use Rattle.egg.specs.declared.Reached.{Reached}
-use Rattle.egg.specs.declared.Counted.TheVariants.{Count}
+use Rattle.egg.specs.Answers.{Reached}
+use Rattle.std.specs.Prelude.{Ok}
 use Rattle.theory.specs.Group.{GroupOn, power, integer_power, Period}
 use Rattle.theory.proofs.GroupLaws.{power_closed}
 use Rattle.theory.proofs.Periods.{period_exists}
@@ -72,35 +72,35 @@ module _ {N : ℕ} {op : ℕ → ℕ → ℕ} {inv : ℕ → ℕ} (G : GroupOn N
   powers_are half invr q ha z = powers_powi half invr q ha z ∙ ap reach (powi_is G half ha z)
 
   -- The walk finds the first power that is the identity.
-  walk_finds : {a k : ℕ} → a < N → Period op a k → (left j : ℕ) → 0 < j → j ≤ k → k < j + left → period_from left opr a (power op a j) j ≡ Count k
+  walk_finds : {a k : ℕ} → a < N → Period op a k → (left j : ℕ) → 0 < j → j ≤ k → k < j + left → period_from left opr a (power op a j) j ≡ Ok k
   unfolding period_from
   walk_finds ha P zero j up h l = absurd (omega arith)
   walk_finds {a} {k} ha P (suc left) j up h l = by (walk_finds ha P left) (eq-or-lt_of_le h) where
-    by : ((j : ℕ) → 0 < j → j ≤ k → k < j + left → period_from left opr a (power op a j) j ≡ Count k) → (j ≡ k) ⊎ (j < k)
-        → period_from (suc left) opr a (power op a j) j ≡ Count k
+    by : ((j : ℕ) → 0 < j → j ≤ k → k < j + left → period_from left opr a (power op a j) j ≡ Ok k) → (j ≡ k) ⊎ (j < k)
+        → period_from (suc left) opr a (power op a j) j ≡ Ok k
     by i (inl e) =
         let z : power op a j ≡ 0 = ap (power op a) e ∙ P.returns in
-        rw (eq-eqb (power op a j) 0 z) (ap Count e)
+        rw (eq-eqb (power op a j) 0 z) (ap Ok e)
     by i (inr m) =
         let n : power op a j ≡ 0 → ⊥ = λ z. let y = P.first up z in absurd (omega arith) in
         let s : j + 1 ≡ suc j = omega arith in
         rw (ne_eqb (power op a j) 0 n, C.is _ _ (power_closed G ha j) ha, s) (i (suc j) (omega arith) (omega arith) (omega arith))
 
-  pub walk_is : {a k : ℕ} → a < N → Period op a k → k ≤ N → period_from N opr a a 1 ≡ Count k
+  pub walk_is : {a k : ℕ} → a < N → Period op a k → k ≤ N → period_from N opr a a 1 ≡ Ok k
   walk_is {a} {k} ha P h =
       let one : power op a 1 ≡ a = G.left_identity ha in
       let p : 0 < k = P.positive in
       ap (λ (x : ℕ). period_from N opr a x 1) (sym one) ∙ walk_finds ha P N 1 (omega arith) (omega arith) (omega arith)
 
 module _ (t : List ℕ) where
-  factor_period : {h : Factor} → Accepted t h → (a : ℕ) → a < h.elements → (k : ℕ) × (period_of t h a ≡ Count k) × Period (part t h).op a k
+  factor_period : {h : Factor} → Accepted t h → (a : ℕ) → a < h.elements → (k : ℕ) × (period_of t h a ≡ Ok k) × Period (part t h).op a k
   factor_period {h} A a ha =
       let G = (part_worded t A).stepped.group.laws in
       let (k, l, P) = period_exists G ha in
       (k, walk_is G (record { is = λ a b ha hb. compose_in_lem A.sound A.ruled A.hops (few_elements A) ha hb }) ha P l, P)
 
   pub periods_are : {hs : List Factor} → AllAccepted t hs → (a : ℕ) → a < (product (parts t hs)).elements
-      → (k : ℕ) × (periods t hs a ≡ Count k) × Period (product (parts t hs)).op a k
+      → (k : ℕ) × (periods t hs a ≡ Ok k) × Period (product (parts t hs)).op a k
   unfolding periods
   periods_are none a ha = (1, refl, record { positive = omega arith; returns = refl; first = λ p z. p })
   periods_are (more {h} {hs} A As) a ha =

@@ -7,8 +7,8 @@ use lib.IntN.{ℤ}
 use Rattle.egg.specs.declared.Factor.{Factor}
 use Rattle.egg.specs.declared.GroupElementId.{GroupElementId}
 use Rattle.egg.specs.declared.GeneratorId.{GeneratorId}
-use Rattle.egg.specs.declared.Counted.{Counted}
-use Rattle.egg.specs.declared.Counted.TheVariants.{Count, Refused}
+use Rattle.egg.specs.Answers.{Counted}
+use Rattle.std.specs.Prelude.{Ok, Err}
 use Rattle.factor_laws.specs.Unaltered.{Unaltered}
 use Rattle.promises.specs.Leaves.{Lent}
 use Rattle.promises.specs.Unaltered.{Wrote}
@@ -72,8 +72,8 @@ module _ {t t' : List ℕ} where
   writes_same Us e size = rw (lengths_same Us e, readables_same Us e)
 
   leaves_same : {hs : List Factor} → AllUnaltered t t' hs → (c : Counted) (e : ℕ) (out : List ℕ) → leaves c t' hs e out ≡ leaves c t hs e out
-  leaves_same Us (Count k) e out = spells_same Us e 0 0 out
-  leaves_same Us (Refused r) e out = refl
+  leaves_same Us (Ok k) e out = spells_same Us e 0 0 out
+  leaves_same Us (Err r) e out = refl
 
 module _ {t t' : List ℕ} {g : Group} (A : AcceptedProduct t g) (Us : AllUnaltered t t' (handles g)) where
   may : (a la b lb : ℕ) → admits (length t') g a la b lb ≡ admits (length t) g a la b lb

@@ -3,7 +3,7 @@
 use Prim.Native.Nat.{ℕ}
 use mathlib.Core.Path.{sym, ◌∙◌, ap}
 use mathlib.Core.List.{List}
-use Rattle.egg.specs.declared.Counted.{Counted}
+use Rattle.egg.specs.Answers.{Counted}
 use Rattle.build_lending.specs.Lending.{making}
 use Rattle.group_handles.proofs.trivial.Kinds as trivial-kinds
 use Rattle.group_handles.proofs.trivial.Reads as trivial-reads

@@ -5,7 +5,7 @@ use mathlib.Core.Path.{◌≡◌, refl, sym, ap, ◌∙◌, subst}
 use mathlib.Core.List.{List, [], ◌∷◌}
 use lib.ListN.{length}
 use Rattle.egg.specs.declared.GroupElementId.{GroupElementId}
-use Rattle.egg.specs.declared.Verdict.TheVariants.{Fine}
+use Rattle.egg.specs.Answers.{fine}
 use Rattle.egg.specs.Factor.{reached_paper}
 use Rattle.theory.specs.Table.{Table}
 use Rattle.theory.specs.Words.{Word, empty, letter, walk}
@@ -63,7 +63,7 @@ module _ {t : List ℕ} {g : Group} (A : AcceptedProduct t g) where
   unfolding walk_answer
   walk_turns {e} {u} he hu =
       let start : e < elements_of (handles g) = subst (λ (n : ℕ). e < n) (parts_elements t (handles g)) he in
-      let right : letters_right (generators_of (handles g)) u ≡ Fine = subst (λ (n : ℕ). letters_right n u ≡ Fine) (parts_generators t (handles g)) (letters_fine hu) in
+      let right : letters_right (generators_of (handles g)) u ≡ fine = subst (λ (n : ℕ). letters_right n u ≡ fine) (parts_generators t (handles g)) (letters_fine hu) in
       rw (sym (walk_fine (length t) g e u (all_fit_lem t A.factors) start refl right A.within)) (follows_walk he hu)
 
   -- One walk along the turns is the steps one after another.

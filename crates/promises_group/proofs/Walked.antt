@@ -8,10 +8,8 @@ use mathlib.Core.List.{List}
 use lib.Dec.{leb}
 use lib.ListN.{length}
 use Rattle.egg.specs.declared.GroupElementId.{GroupElementId}
-use Rattle.egg.specs.declared.Verdict.{Verdict}
-use Rattle.egg.specs.declared.Verdict.TheVariants as verdict
-use Rattle.egg.specs.declared.Verdict.TheVariants.{Fine}
-use Rattle.egg.specs.declared.Reached.{Reached}
+use Rattle.egg.specs.Answers.{Reached, Verdict, fine}
+use Rattle.std.specs.Prelude.{Ok, Err}
 use Rattle.egg.specs.Table.{pick}
 use Rattle.egg.specs.Scan.{refused_of, and_then}
 use Rattle.egg.specs.Factor.{Paper, reached_paper}
@@ -33,13 +31,13 @@ module _ (t : List ℕ) (g : Group) (e : GroupElementId) (w : List ℕ) where
       (by (all_fit (length t) (handles g)) (leb (elements_of (handles g)) e.0) (letters_right (generators_of (handles g)) w) (limited g) (follows t (handles g) e.0 w))
     where
       by : (x y : Bool) (v : Verdict) (z : Bool) (r : Reached)
-          → reached_paper (if_reach (pick x (pick y (refused_of 14 0 0 0) (and_then v (pick z Fine (refused_of 15 0 0 0)))) (refused_of 17 0 0 0)) r)
-          ≡ afterwards (pick x (and_then (and_then (pick y (refused_of 14 0 0 0) Fine) v) (pick z Fine (refused_of 15 0 0 0))) (refused_of 17 0 0 0)) (reached_paper r)
+          → reached_paper (if_reach (pick x (pick y (refused_of 14 0 0 0) (and_then v (pick z fine (refused_of 15 0 0 0)))) (refused_of 17 0 0 0)) r)
+          ≡ afterwards (pick x (and_then (and_then (pick y (refused_of 14 0 0 0) fine) v) (pick z fine (refused_of 15 0 0 0))) (refused_of 17 0 0 0)) (reached_paper r)
       by false y v z r = refl
       by true true v z r = refl
-      by true false (verdict.Refused s) z r = refl
-      by true false Fine true r = refl
-      by true false Fine false r = refl
+      by true false (Err s) z r = refl
+      by true false (Ok _) true r = refl
+      by true false (Ok _) false r = refl
 
   pub product_walk_asked : (p : Paper)
       → reached_paper (walk_answer t g e w) ≡ p

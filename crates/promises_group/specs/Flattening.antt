@@ -3,9 +3,8 @@
 use Rattle.std.specs.Prelude.{ℕ, ◌+◌, ◌*◌, ◌≤◌, ◌<◌, ◌≡◌, true, false, List, [], ◌∷◌, length, get_or, replicate}
 use Rattle.egg.specs.declared.Refusal.{Refusal}
 use Rattle.egg.specs.declared.Factor.{Factor}
-use Rattle.egg.specs.declared.Reached.{Reached}
-use Rattle.egg.specs.declared.Reached.TheVariants as reached
-use Rattle.egg.specs.declared.Verdict.TheVariants as verdict
+use Rattle.egg.specs.Answers.{Reached, fine}
+use Rattle.std.specs.Prelude.{Ok, Err}
 use Rattle.egg.specs.Factor.{Paper, refusal_paper, stretch, refused_reach}
 use Rattle.build_lending.specs.Lending as built
 use Rattle.build_lending.specs.Lending.{table_need, work_need, lent_right}
@@ -25,7 +24,7 @@ use Rattle.group_digits.specs.Digits.{step_in}
 -- The arguments are right, so that its build starts: the handles fit (17) and the product is within the limits (15), it has at most 8 generators (1),
 -- and room and lent buffers do (4).
 pub record FlatRight (from : List ℕ) (g : Group) (table : List ℕ) (start : ℕ) (work : List ℕ) (room : ℕ) : Type 0 where
-  pub admitted : admits (length from) g 0 1 0 1 ≡ verdict.Fine
+  pub admitted : admits (length from) g 0 1 0 1 ≡ fine
   pub generators : generators_of (handles g) ≤ 8
   pub lent : lent_right (length table) start (length work) room (generators_of (handles g)) ≡ true
 
@@ -64,8 +63,8 @@ work_for work n room w = record { entry = work; start = 0; need = work_need n ro
 -- The number that is read for a step of the product ("`flatten` keeps product numbers"). One that cannot be read has none: 65,536 stands for it, which
 -- lies beyond every count.
 abbrev pub number_read : Reached → ℕ
-number_read (reached.Element v) = v.0
-number_read (reached.Refused r) = 65536
+number_read (Ok v) = v.0
+number_read (Err r) = 65536
 
 -- The steps that are read, whatever the factors' stretches hold.
 abbrev pub step_number : List ℕ → List Factor → ℕ → ℕ → ℕ
@@ -82,7 +81,7 @@ pub record StepUnread (from : List ℕ) (hs : List Factor) (room : ℕ) : Type 0
 
 -- A number that skips ahead, 7, is the product's own at that place.
 abbrev pub StepsAnswered : List ℕ → List Factor → Refusal → Type 0
-StepsAnswered from hs r = r.number ≡ 7 → step_in from hs r.a r.b ≡ reach r.c
+StepsAnswered from hs r = (refusal_paper r).number ≡ 7 → step_in from hs (refusal_paper r).a (refusal_paper r).b ≡ reach (refusal_paper r).c
 
 -- Every answer of `flatten`, on every input, with the case in which it comes: 17 in a handle; 15; 1 with the count; 4; 17 as met; the fault of the steps that
 -- are read, with its number and places; or 0, where some group has these steps. "The first that applies .. is given, and each is given only then."

@@ -1,7 +1,8 @@
 -- This file states the answers about a product of accepted factors as document 01 sets them out: "a definition sets out this paper's number and
 -- values for each of its cases. The promises use that definition." It is `verdict_paper`, `reached_paper` and `counted_paper` of egg; a product and its
 -- verdict have theirs here.
-use Rattle.std.specs.Prelude.{ℕ, ◌≤◌, ◌<◌, ◌≡◌, ◌↔◌, true, false, List, ◌++◌, length, get_or, ℤ}
+use Rattle.std.specs.Prelude.{ℕ, ◌≤◌, ◌<◌, ◌≡◌, ◌↔◌, true, false, List, ◌++◌, length, get_or, ℤ, Ok}
+use Rattle.egg.specs.Answers.{answer_of}
 use Rattle.egg.specs.Factor.{Paper, verdict_paper, reached_paper, counted_paper}
 use Rattle.theory.specs.Table.{generator}
 use Rattle.theory.specs.Group.{GroupOn, RightSteps, conjugate, integer_power, Period}
@@ -9,14 +10,14 @@ use Rattle.factor_laws.specs.Papers.{value_paper}
 use Rattle.theory_radix.specs.Radix.{split, inject}
 use Rattle.theory_products.specs.Product.{Part}
 use Rattle.group_handles.specs.declared.Group.{Group}
-use Rattle.group_handles.specs.declared.Grouped.{Grouped}
+use Rattle.group_handles.specs.Answers.{Grouped}
 use Rattle.group_handles.specs.Handles.{handles, sizes, elements_of, all_fit, group_of, joins}
 use Rattle.group.specs.Questions.{count_answer, generators_answer, generator_answer, step_answer, project_answer, inject_answer, split_answer, join_answer}
 use Rattle.group.specs.Questions.{compose_answer, inverse_answer, conjugate_answer, powi_answer, period_answer, length_answer, write_answer}
 
 -- What `product` answers: 0, or the refusal's number and places.
 abbrev pub grouped_paper : Grouped → Paper
-grouped_paper r = verdict_paper r.answer
+grouped_paper made = verdict_paper (answer_of made)
 
 -- A refusal with no places, on paper.
 abbrev pub refused_paper : ℕ → Paper
@@ -35,7 +36,7 @@ pub record ProductPaper (len : ℕ) (a b : Group) : Type 0 where
   pub handle : (grouped_paper (joins len a b) ≡ refused_paper 17) ↔ (all_fit len (handles a ++ handles b) ≡ false)
   pub large : (grouped_paper (joins len a b) ≡ refused_paper 15) ↔ ((all_fit len (handles a ++ handles b) ≡ true) × (Together a b → ⊥))
   pub fine : (grouped_paper (joins len a b) ≡ value_paper 0) ↔ ((all_fit len (handles a ++ handles b) ≡ true) × Together a b)
-  pub made : grouped_paper (joins len a b) ≡ value_paper 0 → (joins len a b).group ≡ group_of (handles a ++ handles b)
+  pub made : grouped_paper (joins len a b) ≡ value_paper 0 → joins len a b ≡ Ok (group_of (handles a ++ handles b))
 
 -- Every answer about the product, on paper, is the direct product's own.
 pub record ProductPapers (t : List ℕ) (g : Group) (P : Part) : Type 0 where

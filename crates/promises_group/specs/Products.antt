@@ -1,7 +1,7 @@
 -- This file defines what a product of accepted factors is, and states what the answers about it say.
 use Rattle.std.specs.Prelude.{ℕ, zero, suc, ◌*◌, ◌/◌, ◌%◌, ◌≤◌, ◌<◌, ◌≡◌, true, List, [], ◌∷◌, ◌++◌, length, drop, get_or, ℤ}
 use Rattle.egg.specs.declared.Factor.{Factor}
-use Rattle.egg.specs.declared.Counted.TheVariants.{Count}
+use Rattle.std.specs.Prelude.{Ok}
 use Rattle.theory.specs.Table.{generator}
 use Rattle.theory.specs.Words.{walk}
 use Rattle.theory.specs.Group.{GroupOn, RightSteps, conjugate, integer_power, Period}
@@ -50,8 +50,8 @@ step_rows step n room = listed (room * n) (λ i. step (i / n) (i % n))
 pub record ProductAnswers (t : List ℕ) (g : Group) (P : Part) : Type 0 where
   pub group : GroupOn P.elements P.op P.inv
   pub right_steps : RightSteps P.generators P.elements P.step P.op
-  pub counts : count_answer t g ≡ Count P.elements
-  pub generator_counts : generators_answer t g ≡ Count P.generators
+  pub counts : count_answer t g ≡ Ok P.elements
+  pub generator_counts : generators_answer t g ≡ Ok P.generators
   pub generators : {x : ℕ} → x < P.generators → generator_answer t g (record { 0 = x }) ≡ reach (generator P.step x)
   pub steps : {e x : ℕ} → e < P.elements → x < P.generators
       → step_answer t g (record { 0 = e }) (record { 0 = x }) ≡ reach (P.op e (generator P.step x))
@@ -60,9 +60,9 @@ pub record ProductAnswers (t : List ℕ) (g : Group) (P : Part) : Type 0 where
   pub conjugates : {a b : ℕ} → a < P.elements → b < P.elements
       → conjugate_answer t g (record { 0 = a }) (record { 0 = b }) ≡ reach (conjugate P.op P.inv a b)
   pub powers : {a : ℕ} → a < P.elements → (z : ℤ) → powi_answer t g (record { 0 = a }) z ≡ reach (integer_power P.op P.inv a z)
-  pub periods : {a : ℕ} → a < P.elements → (k : ℕ) × (period_answer t g (record { 0 = a }) ≡ Count k) × Period P.op a k
+  pub periods : {a : ℕ} → a < P.elements → (k : ℕ) × (period_answer t g (record { 0 = a }) ≡ Ok k) × Period P.op a k
   -- Splitting gives the digits, and joining them gives the element back.
-  pub split_counts : {e : ℕ} (size : ℕ) → e < P.elements → length (handles g) ≤ size → split_answer t g (record { 0 = e }) size ≡ Count (length (handles g))
+  pub split_counts : {e : ℕ} (size : ℕ) → e < P.elements → length (handles g) ≤ size → split_answer t g (record { 0 = e }) size ≡ Ok (length (handles g))
   pub splits : {e : ℕ} (out : List ℕ) → e < P.elements → length (handles g) ≤ length out
       → split_leaves t g (record { 0 = e }) out ≡ split (sizes (handles g)) e ++ drop (length (handles g)) out
   pub joins : {e : ℕ} → e < P.elements → join_answer t g (split (sizes (handles g)) e) ≡ reach e
@@ -71,8 +71,8 @@ pub record ProductAnswers (t : List ℕ) (g : Group) (P : Part) : Type 0 where
   pub injects : {f x : ℕ} → f < length (handles g) → x < get_or (sizes (handles g)) f 1
       → inject_answer t g f (record { 0 = x }) ≡ reach (inject (sizes (handles g)) f x)
   -- The word that is written leads from the identity to its element.
-  pub lengths : {e : ℕ} → e < P.elements → length_answer t g (record { 0 = e }) ≡ Count (length (P.word e))
-  pub writes : {e : ℕ} (size : ℕ) → e < P.elements → length (P.word e) ≤ size → write_answer t g (record { 0 = e }) size ≡ Count (length (P.word e))
+  pub lengths : {e : ℕ} → e < P.elements → length_answer t g (record { 0 = e }) ≡ Ok (length (P.word e))
+  pub writes : {e : ℕ} (size : ℕ) → e < P.elements → length (P.word e) ≤ size → write_answer t g (record { 0 = e }) size ≡ Ok (length (P.word e))
   pub leaves : {e : ℕ} (out : List ℕ) → e < P.elements → length (P.word e) ≤ length out
       → written t g (record { 0 = e }) out ≡ P.word e ++ drop (length (P.word e)) out
   pub filled : {e : ℕ} (out : List ℕ) → e < P.elements → length (P.word e) ≤ length out → word_part t g (record { 0 = e }) out ≡ P.word e

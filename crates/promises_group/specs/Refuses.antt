@@ -3,9 +3,10 @@
 -- question writes nothing".
 use Rattle.std.specs.Prelude.{ℕ, ◌≡◌, List, [], ◌∷◌, length, ℤ}
 use Rattle.egg.specs.declared.Refusal.{Refusal}
+use Rattle.egg.specs.Answers.{answer_of}
 use Rattle.egg.specs.declared.GroupElementId.{GroupElementId}
 use Rattle.egg.specs.declared.GeneratorId.{GeneratorId}
-use Rattle.egg.specs.declared.Counted.TheVariants as counted
+use Rattle.std.specs.Prelude.{Err}
 use Rattle.factor_laws.specs.Refuses.{ReachedIn, CountedIn, VerdictIn}
 use Rattle.group_handles.specs.declared.Group.{Group}
 use Rattle.group_handles.specs.Handles.{joins}
@@ -14,7 +15,7 @@ use Rattle.group.specs.Questions.{compose_answer, inverse_answer, conjugate_answ
 
 -- Each call of the product g, with the only numbers by which it is ever refused.
 pub record ProductRefuses (t : List ℕ) (g : Group) : Type 0 where
-  pub makes : (b : Group) → VerdictIn (15 ∷ 17 ∷ []) (joins (length t) g b).answer
+  pub makes : (b : Group) → VerdictIn (15 ∷ 17 ∷ []) (answer_of (joins (length t) g b))
   -- These have no argument that 14 could be given for.
   pub counts : CountedIn (15 ∷ 17 ∷ []) (count_answer t g)
   pub generator_counts : CountedIn (15 ∷ 17 ∷ []) (generators_answer t g)
@@ -33,7 +34,7 @@ pub record ProductRefuses (t : List ℕ) (g : Group) : Type 0 where
   pub lengths : (e : GroupElementId) → CountedIn (14 ∷ 15 ∷ 17 ∷ []) (length_answer t g e)
   pub writes : (e : GroupElementId) (size : ℕ) → CountedIn (4 ∷ 14 ∷ 15 ∷ 17 ∷ []) (write_answer t g e size)
   -- What the lent list and the byte buffer hold after a refusal.
-  pub split_untouched : (e : GroupElementId) (out : List ℕ) (r : Refusal) → split_answer t g e (length out) ≡ counted.Refused r → split_leaves t g e out ≡ out
-  pub write_untouched : (e : GroupElementId) (out : List ℕ) (r : Refusal) → write_answer t g e (length out) ≡ counted.Refused r → written t g e out ≡ out
+  pub split_untouched : (e : GroupElementId) (out : List ℕ) (r : Refusal) → split_answer t g e (length out) ≡ Err r → split_leaves t g e out ≡ out
+  pub write_untouched : (e : GroupElementId) (out : List ℕ) (r : Refusal) → write_answer t g e (length out) ≡ Err r → written t g e out ≡ out
   -- And of the word that is chosen: "refused: the empty start, the number by a second call".
-  pub nothing_handed : (e : GroupElementId) (out : List ℕ) (r : Refusal) → write_answer t g e (length out) ≡ counted.Refused r → word_part t g e out ≡ []
+  pub nothing_handed : (e : GroupElementId) (out : List ℕ) (r : Refusal) → write_answer t g e (length out) ≡ Err r → word_part t g e out ≡ []

@@ -11,8 +11,7 @@ use borrow.Author.Tests.{eq-eqb, ne_eqb, eqb-true, eqb-false, le-ltb, le-leb, lt
 use lib.Dec.{ltb, eqb}
 use lib.ListN.{length, drop, take, replicate, length-replicate}
 use Rattle.egg.specs.declared.Factor.{Factor}
-use Rattle.egg.specs.declared.Verdict.TheVariants as verdict
-use Rattle.egg.specs.declared.Counted.TheVariants.{Count, Refused}
+use Rattle.std.specs.Prelude.{Ok, Err}
 use Rattle.egg.specs.Table.{pick}
 use Rattle.egg.specs.Scan.{refused_of}
 use Rattle.egg.specs.Factor.{Paper, verdict_paper}
@@ -26,9 +25,9 @@ use Rattle.build_reading_laws.specs.Read.{Read, Readable}
 use Rattle.build_reading_laws.proofs.Readings.{accepted_read, readable_accepted, refused_read, refused_number}
 use Rattle.image_check.specs.Short.{verdict_number, number_by, ruled, built}
 use Rattle.promises_image.proofs.Composed.{ruled_is_composed}
-use Rattle.image.specs.Image.{head_generators, head_elements, head_number, bytes_need, image_number}
+use Rattle.image.specs.Image.{head_generators, head_elements, head_number, head_place, bytes_need, image_number}
 use Rattle.image_reading.specs.Read.{all_placed, image_in}
-use Rattle.image.specs.Read.{head_place, read_image}
+use Rattle.image.specs.Read.{read_image}
 use Rattle.image.specs.Checked.{image_verdict}
 use Rattle.image.proofs.Checking.{zeros_long, verdict_number_lem}
 use Rattle.promises.specs.Composed.{Given}
@@ -44,14 +43,14 @@ use Rattle.promises_image.proofs.Numbers.{fine_checks}
 
 -- A reading that reached them all goes on as it is, and one that did not is refused by 16.
 all_placed_lem : (room : ℕ) (p : Placed) → ends_fewer p room ≡ false → all_placed room p ≡ p
-all_placed_lem room (placed (Count c) t) e = rw e
-all_placed_lem room (placed (Refused r) t) e = refl
+all_placed_lem room (placed (Ok c) t) e = rw e
+all_placed_lem room (placed (Err r) t) e = refl
 
 fewer_answer : (table : List ℕ) (start : ℕ) (work : List ℕ) (n room : ℕ) (w : List ℕ) (p : Placed) → ends_fewer p room ≡ true
     → made_answer (lent_back table start work n room (finished_placed (all_placed room p) n w)) ≡ refused_of 16 0 0 0
 unfolding finished
-fewer_answer table start work n room w (placed (Count c) t) e = rw e
-fewer_answer table start work n room w (placed (Refused r) t) e = absurd (let z : ◌≡◌ {A = ℕ} 0 1 = cc in omega arith)
+fewer_answer table start work n room w (placed (Ok c) t) e = rw e
+fewer_answer table start work n room w (placed (Err r) t) e = absurd (let z : ◌≡◌ {A = ℕ} 0 1 = cc in omega arith)
 
 in_same : (size : ℕ) (w rows : List ℕ) (n room : ℕ) → ends_fewer (read_all (composed_at rows n) n room (replicate size 0)) room ≡ false
     → image_in size w rows n room ≡ composed_in size w rows n room
@@ -233,9 +232,9 @@ module _ (l : List ℕ) (B : Bytes l) where
 
       by : (p : Placed) → read_all src gens elts (replicate (table_need gens elts) 0) ≡ p
           → number_by (λ t. verdict_of (check_group t zeros gens elts)) p elts ≡ 0 → Taken src gens elts elts
-      by (placed (Refused r) t) q z =
+      by (placed (Err r) t) q z =
           absurd (refused_zero (refused_number (refused_read src gens elts (table_need gens elts) F.few F.some few_elements (le_refl (table_need gens elts)) q)) z)
-      by (placed (Count c) t) q z =
+      by (placed (Ok c) t) q z =
           whole c t (ltb c elts) refl (accepted_read src gens elts (table_need gens elts) F.few F.some few_elements (le_refl (table_need gens elts)) q) z
 
     taken_number : Taken (composed_at succs gens) gens elts elts → built (table_need gens elts) zeros succs gens elts ≡ 0
@@ -284,13 +283,13 @@ module _ (l : List ℕ) (B : Bytes l) (table : List ℕ) (start : ℕ) (work : L
 
     from_composed : {f : Factor} {t w : List ℕ}
         → ends_fewer (read_all (image_step l) (head_generators l) (head_elements l) (replicate (table_need (head_generators l) (head_elements l)) 0)) (head_elements l) ≡ false
-        → composed table start work (halves (drop 8 l)) (head_generators l) (head_elements l) ≡ making (record { answer = verdict.Fine; factor = f }) t w
+        → composed table start work (halves (drop 8 l)) (head_generators l) (head_elements l) ≡ making (Ok f) t w
         → Given table start work (halves (drop 8 l)) (head_generators l) (head_elements l) f t w × (f.elements ≡ head_elements l)
     from_composed {f} {t} {w} e q =
         let G = composed_given table start work (halves (drop 8 l)) (head_generators l) (head_elements l) f t w q in
         (G, all_elements G.taken.readable e)
 
-  pub read_given : {f : Factor} {t w : List ℕ} → read_image l table start work ≡ making (record { answer = verdict.Fine; factor = f }) t w
+  pub read_given : {f : Factor} {t w : List ℕ} → read_image l table start work ≡ making (Ok f) t w
       → GroupImage l × Given table start work (halves (drop 8 l)) (head_generators l) (head_elements l) f t w × (f.elements ≡ head_elements l)
   read_given {f} {t} {w} q = head (eqb (head_number l) 0) refl where
     need : ℕ
@@ -328,7 +327,7 @@ module _ (l : List ℕ) (B : Bytes l) (table : List ℕ) (start : ℕ) (work : L
       (le_refl (table_need (head_generators l) (head_elements l))) S.taken.readable)
 
   pub group_read : GroupImage l → lent_right (length table) start (length work) (head_elements l) (head_generators l) ≡ true
-      → (f : Factor) × (t : List ℕ) × (w : List ℕ) × (read_image l table start work ≡ making (record { answer = verdict.Fine; factor = f }) t w)
+      → (f : Factor) × (t : List ℕ) × (w : List ℕ) × (read_image l table start work ≡ making (Ok f) t w)
   group_read S lent =
       let F = S.formed in
       let a = (composed_exactly table start work (halves (drop 8 l)) (head_generators l) (head_elements l) F.few lent (all_listed l B F)).1 (head_elements l, S.taken) in
@@ -336,5 +335,5 @@ module _ (l : List ℕ) (B : Bytes l) (table : List ℕ) (start : ℕ) (work : L
 
   -- Accepted exactly when, in buffers that are not short where the head is right.
   pub read_exactly : (head_number l ≡ 0 → lent_right (length table) start (length work) (head_elements l) (head_generators l) ≡ true)
-      → ((f : Factor) × (t : List ℕ) × (w : List ℕ) × (read_image l table start work ≡ making (record { answer = verdict.Fine; factor = f }) t w)) ↔ GroupImage l
+      → ((f : Factor) × (t : List ℕ) × (w : List ℕ) × (read_image l table start work ≡ making (Ok f) t w)) ↔ GroupImage l
   read_exactly lent = (λ a. (read_given a.3).0, λ S. group_read S (lent (formed_head l S.formed)))

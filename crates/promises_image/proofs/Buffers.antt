@@ -6,14 +6,14 @@ use borrow.Author.Tests.{eq-eqb, ne_eqb, lt-ltb, le-ltb}
 use lib.ListN.{length, drop, replicate}
 use Rattle.egg.specs.declared.Factor.{Factor}
 use Rattle.egg.specs.declared.Refusal.{Refusal}
-use Rattle.egg.specs.declared.Counted.TheVariants.{Refused}
+use Rattle.std.specs.Prelude.{Err}
 use Rattle.image.specs.Image.{head_generators, head_elements, head_number, bytes_need, image_number, image_work}
 use Rattle.image.specs.Written.{write_count, written_image}
 use Rattle.promises_image.specs.Images.{WellFormed}
 use Rattle.promises_image.proofs.Heads.{formed_head}
 
 -- "A refused question writes nothing."
-pub write_refused : (t : List ℕ) (f : Factor) (out : List ℕ) {r : Refusal} → write_count t f (length out) ≡ Refused r → written_image t f out ≡ out
+pub write_refused : (t : List ℕ) (f : Factor) (out : List ℕ) {r : Refusal} → write_count t f (length out) ≡ Err r → written_image t f out ≡ out
 unfolding written_image
 write_refused t f out e = rw e
 

@@ -9,9 +9,8 @@ use borrow.Author.Tests.{le-leb, le-ltb, leb-true, ltb-false}
 use lib.Dec.{ltb}
 use lib.ListN.{length, take, replicate}
 use lib.Seq.{length-take-le}
-use Rattle.egg.specs.declared.Verdict.{Verdict}
-use Rattle.egg.specs.declared.Verdict.TheVariants as verdict
-use Rattle.egg.specs.declared.Counted.TheVariants.{Count, Refused}
+use Rattle.egg.specs.Answers.{Verdict, fine}
+use Rattle.std.specs.Prelude.{Ok, Err}
 use Rattle.egg.specs.Table.{pick}
 use Rattle.egg.specs.Scan.{refused_of}
 use Rattle.egg.proofs.Rooms.{positive, limited}
@@ -29,16 +28,16 @@ use Rattle.image_check_laws.proofs.Short.{whole_same, pick_number, ruled_number}
 use Rattle.promises_image.specs.Images.{ends_fewer, made_answer, made_number}
 
 abbrev pub built_answer : Built → Verdict
-built_answer (finish.built (Count c) t w) = verdict.Fine
-built_answer (finish.built (Refused r) t w) = verdict.Refused r
+built_answer (finish.built (Ok c) t w) = fine
+built_answer (finish.built (Err r) t w) = Err r
 
 pub back_answer : (table : List ℕ) (start : ℕ) (work : List ℕ) (n room : ℕ) (b : Built) → made_answer (lent_back table start work n room b) ≡ built_answer b
-back_answer table start work n room (finish.built (Count c) t w) = refl
-back_answer table start work n room (finish.built (Refused r) t w) = refl
+back_answer table start work n room (finish.built (Ok c) t w) = refl
+back_answer table start work n room (finish.built (Err r) t w) = refl
 
 settled_answer : (n c : ℕ) (k : Checked) → verdict_of k ≡ built_answer (settled_by n c k)
-settled_answer n c (checked verdict.Fine t w) = refl
-settled_answer n c (checked (verdict.Refused r) t w) = refl
+settled_answer n c (checked (Ok _) t w) = refl
+settled_answer n c (checked (Err r) t w) = refl
 
 module _ (table : List ℕ) (start : ℕ) (work rows : List ℕ) (n room : ℕ) (hn : n ≤ 8)
     (lent : lent_right (length table) start (length work) room n ≡ true) (listed : room * n ≤ length rows)
@@ -64,8 +63,8 @@ module _ (table : List ℕ) (start : ℕ) (work rows : List ℕ) (n room : ℕ) 
       simp (le-ltb _ _ hn, lent, le-leb _ _ listed) (back_answer table start work n room (composed_in (table_need n room) w₁ rows n room))
 
   -- By what the reading gave.
-  whole : (c : ℕ) (t : List ℕ) → read_all (composed_at rows n) n room (replicate (table_need n room) 0) ≡ placed (Count c) t → room ≤ c
-      → verdict_of (check_group t w n room) ≡ built_answer (finished_placed (placed (Count c) t) n w₁)
+  whole : (c : ℕ) (t : List ℕ) → read_all (composed_at rows n) n room (replicate (table_need n room) 0) ≡ placed (Ok c) t → room ≤ c
+      → verdict_of (check_group t w n room) ≡ built_answer (finished_placed (placed (Ok c) t) n w₁)
   unfolding finished
   whole c t q h =
       let R = accepted_read (composed_at rows n) n room (table_need n room) hn lo hi (le_refl (table_need n room)) q in
@@ -74,16 +73,16 @@ module _ (table : List ℕ) (start : ℕ) (work rows : List ℕ) (n room : ℕ) 
       ∙ settled_answer n c (check_group t w₁ n room)
       ∙ ap (λ (k : ℕ). built_answer (settled_by n c (check_group t w₁ n k))) (sym e)
 
-  counting : (c : ℕ) (t : List ℕ) → read_all (composed_at rows n) n room (replicate (table_need n room) 0) ≡ placed (Count c) t → (b : Bool) → ltb c room ≡ b
-      → pick b (refused_of 16 0 0 0) (verdict_of (check_group t w n room)) ≡ pick b (refused_of 16 0 0 0) (built_answer (finished_placed (placed (Count c) t) n w₁))
+  counting : (c : ℕ) (t : List ℕ) → read_all (composed_at rows n) n room (replicate (table_need n room) 0) ≡ placed (Ok c) t → (b : Bool) → ltb c room ≡ b
+      → pick b (refused_of 16 0 0 0) (verdict_of (check_group t w n room)) ≡ pick b (refused_of 16 0 0 0) (built_answer (finished_placed (placed (Ok c) t) n w₁))
   counting c t q true e = refl
   counting c t q false e = whole c t q (ltb-false c room e)
 
   by : (p : Placed) → read_all (composed_at rows n) n room (replicate (table_need n room) 0) ≡ p
       → verdict_by (λ t. verdict_of (check_group t w n room)) p room ≡ pick (ends_fewer p room) (refused_of 16 0 0 0) (built_answer (finished_placed p n w₁))
   unfolding finished
-  by (placed (Refused r) t) q = refl
-  by (placed (Count c) t) q = counting c t q (ltb c room) refl
+  by (placed (Err r) t) q = refl
+  by (placed (Ok c) t) q = counting c t q (ltb c room) refl
 
   pub ruled_is_composed : ruled (table_need n room) w rows n room
       ≡ pick (ends_fewer (read_all (composed_at rows n) n room (replicate (table_need n room) 0)) room) (refused_of 16 0 0 0) (made_answer (composed table start work rows n room))

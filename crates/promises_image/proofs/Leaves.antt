@@ -9,11 +9,11 @@ use borrow.Author.Tests.{ne_eqb, eqb-true, eqb-false, leb-true}
 use lib.Dec.{ltb, eqb}
 use lib.ListN.{length, get_or, drop, replicate}
 use Rattle.egg.specs.declared.Refusal.{Refusal}
-use Rattle.egg.specs.declared.Factor.{Factor}
-use Rattle.egg.specs.declared.Verdict.TheVariants as verdict
+use Rattle.egg.specs.Refusals.{refusal_paper, numbered}
+use Rattle.std.specs.Prelude.{Err}
 use Rattle.egg.specs.Table.{pick}
 use Rattle.egg.proofs.Rooms.{false_true, within_length}
-use Rattle.build_lending.specs.Lending.{table_need, work_need, lent_right, Making, making, refused_made}
+use Rattle.build_lending.specs.Lending.{table_need, work_need, lent_right, Making, making}
 use Rattle.build_lending.proofs.Lending.{lent_table_lem, lent_enough}
 use Rattle.build_reading.specs.Reading.{read_all, composed_at}
 use Rattle.image_cells.specs.Cells.{halves}
@@ -23,8 +23,9 @@ use Rattle.promises.specs.Papers.{made_paper}
 use Rattle.promises.specs.Leaves.{Leaves, untouched, zeros, AllCleared, lent_for, composed_numbers}
 use Rattle.promises.proofs.Leaves.{composed_leaves}
 use Rattle.image_check.specs.Short.{verdict_number}
-use Rattle.image.specs.Image.{head_length, head_generators, head_elements, head_number}
-use Rattle.image.specs.Read.{head_place, read_image}
+use Rattle.image.specs.Image.{head_length, head_generators, head_elements, head_number, head_place}
+use Rattle.image.specs.Read.{read_image}
+use Rattle.image.proofs.Heads.{bad_number}
 use Rattle.promises_image.specs.Images.{Bytes, ends_fewer, made_number, WellFormed, ImageRight, image_numbers}
 use Rattle.promises_image.proofs.Heads.{formed, formed_head}
 use Rattle.promises_image.proofs.Back.{bad_read, short_read, fewer_read, read-is-composed, all_listed}
@@ -67,8 +68,8 @@ table_of (making m t w) = t
 abbrev work_of : Making → List ℕ
 work_of (making m t w) = w
 
-module _ (l : List ℕ) (B : Bytes l) (table : List ℕ) (start : ℕ) (work : List ℕ) {r : Refusal} {f : Factor} {t w : List ℕ}
-    (q : read_image l table start work ≡ making (record { answer = verdict.Refused r; factor = f }) t w) where
+module _ (l : List ℕ) (B : Bytes l) (table : List ℕ) (start : ℕ) (work : List ℕ) {r : Refusal} {t w : List ℕ}
+    (q : read_image l table start work ≡ making (Err r) t w) where
   abbrev n : ℕ
   n = head_generators l
 
@@ -79,11 +80,11 @@ module _ (l : List ℕ) (B : Bytes l) (table : List ℕ) (start : ℕ) (work : L
   Claim = Leaves (ImageRight l table start work) (1 ∷ 4 ∷ 16 ∷ []) image_numbers (lent_for table start work n N t w) r
 
   -- A refusal of the arguments.
-  wrong : (k place : ℕ) → ¬ (ImageRight l table start work) → member k (1 ∷ 4 ∷ 16 ∷ []) ≡ true
-      → read_image l table start work ≡ making (refused_made k place) table work → Claim
-  wrong k place not_right m e =
+  wrong : (why : Refusal) → ¬ (ImageRight l table start work) → member (refusal_paper why).number (1 ∷ 4 ∷ 16 ∷ []) ≡ true
+      → read_image l table start work ≡ making (Err why) table work → Claim
+  wrong why not_right m e =
       let both = sym e ∙ q in
-      let number : k ≡ r.number = ap (λ (x : Making). (made_paper x).number) both in
+      let number : (refusal_paper why).number ≡ (refusal_paper r).number = ap (λ (x : Making). (made_paper x).number) both in
       untouched not_right (rw number at m) (sym (ap table_of both), (sym (ap work_of both), tt))
 
   -- What is left after the start.
@@ -92,8 +93,8 @@ module _ (l : List ℕ) (B : Bytes l) (table : List ℕ) (start : ℕ) (work : L
     cleared =
         let z = read_zeros l B table start work F lent q in
         let end : 0 + work_need n N ≡ work_need n N = omega arith in (
-          record { inside = within_length (length table) start N n (lent_table_lem (length table) start (length work) N n lent); zero = z.1 },
-          (record { inside = rw end (leb-true _ _ (lent_enough (length table) start (length work) N n lent)); zero = z.2 ∙ rw end }, tt),
+          record { inside = within_length (length table) start N n (lent_table_lem (length table) start (length work) N n lent); zero = z.0 },
+          (record { inside = rw end (leb-true _ _ (lent_enough (length table) start (length work) N n lent)); zero = z.1 ∙ rw end }, tt),
         )
 
     started : RefusalIn image_numbers r → Claim
@@ -101,23 +102,23 @@ module _ (l : List ℕ) (B : Bytes l) (table : List ℕ) (start : ℕ) (work : L
 
     as_composed : Leaves (RowsRight table start work (halves (drop 8 l)) n N) (1 ∷ 4 ∷ []) composed_numbers (lent_for table start work n N t w) r → Claim
     as_composed (untouched not_right m s) = absurd (not_right (record { generators = F.few; lent = lent; listed = all_listed l B F }))
-    as_composed (zeros ok m c) = started (more_in (eqb r.number 16) m)
+    as_composed (zeros ok m c) = started (more_in (eqb (refusal_paper r).number 16) m)
 
     reached : (b : Bool) → ends_fewer (read_all (composed_at (halves (drop 8 l)) n) n N (replicate (table_need n N) 0)) N ≡ b → Claim
     reached true e =
-        let sixteen : r.number ≡ 16 = sym (ap made_number q) ∙ ap verdict_number (fewer_read l table start work F (all_listed l B F) lent e) in
+        let sixteen : (refusal_paper r).number ≡ 16 = sym (ap made_number q) ∙ ap verdict_number (fewer_read l table start work F (all_listed l B F) lent e) in
         started (rw sixteen)
     reached false e =
-        as_composed (composed_leaves table start work (halves (drop 8 l)) n N r f t w (sym (read-is-composed l table start work F (all_listed l B F) e) ∙ q))
+        as_composed (composed_leaves table start work (halves (drop 8 l)) n N r t w (sym (read-is-composed l table start work F (all_listed l B F) e) ∙ q))
 
   pub read_leaves : Leaves (ImageRight l table start work) (1 ∷ 4 ∷ 16 ∷ []) image_numbers (lent_for table start work (head_generators l) (head_elements l) t w) r
   read_leaves = head (eqb (head_number l) 0) refl where
     lending : WellFormed l → (b : Bool) → lent_right (length table) start (length work) (head_elements l) (head_generators l) ≡ b → Claim
     lending F true e = reached F e (ends_fewer (read_all (composed_at (halves (drop 8 l)) n) n N (replicate (table_need n N) 0)) N) refl
-    lending F false e = wrong 4 0 (λ R. false_true (sym e ∙ R.lent)) refl (short_read l table start work F (all_listed l B F) e)
+    lending F false e = wrong (numbered 4 0 0 0) (λ R. false_true (sym e ∙ R.lent)) refl (short_read l table start work F (all_listed l B F) e)
 
     head : (b : Bool) → eqb (head_number l) 0 ≡ b → Claim
     head false e =
         let d = eqb-false (head_number l) 0 e in
-        wrong (head_number l) (head_place l) (λ R. d (formed_head l R.formed)) (bad_in l d) (bad_read l table start work d)
+        wrong (numbered (head_number l) (head_place l) 0 0) (λ R. d (formed_head l R.formed)) (rw (bad_number l d) (bad_in l d)) (bad_read l table start work d)
     head true e = lending (formed l (eqb-true (head_number l) 0 e)) (lent_right (length table) start (length work) (head_elements l) (head_generators l)) refl

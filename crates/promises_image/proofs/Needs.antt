@@ -9,10 +9,8 @@ use borrow.Author.Tests.{eqb-true, eqb-false, ltb-true, lt-ltb}
 use lib.Dec.{ltb, eqb}
 use lib.ListN.{drop, replicate}
 use Rattle.egg.specs.declared.Refusal.{Refusal}
-use Rattle.egg.specs.declared.Verdict.{Verdict}
-use Rattle.egg.specs.declared.Verdict.TheVariants as verdict
-use Rattle.egg.specs.declared.Counted.{Counted}
-use Rattle.egg.specs.declared.Counted.TheVariants.{Count, Refused}
+use Rattle.egg.specs.Answers.{Counted, Verdict, fine}
+use Rattle.std.specs.Prelude.{Ok, Err}
 use Rattle.egg.specs.Scan.{refused_of}
 use Rattle.egg.proofs.Rooms.{and_first, and_second}
 use Rattle.build_lending.specs.Lending.{table_need, work_need}
@@ -27,7 +25,7 @@ use Rattle.promises_image.proofs.Heads.{formed}
 use Rattle.promises_image.proofs.Back.{bad_verdict, lent_verdict}
 
 -- Without a generator the identity alone is reached, whatever is read.
-alone_read : (src : ℕ → ℕ → ℕ) (k : ℕ) (t : List ℕ) → read_all src 0 (suc (suc k)) t ≡ placed (Count 1) t
+alone_read : (src : ℕ → ℕ → ℕ) (k : ℕ) (t : List ℕ) → read_all src 0 (suc (suc k)) t ≡ placed (Ok 1) t
 unfolding read_from read_row
 alone_read src k t = refl
 
@@ -39,18 +37,18 @@ alone_ruled size w rows (suc (suc k)) h = rw (alone_read (composed_at rows 0) k 
 
 -- A refused count as a verdict.
 abbrev refusal : Counted → Verdict
-refusal (Count k) = verdict.Fine
-refusal (Refused r) = verdict.Refused r
+refusal (Ok k) = fine
+refusal (Err r) = Err r
 
 abbrev count_or_lem : Counted → ℕ
-count_or_lem (Count k) = k
-count_or_lem (Refused r) = 0
+count_or_lem (Ok k) = k
+count_or_lem (Err r) = 0
 
 abbrev tag : Counted → ℕ
-tag (Count k) = 0
-tag (Refused r) = 1
+tag (Ok k) = 0
+tag (Err r) = 1
 
-never : {k : ℕ} {r : Refusal} → ◌≡◌ {A = Counted} (Count k) (Refused r) → ⊥
+never : {k : ℕ} {r : Refusal} → ◌≡◌ {A = Counted} (Ok k) (Err r) → ⊥
 never e = let z : ◌≡◌ {A = ℕ} 0 1 = ap tag e in omega arith
 
 module _ (l : List ℕ) where
@@ -66,18 +64,18 @@ module _ (l : List ℕ) where
       ∙ ap (λ (k : ℕ). ruled (table_need (head_generators l) (head_elements l)) (replicate (work_need (head_generators l) (head_elements l)) 0) (halves (drop 8 l)) k (head_elements l)) none
       ∙ alone_ruled (table_need (head_generators l) (head_elements l)) (replicate (work_need (head_generators l) (head_elements l)) 0) (halves (drop 8 l)) (head_elements l) more
 
-  pub need_refused : {r : Refusal} → image_need l ≡ Refused r → (size : ℕ)
-      → (head_number l ≡ 0 → bytes_need (head_generators l) (head_elements l) ≤ size) → image_verdict l size ≡ verdict.Refused r
+  pub need_refused : {r : Refusal} → image_need l ≡ Err r → (size : ℕ)
+      → (head_number l ≡ 0 → bytes_need (head_generators l) (head_elements l) ≤ size) → image_verdict l size ≡ Err r
   need_refused {r} q size long = by (eqb (head_number l) 0) refl where
-    right : head_number l ≡ 0 → (b : Bool) → lone ≡ b → image_verdict l size ≡ verdict.Refused r
+    right : head_number l ≡ 0 → (b : Bool) → lone ≡ b → image_verdict l size ≡ Err r
     right h true a = alone_verdict size h (long h) a ∙ ap refusal (need_out_of_reach l refl h refl refl a refl ∙ q)
     right h false a = absurd (never (need_count l refl h refl refl a refl ∙ q))
 
-    by : (b : Bool) → eqb (head_number l) 0 ≡ b → image_verdict l size ≡ verdict.Refused r
+    by : (b : Bool) → eqb (head_number l) 0 ≡ b → image_verdict l size ≡ Err r
     by false e = let d = eqb-false (head_number l) 0 e in bad_verdict l size d ∙ ap refusal (need_bad l refl d refl ∙ q)
     by true e = right (eqb-true (head_number l) 0 e) lone refl
 
-  pub need_counted : {k : ℕ} → image_need l ≡ Count k → WellFormed l × (k ≡ bytes_need (head_generators l) (head_elements l))
+  pub need_counted : {k : ℕ} → image_need l ≡ Ok k → WellFormed l × (k ≡ bytes_need (head_generators l) (head_elements l))
   need_counted {k} q = by (eqb (head_number l) 0) refl where
     right : head_number l ≡ 0 → (b : Bool) → lone ≡ b → WellFormed l × (k ≡ bytes_need (head_generators l) (head_elements l))
     right h true a = absurd (never (sym q ∙ sym (need_out_of_reach l refl h refl refl a refl)))

@@ -6,8 +6,9 @@ use mathlib.Core.List.{List}
 use borrow.Author.Tests.{eqb-false}
 use lib.Dec.{eqb}
 use Rattle.egg.specs.declared.Refusal.{Refusal}
-use Rattle.egg.specs.declared.Verdict.TheVariants.{Fine, Refused}
-use Rattle.egg.specs.Scan.{refused_of}
+use Rattle.egg.specs.Answers.{fine}
+use Rattle.egg.specs.Refusals.{refusal_paper}
+use Rattle.std.specs.Prelude.{Ok, Err}
 use Rattle.egg.proofs.Scans.{Says, says_fine, says_refused, says_pick, says_then, says_scan}
 use Rattle.build_checks.specs.Checks.{missing, missing_row, check8, ranges, range_row, links_of, wrong, wrong_row, check_table, counted, counts_right}
 use Rattle.build_checks_inverses.specs.Inverses.{fill_inverses, inverses_right}
@@ -17,10 +18,10 @@ use Rattle.image_check.specs.Short.{verdict_number}
 use Rattle.build_checks_laws.proofs.Refused.{left_says, checked_says, table_says}
 
 abbrev Some : Refusal → Type 0
-Some r = r.number ≡ 0 → ⊥
+Some r = (refusal_paper r).number ≡ 0 → ⊥
 
-refuses : (k a b c : ℕ) → eqb k 0 ≡ false → Says Some (refused_of k a b c)
-refuses k a b c h = says_refused (eqb-false k 0 h)
+refuses : (r : Refusal) → eqb (refusal_paper r).number 0 ≡ false → Says Some (Err r)
+refuses r h = says_refused (eqb-false (refusal_paper r).number 0 h)
 
 ruleset numbered = (says_then, says_scan, says_pick, says_fine, refuses)
 
@@ -64,9 +65,9 @@ group_numbered t w n N =
 
 -- So where the number is 0, the checks have passed.
 pub fine_checks : (t w : List ℕ) (n N : ℕ) → verdict_number (verdict_of (check_group t w n N)) ≡ 0
-    → (t₁ : List ℕ) × (w₁ : List ℕ) × (check_group t w n N ≡ checked Fine t₁ w₁)
+    → (t₁ : List ℕ) × (w₁ : List ℕ) × (check_group t w n N ≡ checked fine t₁ w₁)
 fine_checks t w n N h = go (check_group t w n N) refl (group_numbered t w n N) h where
   go : (k : Checked) → check_group t w n N ≡ k → Says Some (verdict_of k) → verdict_number (verdict_of k) ≡ 0
-      → (t₁ : List ℕ) × (w₁ : List ℕ) × (check_group t w n N ≡ checked Fine t₁ w₁)
-  go (checked Fine t₁ w₁) q s z = (t₁, w₁, q)
-  go (checked (Refused r) t₁ w₁) q s z = absurd (s.of r refl z)
+      → (t₁ : List ℕ) × (w₁ : List ℕ) × (check_group t w n N ≡ checked fine t₁ w₁)
+  go (checked (Ok _) t₁ w₁) q s z = (t₁, w₁, q)
+  go (checked (Err r) t₁ w₁) q s z = absurd (s.of r refl z)

@@ -8,8 +8,8 @@ use native.Mathlib.Omega.{arith}
 use borrow.Author.Tests.{le-ltb}
 use lib.ListN.{length, drop}
 use Rattle.egg.specs.declared.Factor.{Factor}
-use Rattle.egg.specs.declared.Verdict.TheVariants as verdict
-use Rattle.egg.specs.declared.Counted.TheVariants.{Count}
+use Rattle.egg.specs.Answers.{fine}
+use Rattle.std.specs.Prelude.{Ok}
 use Rattle.egg.specs.Factor.{stretch, counted_paper}
 use Rattle.egg.proofs.Scans.{scan_fine}
 use Rattle.egg.proofs.Rooms.{some}
@@ -42,14 +42,14 @@ module _ {t : List ℕ} {f : Factor} (A : Accepted t f) where
   some_elements = some (length t) f A.fits
 
   -- Every stored step of an accepted factor can be read.
-  all_known_lem : all_known (stretch t f) f.generators f.elements ≡ verdict.Fine
+  all_known_lem : all_known (stretch t f) f.generators f.elements ≡ fine
   unfolding all_known known_row
   all_known_lem =
       (scan_fine f.elements _).1 (λ e he. (scan_fine f.generators _).1 (λ g hg. ap step_read (read_step_lem A.sound he hg)))
 
   -- So it is written, into a buffer that is long enough: the answer is the length, and the image stands at the start.
   module _ (out : List ℕ) (long : image_size f.generators f.elements ≤ length out) where
-    pub written_count : write_count t f (length out) ≡ Count (image_size f.generators f.elements)
+    pub written_count : write_count t f (length out) ≡ Ok (image_size f.generators f.elements)
     unfolding write_count
     written_count = rw A.fits (simp (le-ltb _ _ long) (rw all_known_lem))
 
@@ -127,7 +127,7 @@ module _ {t : List ℕ} {f : Factor} (A : Accepted t f) where
       record {
         table = a.1;
         work = a.2;
-        made = a.3 ∙ ap (λ (x : Factor). making (record { answer = verdict.Fine; factor = x }) a.1 a.2) h;
+        made = a.3 ∙ ap (λ (x : Factor). making (Ok x) a.1 a.2) h;
         accepted = subst (λ (x : Factor). Accepted a.1 x) h G.accepted;
         steps = λ {e} {g} he hg.
             ap (λ (x : Factor). factor_step a.1 x e g) (sym h)
@@ -140,7 +140,7 @@ image_same src src' n N e = rw e
 
 -- Read and written again: the same bytes, at the start of a buffer that is long enough, and the answer is their number.
 module _ (l : List ℕ) (B : Bytes l) (table : List ℕ) (start : ℕ) (work : List ℕ) {f : Factor} {t w : List ℕ}
-    (q : read_image l table start work ≡ making (record { answer = verdict.Fine; factor = f }) t w) where
+    (q : read_image l table start work ≡ making (Ok f) t w) where
   given : GroupImage l × Given table start work (halves (drop 8 l)) (head_generators l) (head_elements l) f t w × (f.elements ≡ head_elements l)
   given = read_given l B table start work q
 

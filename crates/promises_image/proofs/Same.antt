@@ -9,8 +9,7 @@ use borrow.Author.Tests.{le-leb}
 use lib.Dec.{ltb}
 use lib.ListN.{length, get_or, drop, replicate}
 use Rattle.egg.specs.declared.Factor.{Factor}
-use Rattle.egg.specs.declared.Verdict.TheVariants as verdict
-use Rattle.egg.specs.declared.Counted.TheVariants.{Count}
+use Rattle.std.specs.Prelude.{Ok}
 use Rattle.egg.specs.Table.{pick}
 use Rattle.build_lending.specs.Lending.{table_need, lent_right, making}
 use Rattle.build_reading.specs.Reading.{Placed, placed, then_placed, read_place, read_row, read_from, read_all, composed_at}
@@ -45,7 +44,7 @@ module _ (src src' : ℕ → ℕ → ℕ) (n room : ℕ) (same : (e g : ℕ) →
   unfolding read_from
   rows_read zero e c t h = refl
   rows_read (suc k) e c t h =
-      ap (λ (p : Placed). pick (ltb e c) p (placed (Count c) t))
+      ap (λ (p : Placed). pick (ltb e c) p (placed (Ok c) t))
       (ap (λ (p : Placed). then_placed p (λ c t. read_from k src n room (e + 1) c t)) (row_reads n e 0 c t (omega arith) (omega arith))
       ∙ then_same (read_row n src' n room e 0 c t) (λ c t. rows_read k (e + 1) c t (omega arith)))
 
@@ -61,7 +60,7 @@ composed_same table start work rows rows' n room same h h' =
     simp (le-leb _ _ h, le-leb _ _ h') (rw e)
 
 module _ (table : List ℕ) (start : ℕ) (work rows : List ℕ) (n room : ℕ) {f : Factor} {t w : List ℕ}
-    (q : composed table start work rows n room ≡ making (record { answer = verdict.Fine; factor = f }) t w) where
+    (q : composed table start work rows n room ≡ making (Ok f) t w) where
   given : Given table start work rows n room f t w
   given = composed_given table start work rows n room f t w q
 
@@ -92,7 +91,7 @@ module _ (table : List ℕ) (start : ℕ) (work rows : List ℕ) (n room : ℕ) 
   pub read_same_stretch : (table' : List ℕ) (start' : ℕ) (work' : List ℕ) → lent_right (length table') start' (length work') f.elements n ≡ true
       → (t' : List ℕ) × (w' : List ℕ)
       × (read_image (image_of (factor_step t f) f.generators f.elements) table' start' work'
-      ≡ making (record { answer = verdict.Fine; factor = record { start = start'; room = f.elements; generators = n; elements = f.elements } }) t' w')
+      ≡ making (Ok (record { start = start'; room = f.elements; generators = n; elements = f.elements })) t' w')
       × ((i : ℕ) → i < table_need n f.elements → get_or t' (start' + i) 0 ≡ get_or t (start + i) 0)
   read_same_stretch table' start' work' lent' =
       let N = f.elements in
@@ -105,13 +104,13 @@ module _ (table : List ℕ) (start : ℕ) (work rows : List ℕ) (n room : ℕ) 
       let G' = composed_given table' start' work' rows n N a.0 a.1 a.2 a.3 in
       let many : a.0.elements ≡ N = numbered_once G'.taken.readable.by_rule T.readable.by_rule in
       let R = composed_roomier table' start' work' rows n N a.0 a.1 a.2 table start work room a.3 T.readable.within B.lent B.listed in
-      let one : making (record { answer = verdict.Fine; factor = f }) t w
-      ≡ making (record { answer = verdict.Fine; factor = record { start = start; room = room; generators = n; elements = a.0.elements } }) R.table' R.work'
+      let one : making (Ok f) t w
+      ≡ making (Ok (record { start = start; room = room; generators = n; elements = a.0.elements })) R.table' R.work'
       = sym q ∙ R.accepted in
       let t_is : t ≡ R.table' = cc in
       let h : a.0 ≡ record { start = start'; room = N; generators = n; elements = N } = G'.handle ∙ rw many in (
         a.1,
         a.2,
-        read_rows table' start' work' ∙ a.3 ∙ ap (λ (x : Factor). making (record { answer = verdict.Fine; factor = x }) a.1 a.2) h,
+        read_rows table' start' work' ∙ a.3 ∙ ap (λ (x : Factor). making (Ok x) a.1 a.2) h,
         λ i hi. sym (R.same hi) ∙ ap (λ (x : List ℕ). get_or x (start + i) 0) (sym t_is),
       )

@@ -3,8 +3,7 @@
 use Prim.Native.Nat.{ℕ}
 use mathlib.Core.Path.{sym, ◌∙◌, ap}
 use mathlib.Core.List.{List}
-use Rattle.egg.specs.declared.Verdict.{Verdict}
-use Rattle.egg.specs.declared.Counted.{Counted}
+use Rattle.egg.specs.Answers.{Counted, Verdict}
 use Rattle.build_lending.specs.Lending.{making}
 use Rattle.image.proofs.head.Kinds as head-kinds
 use Rattle.image.proofs.head.Reads as head-reads

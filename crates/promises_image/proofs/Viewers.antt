@@ -3,7 +3,7 @@ use Prim.Native.Nat.{ℕ, ◌≤◌, ◌<◌}
 use mathlib.Core.Path.{◌≡◌, refl, sym, ap, ◌∙◌}
 use mathlib.Core.List.{List, [], ◌∷◌}
 use Rattle.egg.specs.declared.Factor.{Factor}
-use Rattle.egg.specs.declared.Verdict.TheVariants as verdict
+use Rattle.std.specs.Prelude.{Ok}
 use Rattle.egg.specs.Factor.{reached_paper}
 use Rattle.build_lending.specs.Lending.{making}
 use Rattle.theory.specs.Words.{Word, empty, letter, walk}
@@ -52,7 +52,7 @@ module _ (l : List ℕ) (B : Bytes l) (size : ℕ) (long : bytes_need (head_gene
 
   -- Live turns one by one, and the element that is their product composed at once, end at one element.
   pub image_viewers : (table : List ℕ) (start : ℕ) (work : List ℕ) {f : Factor} {t w : List ℕ}
-      → read_image l table start work ≡ making (record { answer = verdict.Fine; factor = f }) t w
+      → read_image l table start work ≡ making (Ok f) t w
       → (e : ℕ) (u : List ℕ) → e < head_elements l → Word (head_generators l) u → OneState l t f e u
   image_viewers table start work read e u he hu =
       let T = image_table image in

@@ -8,7 +8,7 @@ use borrow.Author.Tests.{eq-eqb, ne_eqb, le-leb, lt-leb, lt-ltb, ltb-true}
 use lib.Dec.{ltb}
 use lib.ListN.{drop}
 use Rattle.egg.specs.declared.Factor.{Factor}
-use Rattle.egg.specs.declared.Verdict.TheVariants as verdict
+use Rattle.std.specs.Prelude.{Ok}
 use Rattle.egg.specs.Table.{pick}
 use Rattle.egg.proofs.Rooms.{and_first, and_second}
 use Rattle.build_lending.specs.Lending.{making}
@@ -79,7 +79,7 @@ module _ (l : List ℕ) where
 
 -- In the factor that was read, the walk from an element is the product of the element with what the word reaches from the identity.
 module _ (l : List ℕ) (B : Bytes l) (table : List ℕ) (start : ℕ) (work : List ℕ) {f : Factor} {t w : List ℕ}
-    (q : read_image l table start work ≡ making (record { answer = verdict.Fine; factor = f }) t w) where
+    (q : read_image l table start work ≡ making (Ok f) t w) where
   pub walk_composes : (from : ℕ) (word : List ℕ) → from < head_elements l → Word (head_generators l) word
       → compose_answer t f (record { 0 = from }) (record { 0 = walk_number l 0 word }) ≡ reach (walk_number l from word)
   walk_composes from word h ws =

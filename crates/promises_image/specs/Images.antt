@@ -1,9 +1,8 @@
 -- This file defines what an image is, what it is for one to hold a factor, and when the two calls on factors and images undo each other.
 use Rattle.std.specs.Prelude.{ℕ, ◌+◌, ◌*◌, ◌≤◌, ◌<◌, ◌≡◌, List, ◌∷◌, ◌++◌, Bool, true, false, length, get_or, drop, ltb}
 use Rattle.egg.specs.declared.Factor.{Factor}
-use Rattle.egg.specs.declared.Verdict.{Verdict}
-use Rattle.egg.specs.declared.Verdict.TheVariants as verdict
-use Rattle.egg.specs.declared.Counted.TheVariants.{Count, Refused}
+use Rattle.egg.specs.Answers.{Verdict, answer_of}
+use Rattle.std.specs.Prelude.{Ok, Err}
 use Rattle.egg.specs.Factor.{stretch, counted_paper}
 use Rattle.build_lending.specs.Lending.{lent_right, Making, making}
 use Rattle.build_reading.specs.Reading.{Placed, placed, composed_at}
@@ -27,12 +26,12 @@ image_step l = composed_at (halves (drop 8 l)) (head_generators l)
 
 -- A reading with room N came to its end with fewer than N elements: "fewer than N reached is 16, before 8".
 abbrev pub ends_fewer : Placed → ℕ → Bool
-ends_fewer (placed (Count c) t) room = ltb c room
-ends_fewer (placed (Refused r) t) room = false
+ends_fewer (placed (Ok c) t) room = ltb c room
+ends_fewer (placed (Err r) t) room = false
 
 -- What a call which makes a factor answers.
 abbrev pub made_answer : Making → Verdict
-made_answer (making m t w) = m.answer
+made_answer (making m t w) = answer_of m
 
 -- The number of that: 0 where it is accepted, else the refusal's.
 abbrev pub made_number : Making → ℕ
@@ -57,7 +56,7 @@ pub record GroupImage (l : List ℕ) : Type 1 where
 pub record MadeWith (start n N : ℕ) (step : ℕ → ℕ → ℕ) (m : Making) : Type 0 where
   pub table : List ℕ
   pub work : List ℕ
-  pub made : m ≡ making (record { answer = verdict.Fine; factor = record { start = start; room = N; generators = n; elements = N } }) table work
+  pub made : m ≡ making (Ok (record { start = start; room = N; generators = n; elements = N })) table work
   pub accepted : Accepted table (record { start = start; room = N; generators = n; elements = N })
   pub steps : {e g : ℕ} → e < N → g < n → factor_step table (record { start = start; room = N; generators = n; elements = N }) e g ≡ step e g
 

@@ -6,7 +6,7 @@ use mathlib.Core.List.{List}
 use lib.ListN.{length, get_or}
 use lib.IntN.{pos}
 use Rattle.egg.specs.declared.Factor.{Factor}
-use Rattle.egg.specs.declared.Reached.{Reached}
+use Rattle.egg.specs.Answers.{Reached}
 use Rattle.group.proofs.OneFactor.{one_compose, one_inverse, one_powi}
 use Rattle.lists.specs.Lists.{lengths_right, over_lists}
 use Rattle.lists_factor.specs.Each as factor

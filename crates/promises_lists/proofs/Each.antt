@@ -7,8 +7,8 @@ use mathlib.Core.List.{List, []}
 use lib.ListN.{length, get_or}
 use lib.IntN.{ℤ, pos}
 use Rattle.egg.specs.declared.GroupElementId.{GroupElementId}
-use Rattle.egg.specs.declared.Reached.{Reached}
-use Rattle.egg.specs.declared.Reached.TheVariants.{Refused}
+use Rattle.egg.specs.Answers.{Reached}
+use Rattle.std.specs.Prelude.{Err}
 use Rattle.egg.specs.Answers.{numbered}
 use Rattle.theory.specs.Group.{GroupOn, integer_power}
 use Rattle.build_checks_laws.specs.Numbers.{member}
@@ -28,10 +28,10 @@ pub record Singles (count : ℕ) (op : ℕ → ℕ → ℕ) (inv : ℕ → ℕ) 
   pub composes : {a b : ℕ} → a < count → b < count → compose (record { 0 = a }) (record { 0 = b }) ≡ reach (op a b)
   pub inverts : {a : ℕ} → a < count → inverse (record { 0 = a }) ≡ reach (inv a)
   pub powers : {a : ℕ} → a < count → (z : ℤ) → power (record { 0 = a }) z ≡ reach (integer_power op inv a z)
-  pub compose_first : {a : ℕ} (b : ℕ) → count ≤ a → compose (record { 0 = a }) (record { 0 = b }) ≡ Refused (numbered 14 0 0 0)
-  pub compose_second : {a b : ℕ} → a < count → count ≤ b → compose (record { 0 = a }) (record { 0 = b }) ≡ Refused (numbered 14 1 0 0)
-  pub inverse_stops : {a : ℕ} → count ≤ a → inverse (record { 0 = a }) ≡ Refused (numbered 14 0 0 0)
-  pub power_stops : {a : ℕ} (z : ℤ) → count ≤ a → power (record { 0 = a }) z ≡ Refused (numbered 14 0 0 0)
+  pub compose_first : {a : ℕ} (b : ℕ) → count ≤ a → compose (record { 0 = a }) (record { 0 = b }) ≡ Err (numbered 14 0 0 0)
+  pub compose_second : {a b : ℕ} → a < count → count ≤ b → compose (record { 0 = a }) (record { 0 = b }) ≡ Err (numbered 14 1 0 0)
+  pub inverse_stops : {a : ℕ} → count ≤ a → inverse (record { 0 = a }) ≡ Err (numbered 14 0 0 0)
+  pub power_stops : {a : ℕ} (z : ℤ) → count ≤ a → power (record { 0 = a }) z ≡ Err (numbered 14 0 0 0)
 
 module _ (compose : GroupElementId → GroupElementId → Reached) (inverse : GroupElementId → Reached) (power : GroupElementId → ℤ → Reached) where
   abbrev compose_by : List ℕ → List ℕ → ℕ → Reached

@@ -8,8 +8,8 @@ use native.Mathlib.Omega.{arith}
 use lib.ListN.{length}
 use lib.IntN.{ℤ}
 use Rattle.egg.specs.declared.Factor.{Factor}
-use Rattle.egg.specs.declared.Verdict.{Verdict}
-use Rattle.egg.specs.declared.Reached.TheVariants.{Refused}
+use Rattle.egg.specs.Answers.{Verdict}
+use Rattle.std.specs.Prelude.{Err}
 use Rattle.egg.specs.Factor.{fits_in, stretch}
 use Rattle.factor_questions.specs.Walks.{compose_in, inverse_in}
 use Rattle.egg.specs.Answers.{numbered, if_reach}
@@ -43,19 +43,19 @@ module _ {t : List ℕ} {f : Factor} {op : ℕ → ℕ → ℕ} {inv : ℕ → �
       rw (← admits_fine (length t) f a 0 fits ha (omega arith))
       (powers_are A.group (record { is = composes_in }) 1073741824 (inverse_in (stretch t f) f.generators f.elements) (inverts_in a ha) ha z)
 
-  compose_first : {a : ℕ} (b : ℕ) → f.elements ≤ a → compose_answer t f (record { 0 = a }) (record { 0 = b }) ≡ Refused (numbered 14 0 0 0)
+  compose_first : {a : ℕ} (b : ℕ) → f.elements ≤ a → compose_answer t f (record { 0 = a }) (record { 0 = b }) ≡ Err (numbered 14 0 0 0)
   unfolding compose_answer
   compose_first {a} b h = rw (← admits_first (length t) f a b fits h)
 
-  compose_second : {a b : ℕ} → a < f.elements → f.elements ≤ b → compose_answer t f (record { 0 = a }) (record { 0 = b }) ≡ Refused (numbered 14 1 0 0)
+  compose_second : {a b : ℕ} → a < f.elements → f.elements ≤ b → compose_answer t f (record { 0 = a }) (record { 0 = b }) ≡ Err (numbered 14 1 0 0)
   unfolding compose_answer
   compose_second {a} {b} h k = rw (← admits_second (length t) f a b fits h k)
 
-  inverse_stops : {a : ℕ} → f.elements ≤ a → inverse_answer t f (record { 0 = a }) ≡ Refused (numbered 14 0 0 0)
+  inverse_stops : {a : ℕ} → f.elements ≤ a → inverse_answer t f (record { 0 = a }) ≡ Err (numbered 14 0 0 0)
   unfolding inverse_answer
   inverse_stops {a} h = rw (← admits_first (length t) f a 0 fits h)
 
-  powi_stops : {a : ℕ} (z : ℤ) → f.elements ≤ a → powi_alone t f (record { 0 = a }) z ≡ Refused (numbered 14 0 0 0)
+  powi_stops : {a : ℕ} (z : ℤ) → f.elements ≤ a → powi_alone t f (record { 0 = a }) z ≡ Err (numbered 14 0 0 0)
   unfolding powi_alone
   powi_stops {a} z h = rw (← admits_first (length t) f a 0 fits h)
 

@@ -8,8 +8,10 @@ use native.Mathlib.Omega.{arith}
 use lib.Dec.{eqb}
 use lib.ListN.{length, get_or}
 use Rattle.egg.specs.declared.Refusal.{Refusal}
-use Rattle.egg.specs.declared.Reached.{Reached}
-use Rattle.egg.specs.declared.Reached.TheVariants.{Refused}
+use Rattle.egg.specs.Answers.{Reached}
+use Rattle.egg.specs.Refusals.{refusal_paper}
+use Rattle.std.specs.Prelude.{Err}
+use Rattle.egg.proofs.Refusals.{same_refusal}
 use Rattle.egg.specs.Table.{pick}
 use Rattle.build_checks_laws.specs.Numbers.{member}
 use Rattle.factor_laws.specs.Refuses.{ReachedIn}
@@ -19,12 +21,8 @@ use Rattle.lists_laws.proofs.Outcomes.{given, lists_exactly}
 use Rattle.promises_lists.specs.Places.{paper_of, OnPaper}
 
 -- A single call that is refused is not right.
-refused_apart : {x : Reached} {r : Refusal} → x ≡ Refused r → Right x → ⊥
+refused_apart : {x : Reached} {r : Refusal} → x ≡ Err r → Right x → ⊥
 refused_apart q h = let e = h.reached in let z : ◌≡◌ {A = ℕ} 0 1 = cc in omega arith
-
--- Nothing else is in a refusal than what stands on paper.
-abbrev refusal_at : ListPaper → Refusal
-refusal_at p = record { number = p.refusal.number; a = p.refusal.a; b = p.refusal.b; c = p.refusal.c }
 
 -- A number that is in the list is none that is not.
 apart : (l : List ℕ) (k : ℕ) {n : ℕ} → member n l ≡ true → member k l ≡ false → n ≡ k → ⊥
@@ -53,11 +51,11 @@ module _ (l : List ℕ) (no-4 : member 4 l ≡ false) (no-0 : member 0 l ≡ fal
   by_outcome (stops place why alike f) e =
       let m = (numbers place).of why f.refused in
       record {
-        among = longer l why.number m;
+        among = longer l (refusal_paper why).number m;
         unlike = (λ q. absurd (apart l 4 m no-4 q), λ w. absurd (w alike));
         right = (λ q. absurd (apart l 0 m no-0 q), λ p. absurd (refused_apart f.refused (p.1 place f.within)));
         refused = λ place' why' m'. (
-          (λ q. let here : place ≡ place' = ap (λ (p : ListPaper). p.place) q in let same : why ≡ why' = ap refusal_at q in rw (← here, ← same) (alike, f)),
+          (λ q. let here : place ≡ place' = ap (λ (p : ListPaper). p.place) q in let same : why ≡ why' = same_refusal why why' (ap (λ (p : ListPaper). p.refusal) q) in rw (← here, ← same) (alike, f)),
           (λ p. ap paper_of (sym e ∙ given first second single out (stops place' why' p.0 p.1))),
         );
       }

@@ -7,9 +7,8 @@ use lib.ListN.{length}
 use lib.IntN.{ℤ}
 use Rattle.egg.specs.declared.Factor.{Factor}
 use Rattle.egg.specs.declared.GroupElementId.{GroupElementId}
-use Rattle.egg.specs.declared.Verdict.{Verdict}
-use Rattle.egg.specs.declared.Verdict.TheVariants as verdict
-use Rattle.egg.specs.declared.Reached.{Reached}
+use Rattle.egg.specs.Answers.{Reached, Verdict}
+use Rattle.std.specs.Prelude.{Ok, Err}
 use Rattle.egg.specs.Answers.{if_reach}
 use Rattle.egg.specs.Factor.{stretch}
 use Rattle.factor_laws.specs.Refuses.{VerdictIn, ReachedIn}
@@ -26,8 +25,8 @@ use Rattle.promises_lists.proofs.Each.{places_of}
 
 -- A test that comes before an answer refuses by the answer's numbers.
 tests_in : {l : List ℕ} (v : Verdict) (x : Reached) → ReachedIn l (if_reach v x) → VerdictIn l v
-tests_in verdict.Fine x p = verdict_fine
-tests_in (verdict.Refused r) x p = verdict_refused r (p.of r refl)
+tests_in (Ok _) x p = verdict_fine
+tests_in (Err r) x p = verdict_refused r (p.of r refl)
 
 -- The single power in one factor is refused by 14 and 17 alone.
 powi_numbers : (t : List ℕ) (f : Factor) (a : GroupElementId) (z : ℤ) → ReachedIn (14 ∷ 17 ∷ []) (powi_alone t f a z)

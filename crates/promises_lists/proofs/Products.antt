@@ -7,7 +7,7 @@ use mathlib.Core.List.{List}
 use lib.ListN.{length}
 use lib.IntN.{ℤ}
 use Rattle.egg.specs.Answers.{numbered}
-use Rattle.egg.specs.declared.Reached.TheVariants.{Refused}
+use Rattle.std.specs.Prelude.{Err}
 use Rattle.group_handles.specs.declared.Group.{Group}
 use Rattle.group_handles.specs.Handles.{handles, elements_of, all_fit}
 use Rattle.group_handles.proofs.Admitted.{admits_first, admits_second}
@@ -29,19 +29,19 @@ module _ {t : List ℕ} {g : Group} (A : AcceptedProduct t g) where
   inside : {e : ℕ} → e < (direct t g).elements → e < elements_of (handles g)
   inside {e} h = subst (λ (n : ℕ). e < n) (parts_elements t (handles g)) h
 
-  compose_first : {a : ℕ} (b : ℕ) → (direct t g).elements ≤ a → compose_answer t g (record { 0 = a }) (record { 0 = b }) ≡ Refused (numbered 14 0 0 0)
+  compose_first : {a : ℕ} (b : ℕ) → (direct t g).elements ≤ a → compose_answer t g (record { 0 = a }) (record { 0 = b }) ≡ Err (numbered 14 0 0 0)
   unfolding compose_answer
   compose_first {a} b h = rw (← admits_first (length t) g a (elements_of (handles g)) b (elements_of (handles g)) fits (outside h))
 
-  compose_second : {a b : ℕ} → a < (direct t g).elements → (direct t g).elements ≤ b → compose_answer t g (record { 0 = a }) (record { 0 = b }) ≡ Refused (numbered 14 1 0 0)
+  compose_second : {a b : ℕ} → a < (direct t g).elements → (direct t g).elements ≤ b → compose_answer t g (record { 0 = a }) (record { 0 = b }) ≡ Err (numbered 14 1 0 0)
   unfolding compose_answer
   compose_second {a} {b} h k = rw (← admits_second (length t) g a (elements_of (handles g)) b (elements_of (handles g)) fits (inside h) (outside k))
 
-  inverse_stops : {a : ℕ} → (direct t g).elements ≤ a → inverse_answer t g (record { 0 = a }) ≡ Refused (numbered 14 0 0 0)
+  inverse_stops : {a : ℕ} → (direct t g).elements ≤ a → inverse_answer t g (record { 0 = a }) ≡ Err (numbered 14 0 0 0)
   unfolding inverse_answer
   inverse_stops {a} h = rw (← admits_first (length t) g a (elements_of (handles g)) 0 1 fits (outside h))
 
-  powi_stops : {a : ℕ} (z : ℤ) → (direct t g).elements ≤ a → powi_answer t g (record { 0 = a }) z ≡ Refused (numbered 14 0 0 0)
+  powi_stops : {a : ℕ} (z : ℤ) → (direct t g).elements ≤ a → powi_answer t g (record { 0 = a }) z ≡ Err (numbered 14 0 0 0)
   unfolding powi_answer
   powi_stops {a} z h = rw (← admits_first (length t) g a (elements_of (handles g)) 0 1 fits (outside h))
 

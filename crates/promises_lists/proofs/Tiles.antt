@@ -8,8 +8,8 @@ use native.Mathlib.Omega.{arith}
 use lib.ListN.{length}
 use Rattle.egg.specs.declared.Factor.{Factor}
 use Rattle.egg.specs.declared.GroupElementId.{GroupElementId}
-use Rattle.egg.specs.declared.Reached.{Reached}
-use Rattle.egg.specs.declared.Reached.TheVariants.{Element}
+use Rattle.egg.specs.Answers.{Reached}
+use Rattle.std.specs.Prelude.{Ok}
 use Rattle.factor.specs.Questions as factor
 use Rattle.group_handles.specs.declared.Group.{Group}
 use Rattle.group.specs.Questions as product
@@ -30,19 +30,19 @@ use Rattle.promises_lists.specs.Alone.{alone}
 use Rattle.promises_lists.specs.Tiles.{Tile, Tiles, FactorTiles, ProductTiles}
 use Rattle.promises_lists.proofs.Alone.{factor_alone}
 
-one_element : {x y : GroupElementId} → Element x ≡ Element y → x ≡ y
+one_element : {x y : GroupElementId} → ◌≡◌ {A = Reached} (Ok x) (Ok y) → x ≡ y
 one_element q = cc
 
 -- At one place: the product that was sent is where the turns lead.
-tile : {t : List ℕ} {g : Group} {from sent state : GroupElementId} {u : List ℕ} (S : OneState t g from u) → live t g identity u ≡ Element sent → S.state ≡ state
+tile : {t : List ℕ} {g : Group} {from sent state : GroupElementId} {u : List ℕ} (S : OneState t g from u) → live t g identity u ≡ Ok sent → S.state ≡ state
     → Tile (live t g) (gathered t g) (product.walk_answer t g) from sent state u
 tile S q e =
     let same = one_element (sym S.turned ∙ q) in
     record {
-      multiplied = S.multiplied ∙ ap Element same;
-      walk_turned = S.walk_turned ∙ ap Element same;
-      live_lands = S.live_lands ∙ ap Element e;
-      walk_lands = S.walk_lands ∙ ap Element e;
+      multiplied = S.multiplied ∙ ap Ok same;
+      walk_turned = S.walk_turned ∙ ap Ok same;
+      live_lands = S.live_lands ∙ ap Ok e;
+      walk_lands = S.walk_lands ∙ ap Ok e;
     }
 
 -- At all places of a wall of a product of accepted factors: the call over lists comes to the states.
@@ -51,9 +51,9 @@ unfolding product_lists.compose_each
 product_tiles {t} {g} A = λ from products out turns l here words sent.
     let single : ℕ → Reached = product_lists.compose_at t g from products in
     let lands : (i : ℕ) → i < length from → OneState t g (element_at from i) (turns i) = λ i u. product_viewers A (here i u) (words i u) in
-    let at : (i : ℕ) (u : i < length from) → single i ≡ Element (lands i u).state =
+    let at : (i : ℕ) (u : i < length from) → single i ≡ Ok (lands i u).state =
     λ i u. ap (λ (p : GroupElementId). product.compose_answer t g (element_at from i) p) (one_element (sym (sent i u) ∙ (lands i u).turned)) ∙ (lands i u).delayed_lands in
-    let F = filled_by_lem single out l (λ i. number_of (single i)) (λ i u. at i u ∙ ap (λ (x : Reached). Element (record { 0 = number_of x })) (sym (at i u))) in
+    let F = filled_by_lem single out l (λ i. number_of (single i)) (λ i u. at i u ∙ ap (λ (x : Reached). Ok (record { 0 = number_of x })) (sym (at i u))) in
     record {
       states = F.results;
       answers = F.answers;

@@ -5,11 +5,11 @@
 use Rattle.std.specs.Prelude.{ℕ, ◌<◌, ◌≡◌, ◌↔◌, true, List, [], ◌∷◌, length, ℤ}
 use Rattle.egg.specs.declared.Refusal.{Refusal}
 use Rattle.egg.specs.declared.Factor.{Factor}
-use Rattle.egg.specs.declared.Reached.{Reached}
+use Rattle.egg.specs.Answers.{Reached}
 use Rattle.egg.specs.Factor.{refusal_paper}
 use Rattle.build_checks_laws.specs.Numbers.{member, RefusalIn}
 use Rattle.group_handles.specs.declared.Group.{Group}
-use Rattle.lists.specs.declared.Listed.TheVariants.{Fine}
+use Rattle.lists.specs.Answers.{fine}
 use Rattle.lists.specs.Lists.{ListPaper, listed_paper, Answered, answered}
 use Rattle.lists_laws.specs.Outcomes.{Right, Alike, FirstRefusal, Outcome}
 use Rattle.lists_factor.specs.Each as factor
@@ -36,9 +36,9 @@ pub record PlaceByPlace (l : List ℕ) (compose : List ℕ → List ℕ → ℕ 
   pub inverts : (a out : List ℕ) (h : Answered) → inverted a out ≡ h ↔ Outcome (length a) (length a) (inverse a) out h
   pub powers : (a : List ℕ) (exponents : List ℤ) (out : List ℕ) (h : Answered)
       → powered a exponents out ≡ h ↔ Outcome (length a) (length exponents) (power a exponents) out h
-  pub composes_none : composed [] [] [] ≡ answered Fine []
-  pub inverts_none : inverted [] [] ≡ answered Fine []
-  pub powers_none : powered [] [] [] ≡ answered Fine []
+  pub composes_none : composed [] [] [] ≡ answered fine []
+  pub inverts_none : inverted [] [] ≡ answered fine []
+  pub powers_none : powered [] [] [] ≡ answered fine []
   pub composes_paper : (a b out : List ℕ) → OnPaper l (length a) (length b) (compose a b) out (composed a b out)
   pub inverts_paper : (a out : List ℕ) → OnPaper l (length a) (length a) (inverse a) out (inverted a out)
   pub powers_paper : (a : List ℕ) (exponents : List ℤ) (out : List ℕ) → OnPaper l (length a) (length exponents) (power a exponents) out (powered a exponents out)

@@ -4,8 +4,8 @@
 use Rattle.std.specs.Prelude.{ℕ, ◌<◌, ◌≡◌, List, length}
 use Rattle.egg.specs.declared.Factor.{Factor}
 use Rattle.egg.specs.declared.GroupElementId.{GroupElementId}
-use Rattle.egg.specs.declared.Reached.{Reached}
-use Rattle.egg.specs.declared.Reached.TheVariants.{Element}
+use Rattle.egg.specs.Answers.{Reached}
+use Rattle.std.specs.Prelude.{Ok}
 use Rattle.factor.specs.Questions as factor
 use Rattle.group_handles.specs.declared.Group.{Group}
 use Rattle.group.specs.Questions as product
@@ -14,7 +14,7 @@ use Rattle.promises.specs.Viewers.{identity}
 use Rattle.promises.specs.Viewers as viewers
 use Rattle.promises_group.specs.Viewers as product_viewers
 use Rattle.promises_group.specs.Products.{direct}
-use Rattle.lists.specs.declared.Listed.TheVariants.{Fine}
+use Rattle.lists.specs.Answers.{fine}
 use Rattle.lists.specs.Lists.{Answered, answered}
 use Rattle.lists_laws.specs.Outcomes.{Alike}
 use Rattle.lists_factor.specs.Each as factor_lists
@@ -24,15 +24,15 @@ use Rattle.promises_lists.specs.Walls.{Below, element_at}
 -- The viewers of one tile, who stood at the element `from`, after the turns u: the delayed one was sent the product of the turns, which is also what they
 -- gather to, and at the state where he lands the steps one by one land the live one, and so does one walk.
 pub record Tile (live gathered walks : GroupElementId → List ℕ → Reached) (from product state : GroupElementId) (u : List ℕ) : Type 0 where
-  pub multiplied : gathered identity u ≡ Element product
-  pub walk_turned : walks identity u ≡ Element product
-  pub live_lands : live from u ≡ Element state
-  pub walk_lands : walks from u ≡ Element state
+  pub multiplied : gathered identity u ≡ Ok product
+  pub walk_turned : walks identity u ≡ Ok product
+  pub live_lands : live from u ≡ Ok state
+  pub walk_lands : walks from u ≡ Ok state
 
 -- One call over lists for the delayed viewers of a whole wall: it is fine, and its output has the states of the live ones, place by place.
 pub record Wall (live gathered walks : GroupElementId → List ℕ → Reached) (whole : Answered) (from products : List ℕ) (turns : ℕ → List ℕ) : Type 0 where
   pub states : List ℕ
-  pub answers : whole ≡ answered Fine states
+  pub answers : whole ≡ answered fine states
   pub long : length states ≡ length from
   pub each : (place : ℕ) → place < length from → Tile live gathered walks (element_at from place) (element_at products place) (element_at states place) (turns place)
 
@@ -42,7 +42,7 @@ abbrev pub Tiles : (count generators : ℕ) (live gathered walks : GroupElementI
 Tiles count generators live gathered walks composed =
     (from products out : List ℕ) (turns : ℕ → List ℕ) → Alike (length from) (length products) (length out) → Below count (length from) from
     → ((place : ℕ) → place < length from → Word generators (turns place))
-    → ((place : ℕ) → place < length from → live identity (turns place) ≡ Element (element_at products place))
+    → ((place : ℕ) → place < length from → live identity (turns place) ≡ Ok (element_at products place))
     → Wall live gathered walks (composed from products out) from products turns
 
 -- A wall of a factor, and of a product.

@@ -1,11 +1,12 @@
 -- What the calls over lists say of an accepted factor and of a product of accepted factors. Order 2: "Demand 2 is read place by place."
 -- Assumes nothing.
 use Rattle.std.specs.Prelude.{ℕ, ◌≤◌, ◌<◌, ◌≡◌, List, length, get_or, ℤ, pos}
+use Rattle.std.specs.Prelude.{Err}
 use Rattle.egg.specs.declared.Factor.{Factor}
 use Rattle.egg.specs.declared.GroupElementId.{GroupElementId}
 use Rattle.egg.specs.Answers.{numbered}
 use Rattle.group_handles.specs.declared.Group.{Group}
-use Rattle.lists.specs.declared.Listed.TheVariants.{RefusedAt}
+use Rattle.lists.specs.declared.ListRefusal.TheVariants.{RefusedAt}
 use Rattle.lists.specs.Lists.{Answered, answered}
 use Rattle.lists_laws.specs.Outcomes.{Alike, Filled}
 use Rattle.theory.specs.Group.{GroupOn, integer_power}
@@ -23,7 +24,7 @@ element_at l place = record { 0 = get_or l place 0 }
 -- A refusal at a place, with the output list as it was. `a` is the refusal's own place: of 14 the position of the argument, 0 for the first list and 1 for the
 -- second.
 abbrev pub stopped_at : (place number a : ℕ) (out : List ℕ) → Answered
-stopped_at place number a out = answered (RefusedAt (record { place = place; why = numbered number a 0 0 })) out
+stopped_at place number a out = answered (Err (RefusedAt (record { place = place; why = numbered number a 0 0 }))) out
 
 -- Three calls over lists that are the calls of the group on 0..count-1 whose product is op and whose inverse is inv: where all numbers are elements, each
 -- place of the new output is its product, inverse or power; else the first number that is no element is named and the output stays as it was.

@@ -8,13 +8,14 @@ use native.Mathlib.Decide.{dec_lt}
 use native.Mathlib.Omega.{arith}
 use lib.ListN.{length}
 use Rattle.egg.specs.declared.Refusal.{Refusal}
-use Rattle.egg.specs.declared.Verdict.{Verdict}
-use Rattle.egg.specs.declared.Verdict.TheVariants.{Refused}
+use Rattle.egg.specs.Answers.{Verdict}
+use Rattle.std.specs.Prelude.{Ok, Err}
+use Rattle.egg.proofs.Scans.{refused_fine}
 use Rattle.egg.specs.Scan.{refused_of}
 use Rattle.egg.specs.Factor.{has_room}
 use Rattle.build_lending.specs.Lending.{Making, making}
 use Rattle.build_checks_laws.specs.Numbers.{member, RefusalIn}
-use Rattle.builder.specs.declared.Begun.{Begun}
+use Rattle.builder.specs.Answers.{Begun}
 use Rattle.builder.specs.Calls.{Leaving, leaving, begins}
 use Rattle.factor.specs.Composed.{composed}
 use Rattle.enumeration.specs.Calls.{enumerates}
@@ -28,6 +29,7 @@ use Rattle.promises_builder.proofs.Leaves.{begins_leaves}
 use Rattle.names.specs.Making.{named_composed, named_enumerates, named_begins}
 use Rattle.promises_names.specs.Aside.{name_aside, begun_aside, begun_answer}
 use Rattle.promises_names.proofs.Making.{composed_as_before, enumerate_as_before, begin_as_before}
+use Rattle.promises_names.proofs.Tests.{same_why}
 use Rattle.promises_names.proofs.LongNames.{not_18, composed_long, enumerate_long, begin_long}
 
 -- The call without a name, whose answer is v, never gives 18; with a name, whose answer is u, it answers v where the name is short.
@@ -41,9 +43,9 @@ exactly {right} {u = u} name out i short long = (λ h. by (dec_lt 32 (length nam
 module _ (table : List ℕ) (start : ℕ) (work rows : List ℕ) (n room : ℕ) where
   composed_in_lem : VerdictIn (1 ∷ 4 ∷ composed_numbers) (answer_of (composed table start work rows n room))
   composed_in_lem = record { of = λ r h. by (composed table start work rows n room) refl r h } where
-    by : (p : Making) → composed table start work rows n room ≡ p → (r : Refusal) → answer_of p ≡ Refused r → RefusalIn (1 ∷ 4 ∷ composed_numbers) r
-    by (making m t w) q r e =
-        composed_number table start work rows n room r m.factor t w (q ∙ ap (λ (v : Verdict). making (record { answer = v; factor = m.factor }) t w) e)
+    by : (p : Making) → composed table start work rows n room ≡ p → (r : Refusal) → answer_of p ≡ Err r → RefusalIn (1 ∷ 4 ∷ composed_numbers) r
+    by (making (Ok f) t w) q r e = absurd (refused_fine (sym e))
+    by (making (Err s) t w) q r e = composed_number table start work rows n room r t w (q ∙ ap (λ (v : Refusal). making (Err v) t w) (same_why e))
 
   pub composed_18 : (name : List ℕ)
       → answer_of (name_aside (named_composed table start work rows n room name)) ≡ refused_of 18 0 0 0
@@ -55,10 +57,10 @@ module _ (table : List ℕ) (start : ℕ) (work rows : List ℕ) (n room : ℕ) 
 module _ (table : List ℕ) (start : ℕ) (work orders : List ℕ) (n room : ℕ) where
   enumerate_in : VerdictIn (1 ∷ 2 ∷ 3 ∷ 4 ∷ enumeration_numbers) (answer_of (enumerates table start work orders n room))
   enumerate_in = record { of = λ r h. by (enumerates table start work orders n room) refl r h } where
-    by : (p : Making) → enumerates table start work orders n room ≡ p → (r : Refusal) → answer_of p ≡ Refused r
+    by : (p : Making) → enumerates table start work orders n room ≡ p → (r : Refusal) → answer_of p ≡ Err r
         → RefusalIn (1 ∷ 2 ∷ 3 ∷ 4 ∷ enumeration_numbers) r
-    by (making m t w) q r e =
-        enumeration_number table start work orders n room r m.factor t w (q ∙ ap (λ (v : Verdict). making (record { answer = v; factor = m.factor }) t w) e)
+    by (making (Ok f) t w) q r e = absurd (refused_fine (sym e))
+    by (making (Err s) t w) q r e = enumeration_number table start work orders n room r t w (q ∙ ap (λ (v : Refusal). making (Err v) t w) (same_why e))
 
   pub enumerate_18 : (name : List ℕ)
       → answer_of (name_aside (named_enumerates table start work orders n room name)) ≡ refused_of 18 0 0 0
@@ -70,10 +72,10 @@ module _ (table : List ℕ) (start : ℕ) (work orders : List ℕ) (n room : ℕ
 module _ (table : List ℕ) (start room n : ℕ) where
   begin_in : VerdictIn (1 ∷ 4 ∷ []) (begun_answer (begins table start room n))
   begin_in = record { of = λ r h. by (begins table start room n) refl r h } where
-    by : (p : Leaving Begun) → begins table start room n ≡ p → (r : Refusal) → begun_answer p ≡ Refused r → RefusalIn (1 ∷ 4 ∷ []) r
-    by (leaving b t) q r e =
-        leaves_number (1 ∷ 4 ∷ []) refl refl
-        (begins_leaves table start room n r b.builder t (q ∙ ap (λ (v : Verdict). leaving (record { answer = v; builder = b.builder }) t) e))
+    by : (p : Leaving Begun) → begins table start room n ≡ p → (r : Refusal) → begun_answer p ≡ Err r → RefusalIn (1 ∷ 4 ∷ []) r
+    by (leaving (Ok b) t) q r e = absurd (refused_fine (sym e))
+    by (leaving (Err s) t) q r e =
+        leaves_number (1 ∷ 4 ∷ []) refl refl (begins_leaves table start room n r t (q ∙ ap (λ (v : Refusal). leaving (Err v) t) (same_why e)))
 
   pub begin_18 : (name : List ℕ)
       → begun_answer (begun_aside (named_begins table start room n name)) ≡ refused_of 18 0 0 0

@@ -6,8 +6,8 @@ use native.Mathlib.Nat.{le_trans, min-le_left}
 use native.Mathlib.Omega.{arith}
 use lib.ListN.{length, drop, replicate, length-append, length-drop, length-take}
 use lib.Seq.{take_at}
-use Rattle.egg.specs.declared.Counted.{Counted}
-use Rattle.egg.specs.declared.Counted.TheVariants.{Count, Refused}
+use Rattle.egg.specs.Answers.{Counted}
+use Rattle.std.specs.Prelude.{Ok, Err}
 use Rattle.promises_group.specs.Flattening.{GroupWithin}
 use Rattle.names_values.specs.declared.Name.{Name}
 use Rattle.names_values.specs.declared.NamedGroup.{NamedGroup}
@@ -21,21 +21,21 @@ module _ (t : List ℕ) (g : NamedGroup) (out : List ℕ) where
   abbrev name : List ℕ
   name = joined_name (listed_names g)
 
-  written : {k : ℕ} → joined_answer t g (length out) ≡ Count k → joined_leaves t g out ≡ name ++ drop k out
+  written : {k : ℕ} → joined_answer t g (length out) ≡ Ok k → joined_leaves t g out ≡ name ++ drop k out
   unfolding joined_leaves
   written h = rw (h, (shown_name t g (length out) h).0)
 
-  handed : {k : ℕ} → joined_answer t g (length out) ≡ Count k → joined_part t g out ≡ name
+  handed : {k : ℕ} → joined_answer t g (length out) ≡ Ok k → joined_part t g out ≡ name
   unfolding joined_part
   handed {k} h = rw (h, written h) (take_at name (drop k out) k (sym (shown_name t g (length out) h).0))
 
   as_long : (c : Counted) → joined_answer t g (length out) ≡ c → length (joined_leaves t g out) ≡ length out
   unfolding joined_leaves
-  as_long (Count k) h =
+  as_long (Ok k) h =
       let n = shown_name t g (length out) h in
       let e : length name + (length out - length name) ≡ length out = omega (arith, n.1) in
       rw h (length-append name (drop (length name) out) ∙ ap (λ (i : ℕ). length name + i) (length-drop (length name) out) ∙ e)
-  as_long (Refused r) h = rw h
+  as_long (Err r) h = rw h
 
   pub joined_left : JoinedLeft t g out
   unfolding joined_leaves joined_part
@@ -77,4 +77,4 @@ joined_most g F L =
 -- So the buffer of `hg_joined_part` holds every joined name whole.
 pub joined_in_277 : (t : List ℕ) (g : NamedGroup) → RecordsFit (length t) g → GroupWithin g.group → joined_part t g (replicate 277 0) ≡ joined_name (listed_names g)
 joined_in_277 t g F L =
-    (joined_left t g (replicate 277 0)).handed ((joined_answers t g 277 (Count (length (joined_name (listed_names g))))).1 (whole F L (joined_most g F L)))
+    (joined_left t g (replicate 277 0)).handed ((joined_answers t g 277 (Ok (length (joined_name (listed_names g))))).1 (whole F L (joined_most g F L)))

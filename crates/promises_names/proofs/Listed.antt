@@ -6,10 +6,9 @@ use native.Mathlib.Omega.{arith}
 use lib.ListN.{length, replicate, length-append}
 use lib.Seq.{take_at, length-take-le}
 use Rattle.egg.specs.declared.Factor.{Factor}
-use Rattle.egg.specs.declared.Verdict.TheVariants.{Fine}
-use Rattle.egg.specs.Factor.{verdict_paper}
+use Rattle.std.specs.Prelude.{Ok, Err}
 use Rattle.build_lending.specs.Lending.{no_factor}
-use Rattle.group_handles.specs.declared.Grouped.{Grouped}
+use Rattle.group_handles.specs.Answers.{Grouped}
 use Rattle.group_handles.specs.Handles.{handles, group_of, joins}
 use Rattle.factor_laws.specs.Papers.{value_paper}
 use Rattle.promises_group.specs.Papers.{grouped_paper, Together}
@@ -17,6 +16,7 @@ use Rattle.promises_group.proofs.Papers.{product_paper}
 use Rattle.names_values.specs.declared.Name.{Name}
 use Rattle.names_values.specs.declared.Named.{Named}
 use Rattle.names_values.specs.declared.NamedGroup.{NamedGroup}
+use Rattle.names_values.specs.Answers.{NamedGrouped}
 use Rattle.names_values.specs.Names.{no_name}
 use Rattle.names_joined.specs.Joined.{listed_names}
 use Rattle.names.specs.Products.{with_names, product_of_one, grouped_with, named_joins}
@@ -38,11 +38,15 @@ eight_none = eight_places [] [] (omega arith) (omega arith)
 pub eight_one : (f : Named) → EightPlaces (product_of_one f)
 eight_one f = eight_places (f.factor ∷ []) (f.name ∷ []) (omega arith) (omega arith)
 
--- What `product` made with as many names as handles, where it was accepted.
-joined_made : (x : Grouped) (hs : List Factor) (ms : List Name) → x.answer ≡ Fine → x.group ≡ group_of hs → (grouped_with x ms).product ≡ with_names (group_of hs) ms
-joined_made x hs ms e g = rw (e, g)
+-- What `product` made was accepted.
+accepted : (x : Grouped) (ms : List Name) {g : NamedGroup} → grouped_with x ms ≡ Ok g → grouped_paper x ≡ value_paper 0
+accepted (Ok h) ms e = refl
+accepted (Err r) ms e = let z : ◌≡◌ {A = ℕ} 0 1 = cc in absurd (omega arith)
 
-module _ (len : ℕ) (a b : NamedGroup) (A : EightPlaces a) (B : EightPlaces b) (fine : (named_joins len a b).answer ≡ Fine) where
+same_made : {x y : NamedGroup} → ◌≡◌ {A = NamedGrouped} (Ok x) (Ok y) → x ≡ y
+same_made e = cc
+
+module _ (len : ℕ) (a b : NamedGroup) (A : EightPlaces a) (B : EightPlaces b) {g : NamedGroup} (was : named_joins len a b ≡ Ok g) where
   abbrev both : List Factor
   both = handles a.group ++ handles b.group
 
@@ -51,14 +55,14 @@ module _ (len : ℕ) (a b : NamedGroup) (A : EightPlaces a) (B : EightPlaces b) 
 
   given : grouped_paper (joins len a.group b.group) ≡ value_paper 0
   unfolding named_joins
-  given = ap verdict_paper fine
+  given = accepted (joins len a.group b.group) both_names was
 
   together : Together a.group b.group
   together = ((product_paper len a.group b.group).fine.0 given).1
 
-  made : (named_joins len a b).product ≡ with_names (group_of both) both_names
+  made : g ≡ with_names (group_of both) both_names
   unfolding named_joins
-  made = joined_made (joins len a.group b.group) both both_names fine ((product_paper len a.group b.group).made given)
+  made = same_made (sym was ∙ ap (λ (x : Grouped). grouped_with x both_names) ((product_paper len a.group b.group).made given))
 
   as_many : (g : NamedGroup) → EightPlaces g → g.group.count ≤ 8 → length (listed_names g) ≡ length (handles g.group)
   as_many g E h =
@@ -71,8 +75,8 @@ module _ (len : ℕ) (a b : NamedGroup) (A : EightPlaces a) (B : EightPlaces b) 
       length-append (listed_names a) (listed_names b) ∙ e ∙ sym (length-append (handles a.group) (handles b.group))
 
   -- The names of the first, then those of the second.
-  pub listed_joined : listed_names (named_joins len a b).product ≡ listed_names a ++ listed_names b
+  pub listed_joined : listed_names g ≡ listed_names a ++ listed_names b
   listed_joined = ap listed_names made ∙ take_at both_names (replicate (8 - length both_names) no_name) (length both) as_many_both
 
-  pub eight_joined : EightPlaces (named_joins len a b).product
+  pub eight_joined : EightPlaces g
   eight_joined = subst EightPlaces (sym made) (eight_places both both_names together.factors (rw as_many_both together.factors))

@@ -1,11 +1,13 @@
 -- The calls that make factors make, name aside, what they made before, and their records have the name that was given, or the empty one.
 use Prim.Native.Nat.{ℕ, ◌≤◌}
-use mathlib.Core.Path.{◌≡◌, refl}
+use mathlib.Core.Path.{◌≡◌, refl, sym}
 use mathlib.Core.List.{List}
 use borrow.Author.Tests.{le-leb}
 use lib.ListN.{length}
+use Rattle.std.specs.Prelude.{Ok, Err}
+use Rattle.egg.proofs.Scans.{refused_fine}
 use Rattle.build_lending.specs.Lending.{Making, making}
-use Rattle.builder.specs.declared.Begun.{Begun}
+use Rattle.builder.specs.Answers.{Begun}
 use Rattle.builder.specs.Calls.{Leaving, leaving, begins, builds}
 use Rattle.factor.specs.Composed.{composed}
 use Rattle.enumeration.specs.Calls.{enumerates}
@@ -20,10 +22,12 @@ use Rattle.names.specs.Making.{with_name, named_composed, named_enumerates, name
 use Rattle.promises_names.specs.Aside.{AsBefore, BegunAsBefore}
 
 made_with : (m : Name) (made : Making) → AsBefore m made (with_name m made)
-made_with m (making x t w) = record { as_before = refl; accepted = λ h. rw h; refused = λ h. rw h }
+made_with m (making (Ok f) t w) = record { as_before = refl; accepted = λ h. refl; refused = λ h. absurd (refused_fine (sym h)) }
+made_with m (making (Err r) t w) = record { as_before = refl; accepted = λ h. absurd (refused_fine h); refused = λ h. refl }
 
 begun_with_lem : (m : Name) (b : Leaving Begun) → BegunAsBefore m b (named_begun m b)
-begun_with_lem m (leaving x t) = record { as_before = refl; accepted = λ h. rw h; refused = λ h. rw h }
+begun_with_lem m (leaving (Ok b) t) = record { as_before = refl; accepted = λ h. refl; refused = λ h. absurd (refused_fine (sym h)) }
+begun_with_lem m (leaving (Err r) t) = record { as_before = refl; accepted = λ h. absurd (refused_fine h); refused = λ h. refl }
 
 -- With a name of at most 32 bytes.
 module _ (name : List ℕ) (short : length name ≤ 32) where

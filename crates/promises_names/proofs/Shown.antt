@@ -9,8 +9,8 @@ use native.Mathlib.Omega.{arith}
 use borrow.Author.Tests.{lt-ltb, le-ltb, le-leb, leb-true}
 use lib.Dec.{leb, ltb}
 use lib.ListN.{length}
-use Rattle.egg.specs.declared.Counted.{Counted}
-use Rattle.egg.specs.declared.Counted.TheVariants.{Count, Refused}
+use Rattle.egg.specs.Answers.{Counted}
+use Rattle.std.specs.Prelude.{Ok, Err}
 use Rattle.egg.specs.Table.{pick}
 use Rattle.egg.specs.Answers.{numbered}
 use Rattle.egg.proofs.Rooms.{false_true, and_first, and_second}
@@ -52,15 +52,15 @@ module _ (t : List ℕ) (g : NamedGroup) (size : ℕ) where
   -- The tests one after another.
   joined_is : joined_answer t g size
       ≡ pick (names_fit (listed_names g))
-      (pick (all_fit (length t) (handles g.group)) (pick (limited g.group) (room_for size (length name)) (Refused (numbered 15 0 0 0))) (Refused (numbered 17 0 0 0)))
-      (Refused (numbered 17 0 0 0))
+      (pick (all_fit (length t) (handles g.group)) (pick (limited g.group) (room_for size (length name)) (Err (numbered 15 0 0 0))) (Err (numbered 17 0 0 0)))
+      (Err (numbered 17 0 0 0))
   unfolding joined_answer joined_length admits
   joined_is = by (names_fit (listed_names g)) refl (all_fit (length t) (handles g.group)) refl (limited g.group) refl where
     by : (a : Bool) → names_fit (listed_names g) ≡ a → (b : Bool) → all_fit (length t) (handles g.group) ≡ b → (c : Bool) → limited g.group ≡ c
         → joined_answer t g size
         ≡ pick (names_fit (listed_names g))
-        (pick (all_fit (length t) (handles g.group)) (pick (limited g.group) (room_for size (length name)) (Refused (numbered 15 0 0 0))) (Refused (numbered 17 0 0 0)))
-        (Refused (numbered 17 0 0 0))
+        (pick (all_fit (length t) (handles g.group)) (pick (limited g.group) (room_for size (length name)) (Err (numbered 15 0 0 0))) (Err (numbered 17 0 0 0)))
+        (Err (numbered 17 0 0 0))
     by false p b q c r = rw p
     by true p false q c r = rw (p, q)
     by true p true q false r = rw (p, q, r)
@@ -73,13 +73,13 @@ module _ (t : List ℕ) (g : NamedGroup) (size : ℕ) where
   joined_given : {c : Counted} → JoinedCase t g size c → joined_answer t g size ≡ c
   joined_given (no_fit wrong) = joined_is ∙ by (names_fit (listed_names g)) refl (all_fit (length t) (handles g.group)) refl where
     by : (a : Bool) → names_fit (listed_names g) ≡ a → (b : Bool) → all_fit (length t) (handles g.group) ≡ b
-        → pick a (pick b (pick (limited g.group) (room_for size (length name)) (Refused (numbered 15 0 0 0))) (Refused (numbered 17 0 0 0))) (Refused (numbered 17 0 0 0))
-        ≡ Refused (numbered 17 0 0 0)
+        → pick a (pick b (pick (limited g.group) (room_for size (length name)) (Err (numbered 15 0 0 0))) (Err (numbered 17 0 0 0))) (Err (numbered 17 0 0 0))
+        ≡ Err (numbered 17 0 0 0)
     by false p b q = refl
     by true p false q = refl
     by true p true q = absurd (wrong (record { handles_fit = q; lengths_fit = fit_short (listed_names g) p }))
   joined_given (large F wrong) = joined_is ∙ rw ((fit F).0, (fit F).1) (by (limited g.group) refl) where
-    by : (c : Bool) → limited g.group ≡ c → pick c (room_for size (length name)) (Refused (numbered 15 0 0 0)) ≡ Refused (numbered 15 0 0 0)
+    by : (c : Bool) → limited g.group ≡ c → pick c (room_for size (length name)) (Err (numbered 15 0 0 0)) ≡ Err (numbered 15 0 0 0)
     by false r = refl
     by true r = absurd (wrong (in_limits g.group r))
   joined_given (short F L h) = joined_is ∙ rw ((fit F).0, (fit F).1, limits_in g.group L, lt-ltb _ _ h)
@@ -111,11 +111,11 @@ module _ (t : List ℕ) (g : NamedGroup) (size : ℕ) where
       (counted_refused _ refl)) (counted_refused _ refl))
 
   -- The count is the length of the joined name, and the buffer has room for it.
-  counted_name : {c : Counted} → JoinedCase t g size c → {k : ℕ} → c ≡ Count k → (k ≡ length name) × (length name ≤ size)
+  counted_name : {c : Counted} → JoinedCase t g size c → {k : ℕ} → c ≡ Ok k → (k ≡ length name) × (length name ≤ size)
   counted_name (no_fit w) q = absurd (never_both refl q)
   counted_name (large F w) q = absurd (never_both refl q)
   counted_name (short F L h) q = absurd (never_both refl q)
   counted_name (whole F L h) q = (sym (same_count q), h)
 
-  pub shown_name : {k : ℕ} → joined_answer t g size ≡ Count k → (k ≡ length name) × (length name ≤ size)
-  shown_name {k} h = counted_name ((joined_answers (Count k)).0 h) refl
+  pub shown_name : {k : ℕ} → joined_answer t g size ≡ Ok k → (k ≡ length name) × (length name ≤ size)
+  shown_name {k} h = counted_name ((joined_answers (Ok k)).0 h) refl

@@ -8,8 +8,9 @@ use native.Mathlib.Omega.{arith}
 use lib.Dec.{leb, ltb}
 use lib.ListN.{length, take, replicate}
 use Rattle.egg.specs.declared.Refusal.{Refusal}
-use Rattle.egg.specs.declared.Verdict.{Verdict}
-use Rattle.egg.specs.declared.Verdict.TheVariants.{Fine, Refused}
+use Rattle.egg.specs.Answers.{Verdict, fine}
+use Rattle.egg.specs.Refusals.{refusal_paper}
+use Rattle.std.specs.Prelude.{Ok, Err}
 use Rattle.egg.specs.Answers.{numbered}
 use Rattle.egg.specs.Pairs.{orders_right}
 use Rattle.egg.specs.Factor.{has_room}
@@ -27,9 +28,12 @@ use Rattle.promises.specs.Enumerated.{EnumerationRight}
 use Rattle.names.specs.Arguments.{composed_right, enumerate_right, begin_right}
 use Rattle.promises_names.specs.LongNames.{TestsFirst, unmade, unbegun}
 
+pub same_why : {s r : Refusal} → ◌≡◌ {A = Verdict} (Err s) (Err r) → s ≡ r
+same_why h = cc
+
 -- A test passes, or it refuses.
-module _ {A : Type 0} {right : Type 0} {before : List ℕ} {v : Verdict} {call build : A} {touchesNothing : Verdict → A} where
-  tests_fine : v ≡ Fine → right → call ≡ build → TestsFirst right before v call build touchesNothing
+module _ {A : Type 0} {right : Type 0} {before : List ℕ} {v : Verdict} {call build : A} {touchesNothing : Refusal → A} where
+  tests_fine : v ≡ fine → right → call ≡ build → TestsFirst right before v call build touchesNothing
   tests_fine e R q = record {
     starts = (λ h. R, λ h. e);
     numbers = rw e verdict_fine;
@@ -37,13 +41,13 @@ module _ {A : Type 0} {right : Type 0} {before : List ℕ} {v : Verdict} {call b
     refused = λ h. absurd (refused_fine (sym h ∙ e));
   }
 
-  tests_refused : (s : Refusal) → v ≡ Refused s → ¬ right → RefusalIn before s → call ≡ touchesNothing (Refused s)
+  tests_refused : (s : Refusal) → v ≡ Err s → ¬ right → RefusalIn before s → call ≡ touchesNothing s
       → TestsFirst right before v call build touchesNothing
   tests_refused s e wrong m q = record {
     starts = (λ h. absurd (refused_fine (sym e ∙ h)), λ R. absurd (wrong R));
     numbers = rw e (verdict_refused s m);
     goes_on = λ h. absurd (refused_fine (sym e ∙ h));
-    refused = λ h. q ∙ ap touchesNothing (sym e ∙ h);
+    refused = λ h. q ∙ ap touchesNothing (same_why (sym e ∙ h));
   }
 
 module _ (table : List ℕ) (start : ℕ) (work rows : List ℕ) (n room : ℕ) where
@@ -83,21 +87,21 @@ module _ (table : List ℕ) (start : ℕ) (work orders : List ℕ) (n room : ℕ
   enumerate_tests = by (ltb 8 n) refl (orders_right orders n) refl (lent_right (length table) start (length work) room n) refl where
     by : (a : Bool) → ltb 8 n ≡ a → (v : Verdict) → orders_right orders n ≡ v → (b : Bool) → lent_right (length table) start (length work) room n ≡ b → Tested
     by true p v o b q = tests_refused (numbered 1 n 0 0) (rw p) (λ R. omega (arith, ltb-true 8 n p, R.generators)) refl (rw p)
-    by false p (Refused r) o b q =
+    by false p (Err r) o b q =
         tests_refused r (rw (p, o)) (λ R. refused_fine (sym o ∙ R.right))
-        (each_in (λ x. member x (1 ∷ 2 ∷ 3 ∷ 4 ∷ [])) r.number (2 ∷ 3 ∷ []) refl (orders_number orders n o)) (rw (p, o))
-    by false p Fine o true q = tests_fine (rw (p, o, q)) (record { generators = ltb-false 8 n p; right = o; lent = q }) (rw (p, o, q))
-    by false p Fine o false q = tests_refused (numbered 4 0 0 0) (rw (p, o, q)) (λ R. false_true (sym q ∙ R.lent)) refl (rw (p, o, q))
+        (each_in (λ x. member x (1 ∷ 2 ∷ 3 ∷ 4 ∷ [])) (refusal_paper r).number (2 ∷ 3 ∷ []) refl (orders_number orders n o)) (rw (p, o))
+    by false p (Ok _) o true q = tests_fine (rw (p, o, q)) (record { generators = ltb-false 8 n p; right = o; lent = q }) (rw (p, o, q))
+    by false p (Ok _) o false q = tests_refused (numbered 4 0 0 0) (rw (p, o, q)) (λ R. false_true (sym q ∙ R.lent)) refl (rw (p, o, q))
 
 module _ (table : List ℕ) (start room n : ℕ) where
   abbrev Begins : Type 0
   Begins = TestsFirst (has_room (length table) start room n ≡ true) (1 ∷ 4 ∷ []) (begin_right (length table) start room n) (begins table start room n)
-      (leaving (record { answer = Fine; builder = builder_of start room n 1 }) (within table start (start + table_need n room) (replicate (table_need n room) 0)))
+      (leaving (Ok (builder_of start room n 1)) (within table start (start + table_need n room) (replicate (table_need n room) 0)))
       (unbegun table)
 
   -- 1, then 4.
   pub begin_tests : TestsFirst (has_room (length table) start room n ≡ true) (1 ∷ 4 ∷ []) (begin_right (length table) start room n) (begins table start room n)
-      (leaving (record { answer = Fine; builder = builder_of start room n 1 }) (within table start (start + table_need n room) (replicate (table_need n room) 0)))
+      (leaving (Ok (builder_of start room n 1)) (within table start (start + table_need n room) (replicate (table_need n room) 0)))
       (unbegun table)
   unfolding begin_right begins
   begin_tests = by (ltb 8 n) refl (has_room (length table) start room n) refl where

@@ -2,7 +2,7 @@
 use Prim.Native.Nat.{ℕ}
 use mathlib.Core.Path.{sym, ◌∙◌, ap}
 use mathlib.Core.List.{List}
-use Rattle.egg.specs.declared.Counted.{Counted}
+use Rattle.egg.specs.Answers.{Counted}
 use Rattle.builder.specs.Calls.{leaving}
 use Rattle.names.specs.Making.{named_making}
 use Rattle.names_values.proofs.no_name.Kinds as no-name-kinds

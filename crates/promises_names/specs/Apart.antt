@@ -4,21 +4,16 @@ use Rattle.builder.specs.Calls.{begins, builds}
 use Rattle.factor.specs.Composed.{composed}
 use Rattle.enumeration.specs.Calls.{enumerates}
 use Rattle.image.specs.Read.{read_image}
-use Rattle.group_handles.specs.declared.Grouped.{Grouped}
 use Rattle.group_handles.specs.Handles.{joins}
 use Rattle.group_flatten.specs.Flat.{flat}
 use Rattle.names_values.specs.declared.Named.{Named}
 use Rattle.names_values.specs.declared.NamedBuilder.{NamedBuilder}
 use Rattle.names_values.specs.declared.NamedGroup.{NamedGroup}
-use Rattle.names_values.specs.declared.NamedGrouped.{NamedGrouped}
+use Rattle.names_values.specs.Answers.{unnamed_grouped}
 use Rattle.names.specs.Making.{named_composed, named_enumerates, named_begins, named_builds, named_read, named_flat}
 use Rattle.names.specs.Products.{named_joins}
 use Rattle.promises_names.specs.Aside.{name_aside, begun_aside}
 use Rattle.promises_names.specs.Alike.{SameNumbers, FactorAlike, ProductAlike, BuilderAlike}
-
--- What `product` made, names aside.
-abbrev pub names_aside : NamedGrouped → Grouped
-names_aside x = record { answer = x.answer; group = x.product.group }
 
 -- Of two records whose handles have the same numbers, whatever stands in their names, every answer and every buffer is the same; and the calls that make
 -- factors make, name aside, what they made before. The calls on subgroups are given a `Subgroup`, which the calls that make one (`generated`, `chosen` and so
@@ -32,9 +27,9 @@ pub record NamesApart : Type 0 where
   -- Every call on a build that is under way, by the four numbers of its handle.
   pub builders : (b c : NamedBuilder) → SameNumbers b.builder.0 c.builder.0 → BuilderAlike b.builder c.builder
   -- `product`, names aside, is that of the handles, so that it is refused or made by them alone.
-  pub joined : (len : ℕ) (a b : NamedGroup) → names_aside (named_joins len a b) ≡ joins len a.group b.group
+  pub joined : (len : ℕ) (a b : NamedGroup) → unnamed_grouped (named_joins len a b) ≡ joins len a.group b.group
   pub joined_alike : (len : ℕ) (a b c d : NamedGroup) → a.group ≡ c.group → b.group ≡ d.group
-      → names_aside (named_joins len a b) ≡ names_aside (named_joins len c d)
+      → unnamed_grouped (named_joins len a b) ≡ unnamed_grouped (named_joins len c d)
   -- `build`, name aside, makes what it made before, by the builder alone.
   pub built : (t : List ℕ) (b : NamedBuilder) (w : List ℕ) → name_aside (named_builds t b w) ≡ builds t b.builder w
   pub built_alike : (t : List ℕ) (b c : NamedBuilder) (w : List ℕ) → b.builder ≡ c.builder → name_aside (named_builds t b w) ≡ name_aside (named_builds t c w)

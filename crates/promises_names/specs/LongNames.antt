@@ -1,40 +1,40 @@
 -- A name over 32 bytes. Order 1: "Refusals: 18, name over 32 bytes (after 4, before the build) ..; nothing is written."
 use Rattle.std.specs.Prelude.{ℕ, ◌≡◌, ◌↔◌, List}
 use Rattle.egg.specs.declared.Refusal.{Refusal}
-use Rattle.egg.specs.declared.Verdict.{Verdict}
-use Rattle.egg.specs.declared.Verdict.TheVariants.{Fine, Refused}
+use Rattle.egg.specs.Answers.{Verdict, fine}
+use Rattle.std.specs.Prelude.{Err}
 use Rattle.egg.specs.Scan.{refused_of}
-use Rattle.build_lending.specs.Lending.{no_factor, Making, making}
-use Rattle.builder.specs.declared.Begun.{Begun}
-use Rattle.builder.specs.Calls.{Leaving, leaving, no_builder}
+use Rattle.build_lending.specs.Lending.{Making, making}
+use Rattle.builder.specs.Answers.{Begun}
+use Rattle.builder.specs.Calls.{Leaving, leaving}
 use Rattle.factor_laws.specs.Refuses.{VerdictIn}
 use Rattle.promises_refusals.specs.Papers.{answer_of}
-use Rattle.names_values.specs.declared.NamedBegun.{NamedBegun}
-use Rattle.names_values.specs.Names.{no_name, unnamed_of}
+use Rattle.names_values.specs.Answers.{NamedBegun}
 use Rattle.names.specs.Making.{NamedMaking, named_making}
 use Rattle.promises_names.specs.Aside.{name_aside, begun_aside, begun_answer}
 
 -- `v` is what a call tests before its build: Fine exactly where its arguments are right, and then the call is the build; else a refusal by one of the
 -- numbers `before`, and then the call is refused by it and touches nothing.
-pub record TestsFirst {A : Type 0} (right : Type 0) (before : List ℕ) (v : Verdict) (call build : A) (touchesNothing : Verdict → A) : Type 0 where
-  pub starts : v ≡ Fine ↔ right
+pub record TestsFirst {A : Type 0} (right : Type 0) (before : List ℕ) (v : Verdict) (call build : A) (touchesNothing : Refusal → A) : Type 0 where
+  pub starts : v ≡ fine ↔ right
   pub numbers : VerdictIn before v
-  pub goes_on : v ≡ Fine → call ≡ build
-  pub refused : {r : Refusal} → v ≡ Refused r → call ≡ touchesNothing (Refused r)
+  pub goes_on : v ≡ fine → call ≡ build
+  pub refused : {r : Refusal} → v ≡ Err r → call ≡ touchesNothing r
 
 -- What a call comes to that is refused and touches nothing.
-abbrev pub unmade : List ℕ → List ℕ → Verdict → Making
-unmade t w v = making (record { answer = v; factor = no_factor }) t w
+abbrev pub unmade : List ℕ → List ℕ → Refusal → Making
+unmade t w r = making (Err r) t w
 
 -- The same of `begin`.
-abbrev pub unbegun : List ℕ → Verdict → Leaving Begun
-unbegun t v = leaving (record { answer = v; builder = no_builder }) t
+abbrev pub unbegun : List ℕ → Refusal → Leaving Begun
+unbegun t r = leaving (Err r) t
 
 -- What x, a call given a name over 32 bytes, comes to; `made` is what it makes with any other name, and `right` says that its other arguments are right.
 pub record LongName (right : Type 0) (made : Making) (t w : List ℕ) (x : NamedMaking) : Type 0 where
-  -- And "nothing is written": table and work are as they were; the handle fits no buffer, and the name is empty.
-  pub untouched : x ≡ named_making (record { answer = answer_of (name_aside x); named = unnamed_of no_factor }) t w
-  pub refused : ¬ (answer_of (name_aside x) ≡ Fine)
+  -- And "nothing is written": there is a refusal, and table and work are as they were.
+  pub why : Refusal
+  pub untouched : x ≡ named_making (Err why) t w
+  pub refused : ¬ (answer_of (name_aside x) ≡ fine)
   -- It comes "after 4": where another argument is wrong, it is refused as without a name.
   pub own_first : ¬ right → name_aside x ≡ made
   -- 18 comes exactly where the others are right.
@@ -42,7 +42,8 @@ pub record LongName (right : Type 0) (made : Making) (t w : List ℕ) (x : Named
 
 -- The same of `begin`.
 pub record LongBegun (right : Type 0) (begun : Leaving Begun) (t : List ℕ) (x : Leaving NamedBegun) : Type 0 where
-  pub untouched : x ≡ leaving (record { answer = begun_answer (begun_aside x); begun = record { builder = no_builder; name = no_name } }) t
-  pub refused : ¬ (begun_answer (begun_aside x) ≡ Fine)
+  pub why : Refusal
+  pub untouched : x ≡ leaving (Err why) t
+  pub refused : ¬ (begun_answer (begun_aside x) ≡ fine)
   pub own_first : ¬ right → begun_aside x ≡ begun
   pub long : begun_answer (begun_aside x) ≡ refused_of 18 0 0 0 ↔ right

@@ -11,16 +11,14 @@ use lib.Dec.{eqb, ltb}
 use lib.ListN.{length, get_or}
 use Rattle.egg.specs.declared.Refusal.{Refusal}
 use Rattle.egg.specs.declared.Factor.{Factor}
-use Rattle.egg.specs.declared.Verdict.{Verdict}
-use Rattle.egg.specs.declared.Verdict.TheVariants.{Fine, Refused}
-use Rattle.egg.specs.declared.Reached.{Reached}
+use Rattle.egg.specs.Answers.{Reached, Verdict, fine, numbered, on_reached}
+use Rattle.std.specs.Prelude.{Ok, Err}
 use Rattle.egg.specs.Table.{pick, start_of}
 use Rattle.egg.specs.Scan.{and_then, scan}
 use Rattle.egg.specs.Pairs.{pair_code, orders_right}
 use Rattle.egg.specs.Factor.{Paper, verdict_paper, fits_in, stretch, refused_reach, read_step}
 use Rattle.egg.proofs.Rooms.{some}
 use Rattle.egg.proofs.Scans.{refused_fine, and_then_fine, scan_fine, scan_first}
-use Rattle.egg.specs.Answers.{numbered, on_reached}
 use Rattle.build_lending.proofs.Fits.{fits_small}
 use Rattle.factor_relations.specs.Relations.{turned, returns_to, relation_at, doubled_row, pairs_row, relations_row, relations}
 use Rattle.factor.specs.Questions.{admits}
@@ -38,9 +36,9 @@ use Rattle.promises_refusals.proofs.Orders.{orders_either, fault_orders, right_o
 
 -- A scan refuses by r exactly where the first place that is not fine does.
 abbrev FirstRefused : ℕ → (ℕ → Verdict) → Refusal → Type 0
-FirstRefused k f r = (i : ℕ) × (i < k) × (f i ≡ Refused r) × ((j : ℕ) → j < i → f j ≡ Fine)
+FirstRefused k f r = (i : ℕ) × (i < k) × (f i ≡ Err r) × ((j : ℕ) → j < i → f j ≡ fine)
 
-scan_met : (k : ℕ) (f : ℕ → Verdict) (r : Refusal) → scan k f 0 ≡ Refused r ↔ FirstRefused k f r
+scan_met : (k : ℕ) (f : ℕ → Verdict) (r : Refusal) → scan k f 0 ≡ Err r ↔ FirstRefused k f r
 scan_met k f r = (
   λ h. let p = scan_first k f 0 h in (p.0, omega (arith, p.2), p.3, λ j l. p.4 j (omega arith) l),
   λ p. scan_stops k f 0 p.0 (omega arith) (omega (arith, p.1)) p.2 (λ j a l. p.3 j l),
@@ -102,43 +100,43 @@ module _ (s : List ℕ) (n N : ℕ) where
   leads_unread (goes {x = x} {w = w} q l p) (later {x = x'} q' l' u) =
       let z : x' ≡ x = omega arith in leads_unread p (subst (λ (v : ℕ). Unread stored N v w) z u)
 
-  same_refusal : {r r' : Refusal} → Refused r ≡ Refused r' → r ≡ r'
+  same_refusal : {r r' : Refusal} → ◌≡◌ {A = Verdict} (Err r) (Err r') → r ≡ r'
   same_refusal h = cc
 
   module _ (e a b m : ℕ) where
-    fine_of : {r : Reached} → Walked e (alternate a b m) r → returns_to e a b r ≡ Fine ↔ Returns stored N e a b m
+    fine_of : {r : Reached} → Walked e (alternate a b m) r → returns_to e a b r ≡ fine ↔ Returns stored N e a b m
     fine_of (led {x} p) = by (eqb x e) refl where
-      by : (c : Bool) → eqb x e ≡ c → pick c Fine (Refused (numbered 13 e a b)) ≡ Fine ↔ Returns stored N e a b m
+      by : (c : Bool) → eqb x e ≡ c → pick c fine (Err (numbered 13 e a b)) ≡ fine ↔ Returns stored N e a b m
       by true q = (λ h. subst (λ (v : ℕ). Leads stored N e (alternate a b m) v) (eqb-true x e q) p, λ h. refl)
       by false q = (λ h. absurd (refused_fine h), λ h. absurd (eqb-false x e q (leads_once p h)))
     fine_of (stopped u) = (λ h. absurd (refused_fine h), λ h. absurd (leads_unread h u))
 
-    met_of : (r : Refusal) {x : Reached} → Walked e (alternate a b m) x → returns_to e a b x ≡ Refused r ↔ Met stored N e a b m r
+    met_of : (r : Refusal) {x : Reached} → Walked e (alternate a b m) x → returns_to e a b x ≡ Err r ↔ Met stored N e a b m r
     met_of r (led {x} p) = by (eqb x e) refl where
       never : {r : Refusal} → x ≡ e → Met stored N e a b m r → ⊥
       never z (astray p' d) = d (leads_once p' p ∙ z)
       never z (unread u) = leads_unread p u
 
-      back : {r : Refusal} → Met stored N e a b m r → Refused (numbered 13 e a b) ≡ Refused r
+      back : {r : Refusal} → Met stored N e a b m r → ◌≡◌ {A = Verdict} (Err (numbered 13 e a b)) (Err r)
       back (astray p' d) = refl
       back (unread u) = absurd (leads_unread p u)
 
-      by : (c : Bool) → eqb x e ≡ c → pick c Fine (Refused (numbered 13 e a b)) ≡ Refused r ↔ Met stored N e a b m r
+      by : (c : Bool) → eqb x e ≡ c → pick c fine (Err (numbered 13 e a b)) ≡ Err r ↔ Met stored N e a b m r
       by true q = (λ h. absurd (refused_fine (sym h)), λ M. absurd (never (eqb-true x e q) M))
       by false q = (λ h. subst (Met stored N e a b m) (same_refusal h) (astray p (eqb-false x e q)), back)
     met_of r (stopped u) = (λ h. subst (Met stored N e a b m) (same_refusal h) (unread u), back) where
-      back : {r : Refusal} → Met stored N e a b m r → Refused (numbered 17 0 0 0) ≡ Refused r
+      back : {r : Refusal} → Met stored N e a b m r → ◌≡◌ {A = Verdict} (Err (numbered 17 0 0 0)) (Err r)
       back (astray p d) = absurd (leads_unread p u)
       back (unread v) = refl
 
-    relation_fine : relation_at s n N e a b m ≡ Fine ↔ Returns stored N e a b m
+    relation_fine : relation_at s n N e a b m ≡ fine ↔ Returns stored N e a b m
     relation_fine = fine_of (walked m e a b)
 
-    relation_met : (r : Refusal) → relation_at s n N e a b m ≡ Refused r ↔ Met stored N e a b m r
+    relation_met : (r : Refusal) → relation_at s n N e a b m ≡ Err r ↔ Met stored N e a b m r
     relation_met r = met_of r (walked m e a b)
 
   -- The relations at one element.
-  doubled_fine : (e : ℕ) → doubled_row s n N e ≡ Fine ↔ ((g : ℕ) → g < n → Returns stored N e g g 1)
+  doubled_fine : (e : ℕ) → doubled_row s n N e ≡ fine ↔ ((g : ℕ) → g < n → Returns stored N e g g 1)
   unfolding doubled_row
   doubled_fine e = (
     λ h g l. (relation_fine e g g 1).0 ((scan_fine n (λ g. relation_at s n N e g g 1)).0 h g l),
@@ -154,7 +152,7 @@ module _ (s : List ℕ) (n N : ℕ) where
     unfolding at
     at_pair e {i} {j} hi hj = let small : j < 8 = omega arith in rw (code_first hi small, code_second hi small)
 
-    pairs_fine : (e : ℕ) → pairs_row s n N o e ≡ Fine ↔ ((i j : ℕ) → i < j → j < n → Returns stored N e i j (order_of o i j))
+    pairs_fine : (e : ℕ) → pairs_row s n N o e ≡ fine ↔ ((i j : ℕ) → i < j → j < n → Returns stored N e i j (order_of o i j))
     unfolding pairs_row at
     pairs_fine e = (
       λ h i j hi hj.
@@ -164,7 +162,7 @@ module _ (s : List ℕ) (n N : ℕ) where
           ap (at e) (sym q) ∙ at_pair e hi hj ∙ (relation_fine e i j (order_of o i j)).1 (h i j hi hj)),
     )
 
-    row_fine : (e : ℕ) → relations_row s n N o e ≡ Fine ↔ AllReturn stored n N o e
+    row_fine : (e : ℕ) → relations_row s n N o e ≡ fine ↔ AllReturn stored n N o e
     row_fine e = (
       λ h.
           let b = (and_then_fine (doubled_row s n N e) (pairs_row s n N o e)).0 h in
@@ -181,7 +179,7 @@ module _ (s : List ℕ) (n N : ℕ) where
         (λ a b ha hb l. (relation_fine e a b (order_of o a b)).0 (sym (at_pair e ha hb) ∙ before (pair_place a b) (rw z at l)))
         ((relation_met e i j (order_of o i j) r).0 (sym (at_pair e hi hj) ∙ ap (at e) z ∙ m))
 
-    relations_met : (r : Refusal) → relations s n N o ≡ Refused r ↔ FirstMet stored n N o r
+    relations_met : (r : Refusal) → relations s n N o ≡ Err r ↔ FirstMet stored n N o r
     unfolding relations doubled_row pairs_row at
     relations_met r = (
       λ h.
@@ -195,16 +193,16 @@ module _ (s : List ℕ) (n N : ℕ) where
           (then_split (doubled_row s n N e) (pairs_row s n N o e) q),
       refuses,
     ) where
-      refused_row : {e : ℕ} {r : Refusal} → e < N → ((x : ℕ) → x < e → AllReturn stored n N o x) → relations_row s n N o e ≡ Refused r → relations s n N o ≡ Refused r
+      refused_row : {e : ℕ} {r : Refusal} → e < N → ((x : ℕ) → x < e → AllReturn stored n N o x) → relations_row s n N o e ≡ Err r → relations s n N o ≡ Err r
       refused_row {e} {r} he all q = (scan_met N (λ e. relations_row s n N o e) r).1 (e, he, q, λ x l. (row_fine x).1 (all x l))
 
-      refuses : {r : Refusal} → FirstMet stored n N o r → relations s n N o ≡ Refused r
+      refuses : {r : Refusal} → FirstMet stored n N o r → relations s n N o ≡ Err r
       refuses {r} (doubled {e} {g} he all hg before M) =
           refused_row he all
           (ap (λ (v : Verdict). and_then v (pairs_row s n N o e))
           ((scan_met n (λ g. relation_at s n N e g g 1) r).1 (g, hg, (relation_met e g g 1 r).1 M, λ h l. (relation_fine e h h 1).1 (before h l))))
       refuses {r} (paired {e} {i} {j} he all twice hi hj before M) =
-          let q : pairs_row s n N o e ≡ Refused r = (scan_met (length o) (at e) r).1 (
+          let q : pairs_row s n N o e ≡ Err r = (scan_met (length o) (at e) r).1 (
             pair_place i j,
             rw long (pair_inside hi hj),
             at_pair e hi hj ∙ (relation_met e i j (order_of o i j) r).1 M,
@@ -214,7 +212,7 @@ module _ (s : List ℕ) (n N : ℕ) where
           ) in
           refused_row he all (rw ((doubled_fine e).1 twice) q)
 
-    relations_fine : relations s n N o ≡ Fine ↔ ((e : ℕ) → e < N → AllReturn stored n N o e)
+    relations_fine : relations s n N o ≡ fine ↔ ((e : ℕ) → e < N → AllReturn stored n N o e)
     unfolding relations
     relations_fine = (
       λ h e l. (row_fine e).0 ((scan_fine N (λ e. relations_row s n N o e)).0 h e l),
@@ -225,7 +223,7 @@ module _ (t : List ℕ) (f : Factor) (o : List ℕ) where
   abbrev n : ℕ
   n = f.generators
 
-  without_handle : fits_in (length t) f ≡ false → check_answer t f o ≡ Refused (numbered 17 0 0 0)
+  without_handle : fits_in (length t) f ≡ false → check_answer t f o ≡ Err (numbered 17 0 0 0)
   unfolding check_answer admits
   without_handle q = rw q
 
@@ -241,8 +239,8 @@ module _ (t : List ℕ) (f : Factor) (o : List ℕ) where
   any_some = by (fits_in (length t) f) refl where
     related : fits_in (length t) f ≡ true → OrdersRight o f.generators → (v : Verdict) → relations (stretch t f) f.generators f.elements o ≡ v
         → CheckAny t f o (verdict_paper v)
-    related q R Fine e = all_return q R ((relations_fine (stretch t f) n f.elements (fits_small (length t) f q).0 o R.long).0 e)
-    related q R (Refused r) e = as_met q R ((relations_met (stretch t f) n f.elements (fits_small (length t) f q).0 o R.long r).0 e)
+    related q R (Ok _) e = all_return q R ((relations_fine (stretch t f) n f.elements (fits_small (length t) f q).0 o R.long).0 e)
+    related q R (Err r) e = as_met q R ((relations_met (stretch t f) n f.elements (fits_small (length t) f q).0 o R.long r).0 e)
 
     by : (c : Bool) → fits_in (length t) f ≡ c → CheckAny t f o (verdict_paper (check_answer t f o))
     by false q = rw (without_handle q) (no_handle q)

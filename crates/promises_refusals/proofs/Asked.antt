@@ -13,20 +13,14 @@ use Rattle.egg.specs.declared.Refusal.{Refusal}
 use Rattle.egg.specs.declared.Factor.{Factor}
 use Rattle.egg.specs.declared.GroupElementId.{GroupElementId}
 use Rattle.egg.specs.declared.GeneratorId.{GeneratorId}
-use Rattle.egg.specs.declared.Verdict.{Verdict}
-use Rattle.egg.specs.declared.Verdict.TheVariants as verdict
-use Rattle.egg.specs.declared.Verdict.TheVariants.{Fine}
-use Rattle.egg.specs.declared.Reached.{Reached}
-use Rattle.egg.specs.declared.Reached.TheVariants as reached
-use Rattle.egg.specs.declared.Counted.{Counted}
-use Rattle.egg.specs.declared.Counted.TheVariants as counted
+use Rattle.egg.specs.Answers.{Counted, Reached, Verdict, fine, numbered, if_reach, if_count}
+use Rattle.std.specs.Prelude.{Ok, Err}
 use Rattle.egg.specs.Table.{pick, length_of}
 use Rattle.egg.specs.Scan.{refused_of, and_then, scan}
 use Rattle.egg.specs.Pairs.{orders_right}
 use Rattle.egg.specs.Factor.{Paper, refusal_paper, verdict_paper, reached_paper, counted_paper, fits_in, stretch, refused_reach, read_step, step_answer}
 use Rattle.egg.proofs.Rooms.{some, false_true}
 use Rattle.egg.proofs.Scans.{scan_fine}
-use Rattle.egg.specs.Answers.{numbered, if_reach, if_count}
 use Rattle.build_checks_laws.specs.Numbers.{member, RefusalIn}
 use Rattle.factor_questions.specs.Walks.{inverse_in, compose_in, conjugate_in, generator_in}
 use Rattle.factor_words.specs.Words.{length_in, readable, write_in}
@@ -42,20 +36,20 @@ use Rattle.promises_refusals.proofs.Firsts.{Decides, decides_fine, first_found, 
 
 -- The tests: 17, then 14 for the first argument out of range.
 abbrev argument_at : List Argument → ℕ → Verdict
-argument_at l i = pick (leb (get_or l i (below 0 1)).limit (get_or l i (below 0 1)).value) (refused_of 14 i 0 0) Fine
+argument_at l i = pick (leb (get_or l i (below 0 1)).limit (get_or l i (below 0 1)).value) (refused_of 14 i 0 0) fine
 
 abbrev tests : Bool → List Argument → Verdict
 tests fits l = pick fits (scan (length l) (argument_at l) 0) (refused_of 17 0 0 0)
 
 -- What they refuse is the answer, and else what comes after them.
 abbrev afterwards : Verdict → Paper → Paper
-afterwards Fine p = p
-afterwards (verdict.Refused r) p = refusal_paper r
+afterwards (Ok _) p = p
+afterwards (Err r) p = refusal_paper r
 
 argument_decided : (l : List Argument) (i : ℕ) → i < length l → Decides (Outside l i) (numbered 14 i 0 0) (argument_at l i)
 argument_decided l i h = by (leb (get_or l i (below 0 1)).limit (get_or l i (below 0 1)).value) refl where
   by : (b : Bool) → leb (get_or l i (below 0 1)).limit (get_or l i (below 0 1)).value ≡ b
-      → Decides (Outside l i) (numbered 14 i 0 0) (pick b (refused_of 14 i 0 0) Fine)
+      → Decides (Outside l i) (numbered 14 i 0 0) (pick b (refused_of 14 i 0 0) fine)
   by true q = inl (leb-true _ _ q, refl)
   by false q = let m = leb-false (get_or l i (below 0 1)).limit (get_or l i (below 0 1)).value q in inr (λ o. omega arith, refl)
 
@@ -65,8 +59,8 @@ module _ (l : List Argument) (inside : Paper) where
   some_asked false = no_handle refl
   some_asked true = by (scan (length l) (argument_at l) 0) refl where
     by : (v : Verdict) → scan (length l) (argument_at l) 0 ≡ v → Asked true l inside (afterwards v inside)
-    by Fine q = in_range refl (λ i h. decides_fine (argument_decided l i h) ((scan_fine (length l) (argument_at l)).0 q i h))
-    by (verdict.Refused r) q = let p = first_found (argument_decided l) q in rw p.2 (out_of_range refl p.1)
+    by (Ok _) q = in_range refl (λ i h. decides_fine (argument_decided l i h) ((scan_fine (length l) (argument_at l)).0 q i h))
+    by (Err r) q = let p = first_found (argument_decided l) q in rw p.2 (out_of_range refl p.1)
 
   given_asked : (fits : Bool) {p : Paper} → Asked fits l inside p → afterwards (tests fits l) inside ≡ p
   given_asked fits (no_handle q) = rw q
@@ -106,32 +100,32 @@ module _ (l : List Argument) (inside : Paper) where
 
 -- Answers on paper, after the tests.
 reached_after : (v : Verdict) (x : Reached) → reached_paper (if_reach v x) ≡ afterwards v (reached_paper x)
-reached_after Fine x = refl
-reached_after (verdict.Refused r) x = refl
+reached_after (Ok _) x = refl
+reached_after (Err r) x = refl
 
 counted_after : (v : Verdict) (x : Counted) → counted_paper (if_count v x) ≡ afterwards v (counted_paper x)
-counted_after Fine x = refl
-counted_after (verdict.Refused r) x = refl
+counted_after (Ok _) x = refl
+counted_after (Err r) x = refl
 
 then_after : (u v : Verdict) → verdict_paper (and_then u v) ≡ afterwards u (verdict_paper v)
-then_after Fine v = refl
-then_after (verdict.Refused r) v = refl
+then_after (Ok _) v = refl
+then_after (Err r) v = refl
 
 -- A refusal that may only have these numbers is not 14.
-not_14 : (l : List ℕ) (r : Refusal) → member 14 l ≡ false → RefusalIn l r → r.number ≡ 14 → ⊥
+not_14 : (l : List ℕ) (r : Refusal) → member 14 l ≡ false → RefusalIn l r → (refusal_paper r).number ≡ 14 → ⊥
 not_14 l r none i k = false_true (sym none ∙ subst (λ (x : ℕ). member x l ≡ true) k i)
 
 reached_not_14 : {l : List ℕ} → member 14 l ≡ false → (x : Reached) → ReachedIn l x → (reached_paper x).number ≡ 14 → ⊥
-reached_not_14 none (reached.Element e) p k = omega arith
-reached_not_14 {l} none (reached.Refused r) p k = not_14 l r none (p.of r refl) k
+reached_not_14 none (Ok e) p k = omega arith
+reached_not_14 {l} none (Err r) p k = not_14 l r none (p.of r refl) k
 
 counted_not_14 : {l : List ℕ} → member 14 l ≡ false → (x : Counted) → CountedIn l x → (counted_paper x).number ≡ 14 → ⊥
-counted_not_14 none (counted.Count e) p k = omega arith
-counted_not_14 {l} none (counted.Refused r) p k = not_14 l r none (p.of r refl) k
+counted_not_14 none (Ok e) p k = omega arith
+counted_not_14 {l} none (Err r) p k = not_14 l r none (p.of r refl) k
 
 verdict_not_14 : {l : List ℕ} → member 14 l ≡ false → (x : Verdict) → VerdictIn l x → (verdict_paper x).number ≡ 14 → ⊥
-verdict_not_14 none Fine p k = omega arith
-verdict_not_14 {l} none (verdict.Refused r) p k = not_14 l r none (p.of r refl) k
+verdict_not_14 none (Ok _) p k = omega arith
+verdict_not_14 {l} none (Err r) p k = not_14 l r none (p.of r refl) k
 
 -- The tests of the calls are these.
 module _ (len : ℕ) (f : Factor) where
@@ -142,8 +136,8 @@ module _ (len : ℕ) (f : Factor) where
   unfolding admits scan
   two_tests a b = by (fits_in len f) (leb N a) (leb N b) where
     by : (x y z : Bool)
-        → pick x (pick y (refused_of 14 0 0 0) (pick z (refused_of 14 1 0 0) Fine)) (refused_of 17 0 0 0)
-        ≡ pick x (and_then (pick y (refused_of 14 0 0 0) Fine) (and_then (pick z (refused_of 14 1 0 0) Fine) Fine)) (refused_of 17 0 0 0)
+        → pick x (pick y (refused_of 14 0 0 0) (pick z (refused_of 14 1 0 0) fine)) (refused_of 17 0 0 0)
+        ≡ pick x (and_then (pick y (refused_of 14 0 0 0) fine) (and_then (pick z (refused_of 14 1 0 0) fine) fine)) (refused_of 17 0 0 0)
     by false y z = refl
     by true true z = refl
     by true false true = refl
@@ -153,8 +147,8 @@ module _ (len : ℕ) (f : Factor) where
   unfolding admits scan
   one_test a = by (fits_in len f) refl (leb N a) where
     by : (x : Bool) → fits_in len f ≡ x → (y : Bool)
-        → pick x (pick y (refused_of 14 0 0 0) (pick (leb N 0) (refused_of 14 1 0 0) Fine)) (refused_of 17 0 0 0)
-        ≡ pick x (and_then (pick y (refused_of 14 0 0 0) Fine) Fine) (refused_of 17 0 0 0)
+        → pick x (pick y (refused_of 14 0 0 0) (pick (leb N 0) (refused_of 14 1 0 0) fine)) (refused_of 17 0 0 0)
+        ≡ pick x (and_then (pick y (refused_of 14 0 0 0) fine) fine) (refused_of 17 0 0 0)
     by false q y = refl
     by true q true = refl
     by true q false = rw (lt-leb N 0 (some len f q))
@@ -163,14 +157,14 @@ module _ (len : ℕ) (f : Factor) where
   unfolding admits scan
   no_test = by (fits_in len f) refl where
     by : (x : Bool) → fits_in len f ≡ x
-        → pick x (pick (leb N 0) (refused_of 14 0 0 0) (pick (leb N 0) (refused_of 14 1 0 0) Fine)) (refused_of 17 0 0 0) ≡ pick x Fine (refused_of 17 0 0 0)
+        → pick x (pick (leb N 0) (refused_of 14 0 0 0) (pick (leb N 0) (refused_of 14 1 0 0) fine)) (refused_of 17 0 0 0) ≡ pick x fine (refused_of 17 0 0 0)
     by false q = refl
     by true q = rw (lt-leb N 0 (some len f q))
 
 -- A step has an element and a generator.
 step_after : (x y z : Bool) (r : Reached)
     → reached_paper (pick x (pick y (refused_reach 14 0) (pick z (refused_reach 14 1) r)) (refused_reach 17 0))
-    ≡ afterwards (pick x (and_then (pick y (refused_of 14 0 0 0) Fine) (and_then (pick z (refused_of 14 1 0 0) Fine) Fine)) (refused_of 17 0 0 0)) (reached_paper r)
+    ≡ afterwards (pick x (and_then (pick y (refused_of 14 0 0 0) fine) (and_then (pick z (refused_of 14 1 0 0) fine) fine)) (refused_of 17 0 0 0)) (reached_paper r)
 step_after false y z r = refl
 step_after true true z r = refl
 step_after true false true r = refl
@@ -178,8 +172,8 @@ step_after true false false r = refl
 
 -- And a generator is asked for by itself.
 generator_after : (x y : Bool) (r : Reached)
-    → reached_paper (if_reach (pick x Fine (refused_of 17 0 0 0)) (pick y (refused_reach 14 0) r))
-    ≡ afterwards (pick x (and_then (pick y (refused_of 14 0 0 0) Fine) Fine) (refused_of 17 0 0 0)) (reached_paper r)
+    → reached_paper (if_reach (pick x fine (refused_of 17 0 0 0)) (pick y (refused_reach 14 0) r))
+    ≡ afterwards (pick x (and_then (pick y (refused_of 14 0 0 0) fine) fine) (refused_of 17 0 0 0)) (reached_paper r)
 generator_after false y r = refl
 generator_after true true r = refl
 generator_after true false r = refl

@@ -7,8 +7,7 @@ use mathlib.Core.List.{List}
 use native.Mathlib.Nat.{le_refl}
 use lib.ListN.{length, replicate, length-replicate}
 use Rattle.egg.specs.declared.Refusal.{Refusal}
-use Rattle.egg.specs.declared.Verdict.TheVariants as verdict
-use Rattle.egg.specs.declared.Counted.TheVariants.{Count, Refused}
+use Rattle.std.specs.Prelude.{Ok, Err}
 use Rattle.build_checks.specs.Checks.{checked, check_group}
 use Rattle.build_lending.specs.Finish.{Built, built, zeroed, finished, finished_placed}
 use Rattle.build_lending.proofs.Finishing.{refused_counted}
@@ -29,26 +28,26 @@ module _ (src : ℕ → ℕ → ℕ) (n room size : ℕ) (w : List ℕ) (few : n
   build = finished_placed (read_all src n room (replicate size 0)) n w
 
   abbrev RefusedBy : Refusal → Type 0
-  RefusedBy r = (t : List ℕ) × (w₁ : List ℕ) × (build ≡ built (Refused r) t w₁)
+  RefusedBy r = (t : List ℕ) × (w₁ : List ℕ) × (build ≡ built (Err r) t w₁)
 
   -- Whatever a build refuses, there is the fault.
-  pub built_fault : {r : Refusal} {t w₁ : List ℕ} → finished_placed (read_all src n room (replicate size 0)) n w ≡ built (Refused r) t w₁ → Fault src n room r
+  pub built_fault : {r : Refusal} {t w₁ : List ℕ} → finished_placed (read_all src n room (replicate size 0)) n w ≡ built (Err r) t w₁ → Fault src n room r
   built_fault q = ⊎_elim
       (λ a. unread (refused_read src n room size few lo hi fits a.1))
       (λ a. checked_fault src n room size w few lo hi fits work (accepted_read src n room size few lo hi fits a.4) a.5)
       (build_refused (read_all src n room (replicate size 0)) n w q)
 
   -- A check that refuses after the reading of what is readable.
-  after : {N : ℕ} (r : Refusal) (a : (t : List ℕ) × (read_all src n room (replicate size 0) ≡ placed (Count N) t))
-      → (t₁ : List ℕ) × (w₁ : List ℕ) × (check_group a.0 w n N ≡ checked (verdict.Refused r) t₁ w₁) → RefusedBy r
+  after : {N : ℕ} (r : Refusal) (a : (t : List ℕ) × (read_all src n room (replicate size 0) ≡ placed (Ok N) t))
+      → (t₁ : List ℕ) × (w₁ : List ℕ) × (check_group a.0 w n N ≡ checked (Err r) t₁ w₁) → RefusedBy r
   after r a b = (zeroed b.0, zeroed b.1, refused_build n w a.1 b.2)
 
-  read : {N : ℕ} → Readable src n room N → (t : List ℕ) × (read_all src n room (replicate size 0) ≡ placed (Count N) t)
+  read : {N : ℕ} → Readable src n room N → (t : List ℕ) × (read_all src n room (replicate size 0) ≡ placed (Ok N) t)
   read G = readable_accepted src n room size few lo hi fits G
 
   -- And each fault is refused so.
   pub fault_built : {r : Refusal} → Fault src n room r
-      → (t : List ℕ) × (w₁ : List ℕ) × (finished_placed (read_all src n room (replicate size 0)) n w ≡ built (Refused r) t w₁)
+      → (t : List ℕ) × (w₁ : List ℕ) × (finished_placed (read_all src n room (replicate size 0)) n w ≡ built (Err r) t w₁)
   unfolding finished
   fault_built (unread F) = let a = refuses_refused src n room size few lo hi fits F in (zeroed a.0, zeroed w, rw a.1)
   fault_built (lacks {e} {g} L) =
@@ -72,17 +71,17 @@ module _ (src : ℕ → ℕ → ℕ) (n room size : ℕ) (w : List ℕ) (few : n
 
   -- Refused by r exactly where r is the fault.
   pub built_exactly : (r : Refusal)
-      → ((t : List ℕ) × (w₁ : List ℕ) × (finished_placed (read_all src n room (replicate size 0)) n w ≡ built (Refused r) t w₁)) ↔ Fault src n room r
+      → ((t : List ℕ) × (w₁ : List ℕ) × (finished_placed (read_all src n room (replicate size 0)) n w ≡ built (Err r) t w₁)) ↔ Fault src n room r
   built_exactly r = (λ a. built_fault a.2, fault_built)
 
   -- Accepted or refused, by what the numbers are.
   pub built_either : (b : Built) → finished_placed (read_all src n room (replicate size 0)) n w ≡ b
       → ((N : ℕ) × Taken src n room N) ⊎ ((r : Refusal) × Fault src n room r)
-  built_either (built (Count N) t v) q = inl (N, (built_holds src n room size w few lo hi fits work q).taken)
-  built_either (built (Refused r) t v) q = inr (r, built_fault q)
+  built_either (built (Ok N) t v) q = inl (N, (built_holds src n room size w few lo hi fits work q).taken)
+  built_either (built (Err r) t v) q = inr (r, built_fault q)
 
 -- Of the numbers alone, within document 01's limits: they are taken or have a fault, not both, and one fault only.
-same_built : {r s : Refusal} {t t₁ v v₁ : List ℕ} → built (Refused r) t v ≡ built (Refused s) t₁ v₁ → r ≡ s
+same_built : {r s : Refusal} {t t₁ v v₁ : List ℕ} → built (Err r) t v ≡ built (Err s) t₁ v₁ → r ≡ s
 same_built h = cc
 
 module _ (src : ℕ → ℕ → ℕ) (n room : ℕ) (few : n ≤ 8) (lo : 1 ≤ room) (hi : room ≤ 65535) where

@@ -12,8 +12,8 @@ use borrow.Author.Tests.{le-leb, lt-ltb, le-ltb, leb-true}
 use lib.Dec.{leb}
 use lib.ListN.{length, take, replicate}
 use Rattle.egg.specs.declared.Refusal.{Refusal}
-use Rattle.egg.specs.declared.Verdict.{Verdict}
-use Rattle.egg.specs.declared.Verdict.TheVariants as verdict
+use Rattle.egg.specs.Answers.{Verdict, fine}
+use Rattle.std.specs.Prelude.{Ok, Err}
 use Rattle.egg.specs.Factor.{Paper, refusal_paper, verdict_paper}
 use Rattle.egg.proofs.Rooms.{false_true, and_first, and_second}
 use Rattle.build_reading.specs.Reading.{read_all, composed_at}
@@ -68,15 +68,15 @@ module _ (table : List ℕ) (start : ℕ) (work rows : List ℕ) (n room : ℕ) 
     long : work_need n room ≤ length w
     long = work_lent table start work rows n room hn (lent_right_lem hn E) E.rows_long
 
-    accepts : answer_of outcome ≡ verdict.Fine ↔ ((N : ℕ) × Taken (composed_at rows n) n room N)
+    accepts : answer_of outcome ≡ fine ↔ ((N : ℕ) × Taken (composed_at rows n) n room N)
     accepts = lent_accepted table start work (composed_at rows n) n room (table_need n room) w hn E.lent.some_room E.lent.most_room (le_refl (table_need n room)) long
 
-    refuses : (r : Refusal) → answer_of outcome ≡ verdict.Refused r ↔ Fault (composed_at rows n) n room r
+    refuses : (r : Refusal) → answer_of outcome ≡ Err r ↔ Fault (composed_at rows n) n room r
     refuses = lent_refused table start work (composed_at rows n) n room (table_need n room) w hn E.lent.some_room E.lent.most_room (le_refl (table_need n room)) long
 
     some_built : (v : Verdict) → answer_of outcome ≡ v → ComposedPaper table start work rows n room (verdict_paper v)
-    some_built verdict.Fine q = taken hn E (accepts.0 q).1
-    some_built (verdict.Refused r) q = fault hn E ((refuses r).0 q)
+    some_built (Ok _) q = taken hn E (accepts.0 q).1
+    some_built (Err r) q = fault hn E ((refuses r).0 q)
 
     taken_paper : {N : ℕ} → Taken (composed_at rows n) n room N → paper_of (composed table start work rows n room) ≡ paper 0 0 0 0
     taken_paper {N} G = ap paper_of is_build ∙ ap verdict_paper (accepts.1 (N, G))

@@ -1,6 +1,6 @@
 -- 1 to 4 of an enumeration, on every input: each with its places exactly when. Whatever comes once the run has started has another number.
 use Prim.Native.Nat.{ℕ, ◌≤◌, ◌<◌}
-use mathlib.Core.Path.{◌≡◌, refl, sym, ap, ◌∙◌}
+use mathlib.Core.Path.{◌≡◌, refl, sym, ◌∙◌}
 use mathlib.Core.Logic.{◌↔◌, ◌⊎◌, inl, inr, ⊎_elim}
 use mathlib.Core.Bool.{Bool, true, false}
 use mathlib.Core.List.{List}
@@ -10,10 +10,10 @@ use borrow.Author.Tests.{lt-ltb, le-ltb, leb-true}
 use lib.Dec.{leb}
 use lib.ListN.{length}
 use Rattle.egg.specs.declared.Refusal.{Refusal}
-use Rattle.egg.specs.declared.Verdict.{Verdict}
-use Rattle.egg.specs.declared.Verdict.TheVariants as verdict
+use Rattle.egg.specs.Answers.{fine}
+use Rattle.std.specs.Prelude.{Ok, Err}
 use Rattle.egg.specs.Pairs.{orders_right}
-use Rattle.egg.specs.Factor.{Paper, refusal_paper, verdict_paper}
+use Rattle.egg.specs.Factor.{Paper, refusal_paper}
 use Rattle.egg.proofs.Rooms.{false_true}
 use Rattle.build_lending.specs.Lending.{lent_right, Making, making}
 use Rattle.theory.specs.Presentation.{pairs_below}
@@ -34,11 +34,11 @@ module _ (table : List ℕ) (start : ℕ) (work o : List ℕ) (n room : ℕ) whe
   unfolding enumerates
   is_many h = simp (lt-ltb _ _ h)
 
-  is_unordered : n ≤ 8 → {r : Refusal} → orders_right o n ≡ verdict.Refused r → paper_of (enumerates table start work o n room) ≡ refusal_paper r
+  is_unordered : n ≤ 8 → {r : Refusal} → orders_right o n ≡ Err r → paper_of (enumerates table start work o n room) ≡ refusal_paper r
   unfolding enumerates
   is_unordered few q = rw (le-ltb 8 n few, q)
 
-  is_short : n ≤ 8 → orders_right o n ≡ verdict.Fine → lent_right (length table) start (length work) room n ≡ false
+  is_short : n ≤ 8 → orders_right o n ≡ fine → lent_right (length table) start (length work) room n ≡ false
       → paper_of (enumerates table start work o n room) ≡ paper 4 0 0 0
   unfolding enumerates
   is_short few q l = rw (le-ltb 8 n few, q, l)
@@ -48,23 +48,19 @@ module _ (table : List ℕ) (start : ℕ) (work o : List ℕ) (n room : ℕ) whe
   Late p = (p.number ≡ 0) ⊎ (5 ≤ p.number)
 
   late_number : {buffers : List Lent} {before : List ℕ} {r : Refusal} → calls.EnumerationRight table start work o n room
-      → Leaves (calls.EnumerationRight table start work o n room) before enumeration_numbers buffers r → 5 ≤ r.number
+      → Leaves (calls.EnumerationRight table start work o n room) before enumeration_numbers buffers r → 5 ≤ (refusal_paper r).number
   late_number R (untouched wrong m s) = absurd (wrong R)
-  late_number {r = r} R (zeros ok m z) = leb-true _ _ (each_in (λ x. leb 5 x) r.number enumeration_numbers refl m)
+  late_number {r = r} R (zeros ok m z) = leb-true _ _ (each_in (λ x. leb 5 x) (refusal_paper r).number enumeration_numbers refl m)
 
   is_late : calls.EnumerationRight table start work o n room → (p : Making) → enumerates table start work o n room ≡ p → Late (paper_of p)
   unfolding Late
-  is_late R (making m t w) q = by m.answer refl where
-    by : (v : Verdict) → m.answer ≡ v → ((verdict_paper v).number ≡ 0) ⊎ (5 ≤ (verdict_paper v).number)
-    by verdict.Fine e = inl refl
-    by (verdict.Refused r) e =
-        inr (late_number R (tested_leaves table start work o n room r m.factor t w
-        (q ∙ ap (λ (v : Verdict). making (record { answer = v; factor = m.factor }) t w) e)))
+  is_late R (making (Ok f) t w) q = inl refl
+  is_late R (making (Err r) t w) q = inr (late_number R (tested_leaves table start work o n room r t w q))
 
   -- The tests answer, or the run starts.
   told : EnumeratePaper table start work o n room (paper_of (enumerates table start work o n room)) ⊎ Late (paper_of (enumerates table start work o n room))
   told = by (dec_lt 8 n) where
-    lent : n ≤ 8 → orders_right o n ≡ verdict.Fine → OrdersRight o n → (b : Bool) → lent_right (length table) start (length work) room n ≡ b
+    lent : n ≤ 8 → orders_right o n ≡ fine → OrdersRight o n → (b : Bool) → lent_right (length table) start (length work) room n ≡ b
         → EnumeratePaper table start work o n room (paper_of (enumerates table start work o n room)) ⊎ Late (paper_of (enumerates table start work o n room))
     lent few q R true l = inr (is_late (record { generators = few; right = q; lent = l }) (enumerates table start work o n room) refl)
     lent few q R false l = inl (rw (is_short few q l) (short few R (λ E. false_true (sym l ∙ enough_right table start work n room few E))))

@@ -8,8 +8,8 @@ use mathlib.Core.List.{List}
 use borrow.Author.Tests.{le-leb, leb-true}
 use lib.ListN.{length, replicate}
 use Rattle.egg.specs.declared.Refusal.{Refusal}
-use Rattle.egg.specs.declared.Verdict.TheVariants as verdict
-use Rattle.egg.specs.declared.Counted.TheVariants.{Count, Refused}
+use Rattle.egg.specs.Answers.{Verdict, fine}
+use Rattle.std.specs.Prelude.{Ok, Err}
 use Rattle.egg.specs.Factor.{has_room}
 use Rattle.egg.proofs.Rooms.{positive, limited, within_length}
 use Rattle.egg.proofs.Scans.{refused_fine}
@@ -40,30 +40,30 @@ module _ (table : List ℕ) (start : ℕ) (work : List ℕ) (n room : ℕ) where
         work_long = leb-true _ _ (lent_enough (length table) start (length work) room n l);
       }
 
-pub same_verdict : {r s : Refusal} → verdict.Refused r ≡ verdict.Refused s → r ≡ s
+pub same_verdict : {r s : Refusal} → ◌≡◌ {A = Verdict} (Err r) (Err s) → r ≡ s
 same_verdict h = cc
 
 -- What the call answers is what the build came to.
 module _ (table : List ℕ) (start : ℕ) (work : List ℕ) (n room : ℕ) where
-  answer_refused : (b : Built) {r : Refusal} → answer_of (lent_back table start work n room b) ≡ verdict.Refused r
-      → (t : List ℕ) × (w : List ℕ) × (b ≡ built (Refused r) t w)
-  answer_refused (built (Count N) t w) h = absurd (refused_fine (sym h))
-  answer_refused (built (Refused s) t w) h = (t, w, ap (λ (x : Refusal). built (Refused x) t w) (same_verdict h))
+  answer_refused : (b : Built) {r : Refusal} → answer_of (lent_back table start work n room b) ≡ Err r
+      → (t : List ℕ) × (w : List ℕ) × (b ≡ built (Err r) t w)
+  answer_refused (built (Ok N) t w) h = absurd (refused_fine (sym h))
+  answer_refused (built (Err s) t w) h = (t, w, ap (λ (x : Refusal). built (Err x) t w) (same_verdict h))
 
-  answer_fine : (b : Built) → answer_of (lent_back table start work n room b) ≡ verdict.Fine → (N : ℕ) × (t : List ℕ) × (w : List ℕ) × (b ≡ built (Count N) t w)
-  answer_fine (built (Count N) t w) h = (N, t, w, refl)
-  answer_fine (built (Refused s) t w) h = absurd (refused_fine h)
+  answer_fine : (b : Built) → answer_of (lent_back table start work n room b) ≡ fine → (N : ℕ) × (t : List ℕ) × (w : List ℕ) × (b ≡ built (Ok N) t w)
+  answer_fine (built (Ok N) t w) h = (N, t, w, refl)
+  answer_fine (built (Err s) t w) h = absurd (refused_fine h)
 
 module _ (table : List ℕ) (start : ℕ) (work : List ℕ) (src : ℕ → ℕ → ℕ) (n room size : ℕ) (w : List ℕ) (few : n ≤ 8) (lo : 1 ≤ room) (hi : room ≤ 65535)
     (fits : room * (2 * n + 4) ≤ size) (enough : work_need n room ≤ length w) where
   pub lent_refused : (r : Refusal)
-      → answer_of (lent_back table start work n room (finished_placed (read_all src n room (replicate size 0)) n w)) ≡ verdict.Refused r ↔ Fault src n room r
+      → answer_of (lent_back table start work n room (finished_placed (read_all src n room (replicate size 0)) n w)) ≡ Err r ↔ Fault src n room r
   lent_refused r = (
     λ h. built_fault src n room size w few lo hi fits enough (answer_refused table start work n room _ h).2,
     λ F. let b = fault_built src n room size w few lo hi fits enough F in rw b.2,
   )
 
-  pub lent_accepted : answer_of (lent_back table start work n room (finished_placed (read_all src n room (replicate size 0)) n w)) ≡ verdict.Fine
+  pub lent_accepted : answer_of (lent_back table start work n room (finished_placed (read_all src n room (replicate size 0)) n w)) ≡ fine
       ↔ ((N : ℕ) × Taken src n room N)
   lent_accepted = (
     λ h. let b = answer_fine table start work n room _ h in (b.0, (built_holds src n room size w few lo hi fits enough b.3).taken),

@@ -1,4 +1,5 @@
 -- What a fault of each number is, with all three places; and which numbers there are.
+use Rattle.egg.specs.Refusals.{refusal_paper}
 use Prim.Native.Nat.{ℕ, ◌≤◌, ◌<◌}
 use mathlib.Core.Path.{◌≡◌, refl}
 use mathlib.Core.Logic.{◌⊎◌, inl, inr}
@@ -17,10 +18,10 @@ reading_number (inr (inr q)) = (omega arith, omega arith)
 
 module _ {src : ℕ → ℕ → ℕ} {n room : ℕ} where
   -- 5, 6 and 7 are the reading's.
-  pub reading_numbers : {r : Refusal} → ReadingRefused src n room r → (5 ≤ r.number) × (r.number ≤ 7)
+  pub reading_numbers : {r : Refusal} → ReadingRefused src n room r → (5 ≤ (refusal_paper r).number) × ((refusal_paper r).number ≤ 7)
   reading_numbers F = reading_number (refused_number F)
 
-  pub fault_numbers : {r : Refusal} → Fault src n room r → (5 ≤ r.number) × (r.number ≤ 12)
+  pub fault_numbers : {r : Refusal} → Fault src n room r → (5 ≤ (refusal_paper r).number) × ((refusal_paper r).number ≤ 12)
   fault_numbers (unread F) = ((reading_numbers F).0, omega (arith, (reading_numbers F).1))
   fault_numbers (lacks F) = (omega arith, omega arith)
   fault_numbers (strays F) = (omega arith, omega arith)
@@ -28,7 +29,7 @@ module _ {src : ℕ → ℕ → ℕ} {n room : ℕ} where
   fault_numbers (misnumbers F) = (omega arith, omega arith)
   fault_numbers (groupless F) = (omega arith, omega arith)
 
-  pub fault_reading : {r : Refusal} → Fault src n room r → r.number ≤ 7 → ReadingRefused src n room r
+  pub fault_reading : {r : Refusal} → Fault src n room r → (refusal_paper r).number ≤ 7 → ReadingRefused src n room r
   fault_reading (unread F) q = F
   fault_reading (lacks F) q = absurd (omega arith)
   fault_reading (strays F) q = absurd (omega arith)
@@ -37,28 +38,28 @@ module _ {src : ℕ → ℕ → ℕ} {n room : ℕ} where
   fault_reading (groupless F) q = absurd (omega arith)
 
   -- Each of them with its places.
-  at_5 : {x g c : ℕ} {r : Refusal} → ReadSoFar src n room x g c → g < n → Stops src n room x g c r → r.number ≡ 5 → Overflows src n room r.a r.b × (r.c ≡ 0)
+  at_5 : {x g c : ℕ} {r : Refusal} → ReadSoFar src n room x g c → g < n → Stops src n room x g c r → (refusal_paper r).number ≡ 5 → Overflows src n room (refusal_paper r).a (refusal_paper r).b × ((refusal_paper r).c ≡ 0)
   at_5 H hg (skips_ahead l) q = absurd (omega arith)
   at_5 {c = c} H hg (no_room p f) q = (record { count = c; before = H; column = hg; needed = p; full = f }, refl)
   at_5 H hg (long_word p l f) q = absurd (omega arith)
 
-  at_6 : {x g c : ℕ} {r : Refusal} → ReadSoFar src n room x g c → g < n → Stops src n room x g c r → r.number ≡ 6 → Overlong src n room r.a r.b × (r.c ≡ 0)
+  at_6 : {x g c : ℕ} {r : Refusal} → ReadSoFar src n room x g c → g < n → Stops src n room x g c r → (refusal_paper r).number ≡ 6 → Overlong src n room (refusal_paper r).a (refusal_paper r).b × ((refusal_paper r).c ≡ 0)
   at_6 H hg (skips_ahead l) q = absurd (omega arith)
   at_6 H hg (no_room p f) q = absurd (omega arith)
   at_6 {c = c} H hg (long_word p l f) q = (record { count = c; before = H; column = hg; needed = p; has_room = l; full = f }, refl)
 
-  at_7 : {x g c : ℕ} {r : Refusal} → ReadSoFar src n room x g c → g < n → Stops src n room x g c r → r.number ≡ 7 → SkipsAhead src n room r.a r.b r.c
+  at_7 : {x g c : ℕ} {r : Refusal} → ReadSoFar src n room x g c → g < n → Stops src n room x g c r → (refusal_paper r).number ≡ 7 → SkipsAhead src n room (refusal_paper r).a (refusal_paper r).b (refusal_paper r).c
   at_7 {c = c} H hg (skips_ahead l) q = record { count = c; before = H; column = hg; number = refl; ahead = l }
   at_7 H hg (no_room p f) q = absurd (omega arith)
   at_7 H hg (long_word p l f) q = absurd (omega arith)
 
-  pub fault_5 : {r : Refusal} → Fault src n room r → r.number ≡ 5 → Overflows src n room r.a r.b × (r.c ≡ 0)
+  pub fault_5 : {r : Refusal} → Fault src n room r → (refusal_paper r).number ≡ 5 → Overflows src n room (refusal_paper r).a (refusal_paper r).b × ((refusal_paper r).c ≡ 0)
   fault_5 F q = let G = fault_reading F (omega arith) in at_5 G.before G.place G.stops q
 
-  pub fault_6 : {r : Refusal} → Fault src n room r → r.number ≡ 6 → Overlong src n room r.a r.b × (r.c ≡ 0)
+  pub fault_6 : {r : Refusal} → Fault src n room r → (refusal_paper r).number ≡ 6 → Overlong src n room (refusal_paper r).a (refusal_paper r).b × ((refusal_paper r).c ≡ 0)
   fault_6 F q = let G = fault_reading F (omega arith) in at_6 G.before G.place G.stops q
 
-  pub fault_7 : {r : Refusal} → Fault src n room r → r.number ≡ 7 → SkipsAhead src n room r.a r.b r.c
+  pub fault_7 : {r : Refusal} → Fault src n room r → (refusal_paper r).number ≡ 7 → SkipsAhead src n room (refusal_paper r).a (refusal_paper r).b (refusal_paper r).c
   fault_7 F q = let G = fault_reading F (omega arith) in at_7 G.before G.place G.stops q
 
   pub overflows : {e g : ℕ} → Overflows src n room e g → Fault src n room (numbered 5 e g 0)
@@ -86,7 +87,7 @@ module _ {src : ℕ → ℕ → ℕ} {n room : ℕ} where
       rw (← F.number)
       (unread (record { row = e; column = g; count = F.count; before = F.before; place = F.column; stops = skips_ahead (rw F.number F.ahead) }))
 
-  pub fault_8 : {r : Refusal} → Fault src n room r → r.number ≡ 8 → Lacks src n room r.a r.b × (r.c ≡ 0)
+  pub fault_8 : {r : Refusal} → Fault src n room r → (refusal_paper r).number ≡ 8 → Lacks src n room (refusal_paper r).a (refusal_paper r).b × ((refusal_paper r).c ≡ 0)
   fault_8 (unread F) q = absurd (omega (arith, (reading_numbers F).1))
   fault_8 (lacks F) q = (F, refl)
   fault_8 (strays F) q = absurd (omega arith)
@@ -94,7 +95,7 @@ module _ {src : ℕ → ℕ → ℕ} {n room : ℕ} where
   fault_8 (misnumbers F) q = absurd (omega arith)
   fault_8 (groupless F) q = absurd (omega arith)
 
-  pub fault_9 : {r : Refusal} → Fault src n room r → r.number ≡ 9 → Strays src n room r.a r.b × (r.c ≡ 0)
+  pub fault_9 : {r : Refusal} → Fault src n room r → (refusal_paper r).number ≡ 9 → Strays src n room (refusal_paper r).a (refusal_paper r).b × ((refusal_paper r).c ≡ 0)
   fault_9 (unread F) q = absurd (omega (arith, (reading_numbers F).1))
   fault_9 (lacks F) q = absurd (omega arith)
   fault_9 (strays F) q = (F, refl)
@@ -102,7 +103,7 @@ module _ {src : ℕ → ℕ → ℕ} {n room : ℕ} where
   fault_9 (misnumbers F) q = absurd (omega arith)
   fault_9 (groupless F) q = absurd (omega arith)
 
-  pub fault_10 : {r : Refusal} → Fault src n room r → r.number ≡ 10 → Twists src n room r.a r.b r.c
+  pub fault_10 : {r : Refusal} → Fault src n room r → (refusal_paper r).number ≡ 10 → Twists src n room (refusal_paper r).a (refusal_paper r).b (refusal_paper r).c
   fault_10 (unread F) q = absurd (omega (arith, (reading_numbers F).1))
   fault_10 (lacks F) q = absurd (omega arith)
   fault_10 (strays F) q = absurd (omega arith)
@@ -110,7 +111,7 @@ module _ {src : ℕ → ℕ → ℕ} {n room : ℕ} where
   fault_10 (misnumbers F) q = absurd (omega arith)
   fault_10 (groupless F) q = absurd (omega arith)
 
-  pub fault_11 : {r : Refusal} → Fault src n room r → r.number ≡ 11 → Misnumbers src n room r.a × ((r.b ≡ 0) × (r.c ≡ 0))
+  pub fault_11 : {r : Refusal} → Fault src n room r → (refusal_paper r).number ≡ 11 → Misnumbers src n room (refusal_paper r).a × (((refusal_paper r).b ≡ 0) × ((refusal_paper r).c ≡ 0))
   fault_11 (unread F) q = absurd (omega (arith, (reading_numbers F).1))
   fault_11 (lacks F) q = absurd (omega arith)
   fault_11 (strays F) q = absurd (omega arith)
@@ -118,8 +119,8 @@ module _ {src : ℕ → ℕ → ℕ} {n room : ℕ} where
   fault_11 (misnumbers F) q = (F, (refl, refl))
   fault_11 (groupless F) q = absurd (omega arith)
 
-  pub fault_12 : {r : Refusal} → Fault src n room r → r.number ≡ 12
-      → ((N : ℕ) × Groupless src n room N) × ((r.a ≡ 0) × ((r.b ≡ 0) × (r.c ≡ 0)))
+  pub fault_12 : {r : Refusal} → Fault src n room r → (refusal_paper r).number ≡ 12
+      → ((N : ℕ) × Groupless src n room N) × (((refusal_paper r).a ≡ 0) × (((refusal_paper r).b ≡ 0) × ((refusal_paper r).c ≡ 0)))
   fault_12 (unread F) q = absurd (omega (arith, (reading_numbers F).1))
   fault_12 (lacks F) q = absurd (omega arith)
   fault_12 (strays F) q = absurd (omega arith)

@@ -10,14 +10,13 @@ use lib.Dec.{eqb, leb}
 use lib.ListN.{length, get_or}
 use Rattle.egg.specs.declared.Refusal.{Refusal}
 use Rattle.egg.specs.declared.Factor.{Factor}
-use Rattle.egg.specs.declared.Verdict.{Verdict}
-use Rattle.egg.specs.declared.Verdict.TheVariants.{Fine, Refused}
+use Rattle.egg.specs.Answers.{Verdict, fine, numbered}
+use Rattle.std.specs.Prelude.{Ok, Err}
 use Rattle.egg.specs.Table.{pick, step_of}
 use Rattle.egg.specs.Scan.{refused_of, scan}
 use Rattle.egg.specs.Pairs.{pair_code, pair_count, order_at, orders_right}
 use Rattle.egg.specs.Factor.{Paper, verdict_paper}
 use Rattle.egg.proofs.Scans.{refused_fine, scan_fine}
-use Rattle.egg.specs.Answers.{numbered}
 use Rattle.factor_relations.specs.Relations.{relation_at, doubled_row, pairs_row, relations}
 use Rattle.factor.specs.Relations.{check_answer}
 use Rattle.theory.specs.Words.{walk}
@@ -38,14 +37,14 @@ module _ (o : List ℕ) (n : ℕ) where
   order_decided : (k : ℕ) → k < length o → Decides (¬ (OrderRight o k)) (numbered 3 k 0 0) (order_at o k)
   order_decided k hk = by (leb 2 (get_or o k 0)) (leb (get_or o k 0) 32767) refl refl where
     by : (p q : Bool) → leb 2 (get_or o k 0) ≡ p → leb (get_or o k 0) 32767 ≡ q
-        → Decides (¬ (OrderRight o k)) (numbered 3 k 0 0) (pick p (pick q Fine (refused_of 3 k 0 0)) (refused_of 3 k 0 0))
+        → Decides (¬ (OrderRight o k)) (numbered 3 k 0 0) (pick p (pick q fine (refused_of 3 k 0 0)) (refused_of 3 k 0 0))
     by true true a b = inr (λ w. w (leb-true _ _ a, leb-true _ _ b), refl)
     by true false a b = inl (λ r. omega (arith, leb-false (get_or o k 0) 32767 b, r.1), refl)
     by false q a b = inl (λ r. omega (arith, leb-false 2 (get_or o k 0) a, r.0), refl)
 
-  order_fine : (k : ℕ) → order_at o k ≡ Fine → OrderRight o k
+  order_fine : (k : ℕ) → order_at o k ≡ fine → OrderRight o k
   order_fine k = by (leb 2 (get_or o k 0)) (leb (get_or o k 0) 32767) refl refl where
-    by : (p q : Bool) → leb 2 (get_or o k 0) ≡ p → leb (get_or o k 0) 32767 ≡ q → pick p (pick q Fine (refused_of 3 k 0 0)) (refused_of 3 k 0 0) ≡ Fine → OrderRight o k
+    by : (p q : Bool) → leb 2 (get_or o k 0) ≡ p → leb (get_or o k 0) 32767 ≡ q → pick p (pick q fine (refused_of 3 k 0 0)) (refused_of 3 k 0 0) ≡ fine → OrderRight o k
     by true true a b h = (leb-true _ _ a, leb-true _ _ b)
     by true false a b h = absurd (refused_fine h)
     by false q a b h = absurd (refused_fine h)
@@ -60,26 +59,26 @@ module _ (o : List ℕ) (n : ℕ) where
   other_length d = simp (ne_eqb (length o) (pair_count n) (λ q. d (q ∙ pair_count_lem n)))
 
   -- The orders are right, or have a fault.
-  pub orders_either : ((orders_right o n ≡ Fine) × OrdersRight o n) ⊎ ((r : Refusal) × (orders_right o n ≡ Refused r) × OrdersFault o n r)
+  pub orders_either : ((orders_right o n ≡ fine) × OrdersRight o n) ⊎ ((r : Refusal) × (orders_right o n ≡ Err r) × OrdersFault o n r)
   orders_either = by (eqb (length o) (pairs_below n)) refl where
     listed : length o ≡ pairs_below n → (v : Verdict) → scan (length o) (λ k. order_at o k) 0 ≡ v
-        → ((orders_right o n ≡ Fine) × OrdersRight o n) ⊎ ((r : Refusal) × (orders_right o n ≡ Refused r) × OrdersFault o n r)
-    listed q Fine h = inl (long_orders q ∙ h, record { long = q; within = λ {k} hk. order_fine k ((scan_fine (length o) (λ k. order_at o k)).0 h k hk) })
-    listed q (Refused r) h =
+        → ((orders_right o n ≡ fine) × OrdersRight o n) ⊎ ((r : Refusal) × (orders_right o n ≡ Err r) × OrdersFault o n r)
+    listed q (Ok _) h = inl (long_orders q ∙ h, record { long = q; within = λ {k} hk. order_fine k ((scan_fine (length o) (λ k. order_at o k)).0 h k hk) })
+    listed q (Err r) h =
         let p = first_found order_decided h in
         inr (r, long_orders q ∙ h, rw p.2 (wrong_order q p.1))
 
     by : (b : Bool) → eqb (length o) (pairs_below n) ≡ b
-        → ((orders_right o n ≡ Fine) × OrdersRight o n) ⊎ ((r : Refusal) × (orders_right o n ≡ Refused r) × OrdersFault o n r)
+        → ((orders_right o n ≡ fine) × OrdersRight o n) ⊎ ((r : Refusal) × (orders_right o n ≡ Err r) × OrdersFault o n r)
     by true e = listed (eqb-true _ _ e) (scan (length o) (λ k. order_at o k) 0) refl
     by false e = let d = eqb-false (length o) (pairs_below n) e in inr (numbered 2 0 0 0, other_length d, wrong_length d)
 
   -- And a fault is what is refused; right orders are fine.
-  pub fault_orders : {r : Refusal} → OrdersFault o n r → orders_right o n ≡ Refused r
+  pub fault_orders : {r : Refusal} → OrdersFault o n r → orders_right o n ≡ Err r
   fault_orders (wrong_length d) = other_length d
   fault_orders (wrong_order q F) = long_orders q ∙ first_refused_lem order_decided F
 
-  pub right_orders : OrdersRight o n → orders_right o n ≡ Fine
+  pub right_orders : OrdersRight o n → orders_right o n ≡ fine
   right_orders R = long_orders R.long ∙ first_fine order_decided (λ k hk d. d (R.within hk))
 
 stable : {a b : ℕ} → ¬ (¬ (a ≡ b)) → a ≡ b
@@ -142,7 +141,7 @@ module _ {s : List ℕ} {n N : ℕ} (S : Sound s n N) (few : n ≤ 8) (o : List 
     go : {k : ℕ} → k < pair_place i j → (a : ℕ) × (b : ℕ) × (a < b) × (b < n) × (pair_place a b ≡ k) → Broken k → ⊥
     go l (a, b, ha, hb, q) d = at_pair ha hb (rw q d) (F.before ha hb (rw q l))
 
-  pub relations_found : {r : Refusal} → relations s n N o ≡ Refused r → RelationFault n step o r
+  pub relations_found : {r : Refusal} → relations s n N o ≡ Err r → RelationFault n step o r
   unfolding doubled_row pairs_row
   relations_found {r} h = ⊎_elim
       (λ q. let p = first_found (λ g hg. decided 1 hg hg) q in rw p.2 (doubled p.1))
@@ -153,23 +152,23 @@ module _ {s : List ℕ} {n N : ℕ} (S : Sound s n N) (few : n ≤ 8) (o : List 
       rw e (paired ((doubled_row_lem S S.table.origin).0 a.0) F))
       (then_split (doubled_row s n N 0) (pairs_row s n N o 0) (sym (relations_identity S few o long) ∙ h))
 
-  pub relations_refused : {r : Refusal} → RelationFault n step o r → relations s n N o ≡ Refused r
+  pub relations_refused : {r : Refusal} → RelationFault n step o r → relations s n N o ≡ Err r
   unfolding doubled_row pairs_row
   relations_refused (doubled F) = relations_identity S few o long ∙ rw (first_refused_lem (λ g hg. decided 1 hg hg) F)
   relations_refused (paired {i} {j} all F) =
-      let p = first_refused_lem pair_decided (pair_first F) ∙ ap (λ (x : Refusal). Refused x) (place_numbers F.ordered F.inside refl) in
+      let p = first_refused_lem pair_decided (pair_first F) ∙ ap (λ (x : Refusal). Err x) (place_numbers F.ordered F.inside refl) in
       relations_identity S few o long ∙ rw ((doubled_row_lem S S.table.origin).1 all) p
 
 -- What the check of an accepted factor answers.
 module _ {t : List ℕ} {f : Factor} (A : Accepted t f) (o : List ℕ) where
-  check_wrong : {r : Refusal} → orders_right o f.generators ≡ Refused r → check_answer t f o ≡ Refused r
+  check_wrong : {r : Refusal} → orders_right o f.generators ≡ Err r → check_answer t f o ≡ Err r
   unfolding check_answer
   check_wrong q = rw (admits_fine (length t) f A.fits A.sound.table.origin A.sound.table.origin, q)
 
-  some_relations : OrdersRight o f.generators → (right : orders_right o f.generators ≡ Fine) → (v : Verdict) → check_answer t f o ≡ v
+  some_relations : OrdersRight o f.generators → (right : orders_right o f.generators ≡ fine) → (v : Verdict) → check_answer t f o ≡ v
       → CheckPaper f.generators f.elements (factor_step t f) o (verdict_paper v)
-  some_relations R right Fine h = holds R ((check_answer_lem A o right).0 h)
-  some_relations R right (Refused r) h = fails R (relations_found A.sound (few_generators A) o R.long (sym (check_is A o right) ∙ h))
+  some_relations R right (Ok _) h = holds R ((check_answer_lem A o right).0 h)
+  some_relations R right (Err r) h = fails R (relations_found A.sound (few_generators A) o R.long (sym (check_is A o right) ∙ h))
 
   pub check_some : CheckPaper f.generators f.elements (factor_step t f) o (verdict_paper (check_answer t f o))
   check_some = ⊎_elim

@@ -11,10 +11,8 @@ use lib.ListN.{length, get_or, drop, replicate, length-replicate, get_or-replica
 use lib.Seq.{get_or-take, get_or-drop}
 use Rattle.egg.specs.declared.Refusal.{Refusal}
 use Rattle.egg.specs.declared.Factor.{Factor}
-use Rattle.egg.specs.declared.Made.{Made}
-use Rattle.egg.specs.declared.Verdict.TheVariants.{Fine, Refused}
-use Rattle.egg.specs.declared.Counted.{Counted}
-use Rattle.egg.specs.declared.Counted.TheVariants.{Count}
+use Rattle.egg.specs.Answers.{Counted, Made, fine, answer_of}
+use Rattle.std.specs.Prelude.{Ok, Err}
 use Rattle.egg.specs.Table.{start_of}
 use Rattle.egg.specs.Factor.{stretch}
 use Rattle.egg.proofs.Rooms.{room_enough}
@@ -43,7 +41,7 @@ stretch_first t f h =
     let p : 0 < f.room * (2 * f.generators + 4) = mul-le-mul h four in
     rw q (get_or-take (f.room * (2 * f.generators + 4)) (drop f.start t) 0 0 p ∙ get_or-drop f.start t 0 0 ∙ rw add-zero)
 
-same_count : {k l : ℕ} → Count k ≡ Count l → k ≡ l
+same_count : {k l : ℕ} → ◌≡◌ {A = Counted} (Ok k) (Ok l) → k ≡ l
 same_count h = cc
 
 -- Whichever call made it, an accepted factor ..
@@ -65,7 +63,7 @@ module _ {t : List ℕ} {f : Factor} (A : Accepted t f) where
       sym (stretch_first t f room) ∙ A.sound.stored.successor {e = 0} {g = 0} A.sound.table.origin some ∙ ap suc (A.sound.identity_row_lem some)
 
   -- .. and answers no word's length but that of the recorded word, which leads to its element.
-  pub made_up_length : {c : Counted} {e k : ℕ} → e < f.elements → c ≡ length_answer t f (record { 0 = e }) → c ≡ Count k
+  pub made_up_length : {c : Counted} {e k : ℕ} → e < f.elements → c ≡ length_answer t f (record { 0 = e }) → c ≡ Ok k
       → (k ≡ length (factor_word t f e)) × (walk (factor_step t f) 0 (factor_word t f e) ≡ e)
   made_up_length he contract h =
       let a = (accepted_answers A).2 in
@@ -74,32 +72,32 @@ module _ {t : List ℕ} {f : Factor} (A : Accepted t f) where
 module _ (table : List ℕ) (start : ℕ) (work rows : List ℕ) (n room : ℕ) {m : Made} {t w : List ℕ}
     (contract : making m t w ≡ composed table start work rows n room) where
   -- Whoever refuses rows that some group has by the numbering rule does not meet the contract.
-  pub refusing_everything : {N : ℕ} {r : Refusal} → n ≤ 8 → Enough table start work rows n room → Taken (composed_at rows n) n room N → m.answer ≡ Refused r → ⊥
+  pub refusing_everything : {N : ℕ} {r : Refusal} → n ≤ 8 → Enough table start work rows n room → Taken (composed_at rows n) n room N → m ≡ Err r → ⊥
   refusing_everything {N} hn E G h =
       let a = (composed_exactly table start work rows n room hn (lent_right_lem table start work rows n room hn E) E.rows_long).1 (N, G) in
-      let q : m.answer ≡ Fine = ap (λ (x : Making). elim x [ making m t w ↦ m.answer ]) (contract ∙ a.3) in
-      refused_fine (sym h ∙ q)
+      let q : answer_of m ≡ fine = ap (λ (x : Making). elim x [ making m t w ↦ answer_of m ]) (contract ∙ a.3) in
+      refused_fine (sym (ap (λ (x : Made). answer_of x) h) ∙ q)
 
-  module _ (accepted : m.answer ≡ Fine) where
-    is_accepted : composed table start work rows n room ≡ making (record { answer = Fine; factor = m.factor }) t w
-    is_accepted = sym contract ∙ ap (λ v. making (record { answer = v; factor = m.factor }) t w) accepted
+  module _ {f : Factor} (accepted : m ≡ Ok f) where
+    is_accepted : composed table start work rows n room ≡ making (Ok f) t w
+    is_accepted = sym contract ∙ ap (λ (v : Made). making v t w) accepted
 
-    given : Given table start work rows n room m.factor t w
-    given = composed_given table start work rows n room m.factor t w is_accepted
+    given : Given table start work rows n room f t w
+    given = composed_given table start work rows n room f t w is_accepted
 
-    pub one_element_always : 1 ≤ n → m.factor.elements ≡ 1 → ⊥
+    pub one_element_always : 1 ≤ n → f.elements ≡ 1 → ⊥
     one_element_always some one = omega (arith, more_elements given.accepted, ap (λ (f : Factor). f.generators) given.handle)
 
     pub table_untouched : 1 ≤ n → (get_or table start 0 ≡ 2 → ⊥) → t ≡ table → ⊥
     table_untouched some other h =
-        let at : m.factor.start ≡ start = ap (λ (f : Factor). f.start) given.handle in
+        let at : f.start ≡ start = ap (λ (f : Factor). f.start) given.handle in
         let first = first_number given.accepted (rw given.handle some) in
         other (ap (λ (l : List ℕ). get_or l start 0) (sym h) ∙ ap (λ (i : ℕ). get_or t i 0) (sym at) ∙ first)
 
     -- And the needed work is zero.
     pub work_number : (i : ℕ) → i < work_need n room → get_or w i 0 ≡ 0
     work_number i h =
-        let B = begun table start work rows n room m.factor t w is_accepted in
+        let B = begun table start work rows n room f t w is_accepted in
         let k = work_need n room in
         let long : k ≤ length work = leb-true _ _ (lent_enough (length table) start (length work) room n B.lent) in
         let c = within_cell work 0 k (rw (zero-add k) long) (replicate k 0) (length-replicate k _) i h in

@@ -11,14 +11,11 @@ use lib.Dec.{leb}
 use lib.ListN.{length, get_or, length-map}
 use Rattle.egg.specs.declared.Factor.{Factor}
 use Rattle.egg.specs.declared.GroupElementId.{GroupElementId}
-use Rattle.egg.specs.declared.Verdict.{Verdict}
-use Rattle.egg.specs.declared.Verdict.TheVariants as verdict
-use Rattle.egg.specs.declared.Verdict.TheVariants.{Fine}
-use Rattle.egg.specs.declared.Reached.{Reached}
+use Rattle.egg.specs.Answers.{Reached, Verdict, fine, numbered, if_reach}
+use Rattle.std.specs.Prelude.{Ok, Err}
 use Rattle.egg.specs.Table.{pick}
 use Rattle.egg.specs.Scan.{refused_of, and_then, scan}
 use Rattle.egg.specs.Factor.{Paper, refusal_paper, reached_paper, fits_in, stretch}
-use Rattle.egg.specs.Answers.{numbered, if_reach}
 use Rattle.egg.proofs.Rooms.{some}
 use Rattle.egg.proofs.Scans.{scan_fine}
 use Rattle.factor_questions.specs.Walks.{follow}
@@ -29,19 +26,19 @@ use Rattle.promises_refusals.specs.Walked.{walk_arguments, WalkAsked, no_handle,
 use Rattle.promises_refusals.proofs.Firsts.{Decides, decides_fine, first_found, first_refused_lem, first_fine}
 
 abbrev argument_at : List Argument → ℕ → Verdict
-argument_at l i = pick (leb (get_or l i (below 0 1)).limit (get_or l i (below 0 1)).value) (refused_of 14 (shown i) 0 0) Fine
+argument_at l i = pick (leb (get_or l i (below 0 1)).limit (get_or l i (below 0 1)).value) (refused_of 14 (shown i) 0 0) fine
 
 abbrev pub walk_tests : Bool → List Argument → Bool → Verdict
-walk_tests fits l within = pick fits (and_then (scan (length l) (argument_at l) 0) (pick within Fine (refused_of 15 0 0 0))) (refused_of 17 0 0 0)
+walk_tests fits l within = pick fits (and_then (scan (length l) (argument_at l) 0) (pick within fine (refused_of 15 0 0 0))) (refused_of 17 0 0 0)
 
 abbrev pub afterwards : Verdict → Paper → Paper
-afterwards Fine p = p
-afterwards (verdict.Refused r) p = refusal_paper r
+afterwards (Ok _) p = p
+afterwards (Err r) p = refusal_paper r
 
 argument_decided : (l : List Argument) (i : ℕ) → i < length l → Decides (Outside l i) (numbered 14 (shown i) 0 0) (argument_at l i)
 argument_decided l i h = by (leb (get_or l i (below 0 1)).limit (get_or l i (below 0 1)).value) refl where
   by : (b : Bool) → leb (get_or l i (below 0 1)).limit (get_or l i (below 0 1)).value ≡ b
-      → Decides (Outside l i) (numbered 14 (shown i) 0 0) (pick b (refused_of 14 (shown i) 0 0) Fine)
+      → Decides (Outside l i) (numbered 14 (shown i) 0 0) (pick b (refused_of 14 (shown i) 0 0) fine)
   by true q = inl (leb-true _ _ q, refl)
   by false q = let m = leb-false (get_or l i (below 0 1)).limit (get_or l i (below 0 1)).value q in inr (λ o. omega arith, refl)
 
@@ -49,10 +46,10 @@ module _ (l : List Argument) (inside : Paper) where
   some_asked : (fits within : Bool) → WalkAsked fits l within inside (afterwards (walk_tests fits l within) inside)
   some_asked false within = no_handle refl
   some_asked true within = by (scan (length l) (argument_at l) 0) within refl where
-    by : (v : Verdict) (b : Bool) → scan (length l) (argument_at l) 0 ≡ v → WalkAsked true l b inside (afterwards (and_then v (pick b Fine (refused_of 15 0 0 0))) inside)
-    by Fine true q = in_range refl (λ i h. decides_fine (argument_decided l i h) ((scan_fine (length l) (argument_at l)).0 q i h)) refl
-    by Fine false q = too_large refl (λ i h. decides_fine (argument_decided l i h) ((scan_fine (length l) (argument_at l)).0 q i h)) refl
-    by (verdict.Refused r) b q = let p = first_found (argument_decided l) q in rw p.2 (out_of_range refl p.1)
+    by : (v : Verdict) (b : Bool) → scan (length l) (argument_at l) 0 ≡ v → WalkAsked true l b inside (afterwards (and_then v (pick b fine (refused_of 15 0 0 0))) inside)
+    by (Ok _) true q = in_range refl (λ i h. decides_fine (argument_decided l i h) ((scan_fine (length l) (argument_at l)).0 q i h)) refl
+    by (Ok _) false q = too_large refl (λ i h. decides_fine (argument_decided l i h) ((scan_fine (length l) (argument_at l)).0 q i h)) refl
+    by (Err r) b q = let p = first_found (argument_decided l) q in rw p.2 (out_of_range refl p.1)
 
   given_asked : (fits within : Bool) {p : Paper} → WalkAsked fits l within inside p → afterwards (walk_tests fits l within) inside ≡ p
   given_asked fits within (no_handle q) = rw q
@@ -91,7 +88,7 @@ module _ (N n e : ℕ) (w : List ℕ) where
       (shifted (length w) (letter_right n w) (argument_at (walk_arguments N n e w)) 0 1
       (λ m l. let c : 0 + m ≡ m = omega arith in let d : 1 + m ≡ suc m = omega arith in let z : m + 1 ≡ suc m = omega arith in rw (c, d, mapped n w m l, z)))
 
-  pub walk_scanned : and_then (pick (leb N e) (refused_of 14 0 0 0) Fine) (letters_right n w) ≡ scan (length (walk_arguments N n e w)) (argument_at (walk_arguments N n e w)) 0
+  pub walk_scanned : and_then (pick (leb N e) (refused_of 14 0 0 0) fine) (letters_right n w) ≡ scan (length (walk_arguments N n e w)) (argument_at (walk_arguments N n e w)) 0
   unfolding scan
   walk_scanned = rw letters_shifted
 
@@ -106,12 +103,12 @@ module _ (t : List ℕ) (f : Factor) (e : GroupElementId) (w : List ℕ) where
       (by (fits_in (length t) f) refl (leb f.elements e.0) (letters_right f.generators w) (follow (stretch t f) f.generators f.elements e.0 w))
     where
       by : (x : Bool) → fits_in (length t) f ≡ x → (y : Bool) (v : Verdict) (r : Reached)
-          → reached_paper (if_reach (pick x (pick y (refused_of 14 0 0 0) (pick (leb f.elements 0) (refused_of 14 1 0 0) Fine)) (refused_of 17 0 0 0)) (if_reach v r))
-          ≡ afterwards (pick x (and_then (and_then (pick y (refused_of 14 0 0 0) Fine) v) Fine) (refused_of 17 0 0 0)) (reached_paper r)
+          → reached_paper (if_reach (pick x (pick y (refused_of 14 0 0 0) (pick (leb f.elements 0) (refused_of 14 1 0 0) fine)) (refused_of 17 0 0 0)) (if_reach v r))
+          ≡ afterwards (pick x (and_then (and_then (pick y (refused_of 14 0 0 0) fine) v) fine) (refused_of 17 0 0 0)) (reached_paper r)
       by false q y v r = refl
       by true q true v r = refl
-      by true q false Fine r = rw (lt-leb f.elements 0 (some (length t) f q))
-      by true q false (verdict.Refused s) r = rw (lt-leb f.elements 0 (some (length t) f q))
+      by true q false (Ok _) r = rw (lt-leb f.elements 0 (some (length t) f q))
+      by true q false (Err s) r = rw (lt-leb f.elements 0 (some (length t) f q))
 
   pub factor_walk_asked : (p : Paper)
       → reached_paper (walk_answer t f e w) ≡ p

@@ -2,7 +2,8 @@
 -- number and values for each of its cases. The promises use that definition."
 use Rattle.std.specs.Prelude.{ℕ, ◌+◌, ◌*◌, ◌≤◌, ◌<◌, ◌≡◌, ◌⊎◌, List, length}
 use Rattle.egg.specs.declared.Refusal.{Refusal}
-use Rattle.egg.specs.declared.Verdict.{Verdict}
+use Rattle.egg.specs.Answers.{Verdict}
+use Rattle.egg.specs.Answers as answers
 use Rattle.egg.specs.Factor.{Paper, refusal_paper, verdict_paper}
 use Rattle.build_lending.specs.Lending.{table_need, work_need, Making, making}
 use Rattle.factor.specs.Composed.{composed}
@@ -12,7 +13,7 @@ use Rattle.promises_refusals.specs.Faults.{Fault}
 
 -- The verdict of a call that makes a factor.
 abbrev pub answer_of : Making → Verdict
-answer_of (making m t w) = m.answer
+answer_of (making m t w) = answers.answer_of m
 
 -- That verdict on paper: its number and places.
 abbrev pub paper_of : Making → Paper

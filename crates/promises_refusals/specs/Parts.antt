@@ -1,6 +1,6 @@
 -- The parts of what a call that makes a factor comes to, and an element by its number, for the cases that are computed.
 use Rattle.std.specs.Prelude.{ℕ, List}
-use Rattle.egg.specs.declared.Made.{Made}
+use Rattle.egg.specs.Answers.{Made}
 use Rattle.egg.specs.declared.GroupElementId.{GroupElementId}
 use Rattle.build_lending.specs.Lending.{Making, making}
 

@@ -7,9 +7,8 @@ use native.Mathlib.Nat.{le_refl}
 use native.Mathlib.Omega.{arith}
 use lib.ListN.{length, get_or, take, replicate}
 use Rattle.egg.specs.declared.Refusal.{Refusal}
-use Rattle.egg.specs.declared.Reached.{Reached}
-use Rattle.egg.specs.declared.Verdict.TheVariants as verdict
-use Rattle.egg.specs.declared.Counted.TheVariants as counted
+use Rattle.egg.specs.Answers.{Reached}
+use Rattle.std.specs.Prelude.{Ok, Err}
 use Rattle.theory.proofs.Counting.{row_known}
 use Rattle.theory.proofs.RuleLaws.{count_within}
 use Rattle.build_reading.specs.Reading.{read_all}
@@ -75,13 +74,13 @@ module _ (from : List ℕ) (over : Group) (gens table : List ℕ) (start : ℕ) 
 
   maps_after : (b : Built) (i o : List ℕ) → renumber_in size lent (total source 0) n room M room 0 ≡ renumbering b i o
       → MapsAfter M room (appearing I).0 (appearing I).1 i o b
-  maps_after (built (counted.Count c) t w) i o q =
+  maps_after (built (Ok c) t w) i o q =
       let R = renumber_filled A I small (total source 0) (total_answering n M source 0) room room lo hi (le_refl room) size lent S.few (le_refl size) enough q in
       counted_so R.0 R.1
     where
-      counted_so : {c N : ℕ} {elt : ℕ → ℕ} → c ≡ N → MapsFilled M room room elt c i o → MapsAfter M room N elt i o (built (counted.Count c) t w)
-      counted_so {c} {N} {elt} e F = subst (λ (m : ℕ). MapsAfter M room m elt i o (built (counted.Count c) t w)) e (filled F)
-  maps_after (built (counted.Refused r) t w) i o q =
+      counted_so : {c N : ℕ} {elt : ℕ → ℕ} → c ≡ N → MapsFilled M room room elt c i o → MapsAfter M room N elt i o (built (Ok c) t w)
+      counted_so {c} {N} {elt} e F = subst (λ (m : ℕ). MapsAfter M room m elt i o (built (Ok c) t w)) e (filled F)
+  maps_after (built (Err r) t w) i o q =
       let Y = refused_maps size lent (total source 0) n room M room 0 q in
       zeros Y.0 Y.1
 
@@ -105,7 +104,7 @@ module _ (from : List ℕ) (over : Group) (gens table : List ℕ) (start : ℕ) 
       }
 
   stopped : {r : Refusal} {t w i o : List ℕ} → RefusedAt (product_by from (handles over) gens) 0 n room (appearing I).0 (appearing I).1 r
-      → renumber_in size lent (product_by from (handles over) gens) n room M room 0 ≡ renumbering (built (counted.Refused r) t w) i o
+      → renumber_in size lent (product_by from (handles over) gens) n room M room 0 ≡ renumbering (built (Err r) t w) i o
       → Stopped from over gens table start work inn outw room (from_generators from over gens table start work inn outw room)
   stopped {r} {t} {w} {i} {o} b e =
       let Z = refused_stretches size lent (product_by from (handles over) gens) n room M room 0 e in
@@ -131,7 +130,7 @@ module _ (from : List ℕ) (over : Group) (gens table : List ℕ) (start : ℕ) 
     go : ((renumber_in size lent source n room M room 0 ≡ renumber_in size lent (total source 0) n room M room 0)
         × AllAnswered source 0 n room (appearing I).0 (appearing I).1)
         ⊎ ((r : Refusal) × RefusedAt source 0 n room (appearing I).0 (appearing I).1 r × (t : List ℕ) × (i : List ℕ) × (o : List ℕ)
-        × (renumber_in size lent source n room M room 0 ≡ renumbering (built (counted.Refused r) (zeroed t) (zeroed lent)) (zeroed i) (zeroed o)))
+        × (renumber_in size lent source n room M room 0 ≡ renumbering (built (Err r) (zeroed t) (zeroed lent)) (zeroed i) (zeroed o)))
         → BySteps from over gens table start work inn outw room (from_generators from over gens table start work inn outw room)
         ⊎ Stopped from over gens table start work inn outw room (from_generators from over gens table start work inn outw room)
     go (inl (e, a)) =
@@ -141,7 +140,7 @@ module _ (from : List ℕ) (over : Group) (gens table : List ℕ) (start : ℕ) 
 
 -- What is accepted is an accepted factor, whatever the arguments and the buffers were.
 module _ (from : List ℕ) (over : Group) (gens table : List ℕ) (start : ℕ) (work inn outw : List ℕ) (room : ℕ) {s : Subgroup} {t w i o : List ℕ}
-    (q : from_generators from over gens table start work inn outw room ≡ subgrouping (record { answer = verdict.Fine; subgroup = s }) t w i o) where
+    (q : from_generators from over gens table start work inn outw room ≡ subgrouping (Ok s) t w i o) where
   pub accepted_regardless : Regardless from over gens (length gens) table start work inn outw room s t w i o
   accepted_regardless =
       let k : ℕ = length gens in

@@ -10,9 +10,8 @@ use borrow.Author.Tests.{le-leb, leb-true, leb-false, ltb-true, ltb-false}
 use lib.Dec.{leb, ltb}
 use lib.ListN.{length, get_or, take, replicate}
 use Rattle.egg.specs.declared.Refusal.{Refusal}
-use Rattle.egg.specs.declared.Verdict.{Verdict}
-use Rattle.egg.specs.declared.Verdict.TheVariants.{Fine, Refused}
-use Rattle.egg.specs.declared.Counted.TheVariants as counted
+use Rattle.egg.specs.Answers.{Verdict, fine}
+use Rattle.std.specs.Prelude.{Ok, Err}
 use Rattle.egg.specs.Factor.{Paper, refusal_paper, has_room}
 use Rattle.egg.proofs.Rooms.{positive, limited, within_length, false_true}
 use Rattle.egg.proofs.Scans.{scan_each}
@@ -55,24 +54,24 @@ entry_decides M gens i = by (leb M (get_or gens i 0)) refl where
   by true q = inl (leb-true _ _ q, rw q)
   by false q = inr (λ h. omega (arith, leb-false M (get_or gens i 0) q), rw q)
 
-entries_below : (M : ℕ) (gens : List ℕ) → ((g : ℕ) → g < length gens → get_or gens g 0 < M) → entries_right M gens ≡ Fine
+entries_below : (M : ℕ) (gens : List ℕ) → ((g : ℕ) → g < length gens → get_or gens g 0 < M) → entries_right M gens ≡ fine
 unfolding entries_right
 entries_below M gens below =
     first_fine {f = entry_right M gens} {P = λ g. M ≤ get_or gens g 0} {at = λ i. numbered 14 (shown i) 0 0} (λ i l. entry_decides M gens i)
     (λ i l h. omega (arith, below i l))
 
-entries_first : (M : ℕ) (gens : List ℕ) {k : ℕ} → FirstOf (length gens) (λ g. M ≤ get_or gens g 0) k → entries_right M gens ≡ Refused (numbered 14 (shown k) 0 0)
+entries_first : (M : ℕ) (gens : List ℕ) {k : ℕ} → FirstOf (length gens) (λ g. M ≤ get_or gens g 0) k → entries_right M gens ≡ Err (numbered 14 (shown k) 0 0)
 unfolding entries_right
 entries_first M gens F =
     first_refused_lem {f = entry_right M gens} {P = λ g. M ≤ get_or gens g 0} {at = λ i. numbered 14 (shown i) 0 0} (λ i l. entry_decides M gens i) F
 
-first_outside : (M : ℕ) (gens : List ℕ) {r : Refusal} → entries_right M gens ≡ Refused r → (k : ℕ) × FirstOf (length gens) (λ g. M ≤ get_or gens g 0) k
+first_outside : (M : ℕ) (gens : List ℕ) {r : Refusal} → entries_right M gens ≡ Err r → (k : ℕ) × FirstOf (length gens) (λ g. M ≤ get_or gens g 0) k
 unfolding entries_right
 first_outside M gens q =
     let F = first_found {f = entry_right M gens} {P = λ g. M ≤ get_or gens g 0} {at = λ i. numbered 14 (shown i) 0 0} (λ i l. entry_decides M gens i) q in
     (F.0, F.1)
 
-all_below : (M : ℕ) (gens : List ℕ) → entries_right M gens ≡ Fine → (g : ℕ) → g < length gens → get_or gens g 0 < M
+all_below : (M : ℕ) (gens : List ℕ) → entries_right M gens ≡ fine → (g : ℕ) → g < length gens → get_or gens g 0 < M
 unfolding entries_right
 all_below M gens q g h = below_so (decides_fine (entry_decides M gens g) (scan_each (length gens) (entry_right M gens) 0 q g zero-le (omega arith))) where
   below_so : (M ≤ get_or gens g 0 → ⊥) → get_or gens g 0 < M
@@ -126,7 +125,7 @@ module _ (over : Group) (n : ℕ) (table : List ℕ) (start : ℕ) (work inn out
 
 -- The paper of a refused build.
 back_paper : (over : Group) (table : List ℕ) (start : ℕ) (work inn outw : List ℕ) (M k n room : ℕ) (b : Renumbering) {r : Refusal} {t w : List ℕ}
-    → built_of b ≡ built (counted.Refused r) t w → subgroup_paper (maps_back over table start work inn outw M k n room b) ≡ refusal_paper r
+    → built_of b ≡ built (Err r) t w → subgroup_paper (maps_back over table start work inn outw M k n room b) ≡ refusal_paper r
 back_paper over table start work inn outw M k n room (renumbering b i o) {r} {t} {w} q =
     ap (λ x. subgroup_paper (maps_back over table start work inn outw M k n room (renumbering x i o))) q
 
@@ -144,20 +143,20 @@ module _ (from : List ℕ) (over : Group) (gens table : List ℕ) (start : ℕ) 
   abbrev op : ℕ → ℕ → ℕ
   op = (direct from over).op
 
-  admits : Elements from over gens → Numberable over → admits_generators (length from) over gens ≡ Fine
+  admits : Elements from over gens → Numberable over → admits_generators (length from) over gens ≡ fine
   unfolding admits_generators
   admits E S = rw (E.fits, entries_below (elements_of (handles over)) gens (λ g h. E.below h), small_true over S)
 
-  admits_17 : all_fit (length from) (handles over) ≡ false → admits_generators (length from) over gens ≡ Refused (numbered 17 0 0 0)
+  admits_17 : all_fit (length from) (handles over) ≡ false → admits_generators (length from) over gens ≡ Err (numbered 17 0 0 0)
   unfolding admits_generators
   admits_17 h = rw h
 
   admits_14 : {k : ℕ} → all_fit (length from) (handles over) ≡ true → FirstOf (length gens) (λ g. elements_of (handles over) ≤ get_or gens g 0) k
-      → admits_generators (length from) over gens ≡ Refused (numbered 14 (shown k) 0 0)
+      → admits_generators (length from) over gens ≡ Err (numbered 14 (shown k) 0 0)
   unfolding admits_generators
   admits_14 h F = rw (h, entries_first (elements_of (handles over)) gens F)
 
-  admits_15 : Elements from over gens → small_enough over ≡ false → admits_generators (length from) over gens ≡ Refused (numbered 15 0 0 0)
+  admits_15 : Elements from over gens → small_enough over ≡ false → admits_generators (length from) over gens ≡ Err (numbered 15 0 0 0)
   unfolding admits_generators
   admits_15 E s = rw (E.fits, entries_below (elements_of (handles over)) gens (λ g h. E.below h), s)
 
@@ -207,13 +206,13 @@ module _ (from : List ℕ) (over : Group) (gens table : List ℕ) (start : ℕ) 
         room room lo hi (le_refl room) (table_need n room) (take (work_need n room) work) Q.few (le_refl (table_need n room))
         (called.work_fits from over gens table start work inn outw room S)
 
-    refused : {r : Refusal} {t w : List ℕ} → built_of build ≡ built (counted.Refused r) t w
+    refused : {r : Refusal} {t w : List ℕ} → built_of build ≡ built (Err r) t w
         → subgroup_paper (from_generators from over gens table start work inn outw room) ≡ refusal_paper r
     refused q =
         ap subgroup_paper (called.is_build from over gens table start work inn outw room S) ∙ back_paper over table start work inn outw M n n room build q
 
-    stopped_so : {r : Refusal} {p : Placed} {t : List ℕ} → p ≡ placed (counted.Refused r) t
-        → finished_placed p (length gens) (take (work_need (length gens) room) work) ≡ built (counted.Refused r) (zeroed t) (zeroed (take (work_need (length gens) room) work))
+    stopped_so : {r : Refusal} {p : Placed} {t : List ℕ} → p ≡ placed (Err r) t
+        → finished_placed p (length gens) (take (work_need (length gens) room) work) ≡ built (Err r) (zeroed t) (zeroed (take (work_need (length gens) room) work))
     unfolding finished
     stopped_so q = rw q
 
@@ -265,8 +264,8 @@ module _ (from : List ℕ) (over : Group) (gens table : List ℕ) (start : ℕ) 
     numbered_all L (inr (inr P)) = (_, made Q (record { within_room = L.within; short = λ e h. L.short h; proper = P }))
 
     go : (p : Placed) → read_all src n room (replicate (table_need n room) 0) ≡ p → Some
-    go (placed (counted.Refused r) t) z = (_, stops Q (refused_read src n room (table_need n room) Q.few (lo Q) (hi Q) (le_refl (table_need n room)) z))
-    go (placed (counted.Count c) t) z =
+    go (placed (Err r) t) z = (_, stops Q (refused_read src n room (table_need n room) Q.few (lo Q) (hi Q) (le_refl (table_need n room)) z))
+    go (placed (Ok c) t) z =
         let L = read_readable (accepted_read src n room (table_need n room) Q.few (lo Q) (hi Q) (le_refl (table_need n room)) z) in
         let e : c ≡ N = numbered_once L.by_rule Q.appearing.by_rule in
         numbered_all (subst (Readable src n room) e L) (generators_are n gen)
@@ -278,17 +277,17 @@ module _ (from : List ℕ) (over : Group) (gens table : List ℕ) (start : ℕ) 
       by : (a : Bool) (v : Verdict) (b c d : Bool) → all_fit (length from) (handles over) ≡ a → entries_right M gens ≡ v → small_enough over ≡ b → ltb 8 n ≡ c
           → maps_right (length table) start (length work) (length inn) (length outw) room n M ≡ d → Some
       by false v b c d f e s k l = (_, no_handle f)
-      by true (Refused r) b c d f e s k l = (_, no_element f (first_outside M gens e).1)
-      by true Fine false c d f e s k l = (_, too_large (record { fits = f; below = λ {g} h. all_below M gens e g h }) (λ S. false_true (sym s ∙ small_true over S)))
-      by true Fine true true d f e s k l =
+      by true (Err r) b c d f e s k l = (_, no_element f (first_outside M gens e).1)
+      by true (Ok _) false c d f e s k l = (_, too_large (record { fits = f; below = λ {g} h. all_below M gens e g h }) (λ S. false_true (sym s ∙ small_true over S)))
+      by true (Ok _) true true d f e s k l =
           (_, many (record { fits = f; below = λ {g} h. all_below M gens e g h }) (true_small over s) (ltb-true 8 n k))
-      by true Fine true false false f e s k l =
+      by true (Ok _) true false false f e s k l =
           let few = ltb-false 8 n k in (
             _,
             short (record { fits = f; below = λ {g} h. all_below M gens e g h }) (true_small over s) few
                 (λ E. false_true (sym l ∙ enough_true over n table start work inn outw room few E)),
           )
-      by true Fine true false true f e s k l =
+      by true (Ok _) true false true f e s k l =
           let As = unaltered f in
           let S : Started from over gens table start work inn outw room = record { fits = f; entries = e; small = s; few = ltb-false 8 n k; lent = l } in
           let I = right_inside (called.G from over gens table start work inn outw room S As) (called.gens_below from over gens table start work inn outw room S As) in

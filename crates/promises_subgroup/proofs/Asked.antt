@@ -1,4 +1,6 @@
 -- The answers of the questions are those of the index formulas; a subgroup as it was made is known, and so is its product with a further group.
+use Rattle.std.specs.Prelude.{Ok}
+use Rattle.egg.specs.Answers.{answer_of}
 use Prim.Native.Nat.{ℕ, ◌*◌, ◌/◌, ◌%◌, ◌≤◌, ◌<◌}
 use mathlib.Core.Path.{◌≡◌, refl, sym, ap, ◌∙◌, subst}
 use mathlib.Core.Bool.{Bool, true, false, ◌&&◌}
@@ -6,7 +8,7 @@ use mathlib.Core.List.{List, ◌++◌}
 use borrow.Author.Tests.{lt-ltb, eq-eqb, ne_eqb, eqb-true, eqb-false}
 use lib.Dec.{eqb}
 use lib.ListN.{length, get_or}
-use Rattle.egg.specs.declared.Verdict.TheVariants.{Fine}
+use Rattle.egg.specs.Answers.{fine}
 use Rattle.egg.specs.Table.{pick}
 use Rattle.egg.specs.Factor.{fits_in}
 use Rattle.egg.proofs.Rooms.{and_first, and_second}
@@ -19,7 +21,7 @@ use Rattle.group_handles.proofs.Joins.{fit_both, handles_of}
 use Rattle.build_numbering.specs.Renumber as appear
 use Rattle.build_numbering_laws.specs.Source.{answered}
 use Rattle.subgroup_build.specs.declared.Subgroup.{Subgroup}
-use Rattle.subgroup_build.specs.declared.Subgrouped.{Subgrouped}
+use Rattle.subgroup_build.specs.Answers.{Subgrouped}
 use Rattle.subgroup.specs.Indices.{over_of, sub_of}
 use Rattle.subgroup_sides.specs.Sides.{over_side, sub_side, sides_fit, sides_limited, admits_sides, put_left, put_right, refused_subgroup, if_limited, joinable, multiplied, left_product, right_product}
 use Rattle.subgroup.specs.Questions.{within_paper, carried_over, carried_back, to_over_answer, to_sub_answer}
@@ -29,6 +31,7 @@ use Rattle.subgroup.proofs.Carries.{first_some, third_some}
 use Rattle.subgroup_sides.proofs.SideLaws.{fit_law, sides_fine, over_within, sub_within}
 use Rattle.promises_subgroup.specs.Carried.{MapsUndo}
 use Rattle.promises_subgroup.specs.Asked.{Askable, MapAnswers}
+use Rattle.promises_subgroup.proofs.Called.{same_subgroup}
 use Rattle.promises_subgroup.proofs.Carrying.{carried_product}
 
 module _ {from table : ℕ} {s : Subgroup} {inn outw : List ℕ} (K : Askable from table s inn outw) where
@@ -58,7 +61,7 @@ module _ {from table : ℕ} {s : Subgroup} {inn outw : List ℕ} (K : Askable fr
       → to_over_answer from table s outw (record { 0 = e }) ≡ reach (over_of B M N (λ i. get_or outw i 0) e)
   unfolding to_over_answer
   outward {e} h =
-      let v : admits_sides from table s (length outw) N e (elements_of (sub_side s)) ≡ Fine =
+      let v : admits_sides from table s (length outw) N e (elements_of (sub_side s)) ≡ fine =
       sym (sides_fine from table s (length outw) N e (elements_of (sub_side s)) K.fits K.outw_long h K.limited) in
       let c : e < B * (N * A) = subst (λ (k : ℕ). e < k) (sub_count s) h in
       rw v (over_cell e (K.carried.over_below (within_small B N A e c)))
@@ -80,7 +83,7 @@ module _ {from table : ℕ} {s : Subgroup} {inn outw : List ℕ} (K : Askable fr
       let c : x < B * (M * A) = subst (λ (k : ℕ). x < k) (over_count_lem s) h in
       let m : capped M ≡ M = cap_small (second_small B M A (first_some B M A x c) (third_some B M A x c) over_small) in
       let l : capped M ≤ length inn = rw m K.inn_long in
-      let v : admits_sides from table s (length inn) (capped M) x (elements_of (over_side s)) ≡ Fine =
+      let v : admits_sides from table s (length inn) (capped M) x (elements_of (over_side s)) ≡ fine =
       sym (sides_fine from table s (length inn) (capped M) x (elements_of (over_side s)) K.fits l h K.limited) in
       rw v (by c (eqb (get_or inn (x / B % M) 0) appear.no_number) refl)
     where
@@ -101,30 +104,30 @@ pub reach_once : {x y : ℕ} → reach x ≡ reach y → x ≡ y
 reach_once q = ap (answered 0) q
 
 -- What `product_left` and `product_right` give is known by the same maps.
-pub multiplied_fine : (g h : Group) (t : Subgroup) {s : Subgroup} → multiplied g h t ≡ record { answer = Fine; subgroup = s } → (s ≡ t) × (sides_limited t ≡ true)
+pub multiplied_fine : (g h : Group) (t : Subgroup) {s : Subgroup} → multiplied g h t ≡ Ok s → (s ≡ t) × (sides_limited t ≡ true)
 unfolding multiplied if_limited
 multiplied_fine g h t {s} q = by (joinable g h) (sides_limited t) refl q where
-  no : {x : Subgrouped} → x ≡ refused_subgroup 15 → x ≡ record { answer = Fine; subgroup = s } → ⊥
-  no p e = refused_fine (ap (λ (y : Subgrouped). y.answer) (sym p ∙ e))
+  no : {x : Subgrouped} → x ≡ refused_subgroup 15 → x ≡ Ok s → ⊥
+  no p e = refused_fine (ap (λ (y : Subgrouped). answer_of y) (sym p ∙ e))
 
   by : (a b : Bool) → sides_limited t ≡ b
-      → pick a (pick b (record { answer = Fine; subgroup = t }) (refused_subgroup 15)) (refused_subgroup 15) ≡ record { answer = Fine; subgroup = s }
+      → pick a (pick b (Ok t) (refused_subgroup 15)) (refused_subgroup 15) ≡ Ok s
       → (s ≡ t) × (sides_limited t ≡ true)
-  by true true l e = (sym (ap (λ (y : Subgrouped). y.subgroup) e), l)
+  by true true l e = (sym (same_subgroup e), l)
   by true false l e = absurd (no refl e)
   by false b l e = absurd (no refl e)
 
-pub fitting_fine : (b : Bool) (x : Subgrouped) {s : Subgroup} → pick b x (refused_subgroup 17) ≡ record { answer = Fine; subgroup = s }
-    → (b ≡ true) × (x ≡ record { answer = Fine; subgroup = s })
+pub fitting_fine : (b : Bool) (x : Subgrouped) {s : Subgroup} → pick b x (refused_subgroup 17) ≡ Ok s
+    → (b ≡ true) × (x ≡ Ok s)
 fitting_fine true x e = (refl, e)
-fitting_fine false x e = absurd (refused_fine (ap (λ (y : Subgrouped). y.answer) e))
+fitting_fine false x e = absurd (refused_fine (ap (λ (y : Subgrouped). answer_of y) e))
 
 module _ (from table : ℕ) (s : Subgroup) (g : Group) where
-  pub left_value : {t : Subgroup} → left_product from table g s ≡ record { answer = Fine; subgroup = t } → t ≡ put_left g s
+  pub left_value : {t : Subgroup} → left_product from table g s ≡ Ok t → t ≡ put_left g s
   unfolding left_product
   left_value {t} q = (multiplied_fine g s.below (put_left g s) (fitting_fine (sides_fit from table s && all_fit from (handles g)) _ q).1).0
 
-  pub right_value : {t : Subgroup} → right_product from table s g ≡ record { answer = Fine; subgroup = t } → t ≡ put_right s g
+  pub right_value : {t : Subgroup} → right_product from table s g ≡ Ok t → t ≡ put_right s g
   unfolding right_product
   right_value {t} q = (multiplied_fine s.above g (put_right s g) (fitting_fine (sides_fit from table s && all_fit from (handles g)) _ q).1).0
 
@@ -159,7 +162,7 @@ module _ {from table : ℕ} {s : Subgroup} {inn outw : List ℕ} (K : Askable fr
       (ap (all_fit from) (handles_of (handles s.above ++ handles g)) ∙ fit_both from (handles s.above) (handles g)
       ∙ both (and_second (all_fit from (handles s.over)) _ rest_fits) e)))
 
-  pub left_known : {t : Subgroup} → left_product from table g s ≡ record { answer = Fine; subgroup = t } → Askable from table t inn outw
+  pub left_known : {t : Subgroup} → left_product from table g s ≡ Ok t → Askable from table t inn outw
   unfolding left_product
   left_known {t} q =
       let F = fitting_fine (sides_fit from table s && all_fit from (handles g)) _ q in
@@ -172,7 +175,7 @@ module _ {from table : ℕ} {s : Subgroup} {inn outw : List ℕ} (K : Askable fr
         carried = K.carried;
       })
 
-  pub right_known : {t : Subgroup} → right_product from table s g ≡ record { answer = Fine; subgroup = t } → Askable from table t inn outw
+  pub right_known : {t : Subgroup} → right_product from table s g ≡ Ok t → Askable from table t inn outw
   unfolding right_product
   right_known {t} q =
       let F = fitting_fine (sides_fit from table s && all_fit from (handles g)) _ q in

@@ -1,11 +1,11 @@
 -- What the calls on a subgroup with accepted groups beside it answer: the maps carry what `compose` and `inverse` answer.
+use Rattle.std.specs.Prelude.{Ok}
 use Prim.Native.Nat.{ℕ, ◌<◌}
 use mathlib.Core.Path.{◌≡◌, sym, ap, ◌∙◌, subst}
 use mathlib.Core.List.{List}
 use lib.ListN.{length}
 use Rattle.egg.specs.Factor.{Paper}
 use Rattle.egg.specs.declared.Factor.{Factor}
-use Rattle.egg.specs.declared.Verdict.TheVariants.{Fine}
 use Rattle.factor_laws.specs.Accepted.{reach}
 use Rattle.theory_products.specs.Product.{Part, product}
 use Rattle.group_handles.specs.declared.Group.{Group}
@@ -141,7 +141,7 @@ module _ {from gens : List ℕ} {s : Subgroup} {t i o : List ℕ} (S : Beside fr
 
 -- What an accepted `from_generators` gives has nothing beside it yet.
 module _ (from : List ℕ) (over : Group) (gens table : List ℕ) (start : ℕ) (work inn outw : List ℕ) (room : ℕ) {s : Subgroup} {t w i o : List ℕ}
-    (q : from_generators from over gens table start work inn outw room ≡ subgrouping (record { answer = Fine; subgroup = s }) t w i o) where
+    (q : from_generators from over gens table start work inn outw room ≡ subgrouping (Ok s) t w i o) where
   pub generators_beside : AllAccepted from (handles over) → Beside from gens s t i o
   generators_beside As =
       made_beside (generators_given from over gens table start work inn outw room As q).holds As

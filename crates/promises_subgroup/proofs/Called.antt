@@ -1,4 +1,5 @@
 -- `from_generators` in its buffers: refused with nothing touched, or the build put back; what an accepted call gives; and when it is accepted.
+use Rattle.egg.specs.Answers.{answer_of}
 use Prim.Native.Nat.{ℕ, ◌+◌, ◌≤◌, ◌<◌, zero-le}
 use mathlib.Core.Path.{◌≡◌, refl, sym, ap, ◌∙◌, subst}
 use mathlib.Core.Logic.{◌↔◌}
@@ -11,10 +12,8 @@ use lib.Dec.{leb, ltb}
 use lib.ListN.{length, get_or, take, drop, replicate, get_or-append, length-append, length-drop}
 use lib.Seq.{take_at}
 use Rattle.egg.specs.declared.Refusal.{Refusal}
-use Rattle.egg.specs.declared.Reached.{Reached}
-use Rattle.egg.specs.declared.Verdict.{Verdict}
-use Rattle.egg.specs.declared.Verdict.TheVariants.{Fine, Refused}
-use Rattle.egg.specs.declared.Counted.TheVariants as counted
+use Rattle.egg.specs.Answers.{Reached, Verdict, fine}
+use Rattle.std.specs.Prelude.{Ok, Err}
 use Rattle.egg.specs.Table.{pick, step_of}
 use Rattle.egg.specs.Scan.{refused_of}
 use Rattle.egg.specs.Factor.{has_room, stretch}
@@ -22,7 +21,7 @@ use Rattle.egg.proofs.Rooms.{positive, limited}
 use Rattle.egg.proofs.Scans.{scan_each, refused_fine}
 use Rattle.egg.specs.Answers.{numbered}
 use Rattle.build_lending.specs.Finish.{built}
-use Rattle.build_lending.specs.Lending.{table_need, work_need, lent_right, within, no_factor, refused_made, made_of}
+use Rattle.build_lending.specs.Lending.{table_need, work_need, lent_right, within, made_of}
 use Rattle.build_lending.proofs.Lending.{lent_table_lem}
 use Rattle.theory.specs.Group.{GroupOn}
 use Rattle.theory.proofs.Reading.{numbered_once}
@@ -40,7 +39,7 @@ use Rattle.theory.proofs.Subgroups.{right_inside, generator_outside}
 use Rattle.build_numbering_laws.proofs.Builds.{renumber_holds}
 use Rattle.build_numbering_laws.proofs.SubgroupBuilds.{subgroup_exactly}
 use Rattle.subgroup_build.specs.declared.Subgroup.{Subgroup}
-use Rattle.subgroup_build.specs.declared.Subgrouped.{Subgrouped}
+use Rattle.subgroup_build.specs.Answers.{Subgrouped}
 use Rattle.factor_walk.specs.Walked.{shown}
 use Rattle.subgroup_build.specs.Lent.{subgroup_of, subgrouping, maps_right, maps_back}
 use Rattle.subgroup_rows.specs.Rows.{product_by}
@@ -87,18 +86,19 @@ homomorphic_as {N} {opₛ} {op} {invₛ} {inv} {f} {f'} G p H = record {
 }
 
 -- A refusal is no acceptance, and is one refusal.
-pub fine_refused : {r : Refusal} {s s' : Subgroup} {t t' w w' i i' o o' : List ℕ}
-    → subgrouping (record { answer = Refused r; subgroup = s }) t w i o ≡ subgrouping (record { answer = Fine; subgroup = s' }) t' w' i' o' → ⊥
-fine_refused {r} {s} {s'} h =
-    let m : ◌≡◌ {A = Subgrouped} (record { answer = Refused r; subgroup = s }) (record { answer = Fine; subgroup = s' }) = cc in
-    refused_fine (ap (λ (x : Subgrouped). x.answer) m)
+pub fine_refused : {r : Refusal} {s : Subgroup} {t t' w w' i i' o o' : List ℕ}
+    → subgrouping (Err r) t w i o ≡ subgrouping (Ok s) t' w' i' o' → ⊥
+fine_refused {r} {s} h =
+    let m : ◌≡◌ {A = Subgrouped} (Err r) (Ok s) = cc in
+    refused_fine (ap (λ (x : Subgrouped). answer_of x) m)
 
-pub same_refusal : {r r' : Refusal} {s s' : Subgroup} {t t' w w' i i' o o' : List ℕ}
-    → subgrouping (record { answer = Refused r; subgroup = s }) t w i o ≡ subgrouping (record { answer = Refused r'; subgroup = s' }) t' w' i' o' → r ≡ r'
-same_refusal {r} {r'} {s} {s'} h =
-    let m : ◌≡◌ {A = Subgrouped} (record { answer = Refused r; subgroup = s }) (record { answer = Refused r'; subgroup = s' }) = cc in
-    let a : Refused r ≡ Refused r' = ap (λ (x : Subgrouped). x.answer) m in
-    cc
+pub same_refusal : {r r' : Refusal} {t t' w w' i i' o o' : List ℕ}
+    → subgrouping (Err r) t w i o ≡ subgrouping (Err r') t' w' i' o' → r ≡ r'
+same_refusal {r} {r'} h = let m : ◌≡◌ {A = Subgrouped} (Err r) (Err r') = cc in cc
+
+-- An accepted subgroup is one subgroup.
+pub same_subgroup : {a b : Subgroup} → ◌≡◌ {A = Subgrouped} (Ok a) (Ok b) → a ≡ b
+same_subgroup q = cc
 
 module _ (from : List ℕ) (over : Group) (gens table : List ℕ) (start : ℕ) (work inn outw : List ℕ) (room : ℕ) where
   abbrev n : ℕ
@@ -111,20 +111,20 @@ module _ (from : List ℕ) (over : Group) (gens table : List ℕ) (start : ℕ) 
   gen g = get_or gens g 0
 
   -- A refusal before the start: nothing is touched.
-  pub early_arguments : {r : Refusal} → admits_generators (length from) over gens ≡ Refused r
+  pub early_arguments : {r : Refusal} → admits_generators (length from) over gens ≡ Err r
       → from_generators from over gens table start work inn outw room
-      ≡ subgrouping (subgroup_of over (record { answer = Refused r; factor = no_factor })) table work inn outw
+      ≡ subgrouping (Err r) table work inn outw
   unfolding from_generators
   early_arguments q = rw q
 
-  pub early_many : admits_generators (length from) over gens ≡ Fine → 8 < n
-      → from_generators from over gens table start work inn outw room ≡ subgrouping (subgroup_of over (refused_made 1 (shown n))) table work inn outw
+  pub early_many : admits_generators (length from) over gens ≡ fine → 8 < n
+      → from_generators from over gens table start work inn outw room ≡ subgrouping (Err (numbered 1 (shown n) 0 0)) table work inn outw
   unfolding from_generators generated_into
   early_many q h = rw (q, lt-ltb 8 n h)
 
-  pub early_short : admits_generators (length from) over gens ≡ Fine → n ≤ 8
+  pub early_short : admits_generators (length from) over gens ≡ fine → n ≤ 8
       → maps_right (length table) start (length work) (length inn) (length outw) room n M ≡ false
-      → from_generators from over gens table start work inn outw room ≡ subgrouping (subgroup_of over (refused_made 4 0)) table work inn outw
+      → from_generators from over gens table start work inn outw room ≡ subgrouping (Err (numbered 4 0 0 0)) table work inn outw
   unfolding from_generators generated_into
   early_short q h l = rw (q, le-ltb 8 n h, l)
 
@@ -135,13 +135,13 @@ module _ (from : List ℕ) (over : Group) (gens table : List ℕ) (start : ℕ) 
       (renumber_in (table_need n room) (take (work_need n room) work) (product_by from (handles over) gens) n room M room 0)
   unfolding from_generators generated_into
   is_build S =
-      let v : admits_generators (length from) over gens ≡ Fine = sym (generators_fine (length from) over gens S.fits refl S.entries refl S.small) in
+      let v : admits_generators (length from) over gens ≡ fine = sym (generators_fine (length from) over gens S.fits refl S.entries refl S.small) in
       rw (v, le-ltb 8 n S.few, S.lent)
 
   pub data Ways : Type 0 where
     early : (r : Refusal)
         → from_generators from over gens table start work inn outw room
-        ≡ subgrouping (subgroup_of over (record { answer = Refused r; factor = no_factor })) table work inn outw → Ways
+        ≡ subgrouping (Err r) table work inn outw → Ways
     late : Started from over gens table start work inn outw room → Ways
 
   pub ways : Ways
@@ -149,10 +149,10 @@ module _ (from : List ℕ) (over : Group) (gens table : List ℕ) (start : ℕ) 
     where
       by : (v : Verdict) (a b : Bool) → admits_generators (length from) over gens ≡ v → ltb 8 n ≡ a
           → maps_right (length table) start (length work) (length inn) (length outw) room n M ≡ b → Ways
-      by (Refused r) a b q k l = early r (early_arguments q)
-      by Fine true b q k l = early (numbered 1 (shown n) 0 0) (early_many q (ltb-true 8 n k))
-      by Fine false false q k l = early (numbered 4 0 0 0) (early_short q (ltb-false 8 n k) l)
-      by Fine false true q k l =
+      by (Err r) a b q k l = early r (early_arguments q)
+      by (Ok _) true b q k l = early (numbered 1 (shown n) 0 0) (early_many q (ltb-true 8 n k))
+      by (Ok _) false false q k l = early (numbered 4 0 0 0) (early_short q (ltb-false 8 n k) l)
+      by (Ok _) false true q k l =
           let A = admitted (length from) over gens q in
           late (record { fits = A.fits; entries = A.entries; small = A.small; few = ltb-false 8 n k; lent = l })
 
@@ -163,7 +163,7 @@ module _ (from : List ℕ) (over : Group) (gens table : List ℕ) (start : ℕ) 
     pub work' : List ℕ
     pub inn' : List ℕ
     pub outw' : List ℕ
-    pub is : b ≡ renumbering (built (counted.Count count) table' work') inn' outw'
+    pub is : b ≡ renumbering (built (Ok count) table' work') inn' outw'
     pub value : s ≡ record { below = group_of []; factor = handle start n room count; over = over; above = group_of [] }
     pub table_is : t ≡ within table start (start + table_need n room) table'
     pub work_is : w ≡ within work 0 (work_need n room) work'
@@ -171,9 +171,9 @@ module _ (from : List ℕ) (over : Group) (gens table : List ℕ) (start : ℕ) 
     pub outw_is : o ≡ within outw 0 room outw'
 
   pub back_accepted : (b : Renumbering) {s : Subgroup} {t w i o : List ℕ}
-      → maps_back over table start work inn outw M n n room b ≡ subgrouping (record { answer = Fine; subgroup = s }) t w i o → Backed b s t w i o
-  back_accepted (renumbering (built (counted.Count c) t' w') i' o') {s} q =
-      let m : subgroup_of over (made_of start room n (counted.Count c)) ≡ record { answer = Fine; subgroup = s } = cc in
+      → maps_back over table start work inn outw M n n room b ≡ subgrouping (Ok s) t w i o → Backed b s t w i o
+  back_accepted (renumbering (built (Ok c) t' w') i' o') {s} q =
+      let m : subgroup_of over (made_of start room n (Ok c)) ≡ Ok s = cc in
       record {
         count = c;
         table' = t';
@@ -181,13 +181,13 @@ module _ (from : List ℕ) (over : Group) (gens table : List ℕ) (start : ℕ) 
         inn' = i';
         outw' = o';
         is = refl;
-        value = sym (ap (λ (x : Subgrouped). x.subgroup) m);
+        value = sym (same_subgroup m);
         table_is = cc;
         work_is = cc;
         inn_is = cc;
         outw_is = cc;
       }
-  back_accepted (renumbering (built (counted.Refused r) t' w') i' o') q = absurd (fine_refused q)
+  back_accepted (renumbering (built (Err r) t' w') i' o') q = absurd (fine_refused q)
 
   -- A refused call that has started is a refused build.
   pub record Turned (b : Renumbering) (r : Refusal) (t w i o : List ℕ) : Type 0 where
@@ -195,23 +195,23 @@ module _ (from : List ℕ) (over : Group) (gens table : List ℕ) (start : ℕ) 
     pub work' : List ℕ
     pub inn' : List ℕ
     pub outw' : List ℕ
-    pub is : b ≡ renumbering (built (counted.Refused r) table' work') inn' outw'
+    pub is : b ≡ renumbering (built (Err r) table' work') inn' outw'
     pub table_is : t ≡ within table start (start + table_need n room) table'
     pub work_is : w ≡ within work 0 (work_need n room) work'
     pub inn_is : i ≡ within inn 0 M inn'
     pub outw_is : o ≡ within outw 0 room outw'
 
-  pub back_refused : (b : Renumbering) {r : Refusal} {s : Subgroup} {t w i o : List ℕ}
-      → maps_back over table start work inn outw M n n room b ≡ subgrouping (record { answer = Refused r; subgroup = s }) t w i o → Turned b r t w i o
-  back_refused (renumbering (built (counted.Count c) t' w') i' o') q = absurd (fine_refused (sym q))
-  back_refused (renumbering (built (counted.Refused r') t' w') i' o') {r} q =
+  pub back_refused : (b : Renumbering) {r : Refusal} {t w i o : List ℕ}
+      → maps_back over table start work inn outw M n n room b ≡ subgrouping (Err r) t w i o → Turned b r t w i o
+  back_refused (renumbering (built (Ok c) t' w') i' o') q = absurd (fine_refused (sym q))
+  back_refused (renumbering (built (Err r') t' w') i' o') {r} q =
       let e : r' ≡ r = same_refusal q in
       record {
         table' = t';
         work' = w';
         inn' = i';
         outw' = o';
-        is = ap (λ (x : Refusal). renumbering (built (counted.Refused x) t' w') i' o') e;
+        is = ap (λ (x : Refusal). renumbering (built (Err x) t' w') i' o') e;
         table_is = cc;
         work_is = cc;
         inn_is = cc;
@@ -219,7 +219,7 @@ module _ (from : List ℕ) (over : Group) (gens table : List ℕ) (start : ℕ) 
       }
 
   pub accepted_started : {s : Subgroup} {t w i o : List ℕ}
-      → from_generators from over gens table start work inn outw room ≡ subgrouping (record { answer = Fine; subgroup = s }) t w i o
+      → from_generators from over gens table start work inn outw room ≡ subgrouping (Ok s) t w i o
       → Started from over gens table start work inn outw room
   accepted_started q = go ways where
     go : Ways → Started from over gens table start work inn outw room
@@ -263,9 +263,9 @@ module _ (from : List ℕ) (over : Group) (gens table : List ℕ) (start : ℕ) 
     pub G : GroupOn M op inv
     G = product_overgroup from As
 
-    entry_below : (x : ℕ) (i : ℕ) → pick (leb M x) (refused_of 14 (shown i) 0 0) Fine ≡ Fine → x < M
+    entry_below : (x : ℕ) (i : ℕ) → pick (leb M x) (refused_of 14 (shown i) 0 0) fine ≡ fine → x < M
     entry_below x i = by (leb M x) refl where
-      by : (b : Bool) → leb M x ≡ b → pick b (refused_of 14 (shown i) 0 0) Fine ≡ Fine → x < M
+      by : (b : Bool) → leb M x ≡ b → pick b (refused_of 14 (shown i) 0 0) fine ≡ fine → x < M
       by true e q = absurd (refused_fine q)
       by false e q = leb-false M x e
 
@@ -279,7 +279,7 @@ module _ (from : List ℕ) (over : Group) (gens table : List ℕ) (start : ℕ) 
     abbrev build : Renumbering
     build = renumber_in (table_need n room) (take (work_need n room) work) source n room M room 0
 
-    module _ {c : ℕ} {t w i o : List ℕ} (q : build ≡ renumbering (built (counted.Count c) t w) i o) where
+    module _ {c : ℕ} {t w i o : List ℕ} (q : build ≡ renumbering (built (Ok c) t w) i o) where
       made : SubgroupMade op inv n M room room (table_need n room) (length (take (work_need n room) work)) gen c t w i o
       made =
           subgroup_made G (small S) gens_below source answering room room (lo S) (hi S) (le_refl room) (table_need n room) (take (work_need n room) work) S.few
@@ -336,7 +336,7 @@ module _ (from : List ℕ) (over : Group) (gens table : List ℕ) (start : ℕ) 
     generates_at a b c d e H = rw (a, b, c, d, e) H
 
     pub started_given : {s : Subgroup} {t w i o : List ℕ}
-        → from_generators from over gens table start work inn outw room ≡ subgrouping (record { answer = Fine; subgroup = s }) t w i o
+        → from_generators from over gens table start work inn outw room ≡ subgrouping (Ok s) t w i o
         → Generates from over gens table start work inn outw room s t w i o
     started_given q =
         let B = back_accepted build (sym (is_build S) ∙ q) in
@@ -346,7 +346,7 @@ module _ (from : List ℕ) (over : Group) (gens table : List ℕ) (start : ℕ) 
         (A : Appearing (length gens) (elements_of (handles over)) (right_by (direct from over).op (λ g. get_or gens g 0)) 0 N elt) where
       -- Accepted exactly when.
       pub generators_exactly : ((s : Subgroup) × (t : List ℕ) × (w : List ℕ) × (i : List ℕ) × (o : List ℕ)
-          × (from_generators from over gens table start work inn outw room ≡ subgrouping (record { answer = Fine; subgroup = s }) t w i o))
+          × (from_generators from over gens table start work inn outw room ≡ subgrouping (Ok s) t w i o))
           ↔ Acceptable (direct from over).op (length gens) room N (λ g. get_or gens g 0) elt
       generators_exactly =
           let E = subgroup_exactly G gens_below A (small S) source answering room room (lo S) (hi S) (le_refl room) (table_need n room) (take (work_need n room) work)
@@ -361,7 +361,7 @@ module _ (from : List ℕ) (over : Group) (gens table : List ℕ) (start : ℕ) 
                   B.work',
                   B.inn',
                   B.outw',
-                  B.is ∙ ap (λ (c : ℕ). renumbering (built (counted.Count c) B.table' B.work') B.inn' B.outw') e,
+                  B.is ∙ ap (λ (c : ℕ). renumbering (built (Ok c) B.table' B.work') B.inn' B.outw') e,
                 ) in
                 record { within_room = X.0; short = X.1.0; proper = X.1.1 },
             λ C.
@@ -377,6 +377,6 @@ module _ (from : List ℕ) (over : Group) (gens table : List ℕ) (start : ℕ) 
 
   -- What an accepted call gives, whatever the arguments: it has started.
   pub generators_given : AllAccepted from (handles over) → {s : Subgroup} {t w i o : List ℕ}
-      → from_generators from over gens table start work inn outw room ≡ subgrouping (record { answer = Fine; subgroup = s }) t w i o
+      → from_generators from over gens table start work inn outw room ≡ subgrouping (Ok s) t w i o
       → Generates from over gens table start work inn outw room s t w i o
   generators_given As q = started_given (accepted_started q) As q

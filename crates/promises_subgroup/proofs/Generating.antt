@@ -5,7 +5,7 @@ use mathlib.Core.List.{List, []}
 use native.Mathlib.Nat.{div-one, mod-one, mod-eq_of_lt, div-eq_of_lt, one-mul}
 use native.Mathlib.Omega.{arith}
 use lib.ListN.{length, get_or}
-use Rattle.egg.specs.declared.Verdict.TheVariants.{Fine}
+use Rattle.egg.specs.Answers.{fine}
 use Rattle.egg.specs.Factor.{stretch, read_step}
 use Rattle.factor_laws.specs.Accepted.{factor_step, reach}
 use Rattle.build_checks_laws.proofs.Accepted.{read_step_lem}
@@ -64,7 +64,7 @@ module _ {from : List ℕ} {over : Group} {gens : List ℕ} {s : Subgroup} {t i 
     unfolding generator_answer
     as_made_answer =
         let b : g < generators_of (sub_side made) = omega (arith, here) in
-        let v : admits_sides (length from) (length t) made (length o) s.factor.elements g (generators_of (sub_side made)) ≡ Fine =
+        let v : admits_sides (length from) (length t) made (length o) s.factor.elements g (generators_of (sub_side made)) ≡ fine =
         sym (sides_fine (length from) (length t) made (length o) s.factor.elements g (generators_of (sub_side made)) K.fits K.outw_long b K.limited) in
         rw (v, ← side, one-mul e) carried
 

@@ -11,9 +11,9 @@ use borrow.Author.Tests.{ltb-true, ltb-false}
 use lib.Dec.{ltb, leb}
 use lib.ListN.{length, get_or, take, replicate}
 use Rattle.egg.specs.declared.Refusal.{Refusal}
-use Rattle.egg.specs.declared.Verdict.{Verdict}
-use Rattle.egg.specs.declared.Verdict.TheVariants as verdict
-use Rattle.egg.specs.declared.Counted.TheVariants.{Count, Refused}
+use Rattle.egg.specs.Answers.{Verdict}
+use Rattle.egg.specs.Refusals.{refusal_paper}
+use Rattle.std.specs.Prelude.{Ok, Err}
 use Rattle.egg.specs.Scan.{and_then}
 use Rattle.egg.proofs.Rooms.{false_true}
 use Rattle.egg.proofs.Scans.{refused_fine}
@@ -38,7 +38,6 @@ use Rattle.build_numbering_laws.specs.Source.{total}
 use Rattle.build_numbering_laws.proofs.Partial.{total_answering}
 use Rattle.build_numbering_laws.proofs.Numberings.{refused_5_or_6}
 use Rattle.build_numbering_laws.proofs.Builds.{built_of}
-use Rattle.subgroup_build.specs.declared.Subgroup.{Subgroup}
 use Rattle.factor_walk.specs.Walked.{shown}
 use Rattle.subgroup_build.specs.Lent.{subgrouping, maps_right}
 use Rattle.subgroup_rows.specs.Rows.{product_by}
@@ -70,14 +69,14 @@ module _ (from : List ℕ) (over : Group) (gens : List ℕ) (fits : all_fit (len
     reading (e, g, h, inl q) = rw q
     reading (e, g, h, inr q) = rw q
 
-    by_reading : (p : Placed) → read_all src n room (replicate size 0) ≡ p → {r : Refusal} {t w : List ℕ} → finished_placed p n w₀ ≡ built (Refused r) t w
+    by_reading : (p : Placed) → read_all src n room (replicate size 0) ≡ p → {r : Refusal} {t w : List ℕ} → finished_placed p n w₀ ≡ built (Err r) t w
         → RefusalIn generators_after r
     unfolding finished
-    by_reading (placed (Count c) t₀) e {r} q =
-        each_in (λ x. member x generators_after) r.number (8 ∷ late_numbers) refl
+    by_reading (placed (Ok c) t₀) e {r} q =
+        each_in (λ x. member x generators_after) (refusal_paper r).number (8 ∷ late_numbers) refl
         (check_zeros (8 ∷ late_numbers) refl t₀ w₀ n c (ranged_numbers t₀ n c (read_ranges (accepted_read src n room size few lo hi enough e)))
         (check_group t₀ w₀ n c) refl q).number
-    by_reading (placed (Refused s) t₀) e {r} q =
+    by_reading (placed (Err s) t₀) e {r} q =
         let i : s ≡ r = cc in
         subst (RefusalIn generators_after) i
         (reading (refused_5_or_6 A I small (total (product_by from (handles over) gens) 0)
@@ -85,13 +84,13 @@ module _ (from : List ℕ) (over : Group) (gens : List ℕ) (fits : all_fit (len
         (refused_read src n room size few lo hi enough e)))
 
     pub steps_number : {r : Refusal} {t w : List ℕ}
-        → finished_placed (read_all (numbered_step count elt (steps_read from over gens)) (length gens) room (replicate size 0)) (length gens) w₀ ≡ built (Refused r) t w
+        → finished_placed (read_all (numbered_step count elt (steps_read from over gens)) (length gens) room (replicate size 0)) (length gens) w₀ ≡ built (Err r) t w
         → RefusalIn generators_after r
     steps_number q = by_reading (read_all src n room (replicate size 0)) refl q
 
 then_in : {l : List ℕ} (u v : Verdict) → VerdictIn l u → VerdictIn l v → VerdictIn l (and_then u v)
-then_in verdict.Fine v p q = q
-then_in (verdict.Refused s) v p q = p
+then_in (Ok _) v p q = q
+then_in (Err s) v p q = p
 
 admits_in : (len : ℕ) (over : Group) (gens : List ℕ) → VerdictIn generators_before (admits_generators len over gens)
 unfolding admits_generators entries_right
@@ -102,8 +101,8 @@ admits_in len over gens =
     (verdict_pick (small_enough over) _ _ verdict_fine (verdict_refused _ refl)))
     (verdict_refused _ refl)
 
-module _ (from : List ℕ) (over : Group) (gens table : List ℕ) (start : ℕ) (work inn outw : List ℕ) (room : ℕ) (r : Refusal) (s : Subgroup) (t w i o : List ℕ)
-    (z : from_generators from over gens table start work inn outw room ≡ subgrouping (record { answer = verdict.Refused r; subgroup = s }) t w i o) where
+module _ (from : List ℕ) (over : Group) (gens table : List ℕ) (start : ℕ) (work inn outw : List ℕ) (room : ℕ) (r : Refusal) (t w i o : List ℕ)
+    (z : from_generators from over gens table start work inn outw room ≡ subgrouping (Err r) t w i o) where
   abbrev M : ℕ
   M = elements_of (handles over)
 
@@ -124,11 +123,11 @@ module _ (from : List ℕ) (over : Group) (gens table : List ℕ) (start : ℕ) 
         S.few (called.lo from over gens table start work inn outw room S) (called.hi from over gens table start work inn outw room S) (le_refl (table_need n room))
         (ap built_of T.is)
     by (inr B) =
-        each_in (λ x. member x generators_after) r.number (17 ∷ []) refl
+        each_in (λ x. member x generators_after) (refusal_paper r).number (17 ∷ []) refl
         (subst (RefusalIn (17 ∷ [])) (called.same_refusal (sym B.is ∙ z)) B.number)
 
-  early : {f : Refusal} {s' : Subgroup} → ¬ (Started from over gens table start work inn outw room) → RefusalIn generators_before f
-      → subgrouping (record { answer = verdict.Refused f; subgroup = s' }) table work inn outw ≡ subgrouping (record { answer = verdict.Refused r; subgroup = s }) t w i o
+  early : {f : Refusal} → ¬ (Started from over gens table start work inn outw room) → RefusalIn generators_before f
+      → subgrouping (Err f) table work inn outw ≡ subgrouping (Err r) t w i o
       → Claim
   early wrong p e = untouched wrong (subst (RefusalIn generators_before) (called.same_refusal e) p) (cc, (cc, (cc, (cc, tt))))
 
@@ -140,16 +139,16 @@ module _ (from : List ℕ) (over : Group) (gens table : List ℕ) (start : ℕ) 
     where
       by : (v : Verdict) (a b : Bool) → admits_generators (length from) over gens ≡ v → ltb 8 (length gens) ≡ a
           → maps_right (length table) start (length work) (length inn) (length outw) room (length gens) M ≡ b → Claim
-      by (verdict.Refused f) a b q k l =
+      by (Err f) a b q k l =
           early (λ S. refused_fine (sym q ∙ sym (generators_fine (length from) over gens S.fits refl S.entries refl S.small)))
           ((admits_in (length from) over gens).of f q) (sym (called.early_arguments from over gens table start work inn outw room q) ∙ z)
-      by verdict.Fine true b q k l =
+      by (Ok _) true b q k l =
           early {f = numbered 1 (shown (length gens)) 0 0} (λ S. omega (arith, S.few, ltb-true 8 (length gens) k)) refl
           (sym (called.early_many from over gens table start work inn outw room q (ltb-true 8 (length gens) k)) ∙ z)
-      by verdict.Fine false false q k l =
+      by (Ok _) false false q k l =
           early {f = numbered 4 0 0 0} (λ S. false_true (sym l ∙ S.lent)) refl
           (sym (called.early_short from over gens table start work inn outw room q (ltb-false 8 (length gens) k) l) ∙ z)
-      by verdict.Fine false true q k l =
+      by (Ok _) false true q k l =
           let A = admitted (length from) over gens q in
           let S : Started from over gens table start work inn outw room =
           record { fits = A.fits; entries = A.entries; small = A.small; few = ltb-false 8 (length gens) k; lent = l } in

@@ -10,10 +10,8 @@ use lib.ListN.{length, get_or, take, replicate, length-replicate}
 use Rattle.egg.specs.declared.Refusal.{Refusal}
 use Rattle.egg.specs.declared.GroupElementId.{GroupElementId}
 use Rattle.egg.specs.declared.GeneratorId.{GeneratorId}
-use Rattle.egg.specs.declared.Reached.{Reached}
-use Rattle.egg.specs.declared.Reached.TheVariants as reached
-use Rattle.egg.specs.declared.Verdict.TheVariants as verdict
-use Rattle.egg.specs.declared.Counted.TheVariants.{Count, Refused}
+use Rattle.egg.specs.Answers.{Counted, Reached}
+use Rattle.std.specs.Prelude.{Ok, Err}
 use Rattle.egg.specs.Table.{pick, put_at}
 use Rattle.egg.proofs.Rooms.{within_length}
 use Rattle.build_reading.specs.Build.{set_step, adds}
@@ -30,7 +28,6 @@ use Rattle.group_handles.specs.Handles.{handles, elements_of}
 use Rattle.build_numbering.specs.Renumber.{no_number, Mapped, mapped, then_mapped, on_new, map_place, map_from, map_row, map_rows, map_all}
 use Rattle.build_numbering.specs.Build.{renumbering, finished_mapped, renumber_in}
 use Rattle.build_numbering_laws.proofs.Builds.{built_of, settled_built, refused_maps, settled_count}
-use Rattle.subgroup_build.specs.declared.Subgroup.{Subgroup}
 use Rattle.subgroup_build.specs.Lent.{subgrouping, maps_right}
 use Rattle.subgroup_rows.specs.Rows.{product_by}
 use Rattle.subgroup_build.specs.Generated.{from_generators}
@@ -38,7 +35,6 @@ use Rattle.subgroup_build.proofs.Admits.{maps_lent, maps_inn, maps_outw}
 use Rattle.promises_subgroup.specs.Generates.{Started}
 use Rattle.promises_subgroup.specs.Leaves.{maps_for}
 use Rattle.promises_subgroup.proofs.Called.{is_build, back_refused, work_long}
-use Rattle.egg.specs.declared.Counted.{Counted}
 use Rattle.build_laws.proofs.Settled.{settled_kept, settled_work}
 use Rattle.build_laws.proofs.Built.{passed}
 use Rattle.build_numbering_laws.proofs.Sizes.{Long, all_long}
@@ -47,8 +43,8 @@ abbrev pub table_in : Mapped → List ℕ
 table_in (mapped (placed c t) inn outw) = t
 
 new_table : (r : Reached) (t inn outw : List ℕ) (count x : ℕ) → table_in (on_new r t inn outw count x) ≡ t
-new_table (reached.Element e) t inn outw count x = refl
-new_table (reached.Refused r) t inn outw count x = refl
+new_table (Ok e) t inn outw count x = refl
+new_table (Err r) t inn outw count x = refl
 
 place_long : (t inn outw : List ℕ) (n room count e g x : ℕ) → length (table_in (map_place t inn outw n room count e g x)) ≡ length t
 unfolding map_place
@@ -61,20 +57,20 @@ place_long t inn outw n room count e g x = by (eqb (get_or inn x 0) no_number) w
 
   by : (b : Bool) → length (table_in (pick {A = Mapped} b
       (on_new (adds t n room count at by_generator).answer (adds t n room count at by_generator).table inn outw count x)
-      (mapped (placed (Count count) (set_step t n at by_generator (record { 0 = get_or inn x 0 }))) inn outw))) ≡ length t
+      (mapped (placed (Ok count) (set_step t n at by_generator (record { 0 = get_or inn x 0 }))) inn outw))) ≡ length t
   by true =
       ap length (new_table (adds t n room count at by_generator).answer (adds t n room count at by_generator).table inn outw count x)
       ∙ adds_length t n room count at by_generator
   by false = set_length t n at by_generator (record { 0 = get_or inn x 0 })
 
 from_long : (r : Reached) (t inn outw : List ℕ) (n room count e g : ℕ) → length (table_in (map_from r t inn outw n room count e g)) ≡ length t
-from_long (reached.Element x) t inn outw n room count e g = place_long t inn outw n room count e g x.0
-from_long (reached.Refused r) t inn outw n room count e g = refl
+from_long (Ok x) t inn outw n room count e g = place_long t inn outw n room count e g x.0
+from_long (Err r) t inn outw n room count e g = refl
 
 then_long : (k : ℕ) (m : Mapped) (f : ℕ → List ℕ → List ℕ → List ℕ → Mapped) → length (table_in m) ≡ k
     → ((c : ℕ) (t inn outw : List ℕ) → length t ≡ k → length (table_in (f c t inn outw)) ≡ k) → length (table_in (then_mapped m f)) ≡ k
-then_long k (mapped (placed (Count c) t) inn outw) f h g = g c t inn outw h
-then_long k (mapped (placed (Refused r) t) inn outw) f h g = h
+then_long k (mapped (placed (Ok c) t) inn outw) f h g = g c t inn outw h
+then_long k (mapped (placed (Err r) t) inn outw) f h g = h
 
 row_long : (k : ℕ) (source : ℕ → ℕ → Reached) (n room e g count : ℕ) (t inn outw : List ℕ)
     → length (table_in (map_row k source n room e g count t inn outw)) ≡ length t
@@ -99,13 +95,13 @@ rows_long (suc k) source n room e count t inn outw =
 
 -- A refused build leaves zeros in both stretches.
 pub refused_stretches : (size : ℕ) (w₀ : List ℕ) (source : ℕ → ℕ → Reached) (n room M K x₀ : ℕ) {r : Refusal} {t w inn outw : List ℕ}
-    → renumber_in size w₀ source n room M K x₀ ≡ renumbering (built (Refused r) t w) inn outw → (t ≡ replicate size 0) × (w ≡ replicate (length w₀) 0)
+    → renumber_in size w₀ source n room M K x₀ ≡ renumbering (built (Err r) t w) inn outw → (t ≡ replicate size 0) × (w ≡ replicate (length w₀) 0)
 unfolding renumber_in
 refused_stretches size w₀ source n room M K x₀ {r} {t} {w} {inn} {outw} q =
     go (map_all source n room M K x₀ (replicate size 0))
     (rows_long room source n room 0 1 (replicate size 0) (put_at (replicate M no_number) x₀ 0) (put_at (replicate K 0) 0 x₀) ∙ length-replicate size 0) q
   where
-    go : (m : Mapped) → length (table_in m) ≡ size → finished_mapped m n w₀ ≡ renumbering (built (Refused r) t w) inn outw
+    go : (m : Mapped) → length (table_in m) ≡ size → finished_mapped m n w₀ ≡ renumbering (built (Err r) t w) inn outw
         → (t ≡ replicate size 0) × (w ≡ replicate (length w₀) 0)
     go (mapped (placed c t₀) i o) h z =
         let F = finished_zeros c n t₀ w₀ (sym (settled_built (finished c n t₀ w₀) i o) ∙ ap built_of z) in
@@ -133,8 +129,8 @@ four_cleared table start work inn outw n M room right a b c d =
 
 module _ (from : List ℕ) (over : Group) (gens table : List ℕ) (start : ℕ) (work inn outw : List ℕ) (room : ℕ) where
   -- Once it has started, every needed stretch is zero after a refusal.
-  pub generators_cleared : Started from over gens table start work inn outw room → {r : Refusal} {s : Subgroup} {t w i o : List ℕ}
-      → from_generators from over gens table start work inn outw room ≡ subgrouping (record { answer = verdict.Refused r; subgroup = s }) t w i o
+  pub generators_cleared : Started from over gens table start work inn outw room → {r : Refusal} {t w i o : List ℕ}
+      → from_generators from over gens table start work inn outw room ≡ subgrouping (Err r) t w i o
       → AllCleared (maps_for table start work inn outw (length gens) (elements_of (handles over)) room t w i o)
   generators_cleared S q =
       let n : ℕ = length gens in
@@ -150,7 +146,7 @@ module _ (from : List ℕ) (over : Group) (gens table : List ℕ) (start : ℕ) 
       (T.inn_is ∙ ap (λ (x : List ℕ). within inn 0 (elements_of (handles over)) x) Y.0) (T.outw_is ∙ ap (λ (x : List ℕ). within outw 0 room x) Y.1)
 
 -- What an accepted numbering leaves is as long as it was lent.
-finished_long : (k : Counted) (n : ℕ) (t₀ w₀ : List ℕ) {c : ℕ} {t w : List ℕ} → finished k n t₀ w₀ ≡ built (Count c) t w
+finished_long : (k : Counted) (n : ℕ) (t₀ w₀ : List ℕ) {c : ℕ} {t w : List ℕ} → finished k n t₀ w₀ ≡ built (Ok c) t w
     → (length t ≡ length t₀) × (length w ≡ length w₀)
 finished_long k n t₀ w₀ q =
     let p = passed (placed k t₀) n w₀ q in
@@ -158,7 +154,7 @@ finished_long k n t₀ w₀ q =
     ((settled_kept p.before w₀ p.end).size ∙ ap length same, ap length (settled_work p.before w₀ p.end) ∙ length-replicate {A = ℕ} (length w₀) 0)
 
 pub accepted_lengths : (size : ℕ) (w₀ : List ℕ) (source : ℕ → ℕ → Reached) (n room M K x₀ : ℕ) {c : ℕ} {t w i o : List ℕ}
-    → renumber_in size w₀ source n room M K x₀ ≡ renumbering (built (Count c) t w) i o
+    → renumber_in size w₀ source n room M K x₀ ≡ renumbering (built (Ok c) t w) i o
     → (length t ≡ size) × ((length w ≡ length w₀) × ((length i ≡ M) × (length o ≡ K)))
 unfolding renumber_in
 accepted_lengths size w₀ source n room M K x₀ {c} {t} {w} {i} {o} q =
@@ -166,7 +162,7 @@ accepted_lengths size w₀ source n room M K x₀ {c} {t} {w} {i} {o} q =
     (rows_long room source n room 0 1 (replicate size 0) (put_at (replicate M no_number) x₀ 0) (put_at (replicate K 0) 0 x₀) ∙ length-replicate size 0)
     (all_long source n room M K x₀ (replicate size 0)) q
   where
-    go : (m : Mapped) → length (table_in m) ≡ size → Long M K m → finished_mapped m n w₀ ≡ renumbering (built (Count c) t w) i o
+    go : (m : Mapped) → length (table_in m) ≡ size → Long M K m → finished_mapped m n w₀ ≡ renumbering (built (Ok c) t w) i o
         → (length t ≡ size) × ((length w ≡ length w₀) × ((length i ≡ M) × (length o ≡ K)))
     go (mapped (placed k t₀) i₀ o₀) h g z =
         let S = settled_count (finished k n t₀ w₀) i₀ o₀ z in

@@ -5,7 +5,7 @@ use mathlib.Core.List.{List}
 use native.Mathlib.Nat.{le_refl}
 use lib.ListN.{length, take, replicate, length-replicate}
 use lib.Seq.{take_at}
-use Rattle.egg.specs.declared.Counted.TheVariants.{Count}
+use Rattle.std.specs.Prelude.{Ok}
 use Rattle.build_lending.specs.Finish.{built, finished_placed}
 use Rattle.build_lending.specs.Lending.{table_need, work_need}
 use Rattle.build_reading.specs.Reading.{read_all}
@@ -18,12 +18,12 @@ cut_longer : (k m : ℕ) (l : List ℕ) → length l ≡ m → take m (longer k 
 unfolding longer
 cut_longer k m l q = take_at l (replicate k 0) m q
 
-same_table : {N : ℕ} {t t' w w' : List ℕ} → built (Count N) t w ≡ built (Count N) t' w' → t ≡ t'
+same_table : {N : ℕ} {t t' w w' : List ℕ} → built (Ok N) t w ≡ built (Ok N) t' w' → t ≡ t'
 same_table h = cc
 
 module _ (src : ℕ → ℕ → ℕ) (n room size : ℕ) (w : List ℕ) (few : n ≤ 8) (lo : 1 ≤ room) (hi : room ≤ 65535) (fits : room * (2 * n + 4) ≤ size)
     (work : work_need n room ≤ length w) where
-  pub narrow : {N : ℕ} {t w₁ : List ℕ} → finished_placed (read_all src n room (replicate size 0)) n w ≡ built (Count N) t w₁
+  pub narrow : {N : ℕ} {t w₁ : List ℕ} → finished_placed (read_all src n room (replicate size 0)) n w ≡ built (Ok N) t w₁
       → Holding src n room (table_need n room) N (take (table_need n room) t)
   narrow {N} {t} q =
       let v : List ℕ = replicate (work_need n room) 0 in

@@ -6,9 +6,8 @@ use mathlib.Core.List.{List}
 use native.Mathlib.Omega.{arith}
 use lib.ListN.{length, get_or}
 use Rattle.egg.specs.declared.Factor.{Factor}
-use Rattle.egg.specs.declared.Reached.{Reached}
-use Rattle.egg.specs.declared.Reached.TheVariants as reached
-use Rattle.egg.specs.declared.Counted.TheVariants.{Count}
+use Rattle.egg.specs.Answers.{Reached}
+use Rattle.std.specs.Prelude.{Ok}
 use Rattle.build_lending.specs.Finish.{built}
 use Rattle.build_lending.specs.Lending.{work_need}
 use Rattle.theory.specs.Group.{GroupOn}
@@ -30,7 +29,7 @@ use Rattle.promises_subgroup.proofs.Held.{held_carried, held_homomorphic}
 
 module _ (t : List ℕ) {hs : List Factor} (As : AllAccepted t hs) where
   pub product_answers : (y x : ℕ) → y < elements_of hs → x < elements_of hs
-      → digitwise (digit_of Compose t) hs y x ≡ reached.Element (record { 0 = (product (parts t hs)).op y x })
+      → digitwise (digit_of Compose t) hs y x ≡ Ok (record { 0 = (product (parts t hs)).op y x })
   product_answers y x hy hx = composes_are t As y x (rw (parts_elements t hs) hy) (rw (parts_elements t hs) hx)
 
   pub product_overgroup : GroupOn (elements_of hs) (product (parts t hs)).op (product (parts t hs)).inv
@@ -52,7 +51,7 @@ module _ {M : ℕ} {op : ℕ → ℕ → ℕ} {inv : ℕ → ℕ} (G : GroupOn M
     (gens : (g : ℕ) → g < n → gen g < M) (source : ℕ → ℕ → Reached) (answering : Answering n M (right_by op gen) source)
     (room K : ℕ) (lo : 1 ≤ room) (hi : room ≤ 65535) (lent : room ≤ K) (size : ℕ) (w : List ℕ) (few : n ≤ 8) (fits : room * (2 * n + 4) ≤ size)
     (work : work_need n room ≤ length w) {c : ℕ} {t w₁ inn outw : List ℕ}
-    (q : renumber_in size w source n room M K 0 ≡ renumbering (built (Count c) t w₁) inn outw) where
+    (q : renumber_in size w source n room M K 0 ≡ renumbering (built (Ok c) t w₁) inn outw) where
   pub subgroup_made : SubgroupMade op inv n M room K size (length w) gen c t w₁ inn outw
   subgroup_made =
       let I = right_inside G gens in

@@ -9,8 +9,8 @@ use lib.ListN.{length, get_or}
 use Rattle.egg.specs.declared.Refusal.{Refusal}
 use Rattle.egg.specs.declared.GroupElementId.{GroupElementId}
 use Rattle.egg.specs.declared.GeneratorId.{GeneratorId}
-use Rattle.egg.specs.declared.Verdict.{Verdict}
-use Rattle.egg.specs.declared.Verdict.TheVariants as verdict
+use Rattle.egg.specs.Answers.{Verdict, answer_of}
+use Rattle.std.specs.Prelude.{Ok, Err, Some, None}
 use Rattle.egg.specs.Table.{pick}
 use Rattle.egg.specs.Factor.{stretch}
 use Rattle.build_checks_laws.specs.Numbers.{RefusalIn}
@@ -21,9 +21,8 @@ use Rattle.group_handles.specs.Handles.{handles, all_fit, generators_of}
 use Rattle.promises_group.proofs.Refuses.{stepped_in}
 use Rattle.build_numbering.specs.Renumber.{no_number}
 use Rattle.subgroup_build.specs.declared.Subgroup.{Subgroup}
-use Rattle.subgroup_build.specs.declared.Subgrouped.{Subgrouped}
-use Rattle.subgroup.specs.declared.Within.{Within}
-use Rattle.subgroup.specs.declared.Within.TheVariants as within
+use Rattle.subgroup_build.specs.Answers.{Subgrouped}
+use Rattle.subgroup.specs.Answers.{Within}
 use Rattle.subgroup_sides.specs.Sides.{sides_fit, sides_limited, admits_sides, put_left, put_right, if_limited, joinable, multiplied, left_product, right_product, stride_of, over_count}
 use Rattle.subgroup.specs.Questions.{if_within, carried_over, carried_back, to_over_answer, to_sub_answer, generator_answer, admits_handles, generator_count_answer, if_grouped, overgroup_answer}
 use Rattle.subgroup_sides.specs.Generators.{side_generator}
@@ -34,17 +33,17 @@ asked = 14 ∷ 15 ∷ 17 ∷ []
 
 -- What an answer with "not in the subgroup" is made of.
 module _ {l : List ℕ} where
-  within_element : (e : GroupElementId) → WithinIn l (within.Element e)
+  within_element : (e : GroupElementId) → WithinIn l (Ok (Some e))
   within_element e = record { of = λ r h. absurd (never r h) } where
-    never : (r : Refusal) → within.Element e ≡ within.Refused r → ⊥
+    never : (r : Refusal) → ◌≡◌ {A = Within} (Ok (Some e)) (Err r) → ⊥
     never r h = let z : ◌≡◌ {A = ℕ} 0 1 = cc in omega arith
 
-  within_outside : WithinIn l within.Outside
+  within_outside : WithinIn l (Ok None)
   within_outside = record { of = λ r h. absurd (never r h) } where
-    never : (r : Refusal) → within.Outside ≡ within.Refused r → ⊥
+    never : (r : Refusal) → ◌≡◌ {A = Within} (Ok None) (Err r) → ⊥
     never r h = let z : ◌≡◌ {A = ℕ} 0 1 = cc in omega arith
 
-  within_refused : (s : Refusal) → RefusalIn l s → WithinIn l (within.Refused s)
+  within_refused : (s : Refusal) → RefusalIn l s → WithinIn l (Err s)
   within_refused s m = record { of = λ r h. let e : s ≡ r = cc in rw e at m }
 
   within_pick : (b : Bool) (x y : Within) → WithinIn l x → WithinIn l y → WithinIn l (pick b x y)
@@ -52,8 +51,8 @@ module _ {l : List ℕ} where
   within_pick false x y p q = q
 
   within_if : (v : Verdict) (x : Within) → VerdictIn l v → WithinIn l x → WithinIn l (if_within v x)
-  within_if verdict.Fine x p q = q
-  within_if (verdict.Refused s) x p q = within_refused s (p.of s refl)
+  within_if (Ok _) x p q = q
+  within_if (Err s) x p q = within_refused s (p.of s refl)
 
 admits_in : (from table : ℕ) (s : Subgroup) (map need a la : ℕ) → VerdictIn (14 ∷ 15 ∷ 17 ∷ []) (admits_sides from table s map need a la)
 unfolding admits_sides
@@ -68,16 +67,16 @@ unfolding admits_handles
 handles_in from table s =
     verdict_pick (sides_fit from table s) _ _ (verdict_pick (sides_limited s) _ _ verdict_fine (verdict_refused _ refl)) (verdict_refused _ refl)
 
-grouped_in : {l : List ℕ} (v : Verdict) (g : Group) → VerdictIn l v → VerdictIn l (if_grouped v g).answer
-grouped_in verdict.Fine g h = h
-grouped_in (verdict.Refused r) g h = h
+grouped_in : {l : List ℕ} (v : Verdict) (g : Group) → VerdictIn l v → VerdictIn l (answer_of (if_grouped v g))
+grouped_in (Ok _) g h = h
+grouped_in (Err r) g h = h
 
 -- The products.
-subgroup_pick : {l : List ℕ} (b : Bool) (x y : Subgrouped) → VerdictIn l x.answer → VerdictIn l y.answer → VerdictIn l (pick b x y).answer
+subgroup_pick : {l : List ℕ} (b : Bool) (x y : Subgrouped) → VerdictIn l (answer_of x) → VerdictIn l (answer_of y) → VerdictIn l (answer_of (pick b x y))
 subgroup_pick true x y p q = p
 subgroup_pick false x y p q = q
 
-multiplied_in : (g h : Group) (t : Subgroup) → VerdictIn (15 ∷ 17 ∷ []) (multiplied g h t).answer
+multiplied_in : (g h : Group) (t : Subgroup) → VerdictIn (15 ∷ 17 ∷ []) (answer_of (multiplied g h t))
 unfolding multiplied if_limited
 multiplied_in g h t =
     subgroup_pick (joinable g h) _ _ (subgroup_pick (sides_limited t) _ _ verdict_fine (verdict_refused _ refl)) (verdict_refused _ refl)
@@ -102,11 +101,11 @@ side_in from table s g =
     (reached_on _ _ (stepped_in from (handles s.above) 0 (g - generators_of (handles s.below) - s.factor.generators)) (λ y. reached_element _)))
 
 module _ (from table : List ℕ) (s : Subgroup) where
-  lefts : (g : Group) → VerdictIn (15 ∷ 17 ∷ []) (left_product (length from) (length table) g s).answer
+  lefts : (g : Group) → VerdictIn (15 ∷ 17 ∷ []) (answer_of (left_product (length from) (length table) g s))
   unfolding left_product
   lefts g = subgroup_pick (sides_fit (length from) (length table) s && all_fit (length from) (handles g)) _ _ (multiplied_in g s.below (put_left g s)) (verdict_refused _ refl)
 
-  rights : (g : Group) → VerdictIn (15 ∷ 17 ∷ []) (right_product (length from) (length table) s g).answer
+  rights : (g : Group) → VerdictIn (15 ∷ 17 ∷ []) (answer_of (right_product (length from) (length table) s g))
   unfolding right_product
   rights g = subgroup_pick (sides_fit (length from) (length table) s && all_fit (length from) (handles g)) _ _ (multiplied_in s.above g (put_right s g)) (verdict_refused _ refl)
 
@@ -128,7 +127,7 @@ module _ (from table : List ℕ) (s : Subgroup) where
   unfolding generator_count_answer
   counted = counted_if _ _ (handles_in (length from) (length table) s) (counted_count _)
 
-  overgroups : VerdictIn (15 ∷ 17 ∷ []) (overgroup_answer (length from) (length table) s).answer
+  overgroups : VerdictIn (15 ∷ 17 ∷ []) (answer_of (overgroup_answer (length from) (length table) s))
   unfolding overgroup_answer
   overgroups = grouped_in (admits_handles (length from) (length table) s) _ (handles_in (length from) (length table) s)
 

@@ -11,8 +11,8 @@ use borrow.Author.Tests.{leb-true}
 use lib.ListN.{length, get_or, take, replicate, length-replicate}
 use Rattle.egg.specs.declared.Factor.{Factor}
 use Rattle.egg.specs.declared.Refusal.{Refusal}
-use Rattle.egg.specs.declared.Reached.{Reached}
-use Rattle.egg.specs.declared.Counted.TheVariants as counted
+use Rattle.egg.specs.Answers.{Reached}
+use Rattle.std.specs.Prelude.{Ok, Err}
 use Rattle.egg.specs.Factor.{has_room, stretch}
 use Rattle.egg.proofs.Rooms as rooms
 use Rattle.egg.proofs.Rooms.{limited, within_length}
@@ -83,7 +83,7 @@ module _ (from : List ℕ) (over : Group) (gens : List ℕ) (k : ℕ) (table : L
     (right : maps_right (length table) start (length work) (length inn) (length outw) room k (elements_of (handles over)) ≡ true)
     (few : length gens ≤ k) (most : k ≤ 8) (v : List ℕ) (long : length v ≡ work_need k room) {c : ℕ} {t w i o : List ℕ}
     (q : renumber_in (table_need k room) v (product_by from (handles over) gens) (length gens) room (elements_of (handles over)) room 0
-    ≡ renumbering (built (counted.Count c) t w) i o)
+    ≡ renumbering (built (Ok c) t w) i o)
   where
     abbrev n : ℕ
     n = length gens
@@ -132,7 +132,7 @@ module _ (from : List ℕ) (over : Group) (gens : List ℕ) (k : ℕ) (table : L
 
     -- An accepted build is that of the steps, all of which were answered.
     of_steps : (renumber_in (table_need k room) v (total (product_by from (handles over) gens) 0) (length gens) room (elements_of (handles over)) room 0
-        ≡ renumbering (built (counted.Count c) t w) i o)
+        ≡ renumbering (built (Ok c) t w) i o)
         × AllAnswered (product_by from (handles over) gens) 0 (length gens) room (appearing I).0 (appearing I).1
     of_steps = go (partial_build (product_by from (handles over) gens) 0 A I small room room lo hi (le_refl room) (table_need k room) eight rows v) where
       go : ((renumber_in (table_need k room) v (product_by from (handles over) gens) n room M room 0 ≡ renumber_in (table_need k room) v source n room M room 0)
@@ -140,14 +140,14 @@ module _ (from : List ℕ) (over : Group) (gens : List ℕ) (k : ℕ) (table : L
           ⊎ ((r : Refusal) × RefusedAt (product_by from (handles over) gens) 0 n room (appearing I).0 (appearing I).1 r
           × (t : List ℕ) × (i : List ℕ) × (o : List ℕ)
           × (renumber_in (table_need k room) v (product_by from (handles over) gens) n room M room 0
-          ≡ renumbering (built (counted.Refused r) (zeroed t) (zeroed v)) (zeroed i) (zeroed o)))
-          → (renumber_in (table_need k room) v source n room M room 0 ≡ renumbering (built (counted.Count c) t w) i o)
+          ≡ renumbering (built (Err r) (zeroed t) (zeroed v)) (zeroed i) (zeroed o)))
+          → (renumber_in (table_need k room) v source n room M room 0 ≡ renumbering (built (Ok c) t w) i o)
           × AllAnswered (product_by from (handles over) gens) 0 n room (appearing I).0 (appearing I).1
       go (inl (e, a)) = (sym e ∙ q, a)
       go (inr (r, b, t, i, o, e)) = absurd (not_refused (sym e ∙ q))
 
     same : renumber_in (table_need k room) v (total (product_by from (handles over) gens) 0) (length gens) room (elements_of (handles over)) room 0
-        ≡ renumbering (built (counted.Count c) t w) i o
+        ≡ renumbering (built (Ok c) t w) i o
     same = of_steps.0
 
     H : Holding src n room (table_need k room) c t

@@ -6,9 +6,8 @@ use mathlib.Core.List.{List, []}
 use native.Mathlib.Nat.{le_refl, mul-le-mul}
 use native.Mathlib.Omega.{arith}
 use lib.ListN.{length, get_or, take, replicate}
-use Rattle.egg.specs.declared.Reached.{Reached}
-use Rattle.egg.specs.declared.Verdict.TheVariants.{Fine}
-use Rattle.egg.specs.declared.Counted.TheVariants.{Count}
+use Rattle.egg.specs.Answers.{Reached}
+use Rattle.std.specs.Prelude.{Ok}
 use Rattle.build_lending.specs.Finish.{Built, built, finished_placed}
 use Rattle.build_lending.specs.Lending.{table_need, work_need, within}
 use Rattle.build_reading.specs.Reading.{read_all}
@@ -44,14 +43,14 @@ module _ {M : ℕ} {op : ℕ → ℕ → ℕ} {inv : ℕ → ℕ} (G : GroupOn M
     (work : work_need n room ≤ length w)
     (room' K' : ℕ) (lo' : 1 ≤ room') (hi' : room' ≤ 65535) (lent' : room' ≤ K') (size' : ℕ) (w' : List ℕ) (fits' : room' * (2 * n + 4) ≤ size')
     (work' : work_need n room' ≤ length w') (more : room ≤ room') (wider : size ≤ size') where
-  pub build_roomier : {c : ℕ} {t w₁ i o : List ℕ} → renumber_in size w source n room M K 0 ≡ renumbering (built (Count c) t w₁) i o
-      → (w₂ : List ℕ) × (i' : List ℕ) × (o' : List ℕ) × ((renumber_in size' w' source n room' M K' 0 ≡ renumbering (built (Count c) (longer (size' - size) t) w₂) i' o')
+  pub build_roomier : {c : ℕ} {t w₁ i o : List ℕ} → renumber_in size w source n room M K 0 ≡ renumbering (built (Ok c) t w₁) i o
+      → (w₂ : List ℕ) × (i' : List ℕ) × (o' : List ℕ) × ((renumber_in size' w' source n room' M K' 0 ≡ renumbering (built (Ok c) (longer (size' - size) t) w₂) i' o')
       × ((i ≡ i') × ((e : ℕ) → get_or o e 0 ≡ get_or o' e 0)))
   build_roomier {c} {t} {w₁} {i} {o} q =
       let I = right_inside G gens in
       let A = (appearing I).2 in
       let src = numbered_step (appearing I).0 (appearing I).1 (right_by op gen) in
-      let b : finished_placed (read_all src n room (replicate size 0)) n w ≡ built (Count c) t w₁ =
+      let b : finished_placed (read_all src n room (replicate size 0)) n w ≡ built (Ok c) t w₁ =
       sym (renumber_built A I small source answering room K lo hi lent size w few fits work) ∙ ap built_of q in
       let r = built_roomier src n room size w few lo hi fits work room' size' w' hi' fits' work' more wider b in
       let F = renumber_filled A I small source answering room K lo hi lent size w few fits work q in
@@ -59,19 +58,19 @@ module _ {M : ℕ} {op : ℕ → ℕ → ℕ} {inv : ℕ → ℕ} (G : GroupOn M
       (renumber_built A I small source answering room' K' lo' hi' lent' size' w' few fits' work' ∙ r.1) F.1
     where
       go : (m : Renumbering) → renumber_in size' w' source n room' M K' 0 ≡ m → (w₂ : List ℕ)
-          → built_of (renumber_in size' w' source n room' M K' 0) ≡ built (Count c) (longer (size' - size) t) w₂
+          → built_of (renumber_in size' w' source n room' M K' 0) ≡ built (Ok c) (longer (size' - size) t) w₂
           → MapsFilled M room K (appearing (right_inside G gens)).1 c i o
-          → (w₂ : List ℕ) × (i' : List ℕ) × (o' : List ℕ) × ((renumber_in size' w' source n room' M K' 0 ≡ renumbering (built (Count c) (longer (size' - size) t) w₂) i' o')
+          → (w₂ : List ℕ) × (i' : List ℕ) × (o' : List ℕ) × ((renumber_in size' w' source n room' M K' 0 ≡ renumbering (built (Ok c) (longer (size' - size) t) w₂) i' o')
           × ((i ≡ i') × ((e : ℕ) → get_or o e 0 ≡ get_or o' e 0)))
       go (renumbering b' i' o') z w₂ y F =
-          let q' : renumber_in size' w' source n room' M K' 0 ≡ renumbering (built (Count c) (longer (size' - size) t) w₂) i' o' =
+          let q' : renumber_in size' w' source n room' M K' 0 ≡ renumbering (built (Ok c) (longer (size' - size) t) w₂) i' o' =
           z ∙ ap (λ (x : Built). renumbering x i' o') (sym (ap built_of z) ∙ y) in
           let F' = renumber_filled (appearing (right_inside G gens)).2 (right_inside G gens) small source answering room' K' lo' hi' lent' size' w' few fits' work' q' in
           (w₂, i', o', (q', (inward_same F F'.1, outward_same F F'.1)))
 
 module _ (from : List ℕ) (over : Group) (gens table : List ℕ) (start : ℕ) (work inn outw : List ℕ) (room : ℕ) (As : AllAccepted from (handles over))
     {s : Subgroup} {t w i o : List ℕ}
-    (q : from_generators from over gens table start work inn outw room ≡ subgrouping (record { answer = Fine; subgroup = s }) t w i o)
+    (q : from_generators from over gens table start work inn outw room ≡ subgrouping (Ok s) t w i o)
     (table' : List ℕ) (start' : ℕ) (work' inn' outw' : List ℕ) (room' : ℕ) (S' : Started from over gens table' start' work' inn' outw' room') (more : room ≤ room') where
   abbrev n : ℕ
   n = length gens
@@ -94,7 +93,7 @@ module _ (from : List ℕ) (over : Group) (gens table : List ℕ) (start : ℕ) 
 
   R : (w₂ : List ℕ) × (i' : List ℕ) × (o' : List ℕ)
       × ((renumber_in (table_need n room') (take (work_need n room') work') (product_by from (handles over) gens) n room' M room' 0
-      ≡ renumbering (built (Count B.count) (longer (table_need n room' - table_need n room) B.table') w₂) i' o')
+      ≡ renumbering (built (Ok B.count) (longer (table_need n room' - table_need n room) B.table') w₂) i' o')
       × ((B.inn' ≡ i') × ((e : ℕ) → get_or B.outw' e 0 ≡ get_or o' e 0)))
   R =
       build_roomier (called.G from over gens table start work inn outw room S As) (called.small from over gens table start work inn outw room S)

@@ -6,7 +6,7 @@ use native.Mathlib.Nat.{add-sub_cancel_left, le-add_right, zero-add, mul-zero, a
 use native.Mathlib.Omega.{arith}
 use borrow.Author.Tests.{lt-ltb, le-ltb}
 use lib.ListN.{length, get_or}
-use Rattle.egg.specs.declared.Verdict.TheVariants.{Fine}
+use Rattle.egg.specs.Answers.{fine}
 use Rattle.egg.specs.Scan.{refused_of}
 use Rattle.egg.specs.Factor.{refused_reach, stretch, read_step}
 use Rattle.theory.specs.Table.{generator}
@@ -123,7 +123,7 @@ module _ {from gens : List ℕ} {s : Subgroup} {t i o : List ℕ} (S : Beside fr
   unfolding generator_answer
   asked {g} h =
       let K = S.known in
-      let v : admits_sides (length from) (length t) s (length o) s.factor.elements g (generators_of (sub_side s)) ≡ Fine =
+      let v : admits_sides (length from) (length t) s (length o) s.factor.elements g (generators_of (sub_side s)) ≡ fine =
       sym (sides_fine (length from) (length t) s (length o) s.factor.elements g (generators_of (sub_side s)) K.fits K.outw_long h K.limited) in
       let c : (sub_direct from t s).step 0 g < stride_of s * (s.factor.elements * elements_of (handles s.above)) =
       subst (λ (m : ℕ). (sub_direct from t s).step 0 g < m) (sub_count s) (generator_inside h) in

@@ -1,5 +1,6 @@
 -- A subgroup as it was made, by generators or by a predicate, with accepted factors beside it: the index formula carries the direct product of the subgroup's side to
 -- that of the overgroup's. And what `product_left` and `product_right` hand back is such a subgroup again.
+use Rattle.std.specs.Prelude.{Ok}
 use Prim.Native.Nat.{ℕ, ◌+◌, ◌*◌, ◌≤◌, ◌<◌}
 use mathlib.Core.Path.{◌≡◌, refl, sym, ap, ◌∙◌, subst}
 use mathlib.Core.Bool.{Bool, true, ◌&&◌}
@@ -8,7 +9,6 @@ use lib.Dec.{leb}
 use lib.ListN.{length, get_or}
 use borrow.Author.Tests.{leb-true, le-leb}
 use Rattle.egg.specs.declared.Factor.{Factor}
-use Rattle.egg.specs.declared.Verdict.TheVariants.{Fine}
 use Rattle.egg.proofs.Rooms.{and_first, and_second}
 use Rattle.build_checks_laws.proofs.Accepted.{sound_group}
 use Rattle.theory_products.specs.Product as theory
@@ -161,7 +161,7 @@ module _ {from : List ℕ} {over : Group} {gens : List ℕ} {s : Subgroup} {t i 
 
 -- `product` of two groups of accepted factors that together are within the limits.
 joins_so : (from : List ℕ) (a b : Group) {l : List Factor} → AcceptedProduct from a → AcceptedProduct from b → handles a ++ handles b ≡ l → length l ≤ 8
-    → elements_of l ≤ 4294967295 → joins (length from) a b ≡ record { answer = Fine; group = group_of l }
+    → elements_of l ≤ 4294967295 → joins (length from) a b ≡ Ok (group_of l)
 unfolding joins
 joins_so from a b {l} A B e h k =
     let f : all_fit (length from) l ≡ true =
@@ -181,7 +181,7 @@ module _ {from gens : List ℕ} {s : Subgroup} {t i o : List ℕ} (S : Beside fr
   left_stride : stride_of (put_left g s) ≡ elements_of (handles g) * stride_of s
   left_stride = ap elements_of (handles_of (handles g ++ handles s.below)) ∙ elements_append (handles g) (handles s.below)
 
-  module _ {r : Subgroup} (q : left_product (length from) (length t) g s ≡ record { answer = Fine; subgroup = r }) where
+  module _ {r : Subgroup} (q : left_product (length from) (length t) g s ≡ Ok r) where
     left_is : r ≡ put_left g s
     left_is = left_value (length from) (length t) s g q
 
@@ -234,7 +234,7 @@ module _ {from gens : List ℕ} {s : Subgroup} {t i o : List ℕ} (S : Beside fr
       ap (λ (l : List Factor). handles s.below ++ (s.factor ∷ l)) (handles_of (handles s.above ++ handles g))
       ∙ sym (append_assoc (handles s.below) (s.factor ∷ handles s.above) (handles g))
 
-  module _ {r : Subgroup} (q : right_product (length from) (length t) s g ≡ record { answer = Fine; subgroup = r }) where
+  module _ {r : Subgroup} (q : right_product (length from) (length t) s g ≡ Ok r) where
     right_is : r ≡ put_right s g
     right_is = right_value (length from) (length t) s g q
 

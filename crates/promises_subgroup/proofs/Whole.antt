@@ -1,4 +1,5 @@
 -- What `overgroup`, `generator_count` and `trivial` answer: by the laws of the verdict on the handles; `trivial` by computing.
+use Rattle.egg.specs.Answers.{answer_of, numbered}
 use Prim.Native.Nat.{ℕ, ◌+◌, ◌≤◌}
 use mathlib.Core.Path.{◌≡◌, refl, sym, ap, ◌∙◌, subst}
 use mathlib.Core.Bool.{Bool, true, false, ◌&&◌}
@@ -8,8 +9,8 @@ use borrow.Author.Tests.{le-leb, leb-true}
 use lib.Dec.{leb}
 use lib.ListN.{length}
 use Rattle.egg.specs.declared.Factor.{Factor}
-use Rattle.egg.specs.declared.Counted.TheVariants.{Count}
-use Rattle.egg.specs.declared.Verdict.TheVariants.{Fine}
+use Rattle.egg.specs.Answers.{fine}
+use Rattle.std.specs.Prelude.{Ok, Err}
 use Rattle.egg.specs.Table.{pick, put_at, start_of}
 use Rattle.egg.specs.Scan.{scan}
 use Rattle.egg.specs.Factor.{fits_in}
@@ -21,7 +22,7 @@ use Rattle.build_checks_inverses.specs.Inverses.{invert_from, fill_inverses, inv
 use Rattle.build_word_cells.specs.Hops.{hop_from, with_hops}
 use Rattle.build_reading.specs.Build.{set_step, set_word, adds}
 use Rattle.build_lending.specs.Finish.{finished}
-use Rattle.build_lending.specs.Lending.{within, refused_made}
+use Rattle.build_lending.specs.Lending.{within}
 use Rattle.build_numbering.specs.Renumber.{map_place, map_row, map_rows}
 use Rattle.build_numbering.specs.Build.{renumber_in}
 use Rattle.group_handles.specs.declared.Group.{Group}
@@ -30,7 +31,7 @@ use Rattle.group_handles.specs.Handles.{handles, elements_of, generators_of, all
 use Rattle.group_handles.proofs.Sums.{both_length}
 use Rattle.group_handles.proofs.Joins.{handles_of}
 use Rattle.subgroup_build.specs.declared.Subgroup.{Subgroup}
-use Rattle.subgroup_build.specs.declared.Subgrouped.{Subgrouped}
+use Rattle.subgroup_build.specs.Answers.{Subgrouped}
 use Rattle.subgroup_build.specs.Lent.{maps_right, subgroup_of, subgrouping}
 use Rattle.subgroup_build.specs.Generated.{entries_right, small_enough, admits_generators, generated_into, from_generators}
 use Rattle.subgroup_sides.specs.Sides.{over_side, sub_side, sides_fit, sides_limited, joinable, multiplied, put_left, put_right, left_product, right_product}
@@ -49,7 +50,7 @@ use Rattle.promises_subgroup.proofs.Called.{generators_given}
 
 -- The answers of a subgroup that is known.
 module _ (from table : ℕ) (s : Subgroup) (fits : sides_fit from table s ≡ true) (limited : sides_limited s ≡ true) where
-  admitted : admits_handles from table s ≡ Fine
+  admitted : admits_handles from table s ≡ fine
   admitted = sym (handles_fine from table s {b = true} (sym fits) refl {c = true} (sym limited) refl)
 
   pub handles_answer : HandlesAnswer from table s
@@ -68,16 +69,19 @@ over_few s h =
 
 -- What it hands back where the factors are accepted is a product of accepted factors, of which promises_group has every answer.
 pub overgroup_accepted : (from : List ℕ) (table : ℕ) (s : Subgroup) → sides_fit (length from) table s ≡ true → sides_limited s ≡ true
-    → AllAccepted from (over_side s) → AcceptedProduct from (overgroup_answer (length from) table s).group
+    → AllAccepted from (over_side s) → (g : Group) × (overgroup_answer (length from) table s ≡ Ok g) × AcceptedProduct from g
 unfolding hs.limited
-overgroup_accepted from table s fits limited As =
-    rw (handles_answer (length from) table s fits limited).overgroups (record {
-      factors = subst (AllAccepted from) (sym (handles_of (over_side s))) As;
-      within =
-          let q : elements_of (handles (group_of (over_side s))) ≤ 4294967295 =
-          subst (λ (x : List Factor). elements_of x ≤ 4294967295) (sym (handles_of (over_side s))) (over_within s limited) in
-          rw (le-leb (length (over_side s)) 8 (over_few s limited), le-leb (elements_of (handles (group_of (over_side s)))) 4294967295 q);
-    })
+overgroup_accepted from table s fits limited As = (
+  group_of (over_side s),
+  (handles_answer (length from) table s fits limited).overgroups,
+  record {
+    factors = subst (AllAccepted from) (sym (handles_of (over_side s))) As;
+    within =
+        let q : elements_of (handles (group_of (over_side s))) ≤ 4294967295 =
+        subst (λ (x : List Factor). elements_of x ≤ 4294967295) (sym (handles_of (over_side s))) (over_within s limited) in
+        rw (le-leb (length (over_side s)) 8 (over_few s limited), le-leb (elements_of (handles (group_of (over_side s)))) 4294967295 q);
+  },
+)
 
 -- Of a subgroup as it was made: the factors of the product that it was made in, and as many generators as elements were given.
 module _ {from : List ℕ} {over : Group} {gens : List ℕ} {s : Subgroup} {t i o : List ℕ} (H : SubgroupHolds from over gens s t i o)
@@ -85,7 +89,7 @@ module _ {from : List ℕ} {over : Group} {gens : List ℕ} {s : Subgroup} {t i 
   over_alone : over_side s ≡ handles over
   over_alone = ap over_side H.value ∙ append-nil (handles over)
 
-  pub overgroup_made : overgroup_answer (length from) (length t) s ≡ record { answer = Fine; group = group_of (handles over) }
+  pub overgroup_made : overgroup_answer (length from) (length t) s ≡ Ok (group_of (handles over))
   overgroup_made = (handles_answer (length from) (length t) s known.fits known.limited).overgroups ∙ rw over_alone
 
   generators_alone : generators_of (sub_side s) ≡ length gens
@@ -93,7 +97,7 @@ module _ {from : List ℕ} {over : Group} {gens : List ℕ} {s : Subgroup} {t i 
       let q : generators_of (sub_side s) ≡ s.factor.generators + 0 = ap (λ (x : Subgroup). generators_of (sub_side x)) H.value in
       omega (arith, H.count)
 
-  pub counted_made : generator_count_answer (length from) (length t) s ≡ Count (length gens)
+  pub counted_made : generator_count_answer (length from) (length t) s ≡ Ok (length gens)
   counted_made = (handles_answer (length from) (length t) s known.fits known.limited).counted ∙ rw generators_alone
 
 -- The factors of both sides with a group multiplied on.
@@ -122,11 +126,11 @@ right_sub s g =
     ∙ sym (append_assoc (handles s.below) (s.factor ∷ handles s.above) (handles g))
 
 -- Where `multiplied` is fine, the two groups could be put together.
-joined_so : (g h : Group) (t : Subgroup) {s : Subgroup} → multiplied g h t ≡ record { answer = Fine; subgroup = s } → joinable g h ≡ true
+joined_so : (g h : Group) (t : Subgroup) {s : Subgroup} → multiplied g h t ≡ Ok s → joinable g h ≡ true
 joined_so g h t q = by (joinable g h) refl where
   by : (b : Bool) → joinable g h ≡ b → joinable g h ≡ true
   by true e = e
-  by false e = absurd (refused_fine (ap (λ (x : Subgrouped). x.answer) (multiplied_no g h t e ∙ q)))
+  by false e = absurd (refused_fine (ap (λ (x : Subgrouped). answer_of x) (multiplied_no g h t e ∙ q)))
 
 first_few : (g h : Group) → joinable g h ≡ true → g.count ≤ 8
 unfolding joinable
@@ -138,7 +142,7 @@ second_few g h e = leb-true _ _ (and_first (leb h.count 8) _ (and_second (leb g.
 
 -- `product` of two, where nothing is in the way.
 joins_so : (len : ℕ) (a b : Group) {l : List Factor} → handles a ++ handles b ≡ l → all_fit len l ≡ true → a.count ≤ 8 → b.count ≤ 8 → length l ≤ 8
-    → elements_of l ≤ 4294967295 → joins len a b ≡ record { answer = Fine; group = group_of l }
+    → elements_of l ≤ 4294967295 → joins len a b ≡ Ok (group_of l)
 unfolding joins
 joins_so len a b {l} p f x y n m = rw (p, f, le-leb a.count 8 x, le-leb b.count 8 y, le-leb (length l) 8 n, le-leb (elements_of l) 4294967295 m)
 
@@ -154,50 +158,56 @@ module _ {from table : ℕ} {s : Subgroup} {inn outw : List ℕ} (K : Askable fr
       joins_so from a b p (over_fits from table t L.fits) x y (over_few t L.limited) (over_within t L.limited)
       ∙ sym (handles_answer from table t L.fits L.limited).overgroups
 
-  hands_back : (overgroup_answer from table s).group ≡ group_of (over_side s)
-  hands_back = ap (λ x. x.group) (handles_answer from table s K.fits K.limited).overgroups
+  hands_back : overgroup_answer from table s ≡ Ok (group_of (over_side s))
+  hands_back = (handles_answer from table s K.fits K.limited).overgroups
 
-  module _ {t : Subgroup} (q : left_product from table g s ≡ record { answer = Fine; subgroup = t }) where
+  module _ {t : Subgroup} (q : left_product from table g s ≡ Ok t) where
     left_parts : (t ≡ put_left g s) × (g.count ≤ 8)
     unfolding left_product
     left_parts =
         let F = fitting_fine (sides_fit from table s && all_fit from (handles g)) (multiplied g s.below (put_left g s)) q in
         ((multiplied_fine g s.below (put_left g s) F.1).0, first_few g s.below (joined_so g s.below (put_left g s) F.1))
 
-    pub overgroup_left : overgroup_answer from table t ≡ joins from g (overgroup_answer from table s).group
-    overgroup_left =
-        sym (rw hands_back (joined_as g (group_of (over_side s)) t (left_known K g q) (left_over g s ∙ ap over_side (sym left_parts.0)) left_parts.1
-        (over_few s K.limited)))
+    pub overgroup_left : (h : Group) × (overgroup_answer from table s ≡ Ok h) × (overgroup_answer from table t ≡ joins from g h)
+    overgroup_left = (
+      group_of (over_side s),
+      hands_back,
+      sym (joined_as g (group_of (over_side s)) t (left_known K g q) (left_over g s ∙ ap over_side (sym left_parts.0)) left_parts.1
+          (over_few s K.limited)),
+    )
 
-    pub counted_left : generator_count_answer from table t ≡ Count (generators_of (handles g ++ sub_side s))
+    pub counted_left : generator_count_answer from table t ≡ Ok (generators_of (handles g ++ sub_side s))
     counted_left =
         (handles_answer from table t (left_known K g q).fits (left_known K g q).limited).counted
-        ∙ ap (λ (l : List Factor). Count (generators_of l)) (ap sub_side left_parts.0 ∙ left_sub g s)
+        ∙ ap (λ (l : List Factor). Ok (generators_of l)) (ap sub_side left_parts.0 ∙ left_sub g s)
 
-  module _ {t : Subgroup} (q : right_product from table s g ≡ record { answer = Fine; subgroup = t }) where
+  module _ {t : Subgroup} (q : right_product from table s g ≡ Ok t) where
     right_parts : (t ≡ put_right s g) × (g.count ≤ 8)
     unfolding right_product
     right_parts =
         let F = fitting_fine (sides_fit from table s && all_fit from (handles g)) (multiplied s.above g (put_right s g)) q in
         ((multiplied_fine s.above g (put_right s g) F.1).0, second_few s.above g (joined_so s.above g (put_right s g) F.1))
 
-    pub overgroup_right : overgroup_answer from table t ≡ joins from (overgroup_answer from table s).group g
-    overgroup_right =
-        sym (rw hands_back (joined_as (group_of (over_side s)) g t (right_known K g q) (right_over s g ∙ ap over_side (sym right_parts.0))
-        (over_few s K.limited) right_parts.1))
+    pub overgroup_right : (h : Group) × (overgroup_answer from table s ≡ Ok h) × (overgroup_answer from table t ≡ joins from h g)
+    overgroup_right = (
+      group_of (over_side s),
+      hands_back,
+      sym (joined_as (group_of (over_side s)) g t (right_known K g q) (right_over s g ∙ ap over_side (sym right_parts.0))
+          (over_few s K.limited) right_parts.1),
+    )
 
-    pub counted_right : generator_count_answer from table t ≡ Count (generators_of (sub_side s ++ handles g))
+    pub counted_right : generator_count_answer from table t ≡ Ok (generators_of (sub_side s ++ handles g))
     counted_right =
         (handles_answer from table t (right_known K g q).fits (right_known K g q).limited).counted
-        ∙ ap (λ (l : List Factor). Count (generators_of l)) (ap sub_side right_parts.0 ∙ right_sub s g)
+        ∙ ap (λ (l : List Factor). Ok (generators_of l)) (ap sub_side right_parts.0 ∙ right_sub s g)
 
 -- The trivial subgroup.
 module _ (table : List ℕ) (start : ℕ) (work inn outw : List ℕ) where
   trivial_by : trivial_subgroup table start work inn outw
       ≡ pick (maps_right (length table) start (length work) (length inn) (length outw) 1 0 1)
-      (subgrouping (subgroup_of (group_of []) (record { answer = Fine; factor = record { start = start; room = 1; generators = 0; elements = 1 } }))
+      (subgrouping (subgroup_of (group_of []) (Ok (record { start = start; room = 1; generators = 0; elements = 1 })))
       (within table start (start + 4) (0 ∷ 0 ∷ 0 ∷ 0 ∷ [])) (within work 0 0 []) (within inn 0 1 (0 ∷ [])) (within outw 0 1 (0 ∷ [])))
-      (subgrouping (subgroup_of (group_of []) (refused_made 4 0)) table work inn outw)
+      (subgrouping (Err (numbered 4 0 0 0)) table work inn outw)
   unfolding put_at start_of scan missing_row missing check8 range_row links_of ranges wrong_row wrong check_table wiped arrive_row arrivals counts_right invert_from fill_inverses inverses_right identity_row columns_row spelled_row spelled check_steps fill_left goes_row all_go lefts check_rest check_group set_step set_word adds hop_from with_hops finished hs.limited map_place map_row map_rows renumber_in entries_right small_enough admits_generators generated_into from_generators trivial_subgroup
   trivial_by = refl
 
@@ -210,7 +220,7 @@ module _ (table : List ℕ) (start : ℕ) (work inn outw : List ℕ) where
       by true q = absurd (h (true_enough (group_of []) 0 table start work inn outw 1 q))
 
   -- All that holds of an accepted call by generators holds of it.
-  pub trivial_given : {s : Subgroup} {t w i o : List ℕ} → trivial_subgroup table start work inn outw ≡ subgrouping (record { answer = Fine; subgroup = s }) t w i o
+  pub trivial_given : {s : Subgroup} {t w i o : List ℕ} → trivial_subgroup table start work inn outw ≡ subgrouping (Ok s) t w i o
       → Generates [] (group_of []) [] table start work inn outw 1 s t w i o
   unfolding trivial_subgroup
   trivial_given q = generators_given [] (group_of []) [] table start work inn outw 1 none q

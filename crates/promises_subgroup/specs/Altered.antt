@@ -2,11 +2,10 @@
 -- were accepted. Document 01: "then 17 in what they read (13 or 17 as met)", and "Demand 1 and 17 need no premise".
 use Rattle.std.specs.Prelude.{ℕ, ◌+◌, ◌*◌, ◌≤◌, ◌<◌, ◌≡◌, true, List, [], ◌∷◌, length, get_or, take, replicate}
 use Rattle.egg.specs.declared.Refusal.{Refusal}
-use Rattle.egg.specs.declared.Verdict.TheVariants as verdict
-use Rattle.egg.specs.declared.Counted.TheVariants as counted
+use Rattle.std.specs.Prelude.{Ok, Err}
 use Rattle.build_reading.specs.Reading.{read_all}
 use Rattle.build_lending.specs.Finish.{Built, built, finished_placed}
-use Rattle.build_lending.specs.Lending.{table_need, work_need, within, no_factor}
+use Rattle.build_lending.specs.Lending.{table_need, work_need, within}
 use Rattle.build_checks_laws.specs.Numbers.{RefusalIn}
 use Rattle.factor_laws.specs.Accepted.{Accepted, factor_step}
 use Rattle.build_laws.specs.Taken.{Taken}
@@ -17,7 +16,7 @@ use Rattle.theory.specs.Orbit.{Orbit, numbered_step, Appearing}
 use Rattle.build_numbering_laws.specs.Source.{out_of, AnsweredTo, AllAnswered, RefusedAt}
 use Rattle.build_numbering_laws.specs.Maps.{MapsFilled}
 use Rattle.subgroup_build.specs.declared.Subgroup.{Subgroup}
-use Rattle.subgroup_build.specs.Lent.{subgroup_of, Subgrouping, subgrouping, maps_back}
+use Rattle.subgroup_build.specs.Lent.{Subgrouping, subgrouping, maps_back}
 use Rattle.subgroup_rows.specs.Rows.{product_by}
 use Rattle.subgroup_build.specs.Generated.{small_enough}
 use Rattle.promises_subgroup.specs.Carried.{MapsUndo}
@@ -32,8 +31,8 @@ steps_read from over gens = out_of 0 (product_by from (handles over) gens)
 -- has for each element of the overgroup its number, or 4,294,967,295 where it did not appear, the other has elt e at e, and zero beyond (`MapsFilled`).
 -- After a refusal both are zero.
 pub data MapsAfter (M room count : ℕ) (elt : ℕ → ℕ) (inn outw : List ℕ) : Built → Type 0 where
-  filled : {t w : List ℕ} → MapsFilled M room room elt count inn outw → MapsAfter M room count elt inn outw (built (counted.Count count) t w)
-  zeros : {r : Refusal} {t w : List ℕ} → inn ≡ replicate M 0 → outw ≡ replicate room 0 → MapsAfter M room count elt inn outw (built (counted.Refused r) t w)
+  filled : {t w : List ℕ} → MapsFilled M room room elt count inn outw → MapsAfter M room count elt inn outw (built (Ok count) t w)
+  zeros : {r : Refusal} {t w : List ℕ} → inn ≡ replicate M 0 → outw ≡ replicate room 0 → MapsAfter M room count elt inn outw (built (Err r) t w)
 
 -- The build is that of composed rows: of these steps, numbered in order of first appearance; and each product that it asked for was answered (`AllAnswered`).
 pub record BySteps (from : List ℕ) (over : Group) (gens table : List ℕ) (start : ℕ) (work inn outw : List ℕ) (room : ℕ) (m : Subgrouping) : Type 0 where
@@ -60,7 +59,7 @@ pub record Stopped (from : List ℕ) (over : Group) (gens table : List ℕ) (sta
   pub number : RefusalIn (17 ∷ []) refusal
   pub asked : RefusedAt (product_by from (handles over) gens) 0 (length gens) room count elt refusal
   pub reached : Orbit (length gens) (steps_read from over gens) 0 (elt asked.row)
-  pub is : m ≡ subgrouping (subgroup_of over (record { answer = verdict.Refused refusal; factor = no_factor }))
+  pub is : m ≡ subgrouping (Err refusal)
       (within table start (start + table_need (length gens) room) (replicate (table_need (length gens) room) 0))
       (within work 0 (work_need (length gens) room) (replicate (work_need (length gens) room) 0))
       (within inn 0 (elements_of (handles over)) (replicate (elements_of (handles over)) 0)) (within outw 0 room (replicate room 0))

@@ -3,7 +3,7 @@
 use Rattle.std.specs.Prelude.{ℕ, ◌+◌, ◌≤◌, ◌<◌, ◌≡◌, true, false, List, length, get_or}
 use Rattle.egg.specs.declared.Refusal.{Refusal}
 use Rattle.egg.specs.Factor.{Paper, refusal_paper, verdict_paper}
-use Rattle.egg.specs.Answers.{numbered}
+use Rattle.egg.specs.Answers.{numbered, answer_of}
 use Rattle.build_lending.specs.Lending.{table_need, work_need}
 use Rattle.build_reading_laws.specs.Read.{Readable, ReadingRefused}
 use Rattle.factor_laws.specs.Papers.{value_paper}
@@ -19,7 +19,7 @@ use Rattle.promises_subgroup.specs.Generates.{Acceptable}
 
 -- What a call that makes a subgroup answers, on paper.
 abbrev pub subgroup_paper : Subgrouping → Paper
-subgroup_paper (subgrouping m t w i o) = verdict_paper m.answer
+subgroup_paper (subgrouping m t w i o) = verdict_paper (answer_of m)
 
 -- Refusals 17 and 14 are not due: the handles fit, and every entry is an element of the overgroup.
 pub record Elements (from : List ℕ) (over : Group) (gens : List ℕ) : Type 0 where

@@ -1,7 +1,7 @@
 -- A subgroup with further groups beside it: what `product_left` and `product_right` hand back, and what the calls on it answer then. Document 01, module 6: "two
 -- maps; .. the left and right products of the index formulas".
+use Rattle.std.specs.Prelude.{Ok}
 use Rattle.std.specs.Prelude.{ℕ, ◌+◌, ◌*◌, ◌≤◌, ◌<◌, ◌≡◌, List, [], ◌∷◌, ◌++◌, length, get_or}
-use Rattle.egg.specs.declared.Verdict.TheVariants.{Fine}
 use Rattle.egg.specs.Factor.{refused_reach}
 use Rattle.theory.specs.Table.{generator}
 use Rattle.factor_laws.specs.Accepted.{reach}
@@ -49,7 +49,7 @@ pub record Beside (from gens : List ℕ) (s : Subgroup) (t i o : List ℕ) : Typ
 -- g and then those of s. The element with b in g and e in the subgroup is carried to the one with b in g and, in the overgroup, what e is carried to.
 pub record MultipliedLeft (from t : List ℕ) (g : Group) (s r : Subgroup) (o : List ℕ) : Type 0 where
   pub value : r ≡ put_left g s
-  pub overgroup : joins (length from) g (over_group s) ≡ record { answer = Fine; group = over_group r }
+  pub overgroup : joins (length from) g (over_group s) ≡ Ok (over_group r)
   pub side : sub_side r ≡ handles g ++ sub_side s
   pub outward : {b e x : ℕ} → b < elements_of (handles g) → e < elements_of (sub_side s)
       → to_over_answer (length from) (length t) s o (record { 0 = e }) ≡ reach x
@@ -58,7 +58,7 @@ pub record MultipliedLeft (from t : List ℕ) (g : Group) (s r : Subgroup) (o : 
 -- The same of `product_right`: g comes above.
 pub record MultipliedRight (from t : List ℕ) (s : Subgroup) (g : Group) (r : Subgroup) (o : List ℕ) : Type 0 where
   pub value : r ≡ put_right s g
-  pub overgroup : joins (length from) (over_group s) g ≡ record { answer = Fine; group = over_group r }
+  pub overgroup : joins (length from) (over_group s) g ≡ Ok (over_group r)
   pub side : sub_side r ≡ sub_side s ++ handles g
   pub outward : {e d x : ℕ} → e < elements_of (sub_side s) → d < elements_of (handles g)
       → to_over_answer (length from) (length t) s o (record { 0 = e }) ≡ reach x

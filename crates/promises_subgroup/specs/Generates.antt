@@ -1,6 +1,7 @@
 -- This file states what `from_generators` gives where it is accepted, and when it is.
+use Rattle.std.specs.Prelude.{Ok}
 use Rattle.std.specs.Prelude.{ℕ, ◌+◌, ◌*◌, ◌≤◌, ◌<◌, ◌≡◌, true, List, [], length, get_or, take, replicate}
-use Rattle.egg.specs.declared.Verdict.TheVariants.{Fine}
+use Rattle.egg.specs.Answers.{fine}
 use Rattle.egg.specs.Factor.{stretch}
 use Rattle.build_lending.specs.Lending.{table_need, work_need, within}
 use Rattle.theory.specs.Appearance.{recorded}
@@ -20,7 +21,7 @@ use Rattle.promises_subgroup.specs.Carried.{MapsUndo, Homomorphic}
 -- The arguments are right, and the buffers long enough, so that the build starts: 17 in the handles, 14, 15, 1 and 4 have passed.
 pub record Started (from : List ℕ) (over : Group) (gens table : List ℕ) (start : ℕ) (work inn outw : List ℕ) (room : ℕ) : Type 0 where
   pub fits : all_fit (length from) (handles over) ≡ true
-  pub entries : entries_right (elements_of (handles over)) gens ≡ Fine
+  pub entries : entries_right (elements_of (handles over)) gens ≡ fine
   pub small : small_enough over ≡ true
   pub few : length gens ≤ 8
   pub lent : maps_right (length table) start (length work) (length inn) (length outw) room (length gens) (elements_of (handles over)) ≡ true
@@ -70,7 +71,7 @@ pub record RoomierGenerates (over : Group) (n start room : ℕ) (s : Subgroup) (
   pub work' : List ℕ
   pub inn' : List ℕ
   pub outw' : List ℕ
-  pub accepted : m ≡ subgrouping (record { answer = Fine; subgroup = subgroup' }) table' work' inn' outw'
+  pub accepted : m ≡ subgrouping (Ok subgroup') table' work' inn' outw'
   pub generators : subgroup'.factor.generators ≡ s.factor.generators
   pub elements : subgroup'.factor.elements ≡ s.factor.elements
   pub same : {k : ℕ} → k < table_need n room → get_or table' (start' + k) 0 ≡ get_or t (start + k) 0

@@ -10,9 +10,8 @@ use borrow.Author.Tests.{ltb-true, ltb-false}
 use lib.Dec.{ltb}
 use lib.ListN.{length, get_or, take}
 use Rattle.egg.specs.declared.Refusal.{Refusal}
-use Rattle.egg.specs.declared.Reached.{Reached}
-use Rattle.egg.specs.declared.Verdict.TheVariants as verdict
-use Rattle.egg.specs.declared.Counted.TheVariants.{Count, Refused}
+use Rattle.egg.specs.Answers.{Reached}
+use Rattle.std.specs.Prelude.{Ok, Err}
 use Rattle.theory.proofs.Counting.{row_known}
 use Rattle.theory.proofs.RuleLaws.{count_within}
 use Rattle.egg.specs.Answers.{numbered}
@@ -50,18 +49,18 @@ data Last (L M : ℕ) (byte : ℕ → ℕ) (again : List ℕ → List ℕ → Re
       → Last L M byte again (picked gens (choices.ninth t w i o))
 
 module _ (L M : ℕ) (again : List ℕ → List ℕ → Renumbering)
-    (keeps : (gens w₀ : List ℕ) (c : ℕ) (t w i o : List ℕ) → again gens w₀ ≡ renumbering (built (Count c) t w) i o → length w ≡ length w₀) (byte : ℕ → ℕ) where
+    (keeps : (gens w₀ : List ℕ) (c : ℕ) (t w i o : List ℕ) → again gens w₀ ≡ renumbering (built (Ok c) t w) i o → length w ≡ length w₀) (byte : ℕ → ℕ) where
   chooses_last : (k x : ℕ) (gens : List ℕ) (r : Renumbering) (w₀ : List ℕ) → k + x ≡ M → Gathered byte x gens → length w₀ ≡ L → again gens w₀ ≡ r
       → Last L M byte again (chooses k again byte x gens r)
   unfolding chooses
   chooses_last zero x gens r w₀ e G l q = by_few w₀ (gathered_later G (omega arith)) l q
-  chooses_last (suc k) x gens (renumbering (built (Refused f) t w) i o) w₀ e G l q = by_few w₀ (gathered_later G (omega arith)) l q
-  chooses_last (suc k) x gens (renumbering (built (Count c) t w) i o) w₀ e G l q =
+  chooses_last (suc k) x gens (renumbering (built (Err f) t w) i o) w₀ e G l q = by_few w₀ (gathered_later G (omega arith)) l q
+  chooses_last (suc k) x gens (renumbering (built (Ok c) t w) i o) w₀ e G l q =
       pick_ends (Last L M byte again) (is_new_member i byte x) (ltb (length gens) 8)
       (λ n d. chooses_last k (x + 1) (gens ++ (x ∷ [])) (again (gens ++ (x ∷ [])) w) w (omega arith)
       (gathered_more G (ltb-true (length gens) 8 d) (new_byte i byte x n)) (keeps gens w₀ c t w i o q ∙ l) refl)
       (λ n d. by_ninth gens x t w i o G (omega (arith, ltb-false (length gens) 8 d, G.few)) (omega arith) (new_byte i byte x n))
-      (λ n. chooses_last k (x + 1) gens (renumbering (built (Count c) t w) i o) w₀ (omega arith) (gathered_later G (omega arith)) l q)
+      (λ n. chooses_last k (x + 1) gens (renumbering (built (Ok c) t w) i o) w₀ (omega arith) (gathered_later G (omega arith)) l q)
 
 predicate_last : (size : ℕ) (w : List ℕ) (source : ℕ → ℕ → Reached) (room M K : ℕ) (byte : ℕ → ℕ)
     → Last (length w) M byte (again_in size source room M K) (predicate_in size w source room M K byte)
@@ -71,17 +70,17 @@ predicate_last size w source room M K byte =
     (again_in size source room M K [] w) w (omega arith) nothing_gathered refl refl
 
 last_counted : {L M : ℕ} {byte : ℕ → ℕ} {again : List ℕ → List ℕ → Renumbering} {p : Picked} {gens : List ℕ} {c : ℕ} {t w i o : List ℕ} → Last L M byte again p
-    → p ≡ picked gens (renumbering (built (Count c) t w) i o)
-    → Gathered byte M gens × ((w₀ : List ℕ) × (length w₀ ≡ L) × (again gens w₀ ≡ renumbering (built (Count c) t w) i o))
+    → p ≡ picked gens (renumbering (built (Ok c) t w) i o)
+    → Gathered byte M gens × ((w₀ : List ℕ) × (length w₀ ≡ L) × (again gens w₀ ≡ renumbering (built (Ok c) t w) i o))
 last_counted {M = M} {byte = byte} {again = again} (by_few w₀ G l z) q =
     let e = same_gens q in
     (subst (Gathered byte M) e G, (w₀, l, ap (λ (g : List ℕ). again g w₀) (sym e) ∙ z ∙ same_build q))
 last_counted (by_ninth gens x t w i o G e l m) q = absurd (not_refused (same_build q))
 
 last_refused : {L M : ℕ} {byte : ℕ → ℕ} {again : List ℕ → List ℕ → Renumbering} {p : Picked} {gens : List ℕ} {r : Refusal} {t w i o : List ℕ}
-    → Last L M byte again p → p ≡ picked gens (renumbering (built (Refused r) t w) i o)
+    → Last L M byte again p → p ≡ picked gens (renumbering (built (Err r) t w) i o)
     → ((x : ℕ) × Gathered byte x gens × (length gens ≡ 8) × (x < M) × (¬ (byte x ≡ 0)) × (r ≡ numbered 15 0 0 0))
-    ⊎ (Gathered byte M gens × ((w₀ : List ℕ) × (length w₀ ≡ L) × (again gens w₀ ≡ renumbering (built (Refused r) t w) i o)))
+    ⊎ (Gathered byte M gens × ((w₀ : List ℕ) × (length w₀ ≡ L) × (again gens w₀ ≡ renumbering (built (Err r) t w) i o)))
 last_refused {M = M} {byte = byte} {again = again} (by_few w₀ G l z) q =
     let e = same_gens q in
     inr (subst (Gathered byte M) e G, (w₀, l, ap (λ (g : List ℕ). again g w₀) (sym e) ∙ z ∙ same_build q))
@@ -91,7 +90,7 @@ last_refused {byte = byte} (by_ninth gens x t w i o G k l m) q =
 
 -- What is accepted is an accepted factor, whatever the arguments and the buffers were, by at most eight members in their order.
 module _ (from : List ℕ) (over : Group) (members table : List ℕ) (start : ℕ) (work inn outw : List ℕ) (room : ℕ) {s : Subgroup} {t w i o : List ℕ}
-    (q : from_predicate from over members table start work inn outw room ≡ subgrouping (record { answer = verdict.Fine; subgroup = s }) t w i o) where
+    (q : from_predicate from over members table start work inn outw room ≡ subgrouping (Ok s) t w i o) where
   pub told_regardless : (gens : List ℕ) × Gathered (λ x. get_or members x 0) (elements_of (handles over)) gens
       × Regardless from over gens 8 table start work inn outw room s t w i o
   told_regardless =
@@ -143,12 +142,12 @@ module _ (from : List ℕ) (over : Group) (members table : List ℕ) (start : �
 
     refused_by : {r : Refusal} {t w i o : List ℕ} → length w₀ ≡ length (take (work_need 8 room) work)
         → renumber_in (table_need 8 room) w₀ (product_by from (handles over) gens) (length gens) room (elements_of (handles over)) room 0
-        ≡ renumbering (built (Refused r) t w) i o → ToldStops from over members room r
+        ≡ renumbering (built (Err r) t w) i o → ToldStops from over members room r
     refused_by {r} {t} {w} {i} {o} l z = go (partial_build source 0 A I small room room lo hi (le_refl room) (table_need 8 room) few rows w₀) where
       go : ((renumber_in size w₀ source (length gens) room M room 0 ≡ renumber_in size w₀ (total source 0) (length gens) room M room 0)
           × AllAnswered source 0 (length gens) room (appearing I).0 (appearing I).1)
           ⊎ ((r : Refusal) × RefusedAt source 0 (length gens) room (appearing I).0 (appearing I).1 r × (t : List ℕ) × (i : List ℕ) × (o : List ℕ)
-          × (renumber_in size w₀ source (length gens) room M room 0 ≡ renumbering (built (Refused r) (zeroed t) (zeroed w₀)) (zeroed i) (zeroed o)))
+          × (renumber_in size w₀ source (length gens) room M room 0 ≡ renumbering (built (Err r) (zeroed t) (zeroed w₀)) (zeroed i) (zeroed o)))
           → ToldStops from over members room r
       go (inl (e, a)) =
           by_steps gens (appearing I).0 (appearing I).1 w₀ t w G A a
@@ -164,8 +163,8 @@ module _ (from : List ℕ) (over : Group) (members table : List ℕ) (start : �
           (A.reached (omega (arith, row_known c.before.known, count_within A.by_rule c.before.known)))
 
   -- Refused once it has started.
-  pub told_stops : {r : Refusal} {s : Subgroup} {t w i o : List ℕ}
-      → from_predicate from over members table start work inn outw room ≡ subgrouping (record { answer = verdict.Refused r; subgroup = s }) t w i o
+  pub told_stops : {r : Refusal} {t w i o : List ℕ}
+      → from_predicate from over members table start work inn outw room ≡ subgrouping (Err r) t w i o
       → ToldStops from over members room r
   told_stops {r} q =
       let T = told.back_refused from over members table start work inn outw room _ (sym (told.is_told from over members table start work inn outw room S) ∙ q) in
@@ -177,7 +176,7 @@ module _ (from : List ℕ) (over : Group) (members table : List ℕ) (start : �
           × (r ≡ numbered 15 0 0 0))
           ⊎ (Gathered (λ x. get_or members x 0) (elements_of (handles over)) gens
           × ((w₀ : List ℕ) × (length w₀ ≡ length (take (work_need 8 room) work))
-          × (again_in (table_need 8 room) (composes from (handles over)) room (elements_of (handles over)) room gens w₀ ≡ renumbering (built (Refused r) t w) i o)))
+          × (again_in (table_need 8 room) (composes from (handles over)) room (elements_of (handles over)) room gens w₀ ≡ renumbering (built (Err r) t w) i o)))
           → ToldStops from over members room r
       by gens (inl (x, G, e, l, m, q)) = ninth gens x G e l m q
       by gens (inr (G, (w₀, l, z))) = refused_by gens w₀ G l z

@@ -1,8 +1,8 @@
 -- What an accepted `from_predicate` gives has nothing beside it yet: so all that is proved of a subgroup with groups beside it holds of it and its products.
+use Rattle.std.specs.Prelude.{Ok}
 use Prim.Native.Nat.{ℕ}
 use mathlib.Core.Path.{◌≡◌}
 use mathlib.Core.List.{List}
-use Rattle.egg.specs.declared.Verdict.TheVariants.{Fine}
 use Rattle.group_handles.specs.declared.Group.{Group}
 use Rattle.group_handles.specs.Handles.{handles}
 use Rattle.promises_group.specs.Products.{AllAccepted}
@@ -16,7 +16,7 @@ use Rattle.promises_subgroup_predicate.proofs.ToldCalls.{predicate_given}
 use Rattle.promises_subgroup_predicate.proofs.AlteredTold.{told_regardless}
 
 module _ (from : List ℕ) (over : Group) (members table : List ℕ) (start : ℕ) (work inn outw : List ℕ) (room : ℕ) {s : Subgroup} {t w i o : List ℕ}
-    (q : from_predicate from over members table start work inn outw room ≡ subgrouping (record { answer = Fine; subgroup = s }) t w i o) where
+    (q : from_predicate from over members table start work inn outw room ≡ subgrouping (Ok s) t w i o) where
   pub predicate_beside : AllAccepted from (handles over) → (gens : List ℕ) × Beside from gens s t i o
   predicate_beside As =
       let T = predicate_given from over members table start work inn outw room As q in

@@ -13,7 +13,7 @@ use lib.Dec.{eqb, ltb}
 use borrow.Author.Tests.{eqb-true, eqb-false, not-true, eq-eqb, ne_eqb, ltb-true, ltb-false}
 use Rattle.egg.specs.Table.{pick}
 use Rattle.egg.proofs.Rooms.{and_first, and_second, false_true}
-use Rattle.egg.specs.declared.Counted.TheVariants.{Count, Refused}
+use Rattle.std.specs.Prelude.{Ok, Err}
 use Rattle.build_lending.specs.Finish.{built}
 use Rattle.build_numbering.specs.Renumber as appear
 use Rattle.build_numbering.specs.Build.{Renumbering, renumbering}
@@ -163,17 +163,17 @@ module _ {op : ℕ → ℕ → ℕ} {byte : ℕ → ℕ} {M L : ℕ} {again : Li
           absurd (false_true (sym h ∙ t))
 
   pub knowing : {x : ℕ} {gens : List ℕ} → Chosen op byte x gens → x ≤ M → {w₀ : List ℕ} → length w₀ ≡ L → {c : ℕ} {t w inn outw : List ℕ}
-      → again gens w₀ ≡ renumbering (built (Count c) t w) inn outw → Knows op M L gens inn w
+      → again gens w₀ ≡ renumbering (built (Ok c) t w) inn outw → Knows op M L gens inn w
   knowing C l h q = F.knows C.few (λ g k. omega (arith, C.before k)) h q
 
   pub choose_ends : (k x : ℕ) (gens : List ℕ) (r : Renumbering) (w₀ : List ℕ) → k + x ≡ M → Chosen op byte x gens → length w₀ ≡ L → again gens w₀ ≡ r
       → Ends op byte M L again (chooses k again byte x gens r)
   unfolding chooses
-  choose_ends zero x gens (renumbering (built (Count c) t w) inn outw) w₀ z C l q =
+  choose_ends zero x gens (renumbering (built (Ok c) t w) inn outw) w₀ z C l q =
       let e : x ≡ M = omega arith in accepted w₀ l (subst (λ y. Chosen op byte y gens) e C) q
-  choose_ends zero x gens (renumbering (built (Refused f) t w) inn outw) w₀ z C l q = refused x w₀ (omega arith) l C q
-  choose_ends (suc k) x gens (renumbering (built (Refused f) t w) inn outw) w₀ z C l q = refused x w₀ (omega arith) l C q
-  choose_ends (suc k) x gens (renumbering (built (Count c) t w) inn outw) w₀ z C l q =
+  choose_ends zero x gens (renumbering (built (Err f) t w) inn outw) w₀ z C l q = refused x w₀ (omega arith) l C q
+  choose_ends (suc k) x gens (renumbering (built (Err f) t w) inn outw) w₀ z C l q = refused x w₀ (omega arith) l C q
+  choose_ends (suc k) x gens (renumbering (built (Ok c) t w) inn outw) w₀ z C l q =
       let h : x < M = omega arith in
       let K = knowing C (omega arith) l q in
       pick_ends (Ends op byte M L again) (is_new_member inn byte x) (ltb (length gens) 8)
@@ -182,7 +182,7 @@ module _ {op : ℕ → ℕ → ℕ} {byte : ℕ → ℕ} {M L : ℕ} {again : Li
       (λ n d.
       let e : length gens ≡ 8 = omega (arith, ltb-false (length gens) 8 d, C.few) in
       too_many x w₀ h l C e (new_member C h K n) (subst (λ i. ¬ Reach op gens i x) e (new_outside C h K n)) q)
-      (λ n. choose_ends k (x + 1) gens (renumbering (built (Count c) t w) inn outw) w₀ (omega arith) (chosen_same C (not_new C h K n)) l q)
+      (λ n. choose_ends k (x + 1) gens (renumbering (built (Ok c) t w) inn outw) w₀ (omega arith) (chosen_same C (not_new C h K n)) l q)
 
   pub nothing_chosen : Chosen op byte 0 []
   nothing_chosen = record {

@@ -11,7 +11,7 @@ use lib.ListN.{length, get_or, take}
 use lib.Seq.{take_all, take-append-le, get_or-take, length-take-le, ext_get_or}
 use lib.Dec.{ltb}
 use borrow.Author.Tests.{ltb-true}
-use Rattle.egg.specs.declared.Counted.TheVariants.{Count, Refused}
+use Rattle.std.specs.Prelude.{Ok, Err}
 use Rattle.build_lending.specs.Finish.{built}
 use Rattle.build_numbering.specs.Build.{Renumbering, renumbering}
 use Rattle.build_numbering_laws.proofs.Builds.{not_refused}
@@ -96,8 +96,8 @@ module _ {op : ℕ → ℕ → ℕ} {byte : ℕ → ℕ} {M L : ℕ} {again : Li
       → ((j : ℕ) → j < length gens → P (take j gens)) → EachOf (chooses k again byte x gens r)
   unfolding chooses
   each_ends zero x gens r w₀ z C l q B = B
-  each_ends (suc k) x gens (renumbering (built (Refused f) t w) inn outw) w₀ z C l q B = B
-  each_ends (suc k) x gens (renumbering (built (Count c) t w) inn outw) w₀ z C l q B =
+  each_ends (suc k) x gens (renumbering (built (Err f) t w) inn outw) w₀ z C l q B = B
+  each_ends (suc k) x gens (renumbering (built (Ok c) t w) inn outw) w₀ z C l q B =
       let h : x < M = omega arith in
       let K = knowing F C (omega arith) l q in
       let p : P gens = asks x gens w₀ (omega arith) C l (record { count = c; table = t; work = w; inn = inn; outw = outw; is = q }) in
@@ -108,7 +108,7 @@ module _ {op : ℕ → ℕ → ℕ} {byte : ℕ → ℕ} {M L : ℕ} {again : Li
       let i' : j ≤ length gens = omega (arith, more_length gens x) in
       subst P (sym (take-append-le j gens (x ∷ []) i')) (each_of gens p B j i')))
       (λ n d. B)
-      (λ n. each_ends k (x + 1) gens (renumbering (built (Count c) t w) inn outw) w₀ (omega arith) (chosen_same C (not_new F C h K n)) l q B)
+      (λ n. each_ends k (x + 1) gens (renumbering (built (Ok c) t w) inn outw) w₀ (omega arith) (chosen_same C (not_new F C h K n)) l q B)
 
   -- However it ends, every list before the last one was accepted.
   pub each_before : (w gs : List ℕ) {r : Renumbering} → length w ≡ L → chooses M again byte 0 [] (again [] w) ≡ picked gs r → (j : ℕ) → j < length gs → P (take j gs)
@@ -133,8 +133,8 @@ module _ {op : ℕ → ℕ → ℕ} {byte : ℕ → ℕ} {M L : ℕ} {again : Li
         let R = first_chosen D C (le_refl M) in
         let e : gens ≡ gs = S.1 ∙ take_all (length gens) gs R.0 in
         record {
-          build = renumbering (built (Count c) t w₁) inn outw;
-          is = ap (λ (g : List ℕ). picked g (renumbering (built (Count c) t w₁) inn outw)) e;
+          build = renumbering (built (Ok c) t w₁) inn outw;
+          is = ap (λ (g : List ℕ). picked g (renumbering (built (Ok c) t w₁) inn outw)) e;
           counts = record { count = c; table = t; work = w₁; inn = inn; outw = outw; is = refl };
         }
     go (refused {gens} x w₀ h m C q) =

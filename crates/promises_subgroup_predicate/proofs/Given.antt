@@ -5,9 +5,8 @@ use mathlib.Core.Logic.{◌↔◌}
 use mathlib.Core.List.{List}
 use native.Mathlib.Omega.{arith}
 use lib.ListN.{length, get_or, replicate, take}
-use Rattle.egg.specs.declared.Reached.{Reached}
-use Rattle.egg.specs.declared.Reached.TheVariants as reached
-use Rattle.egg.specs.declared.Counted.TheVariants.{Count}
+use Rattle.egg.specs.Answers.{Reached}
+use Rattle.std.specs.Prelude.{Ok}
 use Rattle.build_word_cells.specs.Hops.{Hops}
 use Rattle.build_lending.specs.Finish.{built}
 use Rattle.build_lending.specs.Lending.{table_need}
@@ -28,10 +27,10 @@ use Rattle.promises_subgroup_predicate.proofs.Telling.{eight_rows, eight_work, a
 use Rattle.promises_subgroup.proofs.Held.{held_carried, held_homomorphic}
 
 module _ {M : ℕ} {op : ℕ → ℕ → ℕ} {inv : ℕ → ℕ} (G : GroupOn M op inv) (small : M ≤ 4294967295) (source : ℕ → ℕ → Reached)
-    (answers : (y x : ℕ) → y < M → x < M → source y x ≡ reached.Element (record { 0 = op y x }))
+    (answers : (y x : ℕ) → y < M → x < M → source y x ≡ Ok (record { 0 = op y x }))
     (room K : ℕ) (lo : 1 ≤ room) (hi : room ≤ 65535) (lent : room ≤ K) (size : ℕ) (fits : room * (2 * 8 + 4) ≤ size)
     (byte : ℕ → ℕ) (w : List ℕ) (work : room * (6 * 8 * 8 + 4 * 8) ≤ length w) (gens : List ℕ) where
-  module _ {c : ℕ} {t w₁ inn outw : List ℕ} (q : predicate_in size w source room M K byte ≡ picked gens (renumbering (built (Count c) t w₁) inn outw)) where
+  module _ {c : ℕ} {t w₁ inn outw : List ℕ} (q : predicate_in size w source room M K byte ≡ picked gens (renumbering (built (Ok c) t w₁) inn outw)) where
     pub predicate_told : Told op inv byte M room K size (length w) gens c t w₁ inn outw
     predicate_told =
         let E = ends_accepted (predicate_ends G small source answers room K lo hi lent size (length w) fits work byte w refl) q in

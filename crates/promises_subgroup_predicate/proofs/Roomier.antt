@@ -7,7 +7,7 @@ use native.Mathlib.Decide.{ℕ_discrete, dec_lt}
 use native.Mathlib.Omega.{arith}
 use lib.ListN.{length, get_or}
 use Rattle.egg.specs.declared.Refusal.{Refusal}
-use Rattle.egg.specs.declared.Counted.TheVariants.{Count, Refused}
+use Rattle.std.specs.Prelude.{Ok, Err}
 use Rattle.build_lending.specs.Finish.{built}
 use Rattle.build_numbering.specs.Renumber as appear
 use Rattle.build_numbering.specs.Build.{Renumbering, renumbering}
@@ -24,8 +24,8 @@ pub record Grows (op : ℕ → ℕ → ℕ) (M L L' : ℕ) (again more : List �
   pub grows : {byte : ℕ → ℕ} {x : ℕ} {gens w w' : List ℕ} → x ≤ M → Chosen op byte x gens → length w ≡ L → length w' ≡ L' → Counts (again gens w) → Counts (more gens w')
 
 refused_stays : (k : ℕ) (again : List ℕ → List ℕ → Renumbering) (byte : ℕ → ℕ) (x : ℕ) (gens t w inn outw : List ℕ) (f : Refusal)
-    → chooses k again byte x gens (renumbering (built (Refused f) t w) inn outw) ≡ picked gens (renumbering (built (Refused f) t w) inn outw)
-refused_stays zero again byte x gens t w inn outw f = choose_end again byte 0 x gens t w inn outw (renumbering (built (Refused f) t w) inn outw)
+    → chooses k again byte x gens (renumbering (built (Err f) t w) inn outw) ≡ picked gens (renumbering (built (Err f) t w) inn outw)
+refused_stays zero again byte x gens t w inn outw f = choose_end again byte 0 x gens t w inn outw (renumbering (built (Err f) t w) inn outw)
 refused_stays (suc k) again byte x gens t w inn outw f = choose_stop again byte k x gens t w inn outw f
 
 ninth_never : (gs gens t w inn outw : List ℕ) → Accepts gs (picked gens (ninth t w inn outw)) → ⊥
@@ -34,9 +34,9 @@ ninth_never gs gens t w inn outw Z = not_refused (same_build Z.is ∙ Z.counts.i
 -- What was accepted at the end was accepted before.
 counted_before : (k : ℕ) (again : List ℕ → List ℕ → Renumbering) (byte : ℕ → ℕ) (x : ℕ) (gens gs : List ℕ) (r : Renumbering)
     → Accepts gs (chooses k again byte x gens r) → Counts r
-counted_before k again byte x gens gs (renumbering (built (Count c) t w) inn outw) A =
+counted_before k again byte x gens gs (renumbering (built (Ok c) t w) inn outw) A =
     record { count = c; table = t; work = w; inn = inn; outw = outw; is = refl }
-counted_before k again byte x gens gs (renumbering (built (Refused f) t w) inn outw) A =
+counted_before k again byte x gens gs (renumbering (built (Err f) t w) inn outw) A =
     absurd (not_refused (same_build (sym (refused_stays k again byte x gens t w inn outw f) ∙ A.is) ∙ A.counts.is))
 
 module _ {op : ℕ → ℕ → ℕ} {byte : ℕ → ℕ} {M L L' : ℕ} {again more : List ℕ → List ℕ → Renumbering} (F : Faithful op M L again) (F' : Faithful op M L' more)
@@ -66,10 +66,10 @@ module _ {op : ℕ → ℕ → ℕ} {byte : ℕ → ℕ} {M L L' : ℕ} {again m
 
     turn : Accepts gs (chooses (suc k) more byte x gens (more gens w₁))
     turn = by (ℕ_discrete (get_or B.inn x 0) appear.no_number) (ℕ_discrete (get_or B'.inn x 0) appear.no_number) (ℕ_discrete (byte x) 0) (dec_lt (length gens) 8) where
-      one : {p : Picked} → chooses (suc k) again byte x gens (renumbering (built (Count B.count) B.table B.work) B.inn B.outw) ≡ p → Accepts gs p
+      one : {p : Picked} → chooses (suc k) again byte x gens (renumbering (built (Ok B.count) B.table B.work) B.inn B.outw) ≡ p → Accepts gs p
       one q = subst (Accepts gs) (ap (chooses (suc k) again byte x gens) B.is ∙ q) A
 
-      two : {p : Picked} → chooses (suc k) more byte x gens (renumbering (built (Count B'.count) B'.table B'.work) B'.inn B'.outw) ≡ p
+      two : {p : Picked} → chooses (suc k) more byte x gens (renumbering (built (Ok B'.count) B'.table B'.work) B'.inn B'.outw) ≡ p
           → Accepts gs p → Accepts gs (chooses (suc k) more byte x gens (more gens w₁))
       two q a = subst (Accepts gs) (sym (ap (chooses (suc k) more byte x gens) B'.is ∙ q)) a
 

@@ -6,8 +6,7 @@ use mathlib.Core.List.{List, []}
 use native.Mathlib.Nat.{le_refl, mul-le-mul}
 use native.Mathlib.Omega.{arith}
 use lib.ListN.{length, get_or, take}
-use Rattle.egg.specs.declared.Verdict.TheVariants.{Fine}
-use Rattle.egg.specs.declared.Counted.TheVariants.{Count}
+use Rattle.std.specs.Prelude.{Ok}
 use Rattle.build_lending.specs.Finish.{built}
 use Rattle.build_lending.specs.Lending.{table_need, work_need, within}
 use Rattle.enumeration_run_laws.specs.Longer.{longer}
@@ -35,7 +34,7 @@ use Rattle.promises_subgroup.proofs.Leaving.{accepted_lengths}
 
 module _ (from : List ℕ) (over : Group) (members table : List ℕ) (start : ℕ) (work inn outw : List ℕ) (room : ℕ) (As : AllAccepted from (handles over))
     {s : Subgroup} {t w i o : List ℕ}
-    (q : from_predicate from over members table start work inn outw room ≡ subgrouping (record { answer = Fine; subgroup = s }) t w i o)
+    (q : from_predicate from over members table start work inn outw room ≡ subgrouping (Ok s) t w i o)
     (table' : List ℕ) (start' : ℕ) (work' inn' outw' : List ℕ) (room' : ℕ) (S' : Predicated from over members table' start' work' inn' outw' room')
     (more : room ≤ room') where
   abbrev M : ℕ
@@ -66,7 +65,7 @@ module _ (from : List ℕ) (over : Group) (members table : List ℕ) (start : �
       room' room' (told.lo from over members table' start' work' inn' outw' room' S') (told.hi from over members table' start' work' inn' outw' room' S') (le_refl room')
       (table_need 8 room') (length lent') (le_refl (table_need 8 room')) (told.work_fits from over members table' start' work' inn' outw' room' S') more
       (λ x. get_or members x 0) B.gens lent lent' refl refl (record {
-        build = renumbering (built (Count B.count) B.table' B.work') B.inn' B.outw';
+        build = renumbering (built (Ok B.count) B.table' B.work') B.inn' B.outw';
         is = B.is;
         counts = record { count = B.count; table = B.table'; work = B.work'; inn = B.inn'; outw = B.outw'; is = refl };
       })
@@ -74,7 +73,7 @@ module _ (from : List ℕ) (over : Group) (members table : List ℕ) (start : �
   -- The last builds of both calls, by the same elements.
   E : Chosen (direct from over).op (λ x. get_or members x 0) M B.gens × ((w₀ : List ℕ) × (length w₀ ≡ length lent)
       × (again_in (table_need 8 room) (composes from (handles over)) room M room B.gens w₀
-      ≡ renumbering (built (Count B.count) B.table' B.work') B.inn' B.outw'))
+      ≡ renumbering (built (Ok B.count) B.table' B.work') B.inn' B.outw'))
   E =
       ends_accepted (predicate_ends (told.G from over members table start work inn outw room S As) (told.small from over members table start work inn outw room S)
       (composes from (handles over)) (told.answers from over members table start work inn outw room S As)
@@ -84,7 +83,7 @@ module _ (from : List ℕ) (over : Group) (members table : List ℕ) (start : �
 
   E' : Chosen (direct from over).op (λ x. get_or members x 0) M B.gens × ((w₀ : List ℕ) × (length w₀ ≡ length lent')
       × (again_in (table_need 8 room') (composes from (handles over)) room' M room' B.gens w₀
-      ≡ renumbering (built (Count R.counts.count) R.counts.table R.counts.work) R.counts.inn R.counts.outw))
+      ≡ renumbering (built (Ok R.counts.count) R.counts.table R.counts.work) R.counts.inn R.counts.outw))
   E' =
       ends_accepted (predicate_ends (told.G from over members table' start' work' inn' outw' room' S' As) (told.small from over members table' start' work' inn' outw' room' S')
       (composes from (handles over)) (told.answers from over members table' start' work' inn' outw' room' S' As)
@@ -97,7 +96,7 @@ module _ (from : List ℕ) (over : Group) (members table : List ℕ) (start : �
 
   X : (w₂ : List ℕ) × (i' : List ℕ) × (o' : List ℕ)
       × ((again_in (table_need 8 room') (composes from (handles over)) room' M room' B.gens E'.1.0
-      ≡ renumbering (built (Count B.count) (longer (table_need 8 room' - table_need 8 room) B.table') w₂) i' o')
+      ≡ renumbering (built (Ok B.count) (longer (table_need 8 room' - table_need 8 room) B.table') w₂) i' o')
       × ((B.inn' ≡ i') × ((e : ℕ) → get_or B.outw' e 0 ≡ get_or o' e 0)))
   X =
       build_roomier (told.G from over members table start work inn outw room S As) (told.small from over members table start work inn outw room S)
@@ -119,7 +118,7 @@ module _ (from : List ℕ) (over : Group) (members table : List ℕ) (start : �
   longest = longer (table_need 8 room' - table_need 8 room) B.table'
 
   is_told' : predicate_in (table_need 8 room') (take (work_need 8 room') work') (composes from (handles over)) room' M room' (λ x. get_or members x 0)
-      ≡ picked B.gens (renumbering (built (Count B.count) longest X.0) X.1 X.2)
+      ≡ picked B.gens (renumbering (built (Ok B.count) longest X.0) X.1 X.2)
   is_told' = R.is ∙ ap (λ (r : Renumbering). picked B.gens r) (R.counts.is ∙ sym E'.1.2 ∙ X.3.0)
 
   first : (length B.table' ≡ table_need 8 room) × ((length B.work' ≡ length E.1.0) × ((length B.inn' ≡ M) × (length B.outw' ≡ room)))

@@ -3,7 +3,7 @@ use Prim.Native.Nat.{◌+◌}
 use mathlib.Core.Path.{◌≡◌, refl}
 use mathlib.Core.List.{[], ◌∷◌}
 use lib.ListN.{get_or}
-use Rattle.egg.specs.declared.Counted.TheVariants.{Count, Refused}
+use Rattle.std.specs.Prelude.{Ok, Err}
 use Rattle.egg.specs.Table.{put_at, start_of}
 use Rattle.egg.specs.Scan.{scan}
 use Rattle.egg.specs.Factor.{read_step}
@@ -21,19 +21,19 @@ use Rattle.subgroup.specs.Indices.{over_of, sub_of}
 use Rattle.promises_subgroup_predicate.specs.Sample.{tells_six}
 
 -- The even ones.
-pub even_members : tells_six (1 ∷ 0 ∷ 1 ∷ 0 ∷ 7 ∷ 0 ∷ []) 3 ≡ record { gens = 2 ∷ []; answer = Count 3; inn = 0 ∷ no_number ∷ 1 ∷ no_number ∷ 2 ∷ no_number ∷ []; outw = 0 ∷ 2 ∷ 4 ∷ [] }
+pub even_members : tells_six (1 ∷ 0 ∷ 1 ∷ 0 ∷ 7 ∷ 0 ∷ []) 3 ≡ record { gens = 2 ∷ []; answer = Ok 3; inn = 0 ∷ no_number ∷ 1 ∷ no_number ∷ 2 ∷ no_number ∷ []; outw = 0 ∷ 2 ∷ 4 ∷ [] }
 unfolding put_at start_of scan read_step checks.missing_row checks.missing checks.check8 checks.range_row checks.links_of checks.ranges checks.wrong_row checks.wrong checks.check_table checks.wiped checks.arrive_row checks.arrivals checks.counts_right inverses.invert_from inverses.fill_inverses inverses.inverses_right lefts.identity_row lefts.columns_row lefts.spelled_row lefts.spelled lefts.check_steps lefts.fill_left lefts.goes_row lefts.all_go lefts.lefts checks.check_rest checks.check_group set_step set_word adds hop_from with_hops finished map_place map_row map_rows renumber_in chooses
 even_members = refl
 
 -- 2 and 3 are no subgroup: what they generate.
 pub members_generate : tells_six (0 ∷ 0 ∷ 1 ∷ 1 ∷ 0 ∷ 0 ∷ []) 6
-    ≡ record { gens = 2 ∷ 3 ∷ []; answer = Count 6; inn = 0 ∷ 5 ∷ 1 ∷ 2 ∷ 3 ∷ 4 ∷ []; outw = 0 ∷ 2 ∷ 3 ∷ 4 ∷ 5 ∷ 1 ∷ [] }
+    ≡ record { gens = 2 ∷ 3 ∷ []; answer = Ok 6; inn = 0 ∷ 5 ∷ 1 ∷ 2 ∷ 3 ∷ 4 ∷ []; outw = 0 ∷ 2 ∷ 3 ∷ 4 ∷ 5 ∷ 1 ∷ [] }
 unfolding put_at start_of scan read_step checks.missing_row checks.missing checks.check8 checks.range_row checks.links_of checks.ranges checks.wrong_row checks.wrong checks.check_table checks.wiped checks.arrive_row checks.arrivals checks.counts_right inverses.invert_from inverses.fill_inverses inverses.inverses_right lefts.identity_row lefts.columns_row lefts.spelled_row lefts.spelled lefts.check_steps lefts.fill_left lefts.goes_row lefts.all_go lefts.lefts checks.check_rest checks.check_group set_step set_word adds hop_from with_hops finished map_place map_row map_rows renumber_in chooses
 members_generate = refl
 
 -- No room for the third: 5, and the maps are zero.
 pub members_short : tells_six (1 ∷ 0 ∷ 1 ∷ 0 ∷ 1 ∷ 0 ∷ []) 2
-    ≡ record { gens = 2 ∷ []; answer = Refused (numbered 5 1 0 0); inn = 0 ∷ 0 ∷ 0 ∷ 0 ∷ 0 ∷ 0 ∷ []; outw = 0 ∷ 0 ∷ [] }
+    ≡ record { gens = 2 ∷ []; answer = Err (numbered 5 1 0 0); inn = 0 ∷ 0 ∷ 0 ∷ 0 ∷ 0 ∷ 0 ∷ []; outw = 0 ∷ 0 ∷ [] }
 unfolding put_at start_of scan read_step checks.missing_row checks.missing checks.check8 checks.range_row checks.links_of checks.ranges checks.wrong_row checks.wrong checks.check_table checks.wiped checks.arrive_row checks.arrivals checks.counts_right inverses.invert_from inverses.fill_inverses inverses.inverses_right lefts.identity_row lefts.columns_row lefts.spelled_row lefts.spelled lefts.check_steps lefts.fill_left lefts.goes_row lefts.all_go lefts.lefts checks.check_rest checks.check_group set_step set_word adds hop_from with_hops finished map_place map_row map_rows renumber_in chooses
 members_short = refl
 

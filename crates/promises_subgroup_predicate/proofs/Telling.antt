@@ -7,9 +7,8 @@ use native.Mathlib.Nat.{mul-le-mul, le_refl, le_trans}
 use native.Mathlib.Decide.{dec_lt}
 use native.Mathlib.Omega.{arith}
 use lib.ListN.{length, get_or, replicate, length-replicate}
-use Rattle.egg.specs.declared.Reached.{Reached}
-use Rattle.egg.specs.declared.Reached.TheVariants as reached
-use Rattle.egg.specs.declared.Counted.TheVariants.{Count}
+use Rattle.egg.specs.Answers.{Reached}
+use Rattle.std.specs.Prelude.{Ok}
 use Rattle.egg.specs.Table.{step_of}
 use Rattle.build_lending.specs.Finish.{built}
 use Rattle.build_lending.specs.Lending.{work_need}
@@ -40,7 +39,7 @@ eight_work n room size h k =
     le_trans (mul-le-mul (le_refl room) l) k
 
 module _ {M : ℕ} {op : ℕ → ℕ → ℕ} {inv : ℕ → ℕ} (G : GroupOn M op inv) (small : M ≤ 4294967295) (source : ℕ → ℕ → Reached)
-    (answers : (y x : ℕ) → y < M → x < M → source y x ≡ reached.Element (record { 0 = op y x }))
+    (answers : (y x : ℕ) → y < M → x < M → source y x ≡ Ok (record { 0 = op y x }))
     (room K : ℕ) (lo : 1 ≤ room) (hi : room ≤ 65535) (lent : room ≤ K) (size L : ℕ) (fits : room * (2 * 8 + 4) ≤ size)
     (work : room * (6 * 8 * 8 + 4 * 8) ≤ L) where
   module _ (gens : List ℕ) (few : length gens ≤ 8) (below : (g : ℕ) → g < length gens → get_or gens g 0 < M) where
@@ -48,7 +47,7 @@ module _ {M : ℕ} {op : ℕ → ℕ → ℕ} {inv : ℕ → ℕ} (G : GroupOn M
     answering = record { answers = λ {x = y} {g} hy hg. answers y (get_or gens g 0) hy (below g hg) }
 
     module _ (w₀ : List ℕ) (l : length w₀ ≡ L) {c : ℕ} {t w inn outw : List ℕ}
-        (q : again_in size source room M K gens w₀ ≡ renumbering (built (Count c) t w) inn outw) where
+        (q : again_in size source room M K gens w₀ ≡ renumbering (built (Ok c) t w) inn outw) where
       pub again_held : RenumberedLists (length gens) M room K (right_by op (λ g. get_or gens g 0)) 0 c (step_of t (length gens)) inn outw
       again_held =
           renumber_maps (appearing (right_inside G below)).2 (right_inside G below) small (λ y g. source y (get_or gens g 0)) answering room K lo hi lent size w₀ few
@@ -83,8 +82,8 @@ pub same_build : {gs gens : List ℕ} {r r' : Renumbering} → picked gs r ≡ p
 same_build h = cc
 
 module _ {op : ℕ → ℕ → ℕ} {byte : ℕ → ℕ} {M L : ℕ} {again : List ℕ → List ℕ → Renumbering} {gens : List ℕ} where
-  pub ends_accepted : {p : Picked} {c : ℕ} {t w inn outw : List ℕ} → Ends op byte M L again p → p ≡ picked gens (renumbering (built (Count c) t w) inn outw)
-      → Chosen op byte M gens × ((w₀ : List ℕ) × (length w₀ ≡ L) × (again gens w₀ ≡ renumbering (built (Count c) t w) inn outw))
+  pub ends_accepted : {p : Picked} {c : ℕ} {t w inn outw : List ℕ} → Ends op byte M L again p → p ≡ picked gens (renumbering (built (Ok c) t w) inn outw)
+      → Chosen op byte M gens × ((w₀ : List ℕ) × (length w₀ ≡ L) × (again gens w₀ ≡ renumbering (built (Ok c) t w) inn outw))
   ends_accepted (accepted w₀ l C z) q =
       let e = same_gens q in
       (subst (Chosen op byte M) e C, (w₀, l, ap (λ (gs : List ℕ). again gs w₀) (sym e) ∙ z ∙ same_build q))

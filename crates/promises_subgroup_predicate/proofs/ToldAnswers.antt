@@ -13,12 +13,8 @@ use lib.Dec.{leb}
 use lib.ListN.{length, get_or, take, replicate, length-replicate}
 use lib.Seq.{take_all}
 use Rattle.egg.specs.declared.Refusal.{Refusal}
-use Rattle.egg.specs.declared.Reached.{Reached}
-use Rattle.egg.specs.declared.Reached.TheVariants as reached
-use Rattle.egg.specs.declared.Verdict.{Verdict}
-use Rattle.egg.specs.declared.Verdict.TheVariants as verdict
-use Rattle.egg.specs.declared.Counted.{Counted}
-use Rattle.egg.specs.declared.Counted.TheVariants.{Count, Refused}
+use Rattle.egg.specs.Answers.{Counted, Reached, Verdict, fine}
+use Rattle.std.specs.Prelude.{Ok, Err}
 use Rattle.egg.specs.Factor.{Paper, verdict_paper}
 use Rattle.egg.proofs.Rooms.{false_true, and_first, and_second}
 use Rattle.egg.specs.Answers.{numbered}
@@ -59,8 +55,8 @@ use Rattle.promises_subgroup.proofs.Answers.{small_true, true_small, not_small, 
 
 -- The verdict of what was picked.
 abbrev counted_verdict : Counted → Verdict
-counted_verdict (Count c) = verdict.Fine
-counted_verdict (Refused r) = verdict.Refused r
+counted_verdict (Ok c) = fine
+counted_verdict (Err r) = Err r
 
 abbrev picked_verdict : Picked → Verdict
 picked_verdict (picked gens (renumbering (built c t w) i o)) = counted_verdict c
@@ -70,7 +66,7 @@ five_or_six (e, g, h, inl q) = rw q
 five_or_six (e, g, h, inr q) = rw q
 
 module _ {M : ℕ} {op : ℕ → ℕ → ℕ} {inv : ℕ → ℕ} (G : GroupOn M op inv) (small : M ≤ 4294967295) (source : ℕ → ℕ → Reached)
-    (answers : (y x : ℕ) → y < M → x < M → source y x ≡ reached.Element (record { 0 = op y x }))
+    (answers : (y x : ℕ) → y < M → x < M → source y x ≡ Ok (record { 0 = op y x }))
     (room K : ℕ) (lo : 1 ≤ room) (hi : room ≤ 65535) (lent : room ≤ K) (size L : ℕ) (fits : room * (2 * 8 + 4) ≤ size)
     (work : room * (6 * 8 * 8 + 4 * 8) ≤ L) (byte : ℕ → ℕ) where
   module _ (x : ℕ) (gens : List ℕ) (h : x ≤ M) (C : Chosen op byte x gens) where
@@ -85,7 +81,7 @@ module _ {M : ℕ} {op : ℕ → ℕ → ℕ} {inv : ℕ → ℕ} (G : GroupOn M
       enough = eight_work (length gens) room (length w) C.few (rw l work)
 
       -- A build that is refused stops in its numbering, and what stops is refused.
-      stops_asked : {f : Refusal} {t w₁ i o : List ℕ} → again_in size source room M K gens w ≡ renumbering (built (Refused f) t w₁) i o → Stopping op M room gens f
+      stops_asked : {f : Refusal} {t w₁ i o : List ℕ} → again_in size source room M K gens w ≡ renumbering (built (Err f) t w₁) i o → Stopping op M room gens f
       stops_asked {f} z =
           by (subgroup_refused G below (appearing (right_inside G below)).2 small (λ y g. source y (get_or gens g 0))
           (answering G small source answers room K lo hi lent size L fits work gens C.few below) room K lo hi lent size w C.few
@@ -109,7 +105,7 @@ module _ {M : ℕ} {op : ℕ → ℕ → ℕ} {inv : ℕ → ℕ} (G : GroupOn M
               absurd (omega (arith, F.sooner))
 
       stops_so : {f : Refusal} → Stopping op M room gens f
-          → (t : List ℕ) × (w₁ : List ℕ) × (i : List ℕ) × (o : List ℕ) × (again_in size source room M K gens w ≡ renumbering (built (Refused f) t w₁) i o)
+          → (t : List ℕ) × (w₁ : List ℕ) × (i : List ℕ) × (o : List ℕ) × (again_in size source room M K gens w ≡ renumbering (built (Err f) t w₁) i o)
       stops_so S =
           let P = refuses_refused (numbered_step S.count S.elt (right_by op (λ g. get_or gens g 0))) (length gens) room size C.few lo hi
           (eight_rows (length gens) room size C.few fits) S.refuses in
@@ -179,9 +175,9 @@ module _ {M : ℕ} {op : ℕ → ℕ → ℕ} {inv : ℕ → ℕ} (G : GroupOn M
   one_way (told T) (ninth x gens h C each e b n) = absurd (told_ninth T h C e b n)
   one_way (stops x gens h C each S) (told T) = absurd (told_stops T x gens h C S)
   one_way (stops {r} x gens h C each S) (stops {r = r'} y gs k D each' S') = by (dec_lt x y) where
-    by : Dec (x < y) → verdict.Refused r ≡ verdict.Refused r'
-    by (yes d) = ap verdict.Refused (sooner (omega arith) h k C D each' S S')
-    by (no d) = ap verdict.Refused (sym (sooner (omega arith) k h D C each S' S))
+    by : Dec (x < y) → ◌≡◌ {A = Verdict} (Err r) (Err r')
+    by (yes d) = ap Err (sooner (omega arith) h k C D each' S S')
+    by (no d) = ap Err (sym (sooner (omega arith) k h D C each S' S))
   one_way (stops x gens h C each S) (ninth y gs k D each' e b n) = absurd (stops_ninth h k C D S each' e b n)
   one_way (ninth x gens h C each e b n) (told T) = absurd (told_ninth T h C e b n)
   one_way (ninth x gens h C each e b n) (stops y gs k D each' S) = absurd (stops_ninth k h D C S each e b n)
@@ -217,23 +213,23 @@ module _ {M : ℕ} {op : ℕ → ℕ → ℕ} {inv : ℕ → ℕ} (G : GroupOn M
 -- The call.
 told_paper : (over : Group) (table : List ℕ) (start : ℕ) (work inn outw : List ℕ) (M room : ℕ) (p : Picked)
     → subgroup_paper (told_back over table start work inn outw M room p) ≡ verdict_paper (picked_verdict p)
-told_paper over table start work inn outw M room (picked gens (renumbering (built (Count c) t w) i o)) = refl
-told_paper over table start work inn outw M room (picked gens (renumbering (built (Refused r) t w) i o)) = refl
+told_paper over table start work inn outw M room (picked gens (renumbering (built (Ok c) t w) i o)) = refl
+told_paper over table start work inn outw M room (picked gens (renumbering (built (Err r) t w) i o)) = refl
 
 module _ (from : List ℕ) (over : Group) (members table : List ℕ) (start : ℕ) (work inn outw : List ℕ) (room : ℕ)
     (unaltered : all_fit (length from) (handles over) ≡ true → AllAccepted from (handles over)) where
   abbrev among : ℕ
   among = elements_of (handles over)
 
-  admits : all_fit (length from) (handles over) ≡ true → Numberable over → admits_over (length from) over ≡ verdict.Fine
+  admits : all_fit (length from) (handles over) ≡ true → Numberable over → admits_over (length from) over ≡ fine
   unfolding admits_over
   admits f s = rw (f, small_true over s)
 
-  admits_17 : all_fit (length from) (handles over) ≡ false → admits_over (length from) over ≡ verdict.Refused (numbered 17 0 0 0)
+  admits_17 : all_fit (length from) (handles over) ≡ false → admits_over (length from) over ≡ Err (numbered 17 0 0 0)
   unfolding admits_over
   admits_17 f = rw f
 
-  admits_15 : all_fit (length from) (handles over) ≡ true → small_enough over ≡ false → admits_over (length from) over ≡ verdict.Refused (numbered 15 0 0 0)
+  admits_15 : all_fit (length from) (handles over) ≡ true → small_enough over ≡ false → admits_over (length from) over ≡ Err (numbered 15 0 0 0)
   unfolding admits_over
   admits_15 f s = rw (f, s)
 

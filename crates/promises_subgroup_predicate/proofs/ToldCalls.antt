@@ -10,17 +10,15 @@ use borrow.Author.Tests.{le-leb, leb-true}
 use lib.Dec.{leb}
 use lib.ListN.{length, get_or, take}
 use Rattle.egg.specs.declared.Refusal.{Refusal}
-use Rattle.egg.specs.declared.Reached.TheVariants as reached
-use Rattle.egg.specs.declared.Verdict.{Verdict}
-use Rattle.egg.specs.declared.Verdict.TheVariants.{Fine, Refused}
-use Rattle.egg.specs.declared.Counted.TheVariants as counted
+use Rattle.egg.specs.Answers.{Verdict, fine}
+use Rattle.std.specs.Prelude.{Ok, Err}
 use Rattle.egg.specs.Table.{step_of}
 use Rattle.egg.specs.Factor.{has_room, stretch}
 use Rattle.egg.proofs.Rooms.{positive, limited, and_first, and_second}
 use Rattle.egg.specs.Answers.{numbered}
 use Rattle.build_word_cells.specs.Hops.{Hops}
 use Rattle.build_lending.specs.Finish.{built}
-use Rattle.build_lending.specs.Lending.{table_need, work_need, lent_right, within, no_factor, refused_made, made_of}
+use Rattle.build_lending.specs.Lending.{table_need, work_need, lent_right, within, made_of}
 use Rattle.build_lending.proofs.Lending.{lent_table_lem}
 use Rattle.theory.specs.Group.{GroupOn}
 use Rattle.build_laws.proofs.Lent.{work_taken, taken_enough, handle}
@@ -31,7 +29,6 @@ use Rattle.promises_group.specs.Products.{AllAccepted, direct}
 use Rattle.build_numbering.specs.Renumber as appear
 use Rattle.build_numbering.specs.Build.{renumbering}
 use Rattle.subgroup_build.specs.declared.Subgroup.{Subgroup}
-use Rattle.subgroup_build.specs.declared.Subgrouped.{Subgrouped}
 use Rattle.subgroup_build.specs.Lent.{subgroup_of, subgrouping, maps_right}
 use Rattle.subgroup_build.proofs.Admits.{small_elements, maps_lent}
 use Rattle.subgroup_predicate_choices.specs.Choices.{Picked, picked}
@@ -49,7 +46,7 @@ use Rattle.promises_subgroup.proofs.Overgroup.{product_answers, product_overgrou
 use Rattle.promises_subgroup.proofs.Held.{held_homomorphic}
 use Rattle.promises_subgroup_predicate.proofs.Given.{predicate_told, told_subgroup, predicate_narrow}
 use Rattle.promises_subgroup.proofs.Stretches.{step_cut, held_steps, first_part, handle_fits}
-use Rattle.promises_subgroup.proofs.Called.{front_cell, carried_as, homomorphic_as, fine_refused, same_refusal}
+use Rattle.promises_subgroup.proofs.Called.{front_cell, carried_as, homomorphic_as, fine_refused, same_refusal, same_subgroup}
 
 module _ (from : List ℕ) (over : Group) (members table : List ℕ) (start : ℕ) (work inn outw : List ℕ) (room : ℕ) where
   abbrev M : ℕ
@@ -61,15 +58,15 @@ module _ (from : List ℕ) (over : Group) (members table : List ℕ) (start : �
   abbrev whole : Picked
   whole = predicate_in (table_need 8 room) (take (work_need 8 room) work) (composes from (handles over)) room M room (λ x. get_or members x 0)
 
-  pub early_arguments : {r : Refusal} → admits_over (length from) over ≡ Refused r
+  pub early_arguments : {r : Refusal} → admits_over (length from) over ≡ Err r
       → from_predicate from over members table start work inn outw room
-      ≡ subgrouping (subgroup_of over (record { answer = Refused r; factor = no_factor })) table work inn outw
+      ≡ subgrouping (Err r) table work inn outw
   unfolding from_predicate
   early_arguments q = rw q
 
-  pub early_short : admits_over (length from) over ≡ Fine
+  pub early_short : admits_over (length from) over ≡ fine
       → maps_right (length table) start (length work) (length inn) (length outw) room 8 M && leb M (length members) ≡ false
-      → from_predicate from over members table start work inn outw room ≡ subgrouping (subgroup_of over (refused_made 4 0)) table work inn outw
+      → from_predicate from over members table start work inn outw room ≡ subgrouping (Err (numbered 4 0 0 0)) table work inn outw
   unfolding from_predicate told_into
   early_short q l = rw (q, l)
 
@@ -77,13 +74,13 @@ module _ (from : List ℕ) (over : Group) (members table : List ℕ) (start : �
       → from_predicate from over members table start work inn outw room ≡ told_back over table start work inn outw M room whole
   unfolding from_predicate told_into
   is_told S =
-      let v : admits_over (length from) over ≡ Fine = sym (over_fine (length from) over S.fits refl S.small) in
+      let v : admits_over (length from) over ≡ fine = sym (over_fine (length from) over S.fits refl S.small) in
       rw (v, S.lent, le-leb M (length members) S.bytes)
 
   pub data Ways : Type 0 where
     early : (r : Refusal)
         → from_predicate from over members table start work inn outw room
-        ≡ subgrouping (subgroup_of over (record { answer = Refused r; factor = no_factor })) table work inn outw → Ways
+        ≡ subgrouping (Err r) table work inn outw → Ways
     late : Predicated from over members table start work inn outw room → Ways
 
   pub ways : Ways
@@ -91,9 +88,9 @@ module _ (from : List ℕ) (over : Group) (members table : List ℕ) (start : �
     where
       by : (v : Verdict) (b : Bool) → admits_over (length from) over ≡ v
           → maps_right (length table) start (length work) (length inn) (length outw) room 8 M && leb M (length members) ≡ b → Ways
-      by (Refused r) b q l = early r (early_arguments q)
-      by Fine false q l = early (numbered 4 0 0 0) (early_short q l)
-      by Fine true q l =
+      by (Err r) b q l = early r (early_arguments q)
+      by (Ok _) false q l = early (numbered 4 0 0 0) (early_short q l)
+      by (Ok _) true q l =
           let A = over_admitted (length from) over refl q in
           late (record {
             fits = A.0;
@@ -109,7 +106,7 @@ module _ (from : List ℕ) (over : Group) (members table : List ℕ) (start : �
     pub work' : List ℕ
     pub inn' : List ℕ
     pub outw' : List ℕ
-    pub is : b ≡ picked gens (renumbering (built (counted.Count count) table' work') inn' outw')
+    pub is : b ≡ picked gens (renumbering (built (Ok count) table' work') inn' outw')
     pub value : s ≡ record { below = group_of []; factor = handle start (length gens) room count; over = over; above = group_of [] }
     pub table_is : t ≡ within table start (start + table_need 8 room) table'
     pub work_is : w ≡ within work 0 (work_need 8 room) work'
@@ -117,9 +114,9 @@ module _ (from : List ℕ) (over : Group) (members table : List ℕ) (start : �
     pub outw_is : o ≡ within outw 0 room outw'
 
   pub back_accepted : (b : Picked) {s : Subgroup} {t w i o : List ℕ}
-      → told_back over table start work inn outw M room b ≡ subgrouping (record { answer = Fine; subgroup = s }) t w i o → Backed b s t w i o
-  back_accepted (picked gens (renumbering (built (counted.Count c) t' w') i' o')) {s} q =
-      let m : subgroup_of over (made_of start room (length gens) (counted.Count c)) ≡ record { answer = Fine; subgroup = s } = cc in
+      → told_back over table start work inn outw M room b ≡ subgrouping (Ok s) t w i o → Backed b s t w i o
+  back_accepted (picked gens (renumbering (built (Ok c) t' w') i' o')) {s} q =
+      let m : subgroup_of over (made_of start room (length gens) (Ok c)) ≡ Ok s = cc in
       record {
         gens = gens;
         count = c;
@@ -128,21 +125,21 @@ module _ (from : List ℕ) (over : Group) (members table : List ℕ) (start : �
         inn' = i';
         outw' = o';
         is = refl;
-        value = sym (ap (λ (x : Subgrouped). x.subgroup) m);
+        value = sym (same_subgroup m);
         table_is = cc;
         work_is = cc;
         inn_is = cc;
         outw_is = cc;
       }
-  back_accepted (picked gens (renumbering (built (counted.Refused r) t' w') i' o')) q = absurd (fine_refused q)
+  back_accepted (picked gens (renumbering (built (Err r) t' w') i' o')) q = absurd (fine_refused q)
 
-  pub back_refused : (b : Picked) {r : Refusal} {s : Subgroup} {t w i o : List ℕ}
-      → told_back over table start work inn outw M room b ≡ subgrouping (record { answer = Refused r; subgroup = s }) t w i o
-      → (gens : List ℕ) × (t' : List ℕ) × (w' : List ℕ) × (i' : List ℕ) × (o' : List ℕ) × (b ≡ picked gens (renumbering (built (counted.Refused r) t' w') i' o'))
-  back_refused (picked gens (renumbering (built (counted.Count c) t' w') i' o')) q = absurd (fine_refused (sym q))
-  back_refused (picked gens (renumbering (built (counted.Refused f) t' w') i' o')) {r} q =
+  pub back_refused : (b : Picked) {r : Refusal} {t w i o : List ℕ}
+      → told_back over table start work inn outw M room b ≡ subgrouping (Err r) t w i o
+      → (gens : List ℕ) × (t' : List ℕ) × (w' : List ℕ) × (i' : List ℕ) × (o' : List ℕ) × (b ≡ picked gens (renumbering (built (Err r) t' w') i' o'))
+  back_refused (picked gens (renumbering (built (Ok c) t' w') i' o')) q = absurd (fine_refused (sym q))
+  back_refused (picked gens (renumbering (built (Err f) t' w') i' o')) {r} q =
       let e : f ≡ r = same_refusal q in
-      (gens, t', w', i', o', ap (λ (x : Refusal). picked gens (renumbering (built (counted.Refused x) t' w') i' o')) e)
+      (gens, t', w', i', o', ap (λ (x : Refusal). picked gens (renumbering (built (Err x) t' w') i' o')) e)
 
   -- What has started: the room is within its limits, and the stretches are long enough.
   module _ (S : Predicated from over members table start work inn outw room) where
@@ -177,17 +174,17 @@ module _ (from : List ℕ) (over : Group) (members table : List ℕ) (start : �
     pub G : GroupOn M op inv
     G = product_overgroup from As
 
-    pub answers : (y x : ℕ) → y < M → x < M → composes from (handles over) y x ≡ reached.Element (record { 0 = op y x })
+    pub answers : (y x : ℕ) → y < M → x < M → composes from (handles over) y x ≡ Ok (record { 0 = op y x })
     answers = product_answers from As
 
-    told_of_lem : {gens : List ℕ} {c : ℕ} {t w i o : List ℕ} → whole ≡ picked gens (renumbering (built (counted.Count c) t w) i o)
+    told_of_lem : {gens : List ℕ} {c : ℕ} {t w i o : List ℕ} → whole ≡ picked gens (renumbering (built (Ok c) t w) i o)
         → Told op inv byte M room room (table_need 8 room) (work_need 8 room) gens c t w i o
     told_of_lem {gens} {c} {t} {w} {i} {o} q =
         subst (λ (L : ℕ). Told op inv byte M room room (table_need 8 room) L gens c t w i o) (work_long S)
         (predicate_told G (small S) (composes from (handles over)) answers room room (lo S) (hi S) (le_refl room) (table_need 8 room) (le_refl (table_need 8 room)) byte
         (take (work_need 8 room) work) (work_fits S) gens q)
 
-    module _ {gens : List ℕ} {c : ℕ} {t w i o : List ℕ} (q : whole ≡ picked gens (renumbering (built (counted.Count c) t w) i o)) where
+    module _ {gens : List ℕ} {c : ℕ} {t w i o : List ℕ} (q : whole ≡ picked gens (renumbering (built (Ok c) t w) i o)) where
       T : Told op inv byte M room room (table_need 8 room) (work_need 8 room) gens c t w i o
       T = told_of_lem q
 
@@ -262,14 +259,14 @@ module _ (from : List ℕ) (over : Group) (members table : List ℕ) (start : �
     tells_at a b c d e H = rw (a, b, c, d, e) H
 
     started_tells : {s : Subgroup} {t w i o : List ℕ}
-        → from_predicate from over members table start work inn outw room ≡ subgrouping (record { answer = Fine; subgroup = s }) t w i o
+        → from_predicate from over members table start work inn outw room ≡ subgrouping (Ok s) t w i o
         → Tells from over members table start work inn outw room s t w i o
     started_tells q =
         let B = back_accepted whole (sym (is_told S) ∙ q) in
         tells_at B.value B.table_is B.work_is B.inn_is B.outw_is (tells B.is)
 
   pub accepted_started : {s : Subgroup} {t w i o : List ℕ}
-      → from_predicate from over members table start work inn outw room ≡ subgrouping (record { answer = Fine; subgroup = s }) t w i o
+      → from_predicate from over members table start work inn outw room ≡ subgrouping (Ok s) t w i o
       → Predicated from over members table start work inn outw room
   accepted_started q = go ways where
     go : Ways → Predicated from over members table start work inn outw room
@@ -278,6 +275,6 @@ module _ (from : List ℕ) (over : Group) (members table : List ℕ) (start : �
 
   -- What an accepted call gives, whatever the arguments.
   pub predicate_given : AllAccepted from (handles over) → {s : Subgroup} {t w i o : List ℕ}
-      → from_predicate from over members table start work inn outw room ≡ subgrouping (record { answer = Fine; subgroup = s }) t w i o
+      → from_predicate from over members table start work inn outw room ≡ subgrouping (Ok s) t w i o
       → Tells from over members table start work inn outw room s t w i o
   predicate_given As q = started_tells (accepted_started q) As q

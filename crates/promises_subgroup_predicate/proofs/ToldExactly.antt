@@ -6,10 +6,8 @@ use mathlib.Core.List.{List, []}
 use native.Mathlib.Nat.{le_refl}
 use native.Mathlib.Omega.{arith}
 use lib.ListN.{length, get_or, take}
-use Rattle.egg.specs.declared.Reached.{Reached}
-use Rattle.egg.specs.declared.Reached.TheVariants as reached
-use Rattle.egg.specs.declared.Verdict.TheVariants.{Fine}
-use Rattle.egg.specs.declared.Counted.TheVariants.{Count}
+use Rattle.egg.specs.Answers.{Reached}
+use Rattle.std.specs.Prelude.{Ok}
 use Rattle.build_lending.specs.Finish.{built}
 use Rattle.build_lending.specs.Lending.{table_need, work_need, within}
 use Rattle.theory.specs.Group.{GroupOn}
@@ -41,7 +39,7 @@ use Rattle.promises_subgroup_predicate.proofs.Firsts.{each_asked, each_suffices}
 use Rattle.promises_subgroup_predicate.proofs.ToldCalls as told
 
 module _ {M : ℕ} {op : ℕ → ℕ → ℕ} {inv : ℕ → ℕ} (G : GroupOn M op inv) (small : M ≤ 4294967295) (source : ℕ → ℕ → Reached)
-    (answers : (y x : ℕ) → y < M → x < M → source y x ≡ reached.Element (record { 0 = op y x }))
+    (answers : (y x : ℕ) → y < M → x < M → source y x ≡ Ok (record { 0 = op y x }))
     (room K : ℕ) (lo : 1 ≤ room) (hi : room ≤ 65535) (lent : room ≤ K) (size L : ℕ) (fits : room * (2 * 8 + 4) ≤ size)
     (work : room * (6 * 8 * 8 + 4 * 8) ≤ L) where
   module _ {byte : ℕ → ℕ} (x : ℕ) (gens w : List ℕ) (h : x ≤ M) (C : Chosen op byte x gens) (l : length w ≡ L) where
@@ -107,7 +105,7 @@ module _ (from : List ℕ) (over : Group) (members table : List ℕ) (start : �
 
   -- Accepted exactly when.
   pub predicate_exactly : ((s : Subgroup) × (t : List ℕ) × (w : List ℕ) × (i : List ℕ) × (o : List ℕ)
-      × (from_predicate from over members table start work inn outw room ≡ subgrouping (record { answer = Fine; subgroup = s }) t w i o))
+      × (from_predicate from over members table start work inn outw room ≡ subgrouping (Ok s) t w i o))
       ↔ Tellable (direct from over).op (λ x. get_or members x 0) (elements_of (handles over)) room
   predicate_exactly = (
     λ a.
@@ -115,7 +113,7 @@ module _ (from : List ℕ) (over : Group) (members table : List ℕ) (start : �
         builds.0 (
           B.gens,
           record {
-            build = renumbering (built (Count B.count) B.table' B.work') B.inn' B.outw';
+            build = renumbering (built (Ok B.count) B.table' B.work') B.inn' B.outw';
             is = B.is;
             counts = record { count = B.count; table = B.table'; work = B.work'; inn = B.inn'; outw = B.outw'; is = refl };
           },

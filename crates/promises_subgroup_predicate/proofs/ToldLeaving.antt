@@ -6,9 +6,8 @@ use mathlib.Core.List.{List, [], ◌∷◌, ◌++◌}
 use lib.Dec.{ltb}
 use lib.ListN.{length, get_or, take, replicate}
 use Rattle.egg.specs.declared.Refusal.{Refusal}
-use Rattle.egg.specs.declared.Reached.{Reached}
-use Rattle.egg.specs.declared.Verdict.TheVariants as verdict
-use Rattle.egg.specs.declared.Counted.TheVariants.{Count, Refused}
+use Rattle.egg.specs.Answers.{Reached}
+use Rattle.std.specs.Prelude.{Ok, Err}
 use Rattle.egg.specs.Table.{pick}
 use Rattle.build_lending.specs.Finish.{built}
 use Rattle.build_lending.specs.Lending.{table_need, work_need, within}
@@ -18,7 +17,6 @@ use Rattle.group_handles.specs.Handles.{handles, elements_of}
 use Rattle.group_digits.specs.Digits.{composes}
 use Rattle.build_numbering.specs.Build.{Renumbering, renumbering, renumber_in}
 use Rattle.build_numbering_laws.proofs.Builds.{refused_maps}
-use Rattle.subgroup_build.specs.declared.Subgroup.{Subgroup}
 use Rattle.subgroup_build.specs.Lent.{subgrouping}
 use Rattle.subgroup_predicate_choices.specs.Choices.{Picked, picked, is_new_member, ninth, chooses, again_in}
 use Rattle.subgroup_predicate.specs.Predicate.{predicate_in, told_back, from_predicate}
@@ -30,16 +28,16 @@ use Rattle.promises_subgroup_predicate.proofs.ToldCalls.{is_told, work_long}
 
 -- Lists of these lengths, or zeros.
 data Kept (size L M K : ℕ) : Renumbering → Type 0 where
-  counted : {c : ℕ} {t w i o : List ℕ} → length t ≡ size → length w ≡ L → length i ≡ M → length o ≡ K → Kept size L M K (renumbering (built (Count c) t w) i o)
+  counted : {c : ℕ} {t w i o : List ℕ} → length t ≡ size → length w ≡ L → length i ≡ M → length o ≡ K → Kept size L M K (renumbering (built (Ok c) t w) i o)
   cleared : {f : Refusal} {t w i o : List ℕ} → t ≡ replicate size 0 → w ≡ replicate L 0 → i ≡ replicate M 0 → o ≡ replicate K 0
-      → Kept size L M K (renumbering (built (Refused f) t w) i o)
+      → Kept size L M K (renumbering (built (Err f) t w) i o)
 
 build_kept : (size : ℕ) (w₀ : List ℕ) (source : ℕ → ℕ → Reached) (n room M K x₀ : ℕ) {L : ℕ} → length w₀ ≡ L → Kept size L M K (renumber_in size w₀ source n room M K x₀)
 build_kept size w₀ source n room M K x₀ {L} l = by (renumber_in size w₀ source n room M K x₀) refl where
   by : (r : Renumbering) → renumber_in size w₀ source n room M K x₀ ≡ r → Kept size L M K r
-  by (renumbering (built (Count c) t w) i o) q =
+  by (renumbering (built (Ok c) t w) i o) q =
       let P = accepted_lengths size w₀ source n room M K x₀ q in counted P.0 (P.1.0 ∙ l) P.1.1.0 P.1.1.1
-  by (renumbering (built (Refused f) t w) i o) q =
+  by (renumbering (built (Err f) t w) i o) q =
       let Z = refused_stretches size w₀ source n room M K x₀ q in
       let Y = refused_maps size w₀ source n room M K x₀ q in
       cleared Z.0 (Z.1 ∙ ap (λ (k : ℕ). replicate k 0) l) Y.0 Y.1
@@ -58,12 +56,12 @@ module _ (size L M K : ℕ) (again : List ℕ → List ℕ → Renumbering) (kee
   chooses_kept : (k x : ℕ) (gens : List ℕ) (r : Renumbering) → Kept size L M K r → Kept size L M K (last_of (chooses k again byte x gens r))
   unfolding chooses
   chooses_kept zero x gens r h = h
-  chooses_kept (suc k) x gens (renumbering (built (Refused f) t w) i o) h = h
-  chooses_kept (suc k) x gens (renumbering (built (Count c) t w) i o) (counted p q r s) =
+  chooses_kept (suc k) x gens (renumbering (built (Err f) t w) i o) h = h
+  chooses_kept (suc k) x gens (renumbering (built (Ok c) t w) i o) (counted p q r s) =
       turn (is_new_member i byte x) (ltb (length gens) 8) (chooses k again byte (x + 1) (gens ++ (x ∷ [])) (again (gens ++ (x ∷ [])) w))
-      (chooses k again byte (x + 1) gens (renumbering (built (Count c) t w) i o)) gens t w i o p q r s
+      (chooses k again byte (x + 1) gens (renumbering (built (Ok c) t w) i o)) gens t w i o p q r s
       (chooses_kept k (x + 1) (gens ++ (x ∷ [])) (again (gens ++ (x ∷ [])) w) (keeps (gens ++ (x ∷ [])) w q))
-      (chooses_kept k (x + 1) gens (renumbering (built (Count c) t w) i o) (counted p q r s))
+      (chooses_kept k (x + 1) gens (renumbering (built (Ok c) t w) i o) (counted p q r s))
 
 predicate_kept : (size : ℕ) (w : List ℕ) (source : ℕ → ℕ → Reached) (room M K : ℕ) (byte : ℕ → ℕ)
     → Kept size (length w) M K (last_of (predicate_in size w source room M K byte))
@@ -74,20 +72,20 @@ predicate_kept size w source room M K byte =
 
 module _ (from : List ℕ) (over : Group) (members table : List ℕ) (start : ℕ) (work inn outw : List ℕ) (room : ℕ) where
   -- Once it has started, every needed stretch is zero after a refusal.
-  pub predicate_cleared : Predicated from over members table start work inn outw room → {r : Refusal} {s : Subgroup} {t w i o : List ℕ}
-      → from_predicate from over members table start work inn outw room ≡ subgrouping (record { answer = verdict.Refused r; subgroup = s }) t w i o
+  pub predicate_cleared : Predicated from over members table start work inn outw room → {r : Refusal} {t w i o : List ℕ}
+      → from_predicate from over members table start work inn outw room ≡ subgrouping (Err r) t w i o
       → AllCleared (maps_for table start work inn outw 8 (elements_of (handles over)) room t w i o)
-  predicate_cleared S {r} {s} {t} {w} {i} {o} q =
+  predicate_cleared S {r} {t} {w} {i} {o} q =
       put (length (take (work_need 8 room) work)) (work_long from over members table start work inn outw room S)
       (predicate_in (table_need 8 room) (take (work_need 8 room) work) (composes from (handles over)) room (elements_of (handles over)) room (λ x. get_or members x 0))
       (predicate_kept (table_need 8 room) (take (work_need 8 room) work) (composes from (handles over)) room (elements_of (handles over)) room (λ x. get_or members x 0))
       (sym (is_told from over members table start work inn outw room S) ∙ q)
     where
       put : (L : ℕ) → L ≡ work_need 8 room → (b : Picked) → Kept (table_need 8 room) L (elements_of (handles over)) room (last_of b)
-          → told_back over table start work inn outw (elements_of (handles over)) room b ≡ subgrouping (record { answer = verdict.Refused r; subgroup = s }) t w i o
+          → told_back over table start work inn outw (elements_of (handles over)) room b ≡ subgrouping (Err r) t w i o
           → AllCleared (maps_for table start work inn outw 8 (elements_of (handles over)) room t w i o)
-      put L l (picked gens (renumbering (built (Count c) t' w') i' o')) k e = absurd (fine_refused (sym e))
-      put L l (picked gens (renumbering (built (Refused f) t' w') i' o')) (cleared a b c d) e =
+      put L l (picked gens (renumbering (built (Ok c) t' w') i' o')) k e = absurd (fine_refused (sym e))
+      put L l (picked gens (renumbering (built (Err f) t' w') i' o')) (cleared a b c d) e =
           let x₁ : t ≡ within table start (start + table_need 8 room) t' = cc in
           let x₂ : w ≡ within work 0 (work_need 8 room) w' = cc in
           let x₃ : i ≡ within inn 0 (elements_of (handles over)) i' = cc in

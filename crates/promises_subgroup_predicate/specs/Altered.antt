@@ -1,7 +1,7 @@
 -- By what `from_predicate` is refused whatever the overgroup's buffer holds.
 use Rattle.std.specs.Prelude.{ℕ, ◌<◌, ◌≡◌, List, [], ◌∷◌, length, get_or, replicate}
 use Rattle.egg.specs.declared.Refusal.{Refusal}
-use Rattle.egg.specs.declared.Counted.TheVariants as counted
+use Rattle.std.specs.Prelude.{Err}
 use Rattle.egg.specs.Answers.{numbered}
 use Rattle.build_reading.specs.Reading.{read_all}
 use Rattle.build_lending.specs.Finish.{built, finished_placed}
@@ -30,4 +30,4 @@ pub data ToldStops (from : List ℕ) (over : Group) (members : List ℕ) (room :
       → Appearing (length gens) (elements_of (handles over)) (steps_read from over gens) 0 count elt
       → AllAnswered (product_by from (handles over) gens) 0 (length gens) room count elt
       → finished_placed (read_all (numbered_step count elt (steps_read from over gens)) (length gens) room (replicate (table_need 8 room) 0)) (length gens) w
-      ≡ built (counted.Refused r) t w' → ToldStops from over members room r
+      ≡ built (Err r) t w' → ToldStops from over members room r

@@ -1,7 +1,7 @@
 -- This file defines the elements that a predicate chooses, what they generate, and how the choosing ends.
 use Rattle.std.specs.Prelude.{ℕ, ◌<◌, ◌≤◌, ◌≡◌, ◌⊎◌, List, length, get_or}
 use Rattle.egg.specs.declared.Refusal.{Refusal}
-use Rattle.egg.specs.declared.Counted.TheVariants.{Count, Refused}
+use Rattle.std.specs.Prelude.{Ok, Err}
 use Rattle.build_lending.specs.Finish.{built}
 use Rattle.build_numbering.specs.Renumber as appear
 use Rattle.build_numbering.specs.Build.{Renumbering, renumbering}
@@ -41,17 +41,17 @@ pub record Knows (op : ℕ → ℕ → ℕ) (M L : ℕ) (gens inn w : List ℕ) 
 -- Every accepted build by `again` knows this.
 pub record Faithful (op : ℕ → ℕ → ℕ) (M L : ℕ) (again : List ℕ → List ℕ → Renumbering) : Type 0 where
   pub knows : {gens w₀ : List ℕ} {c : ℕ} {t w inn outw : List ℕ} → length gens ≤ 8 → ((g : ℕ) → g < length gens → get_or gens g 0 < M) → length w₀ ≡ L
-      → again gens w₀ ≡ renumbering (built (Count c) t w) inn outw → Knows op M L gens inn w
+      → again gens w₀ ≡ renumbering (built (Ok c) t w) inn outw → Knows op M L gens inn w
 
 -- How the choosing ends: with all elements seen; by the first refusal of a build; or by a ninth generator.
 pub data Ends (op : ℕ → ℕ → ℕ) (byte : ℕ → ℕ) (M L : ℕ) (again : List ℕ → List ℕ → Renumbering) : Picked → Type 0 where
   accepted : {gens : List ℕ} {c : ℕ} {t w inn outw : List ℕ} (w₀ : List ℕ) → length w₀ ≡ L → Chosen op byte M gens
-      → again gens w₀ ≡ renumbering (built (Count c) t w) inn outw
-      → Ends op byte M L again (picked gens (renumbering (built (Count c) t w) inn outw))
+      → again gens w₀ ≡ renumbering (built (Ok c) t w) inn outw
+      → Ends op byte M L again (picked gens (renumbering (built (Ok c) t w) inn outw))
   refused : {gens : List ℕ} {f : Refusal} {t w inn outw : List ℕ} (x : ℕ) (w₀ : List ℕ) → x ≤ M → length w₀ ≡ L → Chosen op byte x gens
-      → again gens w₀ ≡ renumbering (built (Refused f) t w) inn outw
-      → Ends op byte M L again (picked gens (renumbering (built (Refused f) t w) inn outw))
+      → again gens w₀ ≡ renumbering (built (Err f) t w) inn outw
+      → Ends op byte M L again (picked gens (renumbering (built (Err f) t w) inn outw))
   too_many : {gens : List ℕ} {c : ℕ} {t w inn outw : List ℕ} (x : ℕ) (w₀ : List ℕ) → x < M → length w₀ ≡ L → Chosen op byte x gens
       → length gens ≡ 8 → ¬ (byte x ≡ 0) → ¬ Reach op gens 8 x
-      → again gens w₀ ≡ renumbering (built (Count c) t w) inn outw
+      → again gens w₀ ≡ renumbering (built (Ok c) t w) inn outw
       → Ends op byte M L again (picked gens (ninth t w inn outw))

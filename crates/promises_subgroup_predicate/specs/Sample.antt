@@ -1,8 +1,7 @@
 -- This file has the group of the numbers modulo 6, for what is computed of a subgroup by a predicate.
 use Rattle.std.specs.Prelude.{ℕ, ◌+◌, ◌%◌, List, get_or, replicate}
-use Rattle.egg.specs.declared.Reached.{Reached}
-use Rattle.egg.specs.declared.Reached.TheVariants.{Element}
-use Rattle.egg.specs.declared.Counted.{Counted}
+use Rattle.egg.specs.Answers.{Counted, Reached}
+use Rattle.std.specs.Prelude.{Ok}
 use Rattle.build_lending.specs.Finish.{built}
 use Rattle.build_numbering.specs.Build.{renumbering}
 use Rattle.subgroup_predicate_choices.specs.Choices.{Picked, picked}
@@ -21,7 +20,7 @@ sampled (picked gens (renumbering (built c t w) inn outw)) = record { gens = gen
 
 -- The product of two elements in the group of the numbers modulo 6.
 abbrev pub plus_six : ℕ → ℕ → Reached
-plus_six y x = Element (record { 0 = (y + x) % 6 })
+plus_six y x = Ok (record { 0 = (y + x) % 6 })
 
 -- The build in that group, with this room, by the predicate that is true where the byte is not 0.
 abbrev pub tells_six : List ℕ → ℕ → Sampled

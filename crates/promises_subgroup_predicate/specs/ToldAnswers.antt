@@ -2,8 +2,8 @@
 -- comes. "Rebuilt as 005 does, the first refusal standing".
 use Rattle.std.specs.Prelude.{ℕ, ◌≤◌, ◌<◌, ◌≡◌, true, false, List, [], ◌∷◌, length, get_or, take}
 use Rattle.egg.specs.declared.Refusal.{Refusal}
-use Rattle.egg.specs.declared.Verdict.{Verdict}
-use Rattle.egg.specs.declared.Verdict.TheVariants.{Fine, Refused}
+use Rattle.egg.specs.Answers.{Verdict, fine}
+use Rattle.std.specs.Prelude.{Err}
 use Rattle.egg.specs.Scan.{refused_of}
 use Rattle.egg.specs.Factor.{Paper, refusal_paper, verdict_paper}
 use Rattle.egg.specs.Answers.{numbered}
@@ -30,9 +30,9 @@ pub record Stopping (op : ℕ → ℕ → ℕ) (M room : ℕ) (gens : List ℕ) 
 -- How the choosing ends: all elements are seen, and every build on the way was made; or one build could not be made, by the elements chosen below x,
 -- and those before it were; or eight are chosen below x, all builds were made, and x needs a ninth.
 pub data Way (op : ℕ → ℕ → ℕ) (byte : ℕ → ℕ) (M room : ℕ) : Verdict → Type 0 where
-  told : Tellable op byte M room → Way op byte M room Fine
+  told : Tellable op byte M room → Way op byte M room fine
   stops : {r : Refusal} (x : ℕ) (gens : List ℕ) → x ≤ M → Chosen op byte x gens → ((k : ℕ) → k < length gens → Buildable op M room (take k gens))
-      → Stopping op M room gens r → Way op byte M room (Refused r)
+      → Stopping op M room gens r → Way op byte M room (Err r)
   ninth : (x : ℕ) (gens : List ℕ) → x < M → Chosen op byte x gens → ((k : ℕ) → k ≤ length gens → Buildable op M room (take k gens))
       → length gens ≡ 8 → ¬ (byte x ≡ 0) → ¬ Reach op gens 8 x → Way op byte M room (refused_of 15 0 0 0)
 

@@ -8,8 +8,8 @@ use borrow.Author.Tests.{lt-ltb, le-ltb, eq-eqb, ne_eqb}
 use lib.ListN.{get_or}
 use Rattle.egg.specs.declared.Refusal.{Refusal}
 use Rattle.egg.specs.declared.GroupElementId.{GroupElementId}
-use Rattle.egg.specs.declared.Reached.{Reached}
-use Rattle.egg.specs.declared.Reached.TheVariants as reached
+use Rattle.egg.specs.Answers.{Reached}
+use Rattle.std.specs.Prelude.{Ok, Err, Some, None}
 use Rattle.egg.specs.Factor.{refused_reach}
 use Rattle.egg.specs.Answers.{on_reached}
 use Rattle.theory_radix.proofs.RadixLaws.{range_pos, high_small}
@@ -17,7 +17,7 @@ use Rattle.group_handles.specs.Handles.{handles, elements_of, capped}
 use Rattle.group_handles.proofs.Caps.{cap_small}
 use Rattle.build_numbering.specs.Renumber.{no_number}
 use Rattle.subgroup_build.specs.declared.Subgroup.{Subgroup}
-use Rattle.subgroup.specs.declared.Within.TheVariants as within
+use Rattle.subgroup.specs.Answers.{Within}
 use Rattle.subgroup.specs.Indices.{factor_indices, unfactor_indices, with_within}
 use Rattle.subgroup_sides.specs.Sides.{over_side, sub_side}
 use Rattle.subgroup.specs.Questions.{carried_by, carried_over, carried_back_by, carried_back, refused_within}
@@ -45,12 +45,12 @@ module _ (B M N e : ℕ) (outw : List ℕ) {w : ℕ} (r : w ≡ get_or outw (e /
   pub carry_refused : M ≤ w → refused_reach 17 0 ≡ carried_by B M N outw e
   carry_refused k = rw (← r, le-ltb w M k)
 
-  pub carry_is : w < M → {t : ℕ} → t ≡ unfactor_indices (with_within (factor_indices e B N) w) B M → reached.Element (record { 0 = t }) ≡ carried_by B M N outw e
+  pub carry_is : w < M → {t : ℕ} → t ≡ unfactor_indices (with_within (factor_indices e B N) w) B M → Ok (record { 0 = t }) ≡ carried_by B M N outw e
   carry_is k u = rw (← r, lt-ltb w M k, u)
 
 -- And back.
 module _ (B M N x : ℕ) (inn : List ℕ) {w : ℕ} (r : w ≡ get_or inn (x / B % M) 0) where
-  pub back_outside : w ≡ no_number → within.Outside ≡ carried_back_by B M N inn x
+  pub back_outside : w ≡ no_number → ◌≡◌ {A = Within} (Ok None) (carried_back_by B M N inn x)
   back_outside k = rw (← r, eq-eqb w no_number k)
 
   module _ (f : ¬ (w ≡ no_number)) where
@@ -58,7 +58,7 @@ module _ (B M N x : ℕ) (inn : List ℕ) {w : ℕ} (r : w ≡ get_or inn (x / B
     back_refused k = rw (← r, ne_eqb w no_number f, le-ltb w N k)
 
     pub back_is : w < N → {t : ℕ} → t ≡ unfactor_indices (with_within (factor_indices x B M) w) B N
-        → within.Element (record { 0 = t }) ≡ carried_back_by B M N inn x
+        → Ok (Some (record { 0 = t })) ≡ carried_back_by B M N inn x
     back_is k u = rw (← r, ne_eqb w no_number f, lt-ltb w N k, u)
 
 -- Where both sides are within 32 bits, so are their parts.
@@ -124,8 +124,8 @@ inner_small q m w b r h k =
     omega (arith, z, y)
 
 -- What goes on from an element.
-pub carries_refused : {r v : Reached} (q : r ≡ v) (F : ℕ → Reached) {w : Refusal} → r ≡ reached.Refused w → r ≡ on_reached v F
+pub carries_refused : {r v : Reached} (q : r ≡ v) (F : ℕ → Reached) {w : Refusal} → r ≡ Err w → Err w ≡ on_reached v F
 carries_refused q F e = rw (← q, e)
 
-pub carries_on : {r v : Reached} (q : r ≡ v) (F : ℕ → Reached) {e : GroupElementId} → r ≡ reached.Element e → F e.0 ≡ on_reached v F
+pub carries_on : {r v : Reached} (q : r ≡ v) (F : ℕ → Reached) {e : GroupElementId} → r ≡ Ok e → F e.0 ≡ on_reached v F
 carries_on q F e = rw (← q, e)

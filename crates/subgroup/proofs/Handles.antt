@@ -1,4 +1,5 @@
 -- Laws of the questions about the handles alone, one for each answer; and of the overgroup's factors, which are few enough to be one product.
+use Rattle.std.specs.Prelude.{Ok}
 use Prim.Native.Nat.{ℕ, ◌+◌, ◌≤◌}
 use mathlib.Core.Path.{◌≡◌, refl, sym, ap, ◌∙◌}
 use mathlib.Core.Bool.{Bool, true, false}
@@ -9,13 +10,13 @@ use lib.ListN.{length}
 use lib.Dec.{leb}
 use Rattle.egg.specs.declared.Factor.{Factor}
 use Rattle.egg.specs.declared.Refusal.{Refusal}
-use Rattle.egg.specs.declared.Verdict.{Verdict}
-use Rattle.egg.specs.declared.Verdict.TheVariants.{Fine, Refused}
+use Rattle.egg.specs.Answers.{Verdict, fine}
+use Rattle.std.specs.Prelude.{Err}
 use Rattle.egg.specs.Scan.{refused_of}
 use Rattle.egg.proofs.Rooms.{and_first, and_second}
 use Rattle.egg.proofs.Scans.{refused_fine}
 use Rattle.group_handles.specs.declared.Group.{Group}
-use Rattle.group_handles.specs.Handles.{handles, group_of, no_group}
+use Rattle.group_handles.specs.Handles.{handles, group_of}
 use Rattle.group_handles.proofs.Sums.{both_length}
 use Rattle.group_handles.proofs.Joins.{handles_of}
 use Rattle.subgroup_build.specs.declared.Subgroup.{Subgroup}
@@ -34,12 +35,12 @@ module _ (from table : ℕ) (s : Subgroup) where
       unfolding admits_handles
       handles_15 f = rw (← p, e, ← q, f)
 
-      pub handles_fine : c ≡ true → Fine ≡ admits_handles from table s
+      pub handles_fine : c ≡ true → fine ≡ admits_handles from table s
       unfolding admits_handles
       handles_fine f = rw (← p, e, ← q, f)
 
   -- What a question that goes on has tested.
-  pub handles_admitted : admits_handles from table s ≡ Fine → (sides_fit from table s ≡ true) × (sides_limited s ≡ true)
+  pub handles_admitted : admits_handles from table s ≡ fine → (sides_fit from table s ≡ true) × (sides_limited s ≡ true)
   handles_admitted h = by (sides_fit from table s) (sides_limited s) refl refl where
     by : (b c : Bool) → sides_fit from table s ≡ b → sides_limited s ≡ c → (sides_fit from table s ≡ true) × (sides_limited s ≡ true)
     by false c p q = absurd (refused_fine (handles_17 (sym p) refl ∙ h))
@@ -47,10 +48,10 @@ module _ (from table : ℕ) (s : Subgroup) where
     by true true p q = (p, q)
 
 module _ {v w : Verdict} (q : v ≡ w) where
-  pub grouped_refused : {r : Refusal} (g : Group) → v ≡ Refused r → record { answer = Refused r; group = no_group } ≡ if_grouped w g
+  pub grouped_refused : {r : Refusal} (g : Group) → v ≡ Err r → Err r ≡ if_grouped w g
   grouped_refused g e = rw (← q, e)
 
-  pub grouped_fine : (g : Group) → v ≡ Fine → record { answer = Fine; group = g } ≡ if_grouped w g
+  pub grouped_fine : (g : Group) → v ≡ fine → Ok g ≡ if_grouped w g
   grouped_fine g e = rw (← q, e)
 
 -- The overgroup's factors, and those over and above.

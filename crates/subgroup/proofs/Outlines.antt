@@ -8,9 +8,8 @@ use lib.ListN.{length}
 use lib.Dec.{leb}
 use Rattle.egg.specs.declared.GroupElementId.{GroupElementId}
 use Rattle.egg.specs.declared.Refusal.{Refusal}
-use Rattle.egg.specs.declared.Verdict.{Verdict}
-use Rattle.egg.specs.declared.Verdict.TheVariants.{Fine, Refused}
-use Rattle.egg.specs.declared.Reached.{Reached}
+use Rattle.egg.specs.Answers.{Reached, Verdict, fine}
+use Rattle.std.specs.Prelude.{Ok, Err}
 use Rattle.egg.specs.Scan.{refused_of}
 use Rattle.egg.specs.Factor.{fits_in}
 use Rattle.egg.proofs.Rooms.{and_first, and_second}
@@ -20,8 +19,7 @@ use Rattle.group_handles.specs.declared.inner.Seen.{Seen}
 use Rattle.group_handles.specs.Handles.{handles, elements_of, capped, seen}
 use Rattle.group_handles.proofs.Caps.{cap_small, cap_within, capped_bound}
 use Rattle.subgroup_build.specs.declared.Subgroup.{Subgroup}
-use Rattle.subgroup.specs.declared.Within.{Within}
-use Rattle.subgroup.specs.declared.Within.TheVariants as within
+use Rattle.subgroup.specs.Answers.{Within}
 use Rattle.subgroup.specs.declared.inner.Outline.{Outline}
 use Rattle.subgroup_sides.specs.Sides.{over_side, sub_side, few_factors, limited_by, sides_limited, admits_sides, over_count}
 use Rattle.subgroup.specs.Questions.{if_within, carried_by, carried_over, to_over_answer, to_sub_answer}
@@ -56,7 +54,7 @@ module _ (o : Outline) (map need a la : ℕ) where
         unfolding admits_outline
         admit_large z = rw (z, fits, le-leb need map long, lt-leb la a below)
 
-        pub admit_fine : outline_limited o ≡ true → Fine ≡ admits_outline o map need a la
+        pub admit_fine : outline_limited o ≡ true → fine ≡ admits_outline o map need a la
         unfolding admits_outline
         admit_fine z = rw (z, fits, le-leb need map long, lt-leb la a below)
 
@@ -65,7 +63,7 @@ record Goes (o : Outline) (a la : ℕ) : Type 0 where
   pub argument : a < la
   pub limited : outline_limited o ≡ true
 
-goes : (o : Outline) (map need a la : ℕ) → admits_outline o map need a la ≡ Fine → Goes o a la
+goes : (o : Outline) (map need a la : ℕ) → admits_outline o map need a la ≡ fine → Goes o a la
 goes o map need a la q = by o.fit (leb need map) (leb la a) (outline_limited o) refl refl refl refl where
   by : (w x y z : Bool) → o.fit ≡ w → leb need map ≡ x → leb la a ≡ y → outline_limited o ≡ z → Goes o a la
   by false x y z p h k l = absurd (refused_fine (admit_handle o map need a la p ∙ q))
@@ -93,7 +91,7 @@ module _ (o : Outline) (h : outline_limited o ≡ true) where
   sub_exact : sub_measure o ≡ o.below * (o.within * o.above)
   sub_exact = cap_right o.below (o.within * o.above) ∙ cap_small sub_limit
 
-module _ (o : Outline) (map need a : ℕ) {la : ℕ} {v : Verdict} (q : v ≡ admits_outline o map need a la) (f : v ≡ Fine) where
+module _ (o : Outline) (map need a : ℕ) {la : ℕ} {v : Verdict} (q : v ≡ admits_outline o map need a la) (f : v ≡ fine) where
   pub over_goes : la ≡ sub_measure o
       → (a < o.below * (o.within * o.above)) × ((o.below * (o.within * o.above) ≤ 4294967295) × (o.below * (o.over * o.above) ≤ 4294967295))
   over_goes p =
@@ -112,19 +110,19 @@ pub outline_is : (from table : ℕ) (s : Subgroup) {fits few : Bool} {low middle
     → {r : Outline} → r ≡ outline_by fits few s.factor.elements low middle high → r ≡ outline_of from table s
 outline_is from table s p q u v w e = e ∙ rw (p, q, u, v, w, fit_law from table s)
 
-reach_same : (w : Verdict) {v : Verdict} {x y : Reached} → v ≡ w → (w ≡ Fine → x ≡ y) → if_reach v x ≡ if_reach w y
-reach_same Fine p f = rw (p, f refl)
-reach_same (Refused r) p f = rw p
+reach_same : (w : Verdict) {v : Verdict} {x y : Reached} → v ≡ w → (w ≡ fine → x ≡ y) → if_reach v x ≡ if_reach w y
+reach_same (Ok _) p f = rw (p, f refl)
+reach_same (Err r) p f = rw p
 
-within_same : (w : Verdict) {v : Verdict} {x y : Within} → v ≡ w → (w ≡ Fine → x ≡ y) → if_within v x ≡ if_within w y
-within_same Fine p f = rw (p, f refl)
-within_same (Refused r) p f = rw p
+within_same : (w : Verdict) {v : Verdict} {x y : Within} → v ≡ w → (w ≡ fine → x ≡ y) → if_within v x ≡ if_within w y
+within_same (Ok _) p f = rw (p, f refl)
+within_same (Err r) p f = rw p
 
 module _ {v w : Verdict} (q : v ≡ w) where
-  pub within_refused : {r : Refusal} (x : Within) → v ≡ Refused r → within.Refused r ≡ if_within w x
+  pub within_refused : {r : Refusal} (x : Within) → v ≡ Err r → Err r ≡ if_within w x
   within_refused x e = rw (← q, e)
 
-  pub within_fine : (x : Within) → v ≡ Fine → x ≡ if_within w x
+  pub within_fine : (x : Within) → v ≡ fine → x ≡ if_within w x
   within_fine x e = rw (← q, e)
 
 module _ (from table : ℕ) (s : Subgroup) where

@@ -1,3 +1,4 @@
+pub mod Answers
 pub mod Indices
 pub mod Questions
 pub mod Outline

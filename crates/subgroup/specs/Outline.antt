@@ -1,16 +1,14 @@
 -- This file defines the questions to a subgroup by its outline: the few numbers that its handles show together. They are proved to be the questions
 -- of Questions.antt; an outline is shorter to hand on than a subgroup.
 use Rattle.std.specs.Prelude.{ℕ, ◌*◌, ◌≤◌, List, Bool, ◌&&◌, length, leb}
-use Rattle.egg.specs.declared.Verdict.{Verdict}
-use Rattle.egg.specs.declared.Verdict.TheVariants as verdict
-use Rattle.egg.specs.declared.Reached.{Reached}
+use Rattle.egg.specs.Answers.{Reached, Verdict, fine}
 use Rattle.egg.specs.Table.{pick}
 use Rattle.egg.specs.Scan.{refused_of}
 use Rattle.egg.specs.Answers.{if_reach}
 use Rattle.group_handles.specs.declared.inner.Seen.{Seen}
 use Rattle.group_handles.specs.Handles.{handles, elements_of, capped}
 use Rattle.subgroup_build.specs.declared.Subgroup.{Subgroup}
-use Rattle.subgroup.specs.declared.Within.{Within}
+use Rattle.subgroup.specs.Answers.{Within}
 use Rattle.subgroup.specs.declared.inner.Outline.{Outline}
 use Rattle.subgroup_sides.specs.Sides.{sides_fit, few_factors, limited_by, stride_of, over_count}
 use Rattle.subgroup.specs.Questions.{carried_by, carried_back_by, if_within}
@@ -60,7 +58,7 @@ outline_limited o = limited_by o.few o.below o.within o.over o.above
 unfoldable pub admits_outline : (o : Outline) (map need a la : ℕ) → Verdict
 admits_outline o map need a la =
     pick (o.fit && leb need map)
-    (pick (leb la a) (refused_of 14 0 0 0) (pick (outline_limited o) verdict.Fine (refused_of 15 0 0 0)))
+    (pick (leb la a) (refused_of 14 0 0 0) (pick (outline_limited o) fine (refused_of 15 0 0 0)))
     (refused_of 17 0 0 0)
 
 -- `to_over_answer` by the outline.

@@ -3,23 +3,18 @@
 use Rattle.std.specs.Prelude.{ℕ, ◌/◌, ◌%◌, List, length, get_or, eqb, ltb}
 use Rattle.egg.specs.declared.GroupElementId.{GroupElementId}
 use Rattle.egg.specs.declared.GeneratorId.{GeneratorId}
-use Rattle.egg.specs.declared.Verdict.{Verdict}
-use Rattle.egg.specs.declared.Verdict.TheVariants as verdict
-use Rattle.egg.specs.declared.Reached.{Reached}
-use Rattle.egg.specs.declared.Reached.TheVariants as reached
-use Rattle.egg.specs.declared.Counted.{Counted}
-use Rattle.egg.specs.declared.Counted.TheVariants as counted
+use Rattle.egg.specs.Answers.{Counted, Reached, Verdict, fine}
+use Rattle.std.specs.Prelude.{Ok, Err, Some, None}
 use Rattle.egg.specs.Table.{pick}
 use Rattle.egg.specs.Scan.{refused_of}
-use Rattle.egg.specs.Factor.{Paper, refusal_paper, refused_reach}
+use Rattle.egg.specs.Factor.{Paper, refusal_paper, numbered, refused_reach}
 use Rattle.egg.specs.Answers.{if_reach, if_count, on_reached}
 use Rattle.group_handles.specs.declared.Group.{Group}
-use Rattle.group_handles.specs.declared.Grouped.{Grouped}
-use Rattle.group_handles.specs.Handles.{elements_of, generators_of, capped, group_of, no_group}
+use Rattle.group_handles.specs.Answers.{Grouped}
+use Rattle.group_handles.specs.Handles.{elements_of, generators_of, capped, group_of}
 use Rattle.build_numbering.specs.Renumber.{no_number}
 use Rattle.subgroup_build.specs.declared.Subgroup.{Subgroup}
-use Rattle.subgroup.specs.declared.Within.{Within}
-use Rattle.subgroup.specs.declared.Within.TheVariants as within
+use Rattle.subgroup.specs.Answers.{Within}
 use Rattle.subgroup.specs.Indices.{over_of, sub_of}
 use Rattle.subgroup_sides.specs.Sides.{over_side, sub_side, stride_of, over_count, sides_fit, sides_limited, admits_sides}
 use Rattle.subgroup_sides.specs.Generators.{side_generator}
@@ -27,24 +22,24 @@ use Rattle.subgroup_sides.specs.Generators.{side_generator}
 -- Document 01's number and places for each case of the answer. "A definition sets out this paper's number and values for each of its cases"; ""Not in
 -- the subgroup" is 4,294,967,295 in the map, which is no element number".
 abbrev pub within_paper : Within → Paper
-within_paper (within.Element e) = record { number = 0; a = e.0; b = 0; c = 0 }
-within_paper within.Outside = record { number = 0; a = no_number; b = 0; c = 0 }
-within_paper (within.Refused r) = refusal_paper r
+within_paper (Ok (Some e)) = record { number = 0; a = e.0; b = 0; c = 0 }
+within_paper (Ok None) = record { number = 0; a = no_number; b = 0; c = 0 }
+within_paper (Err r) = refusal_paper r
 
 -- The refusal with this number and no places.
 abbrev pub refused_within : ℕ → Within
-refused_within k = within.Refused (record { number = k; a = 0; b = 0; c = 0 })
+refused_within k = Err (numbered k 0 0 0)
 
 -- Goes on where there is no refusal.
 abbrev pub if_within : Verdict → Within → Within
-if_within verdict.Fine x = x
-if_within (verdict.Refused r) x = within.Refused r
+if_within (Ok _) x = x
+if_within (Err r) x = Err r
 
 -- Carries the subgroup's e to the overgroup, by the number that the map has for its part within; 17 where that is no element there. `stride` elements
 -- are below, and the part within has M elements in the overgroup and N in the subgroup.
 abbrev pub carried_by : (stride M N : ℕ) (outw : List ℕ) (e : ℕ) → Reached
 carried_by stride M N outw e =
-    pick (ltb (get_or outw (e / stride % N) 0) M) (reached.Element (record { 0 = over_of stride M N (λ i. get_or outw i 0) e })) (refused_reach 17 0)
+    pick (ltb (get_or outw (e / stride % N) 0) M) (Ok (record { 0 = over_of stride M N (λ i. get_or outw i 0) e })) (refused_reach 17 0)
 
 -- The same by the subgroup's own numbers.
 unfoldable pub carried_over : Subgroup → List ℕ → ℕ → Reached
@@ -58,8 +53,8 @@ to_over_answer from table s outw e =
 -- Carries the overgroup's x back to the subgroup. What is not in the subgroup has an answer of its own; 17 where the map holds no element.
 abbrev pub carried_back_by : (stride M N : ℕ) (inn : List ℕ) (x : ℕ) → Within
 carried_back_by stride M N inn x =
-    pick (eqb (get_or inn (x / stride % M) 0) no_number) within.Outside
-    (pick (ltb (get_or inn (x / stride % M) 0) N) (within.Element (record { 0 = sub_of stride M N (λ i. get_or inn i 0) x })) (refused_within 17))
+    pick (eqb (get_or inn (x / stride % M) 0) no_number) (Ok None)
+    (pick (ltb (get_or inn (x / stride % M) 0) N) (Ok (Some (record { 0 = sub_of stride M N (λ i. get_or inn i 0) x }))) (refused_within 17))
 
 -- The same by the subgroup's own numbers.
 unfoldable pub carried_back : Subgroup → List ℕ → ℕ → Within
@@ -79,16 +74,16 @@ generator_answer from table s outw g =
 
 -- The questions that read neither map nor table, and have no argument: "17 in the handle, .. then 15".
 unfoldable pub admits_handles : (from table : ℕ) (s : Subgroup) → Verdict
-admits_handles from table s = pick (sides_fit from table s) (pick (sides_limited s) verdict.Fine (refused_of 15 0 0 0)) (refused_of 17 0 0 0)
+admits_handles from table s = pick (sides_fit from table s) (pick (sides_limited s) fine (refused_of 15 0 0 0)) (refused_of 17 0 0 0)
 
 -- How many generators `generator` can be asked for: those below, the factor's own, and those above. (005 has them as the length of `subgroup_generators`.)
 unfoldable pub generator_count_answer : (from table : ℕ) (s : Subgroup) → Counted
-generator_count_answer from table s = if_count (admits_handles from table s) (counted.Count (generators_of (sub_side s)))
+generator_count_answer from table s = if_count (admits_handles from table s) (Ok (generators_of (sub_side s)))
 
--- A product beside its verdict; beside a refusal it fits no buffer.
+-- The product where there is no refusal.
 abbrev pub if_grouped : Verdict → Group → Grouped
-if_grouped verdict.Fine g = record { answer = verdict.Fine; group = g }
-if_grouped (verdict.Refused r) g = record { answer = verdict.Refused r; group = no_group }
+if_grouped (Ok _) g = Ok g
+if_grouped (Err r) g = Err r
 
 -- `overgroup`, "the original group that this is a subgroup of": the factors below, those that the subgroup stands for, and those above.
 unfoldable pub overgroup_answer : (from table : ℕ) (s : Subgroup) → Grouped

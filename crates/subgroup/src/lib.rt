@@ -11,20 +11,12 @@ ghost use Rattle.subgroup_sides.specs.Sides.{left_product, right_product};
 ghost use Rattle.subgroup.specs.Questions.{to_over_answer, to_sub_answer, generator_answer, generator_count_answer, overgroup_answer};
 ghost use Rattle.subgroup.specs.Trivial.{trivial_subgroup};
 
-use egg::{Counted, GeneratorId, GroupElementId, Reached, Refusal, Verdict};
-use group_handles::{Group, Grouped};
-pub use subgroup_build::{Subgroup, Subgrouped};
+use egg::{GeneratorId, GroupElementId, Refusal};
+use group_handles::Group;
+pub use subgroup_build::Subgroup;
 pub use subgroup_predicate::from_predicate;
 
 pub mod inner;
-
-// What an element of the overgroup is in the subgroup: an element, or outside of it.
-#[derive(Clone, Copy)]
-pub enum Within {
-    Element(GroupElementId),
-    Outside,
-    Refused(Refusal),
-}
 
 // Builds the subgroup that the elements `gens` of a product in `from` generate, into the stretch of `table` that starts at `start`, and fills its two
 // maps. Refuses in this order: 17 for a handle that does not fit, 14 for the first entry that is no element, 15 for an overgroup too large to number,
@@ -39,15 +31,11 @@ pub fn from_generators(
     inn: &mut [u32],
     outw: &mut [u32],
     room: u32,
-) -> Subgrouped
+) -> Result<Subgroup, Refusal>
     ensures { Subgrouping.subgrouping result table.new work.new inn.new outw.new ≡ from_generators from.now over gens.now table.old start work.old inn.old outw.old room }
 {
-    match subgroup_build::inner::admit_generators(from, over, gens) {
-        Verdict::Refused(why) => subgroup_build::inner::refused_subgroup(over, why),
-        Verdict::Fine => subgroup_build::inner::generated_into(
-            from, over, gens, table, start, work, inn, outw, room,
-        ),
-    }
+    subgroup_build::inner::admit_generators(from, over, gens)?;
+    subgroup_build::inner::generated_into(from, over, gens, table, start, work, inn, outw, room)
 }
 
 // Makes the trivial subgroup, of the group of one element: it needs four entries of table, none of work, and one place in each map. Refuses with 4
@@ -58,7 +46,7 @@ pub fn trivial(
     work: &mut [u32],
     inn: &mut [u32],
     outw: &mut [u32],
-) -> Subgrouped
+) -> Result<Subgroup, Refusal>
     ensures { Subgrouping.subgrouping result table.new work.new inn.new outw.new ≡ trivial_subgroup table.old start work.old inn.old outw.old }
 {
     let over = group_handles::trivial();
@@ -67,27 +55,32 @@ pub fn trivial(
 
 // Answers the subgroup of g · overgroup that is g · subgroup. Refuses in this order: 17 for a handle that does not fit, 15 for more than 8 factors or
 // too many elements on a side.
-pub fn product_left(from: &[u32], table: &[u32], g: Group, s: Subgroup) -> Subgrouped
+pub fn product_left(from: &[u32], table: &[u32], g: Group, s: Subgroup) -> Result<Subgroup, Refusal>
     ensures { result ≡ left_product (length from.now) (length table.now) g s }
 {
     if !subgroup_sides::inner::sides_fit(from, table, s) {
-        return subgroup_sides::inner::refused_sides(17);
+        return Err(Refusal::Unreadable);
     }
     if !group_handles::inner::all_fit(from, g) {
-        return subgroup_sides::inner::refused_sides(17);
+        return Err(Refusal::Unreadable);
     }
     subgroup_sides::inner::left_of(g, s)
 }
 
 // Answers the subgroup of overgroup · g that is subgroup · g. Refuses as `product_left` does.
-pub fn product_right(from: &[u32], table: &[u32], s: Subgroup, g: Group) -> Subgrouped
+pub fn product_right(
+    from: &[u32],
+    table: &[u32],
+    s: Subgroup,
+    g: Group,
+) -> Result<Subgroup, Refusal>
     ensures { result ≡ right_product (length from.now) (length table.now) s g }
 {
     if !subgroup_sides::inner::sides_fit(from, table, s) {
-        return subgroup_sides::inner::refused_sides(17);
+        return Err(Refusal::Unreadable);
     }
     if !group_handles::inner::all_fit(from, g) {
-        return subgroup_sides::inner::refused_sides(17);
+        return Err(Refusal::Unreadable);
     }
     subgroup_sides::inner::right_of(s, g)
 }
@@ -100,20 +93,20 @@ pub fn to_overgroup(
     s: Subgroup,
     outw: &[u32],
     e: GroupElementId,
-) -> Reached
+) -> Result<GroupElementId, Refusal>
     ensures { result ≡ to_over_answer (length from.now) (length table.now) s outw.now e }
 {
     inner::over_by(inner::outlined(from, table, s), outw, e)
 }
 
-// Answers the element of the subgroup that the overgroup's x is, or that it is outside. Refuses as `to_overgroup` does.
+// Answers the element of the subgroup that the overgroup's x is, or `None` where it is outside. Refuses as `to_overgroup` does.
 pub fn to_subgroup(
     from: &[u32],
     table: &[u32],
     s: Subgroup,
     inn: &[u32],
     x: GroupElementId,
-) -> Within
+) -> Result<Option<GroupElementId>, Refusal>
     ensures { result ≡ to_sub_answer (length from.now) (length table.now) s inn.now x }
 {
     inner::back_by(inner::outlined(from, table, s), inn, x)
@@ -121,36 +114,35 @@ pub fn to_subgroup(
 
 // Answers the generator g of the subgroup as an element of the overgroup. Refuses in this order: 17 for a handle that does not fit or a short map, 14
 // for a generator out of range, 15 for a side too large, 17 for a number read that is out of range.
-pub fn generator(from: &[u32], table: &[u32], s: Subgroup, outw: &[u32], g: GeneratorId) -> Reached
+pub fn generator(
+    from: &[u32],
+    table: &[u32],
+    s: Subgroup,
+    outw: &[u32],
+    g: GeneratorId,
+) -> Result<GroupElementId, Refusal>
     ensures { result ≡ generator_answer from.now table.now s outw.now g }
 {
-    let factor = s.factor;
-    let n = factor.elements as u64;
+    let n = s.factor.elements as u64;
     let k = subgroup_sides::inner::sub_generators(s) as u64;
     let o = inner::outlined(from, table, s);
-    match inner::admit(o, outw.len(), n, g.0 as u32, k) {
-        Verdict::Refused(why) => Reached::Refused(why),
-        Verdict::Fine => inner::generator_over(from, table, s, o, outw, g),
-    }
+    inner::admit(o, outw.len(), n, g.0 as u32, k)?;
+    inner::generator_over(from, table, s, o, outw, g)
 }
 
 // Answers how many generators the subgroup has, with those of the groups that were multiplied on. Refuses as `overgroup` does.
-pub fn generator_count(from: &[u32], table: &[u32], s: Subgroup) -> Counted
+pub fn generator_count(from: &[u32], table: &[u32], s: Subgroup) -> Result<u32, Refusal>
     ensures { result ≡ generator_count_answer (length from.now) (length table.now) s }
 {
-    match inner::admit_handles(from, table, s) {
-        Verdict::Refused(why) => Counted::Refused(why),
-        Verdict::Fine => Counted::Count(subgroup_sides::inner::sub_generators(s)),
-    }
+    inner::admit_handles(from, table, s)?;
+    Ok(subgroup_sides::inner::sub_generators(s))
 }
 
 // Hands back the group that this is a subgroup of, with the groups that were multiplied on. Refuses in this order: 17 for a handle that does not fit,
 // 15 for a side too large.
-pub fn overgroup(from: &[u32], table: &[u32], s: Subgroup) -> Grouped
+pub fn overgroup(from: &[u32], table: &[u32], s: Subgroup) -> Result<Group, Refusal>
     ensures { result ≡ overgroup_answer (length from.now) (length table.now) s }
 {
-    match inner::admit_handles(from, table, s) {
-        Verdict::Refused(why) => inner::no_group(why),
-        Verdict::Fine => inner::over_group(s),
-    }
+    inner::admit_handles(from, table, s)?;
+    Ok(inner::over_group(s))
 }

@@ -8,8 +8,8 @@ use borrow.Author.Tests.{le-leb, lt-leb, leb-true}
 use lib.ListN.{length, get_or}
 use lib.Dec.{leb}
 use Rattle.egg.specs.declared.Refusal.{Refusal}
-use Rattle.egg.specs.declared.Verdict.{Verdict}
-use Rattle.egg.specs.declared.Verdict.TheVariants.{Fine, Refused}
+use Rattle.egg.specs.Answers.{Verdict, fine}
+use Rattle.std.specs.Prelude.{Ok, Err}
 use Rattle.egg.specs.Scan.{refused_of}
 use Rattle.egg.proofs.Rooms.{and_first, and_second}
 use Rattle.egg.proofs.Scans.{Scanning, scanning, refused_fine}
@@ -33,7 +33,7 @@ module _ (M : ℕ) (gens : List ℕ) (i : ℕ) {m x : ℕ} (p : m ≡ capped M) 
       let z : leb M x ≡ true = sym (cap_beyond M x h) ∙ ap (λ (y : ℕ). leb y x) (sym p) ∙ le-leb _ _ l in
       rw (← q, z, e)
 
-  pub entry_good : x < m → entry_right M gens i ≡ Fine
+  pub entry_good : x < m → entry_right M gens i ≡ fine
   entry_good l =
       let z : leb M x ≡ false = sym (cap_beyond M x h) ∙ ap (λ (y : ℕ). leb y x) (sym p) ∙ lt-leb _ _ l in
       rw (← q, z)
@@ -69,36 +69,36 @@ module _ (len : ℕ) (over : Group) (gens : List ℕ) where
   generators_handle h = rw h
 
   module _ (fits : all_fit len (handles over) ≡ true) {v : Verdict} (q : v ≡ entries_right (elements_of (handles over)) gens) where
-    pub generators_entry : {r : Refusal} → v ≡ Refused r → v ≡ admits_generators len over gens
+    pub generators_entry : {r : Refusal} → v ≡ Err r → Err r ≡ admits_generators len over gens
     unfolding admits_generators
     generators_entry e = rw (fits, ← q, e)
 
-    module _ (e : v ≡ Fine) {b : Bool} (p : b ≡ small_enough over) where
+    module _ (e : v ≡ fine) {b : Bool} (p : b ≡ small_enough over) where
       pub generators_large : b ≡ false → refused_of 15 0 0 0 ≡ admits_generators len over gens
       unfolding admits_generators
       generators_large z = rw (fits, ← q, e, ← p, z)
 
-      pub generators_fine : b ≡ true → Fine ≡ admits_generators len over gens
+      pub generators_fine : b ≡ true → fine ≡ admits_generators len over gens
       unfolding admits_generators
       generators_fine z = rw (fits, ← q, e, ← p, z)
 
 -- Where a build by generators goes on.
 pub record Admitted (len : ℕ) (over : Group) (gens : List ℕ) : Type 0 where
   pub fits : all_fit len (handles over) ≡ true
-  pub entries : entries_right (elements_of (handles over)) gens ≡ Fine
+  pub entries : entries_right (elements_of (handles over)) gens ≡ fine
   pub small : small_enough over ≡ true
 
 module _ (len : ℕ) (over : Group) (gens : List ℕ) where
-  pub admitted : admits_generators len over gens ≡ Fine → Admitted len over gens
+  pub admitted : admits_generators len over gens ≡ fine → Admitted len over gens
   admitted q = by (all_fit len (handles over)) (entries_right (elements_of (handles over)) gens) (small_enough over) refl refl refl where
     by : (a : Bool) (v : Verdict) (b : Bool) → all_fit len (handles over) ≡ a → entries_right (elements_of (handles over)) gens ≡ v → small_enough over ≡ b
         → Admitted len over gens
     by false v b p e s = absurd (refused_fine (generators_handle len over gens p ∙ q))
-    by true (Refused r) b p e s = absurd (refused_fine (sym e ∙ generators_entry len over gens p refl e ∙ q))
-    by true Fine false p e s = absurd (refused_fine (generators_large len over gens p refl e refl s ∙ q))
-    by true Fine true p e s = record { fits = p; entries = e; small = s }
+    by true (Err r) b p e s = absurd (refused_fine (generators_entry len over gens p refl e ∙ q))
+    by true (Ok _) false p e s = absurd (refused_fine (generators_large len over gens p refl e refl s ∙ q))
+    by true (Ok _) true p e s = record { fits = p; entries = e; small = s }
 
-  pub admitted_by : {v : Verdict} → v ≡ admits_generators len over gens → v ≡ Fine → Admitted len over gens
+  pub admitted_by : {v : Verdict} → v ≡ admits_generators len over gens → v ≡ fine → Admitted len over gens
   admitted_by q e = admitted (sym q ∙ e)
 
 -- 4: what is lent.

@@ -7,20 +7,17 @@ use borrow.Author.Tests.{lt-ltb, le-ltb}
 use borrow.Rule.Slice.PartMut.{mid_of, put_mid}
 use lib.ListN.{length, take, drop}
 use lib.Seq.{length-take-le}
-use Rattle.egg.specs.declared.Made.{Made}
+use Rattle.egg.specs.Answers.{Counted, Made, Reached, Verdict, fine, numbered}
+use Rattle.std.specs.Prelude.{Err}
 use Rattle.egg.specs.declared.Refusal.{Refusal}
-use Rattle.egg.specs.declared.Reached.{Reached}
-use Rattle.egg.specs.declared.Verdict.{Verdict}
-use Rattle.egg.specs.declared.Verdict.TheVariants.{Fine, Refused}
-use Rattle.egg.specs.declared.Counted.{Counted}
 use Rattle.build_lending.specs.Finish.{built}
-use Rattle.build_lending.specs.Lending.{table_need, work_need, within, StretchEnd, no_factor, refused_made, made_of}
+use Rattle.build_lending.specs.Lending.{table_need, work_need, within, StretchEnd, made_of}
 use Rattle.build_lending.proofs.Lending.{part_length, part_back, put_front}
 use Rattle.group_handles.specs.declared.Group.{Group}
 use Rattle.group_handles.specs.Handles.{handles, elements_of}
 use Rattle.build_numbering.specs.Build.{Renumbering, renumbering, renumber_in}
 use Rattle.subgroup_rows.specs.Rows.{product_by}
-use Rattle.subgroup_build.specs.declared.Subgrouped.{Subgrouped}
+use Rattle.subgroup_build.specs.Answers.{Subgrouped}
 use Rattle.factor_walk.specs.Walked.{shown}
 use Rattle.subgroup_build.specs.Lent.{subgroup_of, Subgrouping, subgrouping, maps_right, maps_back}
 use Rattle.subgroup_build.specs.Generated.{generated_into, if_subgrouping}
@@ -58,17 +55,16 @@ module _ (over : Group) (table : List ℕ) (start : ℕ) (work inn outw : List �
       ∙ ap (λ (y : ℕ). renumber_in (table_need k room) (take (work_need k room) work) source g room M y 0) p₃
 
 module _ (from : List ℕ) (over : Group) (gens table : List ℕ) (start : ℕ) (work inn outw : List ℕ) (room : ℕ) where
-  pub generated_many : {s : Subgrouped} {k : ℕ} {m : Made} → 8 < length gens → k ≡ shown (length gens) → m ≡ refused_made 1 k → s ≡ subgroup_of over m
-      → subgrouping s table work inn outw ≡ generated_into from over gens table start work inn outw room
+  pub generated_many : {k : ℕ} → 8 < length gens → k ≡ shown (length gens)
+      → subgrouping (Err (numbered 1 k 0 0)) table work inn outw ≡ generated_into from over gens table start work inn outw room
   unfolding generated_into
-  generated_many h p q r = rw (lt-ltb 8 (length gens) h, r, q, p)
+  generated_many h p = rw (lt-ltb 8 (length gens) h, p)
 
   module _ (h : length gens ≤ 8) {M : ℕ} (e : M ≡ elements_of (handles over)) where
-    pub generated_short : {s : Subgrouped} {m : Made} → maps_right (length table) start (length work) (length inn) (length outw) room (length gens) M ≡ false
-        → m ≡ refused_made 4 0 → s ≡ subgroup_of over m
-        → subgrouping s table work inn outw ≡ generated_into from over gens table start work inn outw room
+    pub generated_short : maps_right (length table) start (length work) (length inn) (length outw) room (length gens) M ≡ false
+        → subgrouping (Err (numbered 4 0 0 0)) table work inn outw ≡ generated_into from over gens table start work inn outw room
     unfolding generated_into
-    generated_short z q r = rw (le-ltb 8 (length gens) h, ← e, z, r, q)
+    generated_short z = rw (le-ltb 8 (length gens) h, ← e, z)
 
     pub generated_built : {x d : ℕ} {c : Counted} {t w i o : List ℕ} {m : Made} {s : Subgrouped}
         → maps_right (length table) start (length work) (length inn) (length outw) room (length gens) M ≡ true
@@ -87,10 +83,9 @@ module _ (from : List ℕ) (over : Group) (gens table : List ℕ) (start : ℕ) 
         (maps_back_lem over table start work inn outw M (length gens) (length gens) room ends need made is
         (lent_lengths over table start work inn outw M (length gens) (length gens) room (product_by from (handles over) gens) (length gens) hi ho ends need q))
 
-module _ {v w : Verdict} (q : v ≡ w) (over : Group) (table work inn outw : List ℕ) (m : Subgrouping) where
-  pub subgrouping_refused : {r : Refusal} {x : Subgrouped} → v ≡ Refused r → x ≡ subgroup_of over (record { answer = Refused r; factor = no_factor })
-      → subgrouping x table work inn outw ≡ if_subgrouping w over table work inn outw m
-  subgrouping_refused e p = rw (← q, e, p)
+module _ {v w : Verdict} (q : v ≡ w) (table work inn outw : List ℕ) (m : Subgrouping) where
+  pub subgrouping_refused : {r : Refusal} → v ≡ Err r → subgrouping (Err r) table work inn outw ≡ if_subgrouping w table work inn outw m
+  subgrouping_refused e = rw (← q, e)
 
-  pub subgrouping_fine : v ≡ Fine → m ≡ if_subgrouping w over table work inn outw m
+  pub subgrouping_fine : v ≡ fine → m ≡ if_subgrouping w table work inn outw m
   subgrouping_fine e = rw (← q, e)

@@ -1,17 +1,17 @@
 -- This file defines what a call that makes a subgroup answers and leaves in its four lent buffers, and when these are long enough.
-use Rattle.std.specs.Prelude.{ℕ, ◌+◌, List, [], Bool, ◌&&◌, leb}
-use Rattle.egg.specs.declared.Made.{Made}
+use Rattle.std.specs.Prelude.{ℕ, ◌+◌, List, [], Bool, ◌&&◌, leb, Ok, Err}
+use Rattle.egg.specs.Answers.{Made}
 use Rattle.build_lending.specs.Finish.{built}
 use Rattle.build_lending.specs.Lending.{table_need, work_need, lent_right, within, made_of}
 use Rattle.group_handles.specs.declared.Group.{Group}
 use Rattle.group_handles.specs.Handles.{group_of}
 use Rattle.build_numbering.specs.Build.{Renumbering, renumbering}
-use Rattle.subgroup_build.specs.declared.Subgrouped.{Subgrouped}
+use Rattle.subgroup_build.specs.Answers.{Subgrouped}
 
--- The subgroup's value for a factor that was made, with nothing multiplied on yet. After a refusal its factor fits no buffer.
+-- The subgroup's value for a factor that was made, with nothing multiplied on yet; a refusal stands.
 abbrev pub subgroup_of : Group → Made → Subgrouped
-subgroup_of over m =
-    record { answer = m.answer; subgroup = record { below = group_of []; factor = m.factor; over = over; above = group_of [] } }
+subgroup_of over (Ok f) = Ok (record { below = group_of []; factor = f; over = over; above = group_of [] })
+subgroup_of over (Err r) = Err r
 
 -- The answer, then what the four buffers hold: table, work, the map from the overgroup to the subgroup, and the map from the subgroup to the
 -- overgroup.

@@ -1,32 +1,28 @@
 // The work of a build by generators, done once the overgroup's handles are known to fit and its elements to be at most 65,535.
 ghost use Rattle.std.specs.Prelude.{◌≡◌, true, ◌≤◌, length};
-ghost use Rattle.egg.specs.declared.Verdict.TheVariants as verdict;
 ghost use Rattle.build_lending.specs.Finish.{Built};
-ghost use Rattle.build_lending.specs.Lending.{no_factor};
 ghost use Rattle.group_handles.specs.Handles.{handles, elements_of, all_fit};
 ghost use Rattle.build_numbering.specs.Build.{Renumbering, renumber_in};
 ghost use Rattle.subgroup_build.specs.Lent.{subgroup_of, Subgrouping, maps_right};
 ghost use Rattle.subgroup_rows.specs.Rows.{product_by};
 ghost use Rattle.subgroup_build.specs.Generated.{entries_right, small_enough, admits_generators, generated_into};
 
-use super::{Subgroup, Subgrouped};
-use egg::{Counted, GroupElementId, Made, Refusal, Verdict};
+use super::Subgroup;
+use egg::{Factor, GroupElementId, Refusal};
 use group_handles::Group;
 
 // Refuses with 14 the first entry that is no element.
-fn entries_right(over: Group, gens: &[u32]) -> Verdict
+fn entries_right(over: Group, gens: &[u32]) -> Result<(), Refusal>
     ensures { result ≡ entries_right (elements_of (handles over)) gens.now }
 {
     let m = group_handles::inner::elements_of(over);
-    let mut i: usize = 0;
-    while i < gens.len() {
+    for i in 0..gens.len() {
         let x = egg::inner::get(gens, i);
         if m <= (x as u64) {
-            return egg::inner::refused(14, factor_walk::inner::shown(i), 0, 0);
+            return Err(Refusal::ArgumentOutside(factor_walk::inner::shown(i)));
         }
-        i += 1;
     }
-    Verdict::Fine
+    Ok(())
 }
 
 // Whether the overgroup is within the limits of a product, and small enough to number.
@@ -40,20 +36,17 @@ pub fn small_enough(over: Group) -> bool
 }
 
 // Refuses in this order: 17 for a handle that does not fit, 14 for the first entry that is no element, 15 for an overgroup too large to number.
-pub fn admit_generators(from: &[u32], over: Group, gens: &[u32]) -> Verdict
+pub fn admit_generators(from: &[u32], over: Group, gens: &[u32]) -> Result<(), Refusal>
     ensures { result ≡ admits_generators (length from.now) over gens.now }
 {
     if !group_handles::inner::all_fit(from, over) {
-        return egg::inner::refused(17, 0, 0, 0);
+        return Err(Refusal::Unreadable);
     }
-    let v = entries_right(over, gens);
-    let Verdict::Fine = v else {
-        return v;
-    };
+    entries_right(over, gens)?;
     if !small_enough(over) {
-        return egg::inner::refused(15, 0, 0, 0);
+        return Err(Refusal::TooLarge);
     }
-    Verdict::Fine
+    Ok(())
 }
 
 // Does the whole build, in its stretches.
@@ -67,7 +60,7 @@ pub fn generated_in(
     gens: &[u32],
     n: u8,
     room: u32,
-) -> Counted
+) -> Result<u32, Refusal>
     requires { (all_fit (length from.now) (handles over) ≡ true) × (elements_of (handles over) ≤ 4294967295) }
     ensures { Renumbering.renumbering (Built.built result t.new w.new) inn.new outw.new ≡ renumber_in (length t.old) w.old (product_by from.now (handles over) gens.now) n room (length inn.old) (length outw.old) 0 }
 {
@@ -78,28 +71,18 @@ pub fn generated_in(
     build_numbering::inner::settle(inn, outw, made)
 }
 
-// The subgroup's value for a factor that was made, or refused.
-pub fn subgroup_of(over: Group, made: Made) -> Subgrouped
+// The subgroup's value for a factor that was made, or the refusal.
+pub fn subgroup_of(over: Group, made: Result<Factor, Refusal>) -> Result<Subgroup, Refusal>
     ensures { result ≡ subgroup_of over made }
 {
-    let below = group_handles::trivial();
-    let above = group_handles::trivial();
-    let factor = made.factor;
-    let answer = made.answer;
-    let subgroup = Subgroup {
-        below,
+    let factor = made?;
+    let none = group_handles::trivial();
+    Ok(Subgroup {
+        below: none,
         factor,
         over,
-        above,
-    };
-    Subgrouped { answer, subgroup }
-}
-
-// A refusal, with a subgroup beside it whose factor fits no buffer.
-pub fn refused_subgroup(over: Group, why: Refusal) -> Subgrouped
-    ensures { result ≡ subgroup_of over (record { answer = verdict.Refused why; factor = no_factor }) }
-{
-    subgroup_of(over, group_handles::inner::no_factor_made(why))
+        above: none,
+    })
 }
 
 // True where refusal 4 is not due: the room is within its limits, and neither table, work nor a map is short.
@@ -135,7 +118,7 @@ fn generated_at(
     inn: &mut [u32],
     outw: &mut [u32],
     room: u32,
-) -> Subgrouped
+) -> Result<Subgroup, Refusal>
     requires { ((all_fit (length from.now) (handles over) ≡ true) × (elements_of (handles over) ≤ 65535)) × ((length gens.now ≤ 8) × (maps_right (length table.old) start (length work.old) (length inn.old) (length outw.old) room (length gens.now) (elements_of (handles over)) ≡ true)) }
     ensures { Subgrouping.subgrouping result table.new work.new inn.new outw.new ≡ generated_into from.now over gens.now table.old start work.old inn.old outw.old room }
 {
@@ -169,16 +152,13 @@ pub fn generated_into(
     inn: &mut [u32],
     outw: &mut [u32],
     room: u32,
-) -> Subgrouped
+) -> Result<Subgroup, Refusal>
     requires { (all_fit (length from.now) (handles over) ≡ true) × (elements_of (handles over) ≤ 65535) }
     ensures { Subgrouping.subgrouping result table.new work.new inn.new outw.new ≡ generated_into from.now over gens.now table.old start work.old inn.old outw.old room }
 {
     let k = gens.len();
     if 8 < k {
-        return subgroup_of(
-            over,
-            build_lending::inner::refused_made(1, factor_walk::inner::shown(k)),
-        );
+        return Err(Refusal::TooManyGenerators(factor_walk::inner::shown(k)));
     }
     let m = group_handles::inner::elements_of(over);
     if !maps_right(
@@ -191,7 +171,7 @@ pub fn generated_into(
         k as u8,
         m,
     ) {
-        return subgroup_of(over, build_lending::inner::refused_made(4, 0));
+        return Err(Refusal::TooShort);
     }
     generated_at(from, over, gens, table, start, work, inn, outw, room)
 }

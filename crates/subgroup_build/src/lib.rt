@@ -2,7 +2,7 @@
 // has the calls.
 #![tactic(auto)]
 
-use egg::{Factor, Verdict};
+use egg::Factor;
 use group_handles::Group;
 
 pub mod inner;
@@ -15,11 +15,4 @@ pub struct Subgroup {
     pub factor: Factor,
     pub over: Group,
     pub above: Group,
-}
-
-// What a call that makes a subgroup answers; the subgroup stands beside the verdict, and its factor fits no buffer where it was refused.
-#[derive(Clone, Copy)]
-pub struct Subgrouped {
-    pub answer: Verdict,
-    pub subgroup: Subgroup,
 }

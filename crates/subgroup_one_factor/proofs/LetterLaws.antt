@@ -10,8 +10,8 @@ use borrow.Author.Tests.{lt-ltb}
 use lib.ListN.{length, get_or, set, get_or-eq_default}
 use lib.Seq.{get_or-set_same, get_or-set_other}
 use Rattle.egg.specs.declared.Factor.{Factor}
-use Rattle.egg.specs.declared.Reached.{Reached}
-use Rattle.egg.specs.declared.Reached.TheVariants.{Element, Refused}
+use Rattle.egg.specs.Answers.{Reached}
+use Rattle.std.specs.Prelude.{Ok, Err}
 use Rattle.egg.specs.Table.{hop_of, length_of}
 use Rattle.egg.specs.Factor.{stretch, read_step}
 use Rattle.factor_word_letters.specs.Spell.{cell_within, readable_by, letters_by}
@@ -26,9 +26,9 @@ pub no_letter : (s : List ℕ) (n b : ℕ) → OneLetter s n b 0
 no_letter s n b = record { small = omega arith; leads = λ h. absurd (omega arith) }
 
 -- No step after the last.
-no_more : (r : Reached) → on_reached r (λ x. Element (record { 0 = x })) ≡ r
-no_more (Element x) = refl
-no_more (Refused r) = refl
+no_more : (r : Reached) → on_reached r (λ x. Ok (record { 0 = x })) ≡ r
+no_more (Ok x) = refl
+no_more (Err r) = refl
 
 -- A cell that is a letter, and nothing above it, is in range.
 letter_within : (n count c : ℕ) → 0 < count → c < 8 → c < n → cell_within n count c ≡ true

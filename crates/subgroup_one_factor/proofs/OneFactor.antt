@@ -7,8 +7,8 @@ use native.Mathlib.Omega.{arith}
 use borrow.Author.Tests.{leb-true}
 use lib.Dec.{leb}
 use Rattle.egg.specs.declared.Factor.{Factor}
-use Rattle.egg.specs.declared.Reached.{Reached}
-use Rattle.egg.specs.declared.Reached.TheVariants.{Element, Refused}
+use Rattle.egg.specs.Answers.{Reached}
+use Rattle.std.specs.Prelude.{Ok, Err}
 use Rattle.egg.specs.Factor.{fits_in, stretch}
 use Rattle.egg.proofs.Rooms.{and_first}
 use Rattle.factor_questions.specs.Walks.{compose_in}
@@ -21,9 +21,9 @@ unfolding fits_in
 one_some len f h = leb-true 1 f.elements (and_first (leb 1 f.elements) _ h)
 
 -- A number of one digit is that digit.
-only_digit : (N : ℕ) (r : Reached) → r ≡ on_reached r (λ x. above x N (Element (record { 0 = 0 })))
-only_digit N (Element x) = let d : x.0 ≡ x.0 + N * 0 = omega arith in ap (λ (k : ℕ). Element (record { 0 = k })) d
-only_digit N (Refused r) = refl
+only_digit : (N : ℕ) (r : Reached) → r ≡ on_reached r (λ x. above x N (Ok (record { 0 = 0 })))
+only_digit N (Ok x) = let d : x.0 ≡ x.0 + N * 0 = omega arith in ap (λ (k : ℕ). Ok (record { 0 = k })) d
+only_digit N (Err r) = refl
 
 pub one_product : (t : List ℕ) (f : Factor) (a b : ℕ) {s : List ℕ} {r : Reached} → s ≡ stretch t f
     → r ≡ compose_in s f.generators f.elements (a % f.elements) (b % f.elements) → r ≡ composes t (f ∷ []) a b

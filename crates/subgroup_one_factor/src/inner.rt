@@ -4,22 +4,26 @@ ghost use Rattle.egg.specs.Factor.{fits_in, stretch};
 ghost use Rattle.group_digits.specs.Digits.{composes};
 ghost use Rattle.subgroup_one_factor.specs.Letters.{OneLetter, Letters};
 
-use egg::{Factor, GeneratorId, GroupElementId, Reached};
+use egg::{Factor, GeneratorId, GroupElementId, Refusal};
 
 // Answers the product of two elements of the one factor.
-fn factor_product(from: &[u32], f: Factor, a: GroupElementId, b: GroupElementId) -> Reached
+fn factor_product(
+    from: &[u32],
+    f: Factor,
+    a: GroupElementId,
+    b: GroupElementId,
+) -> Result<GroupElementId, Refusal>
     requires { fits_in (length from.now) f ≡ true }
     ensures { result ≡ composes from.now (f ∷ []) a.0 b.0 }
 {
-    let m = f.elements;
-    let first = a.0;
-    let second = b.0;
+    let first = a.0 % f.elements;
+    let second = b.0 % f.elements;
     factor_compose::inner::compose_elements(
         egg::inner::part(from, f),
         f.generators,
-        m,
-        GroupElementId(first % m),
-        GroupElementId(second % m),
+        f.elements,
+        GroupElementId(first),
+        GroupElementId(second),
     )
 }
 
@@ -47,11 +51,9 @@ pub fn find_letters(s: &[u32], n: u8, count: u32, gens: &[u32], letters: &mut [u
     requires { 0 < count }
     ensures { Letters s.now n count gens.now letters.new }
 {
-    let mut i: usize = 0;
-    while i < letters.len() {
+    for i in 0..letters.len() {
         let by = egg::inner::get(gens, i);
         letters[i] = step_letter(s, n, GroupElementId(by % count));
-        i += 1;
     }
 }
 
@@ -62,22 +64,20 @@ pub fn letter_product(
     a: GroupElementId,
     b: GroupElementId,
     letter: u32,
-) -> Reached
+) -> Result<GroupElementId, Refusal>
     requires { (fits_in (length from.now) f ≡ true) × OneLetter (stretch from.now f) f.generators (b.0 % f.elements) letter }
     ensures { result ≡ composes from.now (f ∷ []) a.0 b.0 }
 {
-    let m = f.elements;
-    let x = a.0;
     if letter == 0 {
         return factor_product(from, f, a, b);
     }
-    if m <= x {
+    if f.elements <= a.0 {
         return factor_product(from, f, a, b);
     }
     egg::inner::next(
         egg::inner::part(from, f),
         f.generators,
-        m,
+        f.elements,
         a,
         GeneratorId((letter - 1) as u8),
     )

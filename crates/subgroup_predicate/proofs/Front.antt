@@ -9,9 +9,8 @@ use lib.ListN.{length, get_or, take, drop, replicate, length-replicate, length-a
 use lib.Seq.{length-take-le}
 use lib.Dec.{eqb, ltb, leb}
 use borrow.Author.Tests.{leb-true}
-use Rattle.egg.specs.declared.Reached.{Reached}
-use Rattle.egg.specs.declared.Reached.TheVariants as reached
-use Rattle.egg.specs.declared.Counted.TheVariants.{Count, Refused}
+use Rattle.egg.specs.Answers.{Reached}
+use Rattle.std.specs.Prelude.{Ok, Err}
 use Rattle.egg.specs.Table.{pick, work_of}
 use Rattle.egg.specs.Factor.{has_room}
 use Rattle.egg.proofs.Rooms.{and_first, and_second}
@@ -34,8 +33,8 @@ use Rattle.build_checks_laws.proofs.AnyWork.{Like, any_work}
 -- At most as many elements as there is room.
 module _ (room : ℕ) where
   abbrev Within : Mapped → Type 0
-  Within (mapped (placed (Count c) t) inn outw) = c ≤ room
-  Within (mapped (placed (Refused r) t) inn outw) = Unit {0}
+  Within (mapped (placed (Ok c) t) inn outw) = c ≤ room
+  Within (mapped (placed (Err r) t) inn outw) = Unit {0}
 
   pick_within : (b : Bool) (u v : Mapped) → Within u → Within v → Within (pick b u v)
   pick_within true u v p q = p
@@ -43,20 +42,20 @@ module _ (room : ℕ) where
 
   then_within : (m : Mapped) (f : ℕ → List ℕ → List ℕ → List ℕ → Mapped) → Within m → ((c : ℕ) (t inn outw : List ℕ) → c ≤ room → Within (f c t inn outw))
       → Within (then_mapped m f)
-  then_within (mapped (placed (Count c) t) inn outw) f h g = g c t inn outw h
-  then_within (mapped (placed (Refused r) t) inn outw) f h g = tt
+  then_within (mapped (placed (Ok c) t) inn outw) f h g = g c t inn outw h
+  then_within (mapped (placed (Err r) t) inn outw) f h g = tt
 
   new_within : (r : Reached) (t inn outw : List ℕ) (n count e g x : ℕ) (s : List ℕ) → r ≡ (adds s n room count (record { 0 = e }) (record { 0 = g })).answer
       → Within (on_new r t inn outw count x)
-  new_within (reached.Element y) t inn outw n count e g x s q = let h = added_within s n room count (record { 0 = e }) (record { 0 = g }) q refl in omega arith
-  new_within (reached.Refused r) t inn outw n count e g x s q = tt
+  new_within (Ok y) t inn outw n count e g x s q = let h = added_within s n room count (record { 0 = e }) (record { 0 = g }) q refl in omega arith
+  new_within (Err r) t inn outw n count e g x s q = tt
 
   from_within : (r : Reached) (t inn outw : List ℕ) (n count e g : ℕ) → count ≤ room → Within (map_from r t inn outw n room count e g)
   unfolding map_place
-  from_within (reached.Element x) t inn outw n count e g h =
+  from_within (Ok x) t inn outw n count e g h =
       pick_within (eqb (get_or inn x.0 0) no_number) _ _
       (new_within (adds t n room count (record { 0 = e }) (record { 0 = g })).answer _ inn outw n count e g x.0 t refl) h
-  from_within (reached.Refused r) t inn outw n count e g h = tt
+  from_within (Err r) t inn outw n count e g h = tt
 
   module _ (source : ℕ → ℕ → Reached) (n : ℕ) where
     row_within : (k e g count : ℕ) (t inn outw : List ℕ) → count ≤ room → Within (map_row k source n room e g count t inn outw)
@@ -83,7 +82,7 @@ module _ (n : ℕ) (t w w' : List ℕ) where
   settled_with N (checked v t₁ w₁) (checked v' t₂ w₂) q L =
       settled_like n N w₁ w₂ L.0 L.1 ∙ ap (λ (k : ℕ). built_with (replicate k 0) (settled_by n N (checked v' t₂ w₂))) (checks_work t w n N q)
 
-  finished_with : (N : ℕ) → N ≤ length w → N ≤ length w' → finished (Count N) n t w ≡ built_with (zeroed w) (finished (Count N) n t w')
+  finished_with : (N : ℕ) → N ≤ length w → N ≤ length w' → finished (Ok N) n t w ≡ built_with (zeroed w) (finished (Ok N) n t w')
   unfolding finished
   finished_with N h h' =
       settled_with N (check_group t w n N) (check_group t w' n N) refl (any_work t n N w w' (λ i a b. omega arith) (λ i a b. omega arith))
@@ -94,9 +93,9 @@ maps_with v (built c t w) inn outw = refl
 mapped_with : (n room : ℕ) (w w' : List ℕ) → room ≤ length w → room ≤ length w' → (m : Mapped) → Within room m
     → finished_mapped m n w ≡ with_work (zeroed w) (finished_mapped m n w')
 unfolding finished
-mapped_with n room w w' h h' (mapped (placed (Count N) t) inn outw) l =
-    ap (λ (b : Built). settled_maps b inn outw) (finished_with n t w w' N (omega arith) (omega arith)) ∙ maps_with (zeroed w) (finished (Count N) n t w') inn outw
-mapped_with n room w w' h h' (mapped (placed (Refused r) t) inn outw) l = refl
+mapped_with n room w w' h h' (mapped (placed (Ok N) t) inn outw) l =
+    ap (λ (b : Built). settled_maps b inn outw) (finished_with n t w w' N (omega arith) (omega arith)) ∙ maps_with (zeroed w) (finished (Ok N) n t w') inn outw
+mapped_with n room w w' h h' (mapped (placed (Err r) t) inn outw) l = refl
 
 pub renumber_with : (size : ℕ) (w w' : List ℕ) (source : ℕ → ℕ → Reached) (n room M K x₀ : ℕ) → 1 ≤ room → room ≤ length w → room ≤ length w'
     → renumber_in size w source n room M K x₀ ≡ with_work (zeroed w) (renumber_in size w' source n room M K x₀)
@@ -139,8 +138,8 @@ module _ (size : ℕ) (source : ℕ → ℕ → Reached) (room M K : ℕ) (byte 
         → chooses k (again_in size source room M K) byte x gens (with_work v r) ≡ picked_with v (chooses k (again_in size source room M K) byte x gens r)
     unfolding chooses
     chooses_with zero x gens r h = refl
-    chooses_with (suc k) x gens (renumbering (built (Refused f) t w) inn outw) h = refl
-    chooses_with (suc k) x gens (renumbering (built (Count c) t w) inn outw) h =
+    chooses_with (suc k) x gens (renumbering (built (Err f) t w) inn outw) h = refl
+    chooses_with (suc k) x gens (renumbering (built (Ok c) t w) inn outw) h =
         let more = gens ++ (x ∷ []) in
         let e : again_in size source room M K more v ≡ with_work v (again_in size source room M K more w) =
         again_with more v w long h ∙ ap (λ (l : List ℕ). with_work l (again_in size source room M K more w)) zero-already in
@@ -148,7 +147,7 @@ module _ (size : ℕ) (source : ℕ → ℕ → Reached) (room M K : ℕ) (byte 
         ≡ picked_with v (chooses k (again_in size source room M K) byte (x + 1) more (again_in size source room M K more w)) =
         ap (λ (r : Renumbering). chooses k (again_in size source room M K) byte (x + 1) more r) e
         ∙ chooses_with k (x + 1) more (again_in size source room M K more w) (again_long more w h) in
-        let stay = chooses_with k (x + 1) gens (renumbering (built (Count c) t w) inn outw) h in
+        let stay = chooses_with k (x + 1) gens (renumbering (built (Ok c) t w) inn outw) h in
         let stop : picked gens (ninth t v inn outw) ≡ picked_with v (picked gens (ninth t w inn outw)) =
         ap (λ (l : List ℕ). picked_with l (picked gens (ninth t w inn outw))) zero-already in
         picks_with v (is_new_member inn byte x) (ltb (length gens) 8) _ _ _ on stop stay

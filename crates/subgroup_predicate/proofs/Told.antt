@@ -7,21 +7,18 @@ use borrow.Author.Tests.{le-leb, lt-leb}
 use borrow.Rule.Slice.PartMut.{mid_of, put_mid}
 use lib.ListN.{length, get_or, take, drop}
 use lib.Seq.{length-take-le}
-use Rattle.egg.specs.declared.Made.{Made}
-use Rattle.egg.specs.declared.Reached.{Reached}
-use Rattle.egg.specs.declared.Verdict.{Verdict}
-use Rattle.egg.specs.declared.Verdict.TheVariants as verdict
-use Rattle.egg.specs.declared.Counted.{Counted}
+use Rattle.std.specs.Prelude.{Err}
+use Rattle.egg.specs.Answers.{Counted, Made, Reached, Verdict, fine, numbered}
 use Rattle.egg.specs.Scan.{refused_of}
 use Rattle.egg.proofs.Scans.{refused_fine}
 use Rattle.build_lending.specs.Finish.{built}
-use Rattle.build_lending.specs.Lending.{table_need, work_need, StretchEnd, refused_made, made_of}
+use Rattle.build_lending.specs.Lending.{table_need, work_need, StretchEnd, made_of}
 use Rattle.build_lending.proofs.Lending.{part_length}
 use Rattle.group_handles.specs.declared.Group.{Group}
 use Rattle.group_handles.specs.Handles.{handles, elements_of, all_fit}
 use Rattle.group_digits.specs.Digits.{composes}
 use Rattle.build_numbering.specs.Build.{Renumbering, renumbering}
-use Rattle.subgroup_build.specs.declared.Subgrouped.{Subgrouped}
+use Rattle.subgroup_build.specs.Answers.{Subgrouped}
 use Rattle.subgroup_build.specs.Lent.{subgroup_of, subgrouping, maps_right, maps_back}
 use Rattle.subgroup_build.specs.Generated.{small_enough}
 use Rattle.subgroup_predicate_choices.specs.declared.inner.Picks.{Picks}
@@ -47,11 +44,11 @@ module _ (len : ℕ) (over : Group) where
     unfolding admits_over
     over_large e = rw (h, ← q, e)
 
-    pub over_fine : b ≡ true → verdict.Fine ≡ admits_over len over
+    pub over_fine : b ≡ true → fine ≡ admits_over len over
     unfolding admits_over
     over_fine e = rw (h, ← q, e)
 
-  pub over_admitted : {v : Verdict} → v ≡ admits_over len over → v ≡ verdict.Fine → (all_fit len (handles over) ≡ true) × (small_enough over ≡ true)
+  pub over_admitted : {v : Verdict} → v ≡ admits_over len over → v ≡ fine → (all_fit len (handles over) ≡ true) × (small_enough over ≡ true)
   over_admitted q e = by (all_fit len (handles over)) (small_enough over) refl refl where
     by : (a b : Bool) → all_fit len (handles over) ≡ a → small_enough over ≡ b → (all_fit len (handles over) ≡ true) × (small_enough over ≡ true)
     by true true p s = (p, s)
@@ -60,16 +57,16 @@ module _ (len : ℕ) (over : Group) where
 
 -- The call: 4, then the outcome in its buffers.
 module _ (from : List ℕ) (over : Group) (members table : List ℕ) (start : ℕ) (work inn outw : List ℕ) (room : ℕ) {M : ℕ} (e : M ≡ elements_of (handles over)) where
-  pub told_short : {s : Subgrouped} {m : Made} → maps_right (length table) start (length work) (length inn) (length outw) room 8 M ≡ false
-      → m ≡ refused_made 4 0 → s ≡ subgroup_of over m → subgrouping s table work inn outw ≡ told_into from over members table start work inn outw room
+  pub told_short : maps_right (length table) start (length work) (length inn) (length outw) room 8 M ≡ false
+      → subgrouping (Err (numbered 4 0 0 0)) table work inn outw ≡ told_into from over members table start work inn outw room
   unfolding told_into
-  told_short z q r = rw (← e, z, r, q)
+  told_short z = rw (← e, z)
 
   module _ (z : maps_right (length table) start (length work) (length inn) (length outw) room 8 M ≡ true) where
-    pub told_few : {s : Subgrouped} {m : Made} → length members < M → m ≡ refused_made 4 0 → s ≡ subgroup_of over m
-        → subgrouping s table work inn outw ≡ told_into from over members table start work inn outw room
+    pub told_few : length members < M
+        → subgrouping (Err (numbered 4 0 0 0)) table work inn outw ≡ told_into from over members table start work inn outw room
     unfolding told_into
-    told_few h q r = rw (← e, z, lt-leb M (length members) h, r, q)
+    told_few h = rw (← e, z, lt-leb M (length members) h)
 
     pub told_built : M ≤ length members → {x d : ℕ} {p : Picks} {made : Counted} {t w i o : List ℕ} {m : Made} {s : Subgrouped}
         → StretchEnd x start (table_need 8 room) (length table) → d ≡ work_need 8 room → made ≡ p.made → m ≡ made_of start room p.generators made

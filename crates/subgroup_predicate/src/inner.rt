@@ -6,22 +6,22 @@ ghost use Rattle.subgroup_build.specs.Lent.{Subgrouping, maps_right};
 ghost use Rattle.subgroup_predicate_choices.specs.Choices.{ChosenOfEight, picked_of};
 ghost use Rattle.subgroup_predicate.specs.Predicate.{predicate_in, admits_over, told_into};
 
-use egg::Verdict;
+use egg::Refusal;
 use group_handles::Group;
-use subgroup_build::Subgrouped;
+use subgroup_build::Subgroup;
 use subgroup_predicate_choices::inner::Picks;
 
 // Refuses in this order: 17 for a handle that does not fit, 15 for an overgroup too large to number.
-pub fn admit_over(from: &[u32], over: Group) -> Verdict
+pub fn admit_over(from: &[u32], over: Group) -> Result<(), Refusal>
     ensures { result ≡ admits_over (length from.now) over }
 {
     if !group_handles::inner::all_fit(from, over) {
-        return egg::inner::refused(17, 0, 0, 0);
+        return Err(Refusal::Unreadable);
     }
     if !subgroup_build::inner::small_enough(over) {
-        return egg::inner::refused(15, 0, 0, 0);
+        return Err(Refusal::TooLarge);
     }
-    Verdict::Fine
+    Ok(())
 }
 
 // Starts from the subgroup of one element and chooses generators as the bytes tell.
@@ -38,21 +38,9 @@ fn told_in(
     requires { ((all_fit (length from.now) (handles over) ≡ true) × (elements_of (handles over) ≤ 4294967295)) × (length inn.old ≤ 65535) }
     ensures { (picked_of result t.new w.new inn.new outw.new ≡ predicate_in (length t.old) w.old (composes from.now (handles over)) room (length inn.old) (length outw.old) (λ y. get_or members.now y 0)) × ChosenOfEight result }
 {
-    let chosen = [0u32; 8];
-    let none: usize = 0;
-    let made = subgroup_build::inner::generated_in(
-        t,
-        w,
-        inn,
-        outw,
-        from,
-        over,
-        &chosen[..none],
-        0,
-        room,
-    );
+    let made = subgroup_build::inner::generated_in(t, w, inn, outw, from, over, &[], 0, room);
     let p = Picks {
-        chosen,
+        chosen: [0; 8],
         generators: 0,
         made,
     };
@@ -90,7 +78,7 @@ fn told_at(
     inn: &mut [u32],
     outw: &mut [u32],
     room: u32,
-) -> Subgrouped
+) -> Result<Subgroup, Refusal>
     requires { ((all_fit (length from.now) (handles over) ≡ true) × (elements_of (handles over) ≤ 65535)) × ((elements_of (handles over) ≤ length members.now) × (maps_right (length table.old) start (length work.old) (length inn.old) (length outw.old) room 8 (elements_of (handles over)) ≡ true)) }
     ensures { Subgrouping.subgrouping result table.new work.new inn.new outw.new ≡ told_into from.now over members.now table.old start work.old inn.old outw.old room }
 {
@@ -108,10 +96,9 @@ fn told_at(
         members,
         room,
     );
-    let made = p.made;
     subgroup_build::inner::subgroup_of(
         over,
-        build_lending::inner::made(start, room, p.generators, made),
+        build_lending::inner::made(start, room, p.generators, p.made),
     )
 }
 
@@ -126,7 +113,7 @@ pub fn told_into(
     inn: &mut [u32],
     outw: &mut [u32],
     room: u32,
-) -> Subgrouped
+) -> Result<Subgroup, Refusal>
     requires { (all_fit (length from.now) (handles over) ≡ true) × (elements_of (handles over) ≤ 65535) }
     ensures { Subgrouping.subgrouping result table.new work.new inn.new outw.new ≡ told_into from.now over members.now table.old start work.old inn.old outw.old room }
 {
@@ -141,10 +128,10 @@ pub fn told_into(
         8,
         m,
     ) {
-        return subgroup_build::inner::subgroup_of(over, build_lending::inner::refused_made(4, 0));
+        return Err(Refusal::TooShort);
     }
     if (members.len() as u64) < m {
-        return subgroup_build::inner::subgroup_of(over, build_lending::inner::refused_made(4, 0));
+        return Err(Refusal::TooShort);
     }
     told_at(from, over, members, table, start, work, inn, outw, room)
 }

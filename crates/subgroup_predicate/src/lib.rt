@@ -5,9 +5,9 @@ ghost use Rattle.std.specs.Prelude.{◌≡◌};
 ghost use Rattle.subgroup_build.specs.Lent.{Subgrouping};
 ghost use Rattle.subgroup_predicate.specs.Predicate.{from_predicate};
 
-use egg::Verdict;
+use egg::Refusal;
 use group_handles::Group;
-pub use subgroup_build::Subgrouped;
+use subgroup_build::Subgroup;
 
 pub mod inner;
 
@@ -24,11 +24,9 @@ pub fn from_predicate(
     inn: &mut [u32],
     outw: &mut [u32],
     room: u32,
-) -> Subgrouped
+) -> Result<Subgroup, Refusal>
     ensures { Subgrouping.subgrouping result table.new work.new inn.new outw.new ≡ from_predicate from.now over members.now table.old start work.old inn.old outw.old room }
 {
-    match inner::admit_over(from, over) {
-        Verdict::Refused(why) => subgroup_build::inner::refused_subgroup(over, why),
-        Verdict::Fine => inner::told_into(from, over, members, table, start, work, inn, outw, room),
-    }
+    inner::admit_over(from, over)?;
+    inner::told_into(from, over, members, table, start, work, inn, outw, room)
 }

@@ -10,9 +10,8 @@ use lib.ListN.{length, get_or, take, set, length-set, length-append}
 use lib.Seq.{length-take-le, take-suc-set}
 use lib.Dec.{eqb, ltb}
 use Rattle.egg.specs.declared.Refusal.{Refusal}
-use Rattle.egg.specs.declared.Reached.{Reached}
-use Rattle.egg.specs.declared.Counted.{Counted}
-use Rattle.egg.specs.declared.Counted.TheVariants.{Count, Refused}
+use Rattle.egg.specs.Answers.{Counted, Reached}
+use Rattle.std.specs.Prelude.{Ok, Err}
 use Rattle.egg.specs.Table.{pick}
 use Rattle.egg.proofs.Scans.{left_suc}
 use Rattle.egg.specs.Answers.{numbered}
@@ -35,12 +34,12 @@ set_long l i v q = simp length-set q
 pub eight_as : {p r : Picks} → r.generators ≡ p.generators → r.chosen ≡ p.chosen → ChosenOfEight p → ChosenOfEight r
 eight_as g l h = record { few = rw g h.few; long = ap length l ∙ h.long }
 
-pub last_built : {p : Picks} {n : ℕ} → p.made ≡ Count n → LastBuilt p
+pub last_built : {p : Picks} {n : ℕ} → p.made ≡ Ok n → LastBuilt p
 last_built {n = n} e = record { elements = n; is = e }
 
 -- All that was built is zero again.
 pub ninth_is : (gens : List ℕ) (t w inn outw : List ℕ) {t' w' inn' outw' : List ℕ} → t' ≡ zeroed t → w' ≡ zeroed w → inn' ≡ zeroed inn → outw' ≡ zeroed outw
-    → picked gens (renumbering (built (Refused (numbered 15 0 0 0)) t' w') inn' outw') ≡ picked gens (ninth t w inn outw)
+    → picked gens (renumbering (built (Err (numbered 15 0 0 0)) t' w') inn' outw') ≡ picked gens (ninth t w inn outw)
 ninth_is gens t w inn outw a b c d = rw (a, b, c, d)
 
 gens_length : (chosen : List ℕ) (k : ℕ) → length chosen ≡ 8 → k ≤ 8 → length (take k chosen) ≡ k
@@ -49,7 +48,7 @@ gens_length chosen k long few = length-take-le k chosen (rw long few)
 -- One turn, with the chosen in the first k places of eight.
 module _ (size room M K : ℕ) (source : ℕ → ℕ → Reached) (byte : ℕ → ℕ) (x : ℕ) (chosen : List ℕ) (k : ℕ) (long : length chosen ≡ 8) (few : k ≤ 8)
     (made : Counted) (t w inn outw : List ℕ) where
-  module _ {c : ℕ} (e : made ≡ Count c) {b : Bool} (q : b ≡ is_new_member inn byte x) where
+  module _ {c : ℕ} (e : made ≡ Ok c) {b : Bool} (q : b ≡ is_new_member inn byte x) where
     pub turn_known : b ≡ false
         → picked (take k chosen) (renumbering (built made t w) inn outw)
         ≡ chooses 1 (again_in size source room M K) byte x (take k chosen) (renumbering (built made t w) inn outw)
@@ -92,7 +91,7 @@ on_picked (picked gens r) f = f gens r
 
 module _ (again : List ℕ → List ℕ → Renumbering) (byte : ℕ → ℕ) where
   stopped : (k x : ℕ) (gens : List ℕ) (f : Refusal) (t w inn outw : List ℕ)
-      → picked gens (renumbering (built (Refused f) t w) inn outw) ≡ chooses k again byte x gens (renumbering (built (Refused f) t w) inn outw)
+      → picked gens (renumbering (built (Err f) t w) inn outw) ≡ chooses k again byte x gens (renumbering (built (Err f) t w) inn outw)
   unfolding chooses
   stopped zero x gens f t w inn outw = refl
   stopped (suc k) x gens f t w inn outw = refl
@@ -100,12 +99,12 @@ module _ (again : List ℕ → List ℕ → Renumbering) (byte : ℕ → ℕ) wh
   one_then : (k x : ℕ) (gens : List ℕ) (r : Renumbering)
       → chooses (suc k) again byte x gens r ≡ on_picked (chooses 1 again byte x gens r) (λ g s. chooses k again byte (x + 1) g s)
   unfolding chooses
-  one_then k x gens (renumbering (built (Refused f) t w) inn outw) = stopped k (x + 1) gens f t w inn outw
-  one_then k x gens (renumbering (built (Count c) t w) inn outw) = by (is_new_member inn byte x) (ltb (length gens) 8) where
+  one_then k x gens (renumbering (built (Err f) t w) inn outw) = stopped k (x + 1) gens f t w inn outw
+  one_then k x gens (renumbering (built (Ok c) t w) inn outw) = by (is_new_member inn byte x) (ltb (length gens) 8) where
     by : (a b : Bool) → pick a (pick b (chooses k again byte (x + 1) (gens ++ (x ∷ [])) (again (gens ++ (x ∷ [])) w)) (picked gens (ninth t w inn outw)))
-        (chooses k again byte (x + 1) gens (renumbering (built (Count c) t w) inn outw))
+        (chooses k again byte (x + 1) gens (renumbering (built (Ok c) t w) inn outw))
         ≡ on_picked (pick a (pick b (picked (gens ++ (x ∷ [])) (again (gens ++ (x ∷ [])) w)) (picked gens (ninth t w inn outw)))
-        (picked gens (renumbering (built (Count c) t w) inn outw))) (λ g s. chooses k again byte (x + 1) g s)
+        (picked gens (renumbering (built (Ok c) t w) inn outw))) (λ g s. chooses k again byte (x + 1) g s)
     by true true = refl
     by true false = stopped k (x + 1) gens _ (zeroed t) (zeroed w) (zeroed inn) (zeroed outw)
     by false b = refl
@@ -124,7 +123,7 @@ module _ (again : List ℕ → List ℕ → Renumbering) (byte : ℕ → ℕ) wh
   turns_end m x {gens} {r} h q = let d : m - x ≡ 0 = omega arith in sym (ap (λ (k : ℕ). chooses k again byte x gens r) d) ∙ q
 
   -- After a refusal no turn changes anything.
-  pub turns_stop : (k x : ℕ) (gens : List ℕ) (made : Counted) (t w inn outw : List ℕ) {f : Refusal} {whole : Picked} → made ≡ Refused f
+  pub turns_stop : (k x : ℕ) (gens : List ℕ) (made : Counted) (t w inn outw : List ℕ) {f : Refusal} {whole : Picked} → made ≡ Err f
       → chooses k again byte x gens (renumbering (built made t w) inn outw) ≡ whole → picked gens (renumbering (built made t w) inn outw) ≡ whole
   turns_stop k x gens made t w inn outw {f} e q =
       ap (λ (m : Counted). picked gens (renumbering (built m t w) inn outw)) e ∙ stopped k x gens f t w inn outw

@@ -2,8 +2,8 @@
 -- of the overgroup, one that is not in the map so far and whose byte is not 0 becomes the next generator, and the subgroup is built again. Document
 -- 01: "rebuilt as 005 does, the first refusal standing"; 15 for "a predicate that needs a ninth generator".
 use Rattle.std.specs.Prelude.{ℕ, zero, suc, ◌+◌, ◌≤◌, ◌≡◌, Bool, not, ◌&&◌, List, [], ◌∷◌, ◌++◌, length, get_or, take, eqb, ltb}
-use Rattle.egg.specs.declared.Reached.{Reached}
-use Rattle.egg.specs.declared.Counted.TheVariants.{Count, Refused}
+use Rattle.egg.specs.Answers.{Reached}
+use Rattle.std.specs.Prelude.{Ok, Err}
 use Rattle.egg.specs.Table.{pick}
 use Rattle.egg.specs.Answers.{numbered}
 use Rattle.build_lending.specs.Finish.{built, zeroed}
@@ -17,7 +17,7 @@ pub data Picked : Type 0 where
 
 -- A ninth generator is refused with 15, and all that was built is zero again.
 abbrev pub ninth : List ℕ → List ℕ → List ℕ → List ℕ → Renumbering
-ninth t w inn outw = renumbering (built (Refused (numbered 15 0 0 0)) (zeroed t) (zeroed w)) (zeroed inn) (zeroed outw)
+ninth t w inn outw = renumbering (built (Err (numbered 15 0 0 0)) (zeroed t) (zeroed w)) (zeroed inn) (zeroed outw)
 
 -- True where x is a new member: it is not in the map so far, and its byte is not 0.
 abbrev pub is_new_member : List ℕ → (ℕ → ℕ) → ℕ → Bool
@@ -27,13 +27,13 @@ is_new_member inn byte x = eqb (get_or inn x 0) appear.no_number && not (eqb (by
 -- how the build before ended.
 unfoldable pub chooses : ℕ → (List ℕ → List ℕ → Renumbering) → (ℕ → ℕ) → ℕ → List ℕ → Renumbering → Picked
 chooses zero again byte x gens r = picked gens r
-chooses (suc k) again byte x gens (renumbering (built (Refused f) t w) inn outw) = picked gens (renumbering (built (Refused f) t w) inn outw)
-chooses (suc k) again byte x gens (renumbering (built (Count c) t w) inn outw) =
+chooses (suc k) again byte x gens (renumbering (built (Err f) t w) inn outw) = picked gens (renumbering (built (Err f) t w) inn outw)
+chooses (suc k) again byte x gens (renumbering (built (Ok c) t w) inn outw) =
     pick (is_new_member inn byte x)
     (pick (ltb (length gens) 8)
     (chooses k again byte (x + 1) (gens ++ (x ∷ [])) (again (gens ++ (x ∷ [])) w))
     (picked gens (ninth t w inn outw)))
-    (chooses k again byte (x + 1) gens (renumbering (built (Count c) t w) inn outw))
+    (chooses k again byte (x + 1) gens (renumbering (built (Ok c) t w) inn outw))
 
 -- Builds a subgroup by a list of elements. `source y x` is the overgroup's product of y and x, or a refusal; M and K are the lengths of the two maps.
 abbrev pub again_in : (size : ℕ) (source : ℕ → ℕ → Reached) (room M K : ℕ) (gens w : List ℕ) → Renumbering
@@ -47,7 +47,7 @@ pub record ChosenOfEight (p : Picks) : Type 0 where
 -- The last build was not refused.
 pub record LastBuilt (p : Picks) : Type 0 where
   pub elements : ℕ
-  pub is : p.made ≡ Count elements
+  pub is : p.made ≡ Ok elements
 
 -- The code's picks and buffers as the definition's `Picked`.
 abbrev pub picked_of : (p : Picks) (t w inn outw : List ℕ) → Picked

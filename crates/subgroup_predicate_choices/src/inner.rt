@@ -7,7 +7,7 @@ ghost use Rattle.group_digits.specs.Digits.{composes};
 ghost use Rattle.build_numbering.specs.Build.{Renumbering};
 ghost use Rattle.subgroup_predicate_choices.specs.Choices.{is_new_member, ChosenOfEight, LastBuilt, ninth_of, chooses, again_in, picked_of};
 
-use egg::{Counted, GroupElementId, Refusal};
+use egg::{GroupElementId, Refusal};
 use group_handles::Group;
 
 // The elements that a predicate has chosen so far, the first `generators` of eight, and how their build ended.
@@ -15,18 +15,17 @@ use group_handles::Group;
 pub struct Picks {
     pub chosen: [u32; 8],
     pub generators: u8,
-    pub made: Counted,
+    pub made: Result<u32, Refusal>,
 }
 
 // Whether x is a member that has no number yet.
 fn is_new(inn: &[u32], members: &[u8], x: GroupElementId) -> bool
     ensures { result ≡ is_new_member inn.now (λ y. get_or members.now y 0) x.0 }
 {
-    let i = x.0;
-    if egg::inner::get(inn, i as usize) != 4294967295 {
+    if egg::inner::get(inn, x.0 as usize) != 4294967295 {
         return false;
     }
-    egg::inner::byte(members, i as usize) != 0
+    egg::inner::byte(members, x.0 as usize) != 0
 }
 
 // Refuses a ninth generator with 15; all that was built is zero again.
@@ -37,16 +36,9 @@ fn ninth(t: &mut [u32], w: &mut [u32], inn: &mut [u32], outw: &mut [u32], p: Pic
     egg::inner::clear(w);
     egg::inner::clear(inn);
     egg::inner::clear(outw);
-    let chosen = p.chosen;
     Picks {
-        chosen,
-        generators: p.generators,
-        made: Counted::Refused(Refusal {
-            number: 15,
-            a: 0,
-            b: 0,
-            c: 0,
-        }),
+        made: Err(Refusal::TooLarge),
+        ..p
     }
 }
 
@@ -75,9 +67,8 @@ fn choose(
     if full {
         return ninth(t, w, inn, outw, p);
     }
-    let new = x.0;
     let mut chosen = p.chosen;
-    chosen[k] = new;
+    chosen[k] = x.0;
     let n = k + 1;
     let made = subgroup_build::inner::generated_in(
         t,
@@ -113,11 +104,9 @@ pub fn choose_all(
     ensures { (picked_of result t.new w.new inn.new outw.new ≡ chooses (length inn.old) (again_in (length t.old) (composes from.now (handles over)) room (length inn.old) (length outw.old)) (λ y. get_or members.now y 0) 0 (take p.generators p.chosen) (Renumbering.renumbering (Built.built p.made t.old w.old) inn.old outw.old)) × ChosenOfEight result }
 {
     let m = inn.len() as u32;
-    let mut x: u32 = 0;
     let mut q = p;
-    while x < m {
-        let built = q.made;
-        let Counted::Count(_) = built else {
+    for x in 0..m {
+        let Ok(_) = q.made else {
             return q;
         };
         q = choose(
@@ -132,7 +121,6 @@ pub fn choose_all(
             GroupElementId(x),
             q,
         );
-        x += 1;
     }
     q
 }

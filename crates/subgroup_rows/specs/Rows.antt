@@ -1,7 +1,7 @@
 -- This file defines where the rows of a subgroup's table lead: to the overgroup's products.
 use Rattle.std.specs.Prelude.{ℕ, List, get_or}
 use Rattle.egg.specs.declared.Factor.{Factor}
-use Rattle.egg.specs.declared.Reached.{Reached}
+use Rattle.egg.specs.Answers.{Reached}
 use Rattle.group_digits.specs.Digits.{composes}
 
 -- What appears at x by the generator g is the overgroup's `compose` of x with the element that `gens` lists for g. Document 01: "Numbering in order

@@ -8,7 +8,7 @@ ghost use Rattle.build_numbering.specs.Renumber.{Mapped, map_row, map_rows};
 ghost use Rattle.subgroup_one_factor.specs.Letters.{Letters};
 ghost use Rattle.subgroup_rows.specs.Rows.{product_by};
 
-use egg::{Counted, Factor, GeneratorId, GroupElementId, Reached};
+use egg::{Factor, GeneratorId, GroupElementId, Refusal};
 use group_handles::Group;
 
 // Fills one row: the products of the element that stands at e with the elements of the generators.
@@ -23,36 +23,23 @@ fn product_row(
     room: u32,
     e: GroupElementId,
     first: u32,
-) -> Counted
+) -> Result<u32, Refusal>
     requires { (all_fit (length from.now) (handles over) ≡ true) × (elements_of (handles over) ≤ 4294967295) }
     ensures { Mapped.mapped (Placed.placed result t.new) inn.new outw.new ≡ map_row n (product_by from.now (handles over) gens.now) n room e.0 0 first t.old inn.old outw.old }
 {
-    let row = e.0;
-    let mut g: u8 = 0;
     let mut count = first;
-    while g < n {
-        let at = egg::inner::get(&outw[..], row as usize);
+    for g in 0..n {
+        let at = egg::inner::get(&outw[..], e.0 as usize);
         let by = egg::inner::get(gens, g as usize);
-        let reached = group_digits::inner::compose_digits(
+        let x = group_digits::inner::compose_digits(
             from,
             over,
             GroupElementId(at),
             GroupElementId(by),
-        );
-        let x = match reached {
-            Reached::Refused(why) => {
-                return Counted::Refused(why);
-            }
-            Reached::Element(y) => y,
-        };
-        let c = build_numbering::inner::place(t, inn, outw, n, room, count, e, GeneratorId(g), x);
-        let Counted::Count(k) = c else {
-            return c;
-        };
-        count = k;
-        g += 1;
+        )?;
+        count = build_numbering::inner::place(t, inn, outw, n, room, count, e, GeneratorId(g), x)?;
     }
-    Counted::Count(count)
+    Ok(count)
 }
 
 // Fills the rows in the order of their elements, as long as there is a next element.
@@ -65,17 +52,16 @@ fn product_rows(
     gens: &[u32],
     n: u8,
     room: u32,
-) -> Counted
+) -> Result<u32, Refusal>
     requires { (all_fit (length from.now) (handles over) ≡ true) × (elements_of (handles over) ≤ 4294967295) }
     ensures { Mapped.mapped (Placed.placed result t.new) inn.new outw.new ≡ map_rows room (product_by from.now (handles over) gens.now) n room 0 1 t.old inn.old outw.old }
 {
-    let mut e: u32 = 0;
     let mut count: u32 = 1;
-    while e < room {
+    for e in 0..room {
         if count <= e {
-            return Counted::Count(count);
+            return Ok(count);
         }
-        let c = product_row(
+        count = product_row(
             t,
             inn,
             outw,
@@ -86,14 +72,9 @@ fn product_rows(
             room,
             GroupElementId(e),
             count,
-        );
-        let Counted::Count(k) = c else {
-            return c;
-        };
-        count = k;
-        e += 1;
+        )?;
     }
-    Counted::Count(count)
+    Ok(count)
 }
 
 // Fills the same row where the overgroup is one factor: its handle is 24 bytes, and the 200 bytes of a product would be copied at each place. What
@@ -110,38 +91,25 @@ fn factor_row(
     room: u32,
     e: GroupElementId,
     first: u32,
-) -> Counted
+) -> Result<u32, Refusal>
     requires { ((fits_in (length from.now) f ≡ true) × Letters (stretch from.now f) f.generators f.elements gens.now letters.now) × (e.0 < first) }
     ensures { Mapped.mapped (Placed.placed result t.new) inn.new outw.new ≡ map_row n (product_by from.now (f ∷ []) gens.now) n room e.0 0 first t.old inn.old outw.old }
 {
-    let row = e.0;
-    let at = egg::inner::get(&outw[..], row as usize);
-    let mut g: u8 = 0;
+    let at = egg::inner::get(&outw[..], e.0 as usize);
     let mut count = first;
-    while g < n {
+    for g in 0..n {
         let by = egg::inner::get(gens, g as usize);
         let letter = egg::inner::get(letters, g as usize);
-        let reached = subgroup_one_factor::inner::letter_product(
+        let x = subgroup_one_factor::inner::letter_product(
             from,
             f,
             GroupElementId(at),
             GroupElementId(by),
             letter,
-        );
-        let x = match reached {
-            Reached::Refused(why) => {
-                return Counted::Refused(why);
-            }
-            Reached::Element(y) => y,
-        };
-        let c = build_numbering::inner::place(t, inn, outw, n, room, count, e, GeneratorId(g), x);
-        let Counted::Count(k) = c else {
-            return c;
-        };
-        count = k;
-        g += 1;
+        )?;
+        count = build_numbering::inner::place(t, inn, outw, n, room, count, e, GeneratorId(g), x)?;
     }
-    Counted::Count(count)
+    Ok(count)
 }
 
 // Fills the rows in order, with the letters of the generators known.
@@ -155,17 +123,16 @@ fn lettered_rows(
     letters: &[u32],
     n: u8,
     room: u32,
-) -> Counted
+) -> Result<u32, Refusal>
     requires { (fits_in (length from.now) f ≡ true) × Letters (stretch from.now f) f.generators f.elements gens.now letters.now }
     ensures { Mapped.mapped (Placed.placed result t.new) inn.new outw.new ≡ map_rows room (product_by from.now (f ∷ []) gens.now) n room 0 1 t.old inn.old outw.old }
 {
-    let mut e: u32 = 0;
     let mut count: u32 = 1;
-    while e < room {
+    for e in 0..room {
         if count <= e {
-            return Counted::Count(count);
+            return Ok(count);
         }
-        let c = factor_row(
+        count = factor_row(
             t,
             inn,
             outw,
@@ -177,14 +144,9 @@ fn lettered_rows(
             room,
             GroupElementId(e),
             count,
-        );
-        let Counted::Count(k) = c else {
-            return c;
-        };
-        count = k;
-        e += 1;
+        )?;
     }
-    Counted::Count(count)
+    Ok(count)
 }
 
 // Finds the letters and fills the rows. A generator is often an element of one letter, and then a product with it is a step: for that the letters are
@@ -198,7 +160,7 @@ fn factor_rows(
     gens: &[u32],
     n: u8,
     room: u32,
-) -> Counted
+) -> Result<u32, Refusal>
     requires { fits_in (length from.now) f ≡ true }
     ensures { Mapped.mapped (Placed.placed result t.new) inn.new outw.new ≡ map_rows room (product_by from.now (f ∷ []) gens.now) n room 0 1 t.old inn.old outw.old }
 {
@@ -223,7 +185,7 @@ pub fn rows_of(
     gens: &[u32],
     n: u8,
     room: u32,
-) -> Counted
+) -> Result<u32, Refusal>
     requires { (all_fit (length from.now) (handles over) ≡ true) × (elements_of (handles over) ≤ 4294967295) }
     ensures { Mapped.mapped (Placed.placed result t.new) inn.new outw.new ≡ map_rows room (product_by from.now (handles over) gens.now) n room 0 1 t.old inn.old outw.old }
 {

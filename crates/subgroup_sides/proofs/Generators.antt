@@ -11,8 +11,8 @@ use lib.Dec.{ltb}
 use Rattle.egg.specs.declared.Factor.{Factor}
 use Rattle.egg.specs.declared.Refusal.{Refusal}
 use Rattle.egg.specs.declared.GroupElementId.{GroupElementId}
-use Rattle.egg.specs.declared.Reached.{Reached}
-use Rattle.egg.specs.declared.Reached.TheVariants.{Element, Refused}
+use Rattle.egg.specs.Answers.{Reached}
+use Rattle.std.specs.Prelude.{Ok, Err}
 use Rattle.egg.specs.Table.{pick}
 use Rattle.egg.specs.Factor.{fits_in, stretch, read_step}
 use Rattle.egg.proofs.Rooms.{and_first, and_second, some}
@@ -35,10 +35,10 @@ pub sub_generators_are : (s : Subgroup) {k m : ℕ} → k ≡ generators_of (han
     → k + (s.factor.generators + m) ≡ generators_of (sub_side s)
 sub_generators_are s p q = rw (p, q) (sym (generators_append (handles s.below) (s.factor ∷ handles s.above)))
 
-pub scaled_refused : (k : ℕ) {r : Reached} {w : Refusal} → r ≡ Refused w → Refused w ≡ scaled k r
+pub scaled_refused : (k : ℕ) {r : Reached} {w : Refusal} → r ≡ Err w → Err w ≡ scaled k r
 scaled_refused k e = rw e
 
-pub scaled_is : (k : ℕ) {r : Reached} {y : GroupElementId} → r ≡ Element y → Element (record { 0 = k * y.0 }) ≡ scaled k r
+pub scaled_is : (k : ℕ) {r : Reached} {y : GroupElementId} → r ≡ Ok y → Ok (record { 0 = k * y.0 }) ≡ scaled k r
 scaled_is k e = rw e
 
 below_raise : {M L : ℕ} {r : Reached} → M ≤ L → Below M r → Below L r
@@ -103,14 +103,14 @@ module _ (from table : List ℕ) (s : Subgroup) (f : sides_fit (length from) (le
   stride_fits q = rw (stride_told q) (pair_small B N A some_a all_small)
 
   pub within_fits : {b : ℕ} → b ≡ capped B → (x : ℕ) {r : Reached} → r ≡ read_step (stretch table s.factor) s.factor.generators N 0 x
-      → (y : GroupElementId) → r ≡ Element y → b * y.0 < 4294967296
+      → (y : GroupElementId) → r ≡ Ok y → b * y.0 < 4294967296
   within_fits {b} q x p y e =
       let h : y.0 < N = below_element (step_below (stretch table s.factor) s.factor.generators N 0 x) p e in
       let i : B * y.0 < B * N = mul-lt-mul_of_pos_left h some_b in
       rw (stride_told q) (omega (arith, i, pair_small B N A some_a all_small))
 
   pub above_fits : {b : ℕ} → b ≡ capped B → (x : ℕ) {r : Reached} → r ≡ step_in from (handles s.above) 0 x
-      → (y : GroupElementId) → r ≡ Element y → b * N * y.0 < 4294967296
+      → (y : GroupElementId) → r ≡ Ok y → b * N * y.0 < 4294967296
   above_fits {b} q x p y e =
       let h : y.0 ≤ A = le_of (below_element (steps_below from (handles s.above) 0 x some_a) p e) in
       let c : B * N ≤ B * N = omega arith in
@@ -175,7 +175,7 @@ module _ (from table : List ℕ) (s : Subgroup) (f : sides_fit (length from) (le
         pos : 0 < B * N
         pos = let c : 1 * 1 ≤ B * N = mul-le-mul some_b some_n in omega (arith, c)
 
-  pub generator_element : (g : ℕ) {r : Reached} {e : GroupElementId} → r ≡ side_generator from table s g → r ≡ Element e → e.0 < elements_of (sub_side s)
+  pub generator_element : (g : ℕ) {r : Reached} {e : GroupElementId} → r ≡ side_generator from table s g → r ≡ Ok e → e.0 < elements_of (sub_side s)
   generator_element g q p = below_element (side_below g) q p
 
 -- A step read in the part that is the stretch.

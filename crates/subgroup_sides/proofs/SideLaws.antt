@@ -1,4 +1,5 @@
 -- Laws of the refusals before a map is read, one for each answer; what is known where a question goes on; and the products with further factors.
+use Rattle.std.specs.Prelude.{Ok}
 use Prim.Native.Nat.{ℕ, suc, ◌+◌, ◌*◌, ◌≤◌, ◌<◌}
 use mathlib.Core.Path.{◌≡◌, refl, sym, ap, ◌∙◌}
 use mathlib.Core.Bool.{Bool, true, false, ◌&&◌}
@@ -7,8 +8,7 @@ use native.Mathlib.Omega.{arith}
 use borrow.Author.Tests.{le-leb, lt-leb, leb-true, leb-false}
 use lib.ListN.{length}
 use lib.Dec.{leb, ltb}
-use Rattle.egg.specs.declared.Verdict.{Verdict}
-use Rattle.egg.specs.declared.Verdict.TheVariants.{Fine}
+use Rattle.egg.specs.Answers.{Verdict, fine}
 use Rattle.egg.specs.Scan.{refused_of}
 use Rattle.egg.specs.Factor.{fits_in}
 use Rattle.egg.proofs.Rooms.{and_first, and_second}
@@ -19,7 +19,7 @@ use Rattle.group_handles.proofs.Caps.{cap_beyond, cap_within}
 use Rattle.group_handles.proofs.Joins.{fit_both}
 use Rattle.group_handles.proofs.Sums.{both_length}
 use Rattle.subgroup_build.specs.declared.Subgroup.{Subgroup}
-use Rattle.subgroup_build.specs.declared.Subgrouped.{Subgrouped}
+use Rattle.subgroup_build.specs.Answers.{Subgrouped}
 use Rattle.subgroup_sides.specs.Sides.{over_side, sub_side, sides_fit, few_factors, limited_by, sides_limited, admits_sides, put_left, put_right, refused_subgroup, if_limited, joinable, multiplied, left_product, right_product}
 use Rattle.subgroup_sides.proofs.Counts.{around_is, over_elements_is, sub_elements_is}
 
@@ -145,7 +145,7 @@ module _ (from table : ℕ) (s : Subgroup) (map need a la : ℕ) where
         unfolding admits_sides
         sides_large z = rw (fits, le-leb need map long, lt-leb la a below, z)
 
-        pub sides_fine : sides_limited s ≡ true → Fine ≡ admits_sides from table s map need a la
+        pub sides_fine : sides_limited s ≡ true → fine ≡ admits_sides from table s map need a la
         unfolding admits_sides
         sides_fine z = rw (fits, le-leb need map long, lt-leb la a below, z)
 
@@ -157,7 +157,7 @@ pub record Asks (from table : ℕ) (s : Subgroup) (map need a la : ℕ) : Type 0
   pub limited : sides_limited s ≡ true
 
 module _ (from table : ℕ) (s : Subgroup) (map need a la : ℕ) where
-  pub asks : admits_sides from table s map need a la ≡ Fine → Asks from table s map need a la
+  pub asks : admits_sides from table s map need a la ≡ fine → Asks from table s map need a la
   asks q = by (sides_fit from table s) (leb need map) (leb la a) (sides_limited s) refl refl refl refl where
     by : (w x y z : Bool) → sides_fit from table s ≡ w → leb need map ≡ x → leb la a ≡ y → sides_limited s ≡ z → Asks from table s map need a la
     by false x y z p h k l = absurd (refused_fine (sides_handle from table s map need a la p ∙ q))
@@ -167,7 +167,7 @@ module _ (from table : ℕ) (s : Subgroup) (map need a la : ℕ) where
         absurd (refused_fine (sides_large from table s map need a la p (leb-true _ _ h) (leb-false _ _ k) l ∙ q))
     by true true false true p h k l = record { fits = p; long = leb-true _ _ h; argument = leb-false _ _ k; limited = l }
 
-  pub asks_by : {v : Verdict} → v ≡ admits_sides from table s map need a la → v ≡ Fine → Asks from table s map need a la
+  pub asks_by : {v : Verdict} → v ≡ admits_sides from table s map need a la → v ≡ fine → Asks from table s map need a la
   asks_by q e = asks (sym q ∙ e)
 
 -- A limit, and the length of a map, as far as 32 bits can tell.
@@ -208,7 +208,7 @@ pub limit_no : (s : Subgroup) → sides_limited s ≡ false → refused_subgroup
 unfolding if_limited
 limit_no s e = rw e
 
-pub limit_fine : (s : Subgroup) → sides_limited s ≡ true → record { answer = Fine; subgroup = s } ≡ if_limited s
+pub limit_fine : (s : Subgroup) → sides_limited s ≡ true → Ok s ≡ if_limited s
 unfolding if_limited
 limit_fine s e = rw e
 

@@ -1,7 +1,7 @@
 -- This file defines the generators of the subgroup's side, below · factor · above, and which elements they are.
 use Rattle.std.specs.Prelude.{ℕ, ◌*◌, ◌-◌, List, ltb}
-use Rattle.egg.specs.declared.Reached.{Reached}
-use Rattle.egg.specs.declared.Reached.TheVariants as reached
+use Rattle.egg.specs.Answers.{Reached}
+use Rattle.std.specs.Prelude.{Ok}
 use Rattle.egg.specs.Table.{pick}
 use Rattle.egg.specs.Factor.{read_step, stretch}
 use Rattle.egg.specs.Answers.{on_reached}
@@ -12,7 +12,7 @@ use Rattle.subgroup_sides.specs.Sides.{stride_of}
 
 -- The number k·y for the element y that was reached: y's number in a product that has k elements below its factors.
 abbrev pub scaled : ℕ → Reached → Reached
-scaled k r = on_reached r (λ y. reached.Element (record { 0 = k * y }))
+scaled k r = on_reached r (λ y. Ok (record { 0 = k * y }))
 
 -- The generator g as an element of the subgroup's product. The generators are numbered in order: those of the factors below, the factor's own, those
 -- above.

@@ -1,17 +1,17 @@
 -- This file defines the two sides of a subgroup's value (the overgroup below · over · above, the subgroup below · factor · above), the refusals that
 -- come before a map is read, and the products with further factors.
-use Rattle.std.specs.Prelude.{ℕ, ◌+◌, ◌*◌, List, [], ◌∷◌, ◌++◌, Bool, ◌&&◌, length, leb, ltb}
+use Rattle.std.specs.Prelude.{Ok, Err}
+use Rattle.egg.specs.Refusals.{numbered}
+use Rattle.std.specs.Prelude.{ℕ, ◌+◌, ◌*◌, List, ◌∷◌, ◌++◌, Bool, ◌&&◌, length, leb, ltb}
 use Rattle.egg.specs.declared.Factor.{Factor}
-use Rattle.egg.specs.declared.Verdict.{Verdict}
-use Rattle.egg.specs.declared.Verdict.TheVariants as verdict
+use Rattle.egg.specs.Answers.{Verdict, fine}
 use Rattle.egg.specs.Table.{pick}
 use Rattle.egg.specs.Scan.{refused_of}
 use Rattle.egg.specs.Factor.{fits_in}
-use Rattle.build_lending.specs.Lending.{no_factor}
 use Rattle.group_handles.specs.declared.Group.{Group}
 use Rattle.group_handles.specs.Handles.{handles, elements_of, capped, all_fit, group_of}
 use Rattle.subgroup_build.specs.declared.Subgroup.{Subgroup}
-use Rattle.subgroup_build.specs.declared.Subgrouped.{Subgrouped}
+use Rattle.subgroup_build.specs.Answers.{Subgrouped}
 
 -- The factors of the overgroup, the fastest digit first.
 abbrev pub over_side : Subgroup → List Factor
@@ -59,7 +59,7 @@ limited_by few below within over above =
 unfoldable pub admits_sides : (from table : ℕ) (s : Subgroup) (map need a la : ℕ) → Verdict
 admits_sides from table s map need a la =
     pick (sides_fit from table s && leb need map)
-    (pick (leb la a) (refused_of 14 0 0 0) (pick (sides_limited s) verdict.Fine (refused_of 15 0 0 0)))
+    (pick (leb la a) (refused_of 14 0 0 0) (pick (sides_limited s) fine (refused_of 15 0 0 0)))
     (refused_of 17 0 0 0)
 
 -- The subgroup with a group multiplied on at the left, below all the rest.
@@ -70,17 +70,13 @@ put_left g s = record { below = group_of (handles g ++ handles s.below); factor 
 abbrev pub put_right : Subgroup → Group → Subgroup
 put_right s g = record { below = s.below; factor = s.factor; over = s.over; above = group_of (handles s.above ++ handles g) }
 
--- The value beside a refusal, which is no subgroup: its factor fits no buffer.
-abbrev pub no_subgroup : Subgroup
-no_subgroup = record { below = group_of []; factor = no_factor; over = group_of []; above = group_of [] }
-
 -- The refusal with this number and no places.
 abbrev pub refused_subgroup : ℕ → Subgrouped
-refused_subgroup number = record { answer = refused_of number 0 0 0; subgroup = no_subgroup }
+refused_subgroup number = Err (numbered number 0 0 0)
 
 -- The subgroup s, or 15 where a side is too large.
 unfoldable pub if_limited : Subgroup → Subgrouped
-if_limited s = pick (sides_limited s) (record { answer = verdict.Fine; subgroup = s }) (refused_subgroup 15)
+if_limited s = pick (sides_limited s) (Ok s) (refused_subgroup 15)
 
 -- Whether two groups have at most 8 factors together.
 unfoldable pub joinable : Group → Group → Bool

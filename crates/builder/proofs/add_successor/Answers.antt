@@ -8,16 +8,16 @@ use Rattle.builder.proofs.add_successor.Goals as goal
 
 pub stretch_end-end-requires : goal.stretch_end-end-requires
 stretch_end-end-requires c = let a = c.args in
-    has (length a.table.now) a.b.0 (place_fits (length a.table.now) a.b.0 a.e a.g c.place.ensures c.in-Fine.is)
+    has (length a.table.now) a.b.0 (place_fits (length a.table.now) a.b.0 a.e a.g c.place.ensures c.in-Ok.is)
 
 pub grow-requires : goal.grow-requires
 grow-requires c = let a = c.args in
-    (fits_small (length a.table.now) a.b.0 (place_fits (length a.table.now) a.b.0 a.e a.g c.place.ensures c.in-Fine.is)).1
+    (fits_small (length a.table.now) a.b.0 (place_fits (length a.table.now) a.b.0 a.e a.g c.place.ensures c.in-Ok.is)).1
 
-pub returns-in-Refused : goal.returns-in-Refused
-returns-in-Refused c = let a = c.args in
-    grows_refused a.table.now a.b a.e a.g c.place.ensures c.in-Refused.is
+pub returns-in-Err : goal.returns-in-Err
+returns-in-Err c = let a = c.args in
+    grows_refused a.table.now a.b a.e a.g c.place.ensures c.in-Err.is
 
-pub returns-in-Fine : goal.returns-in-Fine
-returns-in-Fine c = let a = c.args in
-    grows_new a.table.now a.b a.e a.g c.place.ensures c.in-Fine.is c.stretch_end-end.ensures c.grow.ensures
+pub returns-in-Ok : goal.returns-in-Ok
+returns-in-Ok c = let a = c.args in
+    grows_new a.table.now a.b a.e a.g c.place.ensures c.in-Ok.is c.stretch_end-end.ensures c.grow.ensures

@@ -5,11 +5,11 @@ use Rattle.builder.proofs.begin.Goals as goal
 
 pub returns-then-n-gt8 : goal.returns-then-n-gt8
 returns-then-n-gt8 c = let a = c.args in
-    begin_many a.table.now a.start a.room a.n c.refused_begun.ensures c.if-n-gt8.true
+    begin_many a.table.now a.start a.room a.n c.if-n-gt8.true
 
 pub returns-then-not-has_room : goal.returns-then-not-has_room
 returns-then-not-has_room c = let a = c.args in
-    begin_short a.table.now a.start a.room a.n c.refused_begun-then-not-has_room.ensures c.if-n-gt8.false (sym c.has_room.ensures ∙ c.if-not-has_room.true)
+    begin_short a.table.now a.start a.room a.n c.if-n-gt8.false (sym c.has_room.ensures ∙ c.if-not-has_room.true)
 
 pub stretch_end-end-requires : goal.stretch_end-end-requires
 stretch_end-end-requires c = sym c.has_room.ensures ∙ c.if-not-has_room.false

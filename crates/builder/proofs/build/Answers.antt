@@ -1,5 +1,4 @@
 -- One law for each answer; both stretches stand in their buffers by `build_back`.
-use borrow.Author.Tests.{not-true, not-false}
 use mathlib.Core.Path.{sym, ◌∙◌}
 use lib.ListN.{length}
 use lib.Seq.{length-take-le}
@@ -8,19 +7,24 @@ use Rattle.builder.proofs.Calls.{builds_handle, builds_short, builds_done, work_
 use Rattle.builder.proofs.build.Goals as goal
 
 pub returns-then-not-fits : goal.returns-then-not-fits
-returns-then-not-fits c = let a = c.args in builds_handle a.table.now a.b a.work.now (c.refused_made.ensures) (sym (c.fits.ensures) ∙ not-true _ (c.if-not-fits.true-raw))
+returns-then-not-fits c = let a = c.args in
+    builds_handle a.table.now a.b a.work.now (sym c.fits.ensures ∙ c.if-not-fits.true)
 
 pub returns-then-work-need : goal.returns-then-work-need
-returns-then-work-need c = let a = c.args in builds_short a.table.now a.b a.work.now (sym (c.fits.ensures) ∙ not-false _ (c.if-not-fits.false-raw)) (c.work_need-need.ensures) (c.refused_made-then-work-need.ensures) (c.if-work-need.true)
+returns-then-work-need c = let a = c.args in
+    builds_short a.table.now a.b a.work.now (sym c.fits.ensures ∙ c.if-not-fits.false) c.work_need-need.ensures c.if-work-need.true
 
 pub stretch_end-end-requires : goal.stretch_end-end-requires
-stretch_end-end-requires c = let a = c.args in has (length a.table.now) a.b.0 (sym (c.fits.ensures) ∙ not-false _ (c.if-not-fits.false-raw))
+stretch_end-end-requires c = let a = c.args in
+    has (length a.table.now) a.b.0 (sym c.fits.ensures ∙ c.if-not-fits.false)
 
 pub slice_bounds-complete-end-3 : goal.slice_bounds-complete-end-3
-slice_bounds-complete-end-3 c = sym (length-take-le _ (c.args.work.now) (c.if-work-need.false))
+slice_bounds-complete-end-3 c = sym (length-take-le _ c.args.work.now c.if-work-need.false)
 
 pub complete-count-requires : goal.complete-count-requires
-complete-count-requires c = let a = c.args in work_copies (length a.table.now) a.b.0 a.work.now (sym (c.fits.ensures) ∙ not-false _ (c.if-not-fits.false-raw)) (c.work_need-need.ensures) (c.if-work-need.false)
+complete-count-requires c = let a = c.args in
+    work_copies (length a.table.now) a.b.0 a.work.now (sym c.fits.ensures ∙ c.if-not-fits.false) c.work_need-need.ensures c.if-work-need.false
 
 pub returns : goal.returns
-returns c = let a = c.args in builds_done a.table.now a.b a.work.now (sym (c.fits.ensures) ∙ not-false _ (c.if-not-fits.false-raw)) (c.work_need-need.ensures) (c.if-work-need.false) (c.stretch_end-end.ensures) (c.complete-count.ensures) (c.made.ensures)
+returns c = let a = c.args in
+    builds_done a.table.now a.b a.work.now (sym c.fits.ensures ∙ c.if-not-fits.false) c.work_need-need.ensures c.if-work-need.false c.stretch_end-end.ensures c.complete-count.ensures c.made.ensures

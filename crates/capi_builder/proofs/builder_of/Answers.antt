@@ -2,4 +2,4 @@
 use Rattle.capi_builder.proofs.builder_of.Goals as goal
 
 pub returns : goal.returns
-returns c = rw (c.factor_of-f.ensures)
+returns c = rw c.factor_of.ensures

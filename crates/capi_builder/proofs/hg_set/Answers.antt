@@ -3,4 +3,4 @@ use Rattle.capi_builder.proofs.Laws.{stored_leaves}
 use Rattle.capi_builder.proofs.hg_set.Goals as goal
 
 pub returns : goal.returns
-returns c = rw (← c.builder_of-b.ensures) (stored_leaves (c.set_successor-s.ensures) (c.stored_code.ensures))
+returns c = rw (← c.builder_of-b.ensures) (stored_leaves c.set_successor-s.ensures c.stored_code.ensures)

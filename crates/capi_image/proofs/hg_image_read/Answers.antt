@@ -6,4 +6,4 @@ pub returns-then-out-lt5 : goal.returns-then-out-lt5
 returns-then-out-lt5 c = out_short 5 c.args.out.now _ _ c.if-out-lt5.true
 
 pub returns : goal.returns
-returns c = out_long 5 _ _ _ c.if-out-lt5.false (bridge_told c.args.out.now c.read-m.ensures c.write_made.ensures)
+returns c = out_long 5 _ _ _ c.if-out-lt5.false (bridge_told c.args.out.now c.read.ensures c.write_made.ensures)

@@ -10,4 +10,4 @@ pub returns-then-out-lt4 : goal.returns-then-out-lt4
 returns-then-out-lt4 c = out_short 4 c.args.out.now (c.args.work.now ∷ []) (checked_into c.args.image.now c.args.work.now c.args.out.now) (omega (arith, c.if-out-lt4.true))
 
 pub returns : goal.returns
-returns c = out_long 4 c.args.out.now (c.args.work.now ∷ []) (checked_into c.args.image.now c.args.work.now c.args.out.now) c.if-out-lt4.false (checked_told c.args.image.now c.args.work.now c.args.out.now c.verdict-v.ensures c.write_verdict.ensures)
+returns c = out_long 4 c.args.out.now (c.args.work.now ∷ []) (checked_into c.args.image.now c.args.work.now c.args.out.now) c.if-out-lt4.false (checked_told c.args.image.now c.args.work.now c.args.out.now c.verdict.ensures c.write_verdict.ensures)

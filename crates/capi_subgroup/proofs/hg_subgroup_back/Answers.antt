@@ -1,7 +1,7 @@
 -- The answer by the outline, as one number.
 use mathlib.Core.Path.{ap, ◌∙◌}
 use lib.ListN.{length}
-use Rattle.subgroup.specs.declared.Within.{Within}
+use Rattle.subgroup.specs.Answers.{Within}
 use Rattle.capi_subgroup.specs.Subgroup.{within_code}
 use Rattle.subgroup.proofs.Outlines.{back_told}
 use Rattle.capi_subgroup.specs.Subgroup.{subgroup_from}

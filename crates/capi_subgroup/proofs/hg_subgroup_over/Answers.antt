@@ -1,7 +1,7 @@
 -- The answer by the outline, as one number.
 use mathlib.Core.Path.{ap, ◌∙◌}
 use lib.ListN.{length}
-use Rattle.egg.specs.declared.Reached.{Reached}
+use Rattle.egg.specs.Answers.{Reached}
 use Rattle.capi_values.specs.Bridge.{reached_code}
 use Rattle.subgroup.proofs.Outlines.{over_told}
 use Rattle.capi_subgroup.specs.Subgroup.{subgroup_from}

@@ -2,5 +2,5 @@
 use mathlib.Core.Path.{◌∙◌}
 use Rattle.capi_subgroup.proofs.within_code.Goals as goal
 
-pub returns-in-Refused : goal.returns-in-Refused
-returns-in-Refused c = c.refusal_code.ensures ∙ rw c.in-Refused.is
+pub returns-in-Err : goal.returns-in-Err
+returns-in-Err c = c.refusal_code.ensures ∙ rw c.in-Err.is

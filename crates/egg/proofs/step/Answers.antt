@@ -3,13 +3,13 @@ use mathlib.Core.Path.{sym, ◌∙◌}
 use Rattle.egg.proofs.step.Goals as goal
 
 pub returns-then-not-fits : goal.returns-then-not-fits
-returns-then-not-fits c = c.refuse.ensures ∙ step_handle c.args.table.now c.args.f c.args.e c.args.g (sym c.fits.ensures ∙ c.if-not-fits.true)
+returns-then-not-fits c = step_handle c.args.table.now c.args.f c.args.e c.args.g (sym c.fits.ensures ∙ c.if-not-fits.true)
 
 pub returns-then-f-e : goal.returns-then-f-e
-returns-then-f-e c = c.refuse-then-f-e.ensures ∙ step_element c.args.table.now c.args.f c.args.e c.args.g (sym c.fits.ensures ∙ c.if-not-fits.false) c.if-f-e.true
+returns-then-f-e c = step_element c.args.table.now c.args.f c.args.e c.args.g (sym c.fits.ensures ∙ c.if-not-fits.false) c.if-f-e.true
 
 pub returns-then-f-g : goal.returns-then-f-g
-returns-then-f-g c = c.refuse-then-f-g.ensures ∙ step_generator c.args.table.now c.args.f c.args.e c.args.g (sym c.fits.ensures ∙ c.if-not-fits.false) c.if-f-e.false c.if-f-g.true
+returns-then-f-g c = step_generator c.args.table.now c.args.f c.args.e c.args.g (sym c.fits.ensures ∙ c.if-not-fits.false) c.if-f-e.false c.if-f-g.true
 
 pub part-requires : goal.part-requires
 part-requires c = sym c.fits.ensures ∙ c.if-not-fits.false

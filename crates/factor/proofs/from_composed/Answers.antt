@@ -2,23 +2,23 @@
 use Rattle.factor.proofs.Composing.{listed_small, composed_generators, composed_short, composed_unlisted, composed_built}
 use Rattle.build_lending.proofs.Lending.{lent_table_lem, lent_enough}
 use borrow.Author.Tests.{leb-true}
-use mathlib.Core.Path.{sym, ◌∙◌}
+use mathlib.Core.Path.{refl, sym, ◌∙◌}
 use lib.ListN.{length}
 use lib.Seq.{length-take-le}
 use borrow.Author.Rules.{rules}
 use Rattle.factor.proofs.from_composed.Goals as goal
 
 pub returns-then-n-gt8 : goal.returns-then-n-gt8
-returns-then-n-gt8 c = composed_generators c.args.table.now c.args.start c.args.work.now c.args.rows.now _ _ c.if-n-gt8.true c.refused_made.ensures
+returns-then-n-gt8 c = composed_generators c.args.table.now c.args.start c.args.work.now c.args.rows.now _ _ c.if-n-gt8.true refl
 
 pub returns-then-not-lent_right : goal.returns-then-not-lent_right
-returns-then-not-lent_right c = composed_short c.args.table.now c.args.start c.args.work.now c.args.rows.now _ _ c.if-n-gt8.false (sym c.lent_right.ensures ∙ c.if-not-lent_right.true) c.refused_made-then-not-lent_right.ensures
+returns-then-not-lent_right c = composed_short c.args.table.now c.args.start c.args.work.now c.args.rows.now _ _ c.if-n-gt8.false (sym c.lent_right.ensures ∙ c.if-not-lent_right.true) refl
 
 pub overflow_mul-room : goal.overflow_mul-room
 overflow_mul-room c = record { fits = listed_small (search rules) (search rules) }
 
 pub returns-then-rows-room : goal.returns-then-rows-room
-returns-then-rows-room c = composed_unlisted c.args.table.now c.args.start c.args.work.now c.args.rows.now _ _ c.if-n-gt8.false (sym c.lent_right.ensures ∙ c.if-not-lent_right.false) c.if-rows-room.true c.refused_made-then-rows-room.ensures
+returns-then-rows-room c = composed_unlisted c.args.table.now c.args.start c.args.work.now c.args.rows.now _ _ c.if-n-gt8.false (sym c.lent_right.ensures ∙ c.if-not-lent_right.false) c.if-rows-room.true refl
 
 pub stretch_end-end-requires : goal.stretch_end-end-requires
 stretch_end-end-requires c = lent_table_lem _ _ _ _ _ (sym c.lent_right.ensures ∙ c.if-not-lent_right.false)

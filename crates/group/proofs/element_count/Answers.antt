@@ -1,7 +1,8 @@
 -- What was seen of the handles decides, and has the answer.
+use Rattle.egg.proofs.Refusing.{handed_on}
 use lib.ListN.{length}
 use mathlib.Core.Path.{◌∙◌, ap}
-use Rattle.egg.specs.declared.Counted.TheVariants.{Count}
+use Rattle.std.specs.Prelude.{Ok}
 use Rattle.group_handles.specs.declared.inner.Seen.{Seen}
 use Rattle.group.specs.Questions.{count_answer}
 use Rattle.group_handles.proofs.Admitted.{ready, count_told}
@@ -9,10 +10,10 @@ use Rattle.factor.proofs.Admits.{count_refused, count_fine}
 use Rattle.group.proofs.Calls.{none_admitted}
 use Rattle.group.proofs.element_count.Goals as goal
 
-pub returns-in-Refused : goal.returns-in-Refused
+pub returns-in_err-admit_none_seen : goal.returns-in_err-admit_none_seen
 unfolding count_answer
-returns-in-Refused c = count_refused (none_admitted (length c.args.table.now) c.args.g c.look-seen.ensures.0 c.admit_none_seen.ensures) _ c.in-Refused.is
+returns-in_err-admit_none_seen c = handed_on c.from_residual.ensures ∙ count_refused (none_admitted (length c.args.table.now) c.args.g c.look-seen.ensures.0 c.admit_none_seen.ensures) _ c.in_err-admit_none_seen.was
 
-pub returns-in-Fine : goal.returns-in-Fine
+pub returns : goal.returns
 unfolding count_answer
-returns-in-Fine c = ap Count (count_told (ap (λ (s : Seen). s.elements) c.look-seen.ensures.0) (ready (length c.args.table.now) c.args.g _ _ _ _ (none_admitted (length c.args.table.now) c.args.g c.look-seen.ensures.0 c.admit_none_seen.ensures) c.in-Fine.is).1) ∙ count_fine (none_admitted (length c.args.table.now) c.args.g c.look-seen.ensures.0 c.admit_none_seen.ensures) _ c.in-Fine.is
+returns c = ap Ok (count_told (ap (λ (s : Seen). s.elements) c.look-seen.ensures.0) (ready (length c.args.table.now) c.args.g _ _ _ _ (none_admitted (length c.args.table.now) c.args.g c.look-seen.ensures.0 c.admit_none_seen.ensures) c.in_ok-admit_none_seen.was).1) ∙ count_fine (none_admitted (length c.args.table.now) c.args.g c.look-seen.ensures.0 c.admit_none_seen.ensures) _ c.in_ok-admit_none_seen.was

@@ -1,4 +1,5 @@
 -- A product of one factor is asked as the factor is. Else the verdict of `admit_one` decides, and the work's own contract is the answer.
+use Rattle.egg.proofs.Refusing.{handed_on}
 use lib.ListN.{length}
 use mathlib.Core.Path.{◌∙◌}
 use Rattle.group.specs.Questions.{inverse_answer}
@@ -11,12 +12,12 @@ pub returns-then-alone : goal.returns-then-alone
 returns-then-alone c = c.inverse.ensures ∙ one_inverse c.args.table.now c.args.g _ (c.alone.ensures c.if-alone.true).counted (c.alone.ensures c.if-alone.true).listed c.args.a
 
 pub inverse_digits-requires : goal.inverse_digits-requires
-inverse_digits-requires c = (ready (length c.args.table.now) c.args.g _ _ _ _ c.admit_one.ensures c.in-Fine.is)
+inverse_digits-requires c = (ready (length c.args.table.now) c.args.g _ _ _ _ c.admit_one.ensures c.in_ok-admit_one.was)
 
-pub returns-in-Refused : goal.returns-in-Refused
+pub returns-in_err-admit_one : goal.returns-in_err-admit_one
 unfolding inverse_answer
-returns-in-Refused c = reach_refused c.admit_one.ensures _ c.in-Refused.is
+returns-in_err-admit_one c = handed_on c.from_residual.ensures ∙ reach_refused c.admit_one.ensures _ c.in_err-admit_one.was
 
-pub returns-in-Fine : goal.returns-in-Fine
+pub returns : goal.returns
 unfolding inverse_answer
-returns-in-Fine c = c.inverse_digits.ensures ∙ reach_fine c.admit_one.ensures _ c.in-Fine.is
+returns c = c.inverse_digits.ensures ∙ reach_fine c.admit_one.ensures _ c.in_ok-admit_one.was

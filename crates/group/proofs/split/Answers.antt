@@ -1,4 +1,5 @@
 -- The verdict of `admit_one` decides; then the work's own contract is the answer.
+use Rattle.egg.proofs.Refusing.{handed_on}
 use lib.ListN.{length}
 use mathlib.Core.Path.{refl, sym}
 use Rattle.group.specs.Questions.{split_answer, split_leaves}
@@ -11,12 +12,12 @@ use Rattle.group_handles.proofs.Lists.{positive}
 use Rattle.group.proofs.split.Goals as goal
 
 pub split_in-requires : goal.split_in-requires
-split_in-requires c = positive (length c.args.table.now) (handles c.args.g) (ready (length c.args.table.now) c.args.g _ _ _ _ c.admit_one.ensures c.in-Fine.is).0
+split_in-requires c = positive (length c.args.table.now) (handles c.args.g) (ready (length c.args.table.now) c.args.g _ _ _ _ c.admit_one.ensures c.in_ok-admit_one.was).0
 
-pub returns-in-Refused : goal.returns-in-Refused
+pub returns-in_err-admit_one : goal.returns-in_err-admit_one
 unfolding split_answer split_leaves
-returns-in-Refused c = left_by_lem (sizes (handles c.args.g)) c.args.e.0 c.args.out.now (sym (count_refused c.admit_one.ensures _ c.in-Refused.is)) refl refl
+returns-in_err-admit_one c = left_by_lem (sizes (handles c.args.g)) c.args.e.0 c.args.out.now (sym (count_refused c.admit_one.ensures _ c.in_err-admit_one.was)) (handed_on c.from_residual.ensures) refl
 
-pub returns-in-Fine : goal.returns-in-Fine
+pub returns : goal.returns
 unfolding split_answer split_leaves
-returns-in-Fine c = left_by_lem (sizes (handles c.args.g)) c.args.e.0 c.args.out.now (sym (count_fine c.admit_one.ensures _ c.in-Fine.is)) c.split_in.ensures.0 c.split_in.ensures.1
+returns c = left_by_lem (sizes (handles c.args.g)) c.args.e.0 c.args.out.now (sym (count_fine c.admit_one.ensures _ c.in_ok-admit_one.was)) c.split_in.ensures.0 c.split_in.ensures.1

@@ -8,12 +8,12 @@ use Rattle.group.proofs.Calls.{answer_fits}
 use Rattle.group.proofs.word.Goals as goal
 
 pub slice_bounds-result-end : goal.slice_bounds-result-end
-slice_bounds-result-end c = let h = answer_fits c.args.table.now c.args.g c.args.e (length c.args.out.now) c.write_word.ensures.0 c.in-Count.is in sym (length-take-le _ _ (rw c.write_word.auto.out h))
+slice_bounds-result-end c = let h = answer_fits c.args.table.now c.args.g c.args.e (length c.args.out.now) c.write_word.ensures.0 c.in-Ok.is in sym (length-take-le _ _ (rw c.write_word.auto.out h))
 
-pub returns-in-Count : goal.returns-in-Count
+pub returns-in-Ok : goal.returns-in-Ok
 unfolding word_part
-returns-in-Count c = filled_count c.write_word.ensures.0 c.write_word.ensures.1 c.in-Count.is
+returns-in-Ok c = filled_count c.write_word.ensures.0 c.write_word.ensures.1 c.in-Ok.is
 
-pub returns-in-Refused : goal.returns-in-Refused
+pub returns-in-Err : goal.returns-in-Err
 unfolding word_part
-returns-in-Refused c = filled_none c.write_word.ensures.0 c.write_word.ensures.1 c.in-Refused.is
+returns-in-Err c = filled_none c.write_word.ensures.0 c.write_word.ensures.1 c.in-Err.is

@@ -1,4 +1,5 @@
 -- A product of one factor is asked as the factor is. Else the verdict of `admit_one` decides, and the work's own contract is the answer.
+use Rattle.egg.proofs.Refusing.{handed_on}
 use lib.ListN.{length}
 use mathlib.Core.Path.{◌∙◌}
 use Rattle.group.specs.Questions.{length_answer}
@@ -11,12 +12,12 @@ pub returns-then-alone : goal.returns-then-alone
 returns-then-alone c = c.word_length.ensures ∙ one_length c.args.table.now c.args.g _ (c.alone.ensures c.if-alone.true).counted (c.alone.ensures c.if-alone.true).listed c.args.e
 
 pub lengths-requires : goal.lengths-requires
-lengths-requires c = (ready (length c.args.table.now) c.args.g _ _ _ _ c.admit_one.ensures c.in-Fine.is).0
+lengths-requires c = (ready (length c.args.table.now) c.args.g _ _ _ _ c.admit_one.ensures c.in_ok-admit_one.was).0
 
-pub returns-in-Refused : goal.returns-in-Refused
+pub returns-in_err-admit_one : goal.returns-in_err-admit_one
 unfolding length_answer
-returns-in-Refused c = count_refused c.admit_one.ensures _ c.in-Refused.is
+returns-in_err-admit_one c = handed_on c.from_residual.ensures ∙ count_refused c.admit_one.ensures _ c.in_err-admit_one.was
 
-pub returns-in-Fine : goal.returns-in-Fine
+pub returns : goal.returns
 unfolding length_answer
-returns-in-Fine c = c.lengths.ensures ∙ count_fine c.admit_one.ensures _ c.in-Fine.is
+returns c = c.lengths.ensures ∙ count_fine c.admit_one.ensures _ c.in_ok-admit_one.was

@@ -2,4 +2,4 @@
 use Rattle.group_handles.proofs.trivial.Goals as goal
 
 pub returns : goal.returns
-returns c = rw c.no_factor-none.ensures
+returns c = rw c.no_factor.ensures

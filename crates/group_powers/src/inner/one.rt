@@ -3,59 +3,51 @@ ghost use Rattle.std.specs.Prelude.{◌≡◌};
 ghost use Rattle.factor_questions.specs.Walks.{compose_in, inverse_in};
 ghost use Rattle.group_powers.specs.Powers.{by_halving, powers, powi_alone};
 
-use egg::{Factor, GroupElementId, Reached, Verdict};
+use egg::{Factor, GroupElementId, Refusal};
 
 // The least exponent, i32::MIN.
 const LEAST: i32 = -2147483648;
 
 // The k-th power: the square of the power by half of k, and once more the element where k is odd.
-fn power(s: &[u32], n: u8, count: u32, a: GroupElementId, k: u32) -> Reached
+fn power(s: &[u32], n: u8, count: u32, a: GroupElementId, k: u32) -> Result<GroupElementId, Refusal>
     ensures { result ≡ by_halving k (compose_in s.now n count) a.0 k }
 {
     if k == 0 {
-        return Reached::Element(GroupElementId(0));
+        return Ok(GroupElementId(0));
     }
-    let root = power(&s[..], n, count, a, k / 2);
-    let Reached::Element(x) = root else {
-        return root;
-    };
-    let squared = factor_compose::inner::compose_elements(&s[..], n, count, x, x);
-    let Reached::Element(y) = squared else {
-        return squared;
-    };
+    let x = power(s, n, count, a, k / 2)?;
+    let y = factor_compose::inner::compose_elements(s, n, count, x, x)?;
     if k % 2 == 0 {
-        return Reached::Element(y);
+        return Ok(y);
     }
-    factor_compose::inner::compose_elements(&s[..], n, count, y, a)
+    factor_compose::inner::compose_elements(s, n, count, y, a)
 }
 
 // A negative exponent hands on to the inverse's power; the least has no negation, and squares the power by half of it.
-fn powi_in(s: &[u32], n: u8, count: u32, a: GroupElementId, i: i32) -> Reached
+fn powi_in(
+    s: &[u32],
+    n: u8,
+    count: u32,
+    a: GroupElementId,
+    i: i32,
+) -> Result<GroupElementId, Refusal>
     ensures { result ≡ powers 1073741824 (compose_in s.now n count) (inverse_in s.now n count) a.0 i }
 {
     if 0 <= i {
-        return power(&s[..], n, count, a, i as u32);
+        return power(s, n, count, a, i as u32);
     }
-    let back = factor_questions::inner::inverse_in(&s[..], n, count, a);
-    let Reached::Element(b) = back else {
-        return back;
-    };
+    let b = factor_questions::inner::inverse_in(s, n, count, a)?;
     if i == LEAST {
-        let root = power(&s[..], n, count, b, 1073741824);
-        let Reached::Element(x) = root else {
-            return root;
-        };
-        return factor_compose::inner::compose_elements(&s[..], n, count, x, x);
+        let x = power(s, n, count, b, 1073741824)?;
+        return factor_compose::inner::compose_elements(s, n, count, x, x);
     }
-    power(&s[..], n, count, b, (-i) as u32)
+    power(s, n, count, b, (-i) as u32)
 }
 
 // Refuses with 17 a handle that does not fit, then with 14 an element out of range, then with 17 a number read that is out of range.
-pub fn powi(table: &[u32], f: Factor, a: GroupElementId, i: i32) -> Reached
+pub fn powi(table: &[u32], f: Factor, a: GroupElementId, i: i32) -> Result<GroupElementId, Refusal>
     ensures { result ≡ powi_alone table.now f a i }
 {
-    match factor::inner::admit(table, f, a, GroupElementId(0)) {
-        Verdict::Refused(why) => Reached::Refused(why),
-        Verdict::Fine => powi_in(egg::inner::part(table, f), f.generators, f.elements, a, i),
-    }
+    factor::inner::admit(table, f, a, GroupElementId(0))?;
+    powi_in(egg::inner::part(table, f), f.generators, f.elements, a, i)
 }

@@ -7,83 +7,66 @@ ghost use Rattle.build_checks_group.specs.Lefts.{identity_row, left_of, goes_row
 ghost use Rattle.build_checks_inverses.specs.Hints.{Follows, Hint, Hints, inverse_by};
 ghost use Rattle.image_cells.specs.Cells.{cells};
 
-use egg::{GeneratorId, GroupElementId, Verdict};
+use egg::{GeneratorId, GroupElementId, Refusal};
 use image_check_reading::inner::table;
 
 // Refuses with 8 the first generator of one row whose number, from `shift` on, is not known.
-fn missing_row(t: &[u8], n: u8, shift: u8, e: GroupElementId) -> Verdict
+fn missing_row(t: &[u8], n: u8, shift: u8, e: GroupElementId) -> Result<(), Refusal>
     ensures { result ≡ missing_row (cells t.now) n shift e.0 }
 {
-    let mut g: u8 = 0;
-    while g < n {
+    for g in 0..n {
         if table::cell(t, n, e, shift, g as u32) == 0 {
-            return egg::inner::refused(8, e.0, g as u32, 0);
+            return Err(Refusal::StepMissing(e, GeneratorId(g)));
         }
-        g += 1;
     }
-    Verdict::Fine
+    Ok(())
 }
 
 // Refuses with 8 the first such place of the table.
-pub fn missing(t: &[u8], n: u8, count: u32, shift: u8) -> Verdict
+pub fn missing(t: &[u8], n: u8, count: u32, shift: u8) -> Result<(), Refusal>
     ensures { result ≡ missing (cells t.now) n count shift }
 {
-    let mut e: u32 = 0;
-    while e < count {
-        let v = missing_row(t, n, shift, GroupElementId(e));
-        let Verdict::Fine = v else {
-            return v;
-        };
-        e += 1;
+    for e in 0..count {
+        missing_row(t, n, shift, GroupElementId(e))?;
     }
-    Verdict::Fine
+    Ok(())
 }
 
 // Refuses with 9 a place (003) whose step stays where it is, or leads to the generator's element from elsewhere than the identity.
-fn wrong_at(t: &[u8], n: u8, e: GroupElementId, g: GeneratorId) -> Verdict
+fn wrong_at(t: &[u8], n: u8, e: GroupElementId, g: GeneratorId) -> Result<(), Refusal>
     ensures { result ≡ wrong_at (cells t.now) n e.0 g.0 }
 {
     let r = table::step(t, n, e, g);
     if r.0 == e.0 {
-        return egg::inner::refused(9, e.0, g.0 as u32, 0);
+        return Err(Refusal::StepAstray(e, g));
     }
     if e.0 == 0 {
-        return Verdict::Fine;
+        return Ok(());
     }
     if r.0 == table::step(t, n, GroupElementId(0), g).0 {
-        return egg::inner::refused(9, e.0, g.0 as u32, 0);
+        return Err(Refusal::StepAstray(e, g));
     }
-    Verdict::Fine
+    Ok(())
 }
 
 // Refuses with 9 the first such place of one row.
-fn wrong_row(t: &[u8], n: u8, e: GroupElementId) -> Verdict
+fn wrong_row(t: &[u8], n: u8, e: GroupElementId) -> Result<(), Refusal>
     ensures { result ≡ wrong_row (cells t.now) n e.0 }
 {
-    let mut g: u8 = 0;
-    while g < n {
-        let v = wrong_at(t, n, e, GeneratorId(g));
-        let Verdict::Fine = v else {
-            return v;
-        };
-        g += 1;
+    for g in 0..n {
+        wrong_at(t, n, e, GeneratorId(g))?;
     }
-    Verdict::Fine
+    Ok(())
 }
 
 // Refuses with 9 the first such place of the table.
-pub fn wrong(t: &[u8], n: u8, count: u32) -> Verdict
+pub fn wrong(t: &[u8], n: u8, count: u32) -> Result<(), Refusal>
     ensures { result ≡ wrong (cells t.now) n count }
 {
-    let mut e: u32 = 0;
-    while e < count {
-        let v = wrong_row(t, n, GroupElementId(e));
-        let Verdict::Fine = v else {
-            return v;
-        };
-        e += 1;
+    for e in 0..count {
+        wrong_row(t, n, GroupElementId(e))?;
     }
-    Verdict::Fine
+    Ok(())
 }
 
 // Answers the inverse of e: its reversed word, walked through predecessors from the identity (002).
@@ -92,11 +75,9 @@ fn invert(t: &[u8], n: u8, e: GroupElementId) -> GroupElementId
 {
     let mut x = 0;
     let mut at = e.0;
-    let mut left = table::word_length(t, n, e);
-    while 0 < left {
+    for _ in 0..table::word_length(t, n, e) {
         x = table::back_last(t, n, GroupElementId(x), GroupElementId(at)).0;
         at = table::parent(t, n, GroupElementId(at));
-        left -= 1;
     }
     GroupElementId(x)
 }
@@ -166,33 +147,33 @@ pub fn inverse_by(t: &[u8], w: &[u8], n: u8, e: GroupElementId) -> GroupElementI
 }
 
 // Refuses with 10 the first element whose inverse's inverse differs from it.
-pub fn inverses_right(t: &[u8], n: u8, count: u32) -> Verdict
+pub fn inverses_right(t: &[u8], n: u8, count: u32) -> Result<(), Refusal>
     ensures { result ≡ inverses_right (cells t.now) n count }
 {
-    let mut e: u32 = 0;
-    while e < count {
+    for e in 0..count {
         let i = image_cells::inner::get(t, egg::inner::inverse_at(n, GroupElementId(e)));
         let j = image_cells::inner::get(t, egg::inner::inverse_at(n, GroupElementId(i)));
         if j != e {
-            return egg::inner::refused(10, e, i, j);
+            return Err(Refusal::InverseDiffers(
+                GroupElementId(e),
+                GroupElementId(i),
+                GroupElementId(j),
+            ));
         }
-        e += 1;
     }
-    Verdict::Fine
+    Ok(())
 }
 
 // Refuses with 11 the first generator at which the identity row is not 1..n.
-pub fn identity_row(t: &[u8], n: u8) -> Verdict
+pub fn identity_row(t: &[u8], n: u8) -> Result<(), Refusal>
     ensures { result ≡ identity_row (cells t.now) n }
 {
-    let mut g: u8 = 0;
-    while g < n {
+    for g in 0..n {
         if table::step(t, n, GroupElementId(0), GeneratorId(g)).0 != (g as u32) + 1 {
-            return egg::inner::refused(11, g as u32, 0, 0);
+            return Err(Refusal::IdentityRowDiffers(GeneratorId(g)));
         }
-        g += 1;
     }
-    Verdict::Fine
+    Ok(())
 }
 
 // Answers what generator s on the left makes of x, where the work has it for the elements before x.
@@ -208,32 +189,25 @@ pub fn left_of(t: &[u8], w: &[u8], n: u8, s: GeneratorId, x: GroupElementId) -> 
 }
 
 // The last part of 12 in one row: multiplication on the left commutes with every step from x.
-fn goes_row(t: &[u8], w: &[u8], n: u8, x: GroupElementId) -> Verdict
+fn goes_row(t: &[u8], w: &[u8], n: u8, x: GroupElementId) -> Result<(), Refusal>
     ensures { result ≡ goes_row (cells t.now) (cells w.now) n x.0 }
 {
     let left = GroupElementId(image_cells::inner::get(w, x.0 as usize));
-    let mut g: u8 = 0;
-    while g < n {
+    for g in 0..n {
         let y = table::step(t, n, x, GeneratorId(g)).0;
         if image_cells::inner::get(w, y as usize) != table::step(t, n, left, GeneratorId(g)).0 {
-            return egg::inner::refused(12, 0, 0, 0);
+            return Err(Refusal::NoGroup);
         }
-        g += 1;
     }
-    Verdict::Fine
+    Ok(())
 }
 
 // The last part of 12 in every row.
-pub fn all_go(t: &[u8], w: &[u8], n: u8, count: u32) -> Verdict
+pub fn all_go(t: &[u8], w: &[u8], n: u8, count: u32) -> Result<(), Refusal>
     ensures { result ≡ all_go (cells t.now) (cells w.now) n count }
 {
-    let mut x: u32 = 0;
-    while x < count {
-        let v = goes_row(t, w, n, GroupElementId(x));
-        let Verdict::Fine = v else {
-            return v;
-        };
-        x += 1;
+    for x in 0..count {
+        goes_row(t, w, n, GroupElementId(x))?;
     }
-    Verdict::Fine
+    Ok(())
 }

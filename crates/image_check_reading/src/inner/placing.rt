@@ -4,7 +4,7 @@ ghost use Rattle.build_reading.specs.Reading.{Placed, read_place, read_row, read
 ghost use Rattle.image_cells.specs.Cells.{cells, halves};
 
 use super::table;
-use egg::{Counted, GeneratorId, GroupElementId, Reached, Refusal};
+use egg::{GeneratorId, GroupElementId, Refusal};
 
 // Reads one place. Refuses in this order: 7 for a number that skips ahead, 5 for an element beyond the room, 6 for a word that would pass 4,096.
 fn place(
@@ -15,64 +15,49 @@ fn place(
     e: GroupElementId,
     g: GeneratorId,
     v: u32,
-) -> Counted
+) -> Result<u32, Refusal>
     ensures { Placed.placed result (cells t.new) ≡ read_place (cells t.old) n room count e.0 g.0 v }
 {
     if count < v {
-        let x = e.0;
-        let k = g.0;
-        return Counted::Refused(Refusal {
-            number: 7,
-            a: x,
-            b: k as u32,
-            c: v,
-        });
+        return Err(Refusal::SkipsAhead(e, g, v));
     }
     if v < count {
         table::set_successor(t, n, e, g, GroupElementId(v));
-        return Counted::Count(count);
+        return Ok(count);
     }
-    match table::add_successor(t, n, room, count, e, g) {
-        Reached::Refused(why) => Counted::Refused(why),
-        Reached::Element(_) => Counted::Count(count + 1),
-    }
+    table::add_successor(t, n, room, count, e, g)?;
+    Ok(count + 1)
 }
 
 // Reads one row.
-fn read_row(t: &mut [u8], rows: &[u8], n: u8, room: u32, e: GroupElementId, first: u32) -> Counted
+fn read_row(
+    t: &mut [u8],
+    rows: &[u8],
+    n: u8,
+    room: u32,
+    e: GroupElementId,
+    first: u32,
+) -> Result<u32, Refusal>
     ensures { Placed.placed result (cells t.new) ≡ read_row n (composed_at (halves rows.now) n) n room e.0 0 first (cells t.old) }
 {
-    let row = e.0;
-    let mut g: u8 = 0;
     let mut count = first;
-    while g < n {
-        let v = image_cells::inner::half(rows, (row as usize) * (n as usize) + (g as usize));
-        let c = place(t, n, room, count, e, GeneratorId(g), v);
-        let Counted::Count(k) = c else {
-            return c;
-        };
-        count = k;
-        g += 1;
+    for g in 0..n {
+        let v = image_cells::inner::half(rows, (e.0 as usize) * (n as usize) + (g as usize));
+        count = place(t, n, room, count, e, GeneratorId(g), v)?;
     }
-    Counted::Count(count)
+    Ok(count)
 }
 
 // Reads the rows in the order of their elements, as long as there is a next element.
-pub fn read_rows(t: &mut [u8], rows: &[u8], n: u8, room: u32) -> Counted
+pub fn read_rows(t: &mut [u8], rows: &[u8], n: u8, room: u32) -> Result<u32, Refusal>
     ensures { Placed.placed result (cells t.new) ≡ read_all (composed_at (halves rows.now) n) n room (cells t.old) }
 {
-    let mut e: u32 = 0;
     let mut count: u32 = 1;
-    while e < room {
+    for e in 0..room {
         if count <= e {
-            return Counted::Count(count);
+            return Ok(count);
         }
-        let c = read_row(t, rows, n, room, GroupElementId(e), count);
-        let Counted::Count(k) = c else {
-            return c;
-        };
-        count = k;
-        e += 1;
+        count = read_row(t, rows, n, room, GroupElementId(e), count)?;
     }
-    Counted::Count(count)
+    Ok(count)
 }

@@ -5,7 +5,7 @@ ghost use Rattle.egg.specs.Table.{start_of, last_of, step_of, back_of};
 ghost use Rattle.build_reading.specs.Build.{is_new, set_step, set_word, adds};
 ghost use Rattle.image_cells.specs.Cells.{cells};
 
-use egg::{GeneratorId, GroupElementId, Reached, Refusal};
+use egg::{GeneratorId, GroupElementId, Refusal};
 
 // Answers the k-th number, from `shift` on, of the row of e.
 pub fn cell(t: &[u8], n: u8, e: GroupElementId, shift: u8, k: u32) -> u32
@@ -18,8 +18,7 @@ pub fn cell(t: &[u8], n: u8, e: GroupElementId, shift: u8, k: u32) -> u32
 pub fn step(t: &[u8], n: u8, e: GroupElementId, g: GeneratorId) -> GroupElementId
     ensures { result.0 ≡ step_of (cells t.now) n e.0 g.0 }
 {
-    let k = g.0;
-    egg::inner::element(image_cells::inner::get(t, egg::inner::start(n, e) + (k as usize)))
+    egg::inner::element(image_cells::inner::get(t, egg::inner::start(n, e) + (g.0 as usize)))
 }
 
 pub fn parent(t: &[u8], n: u8, e: GroupElementId) -> u32
@@ -69,11 +68,9 @@ pub fn set_successor(
 {
     let at = egg::inner::successor_at(n, e, g);
     let back = egg::inner::predecessor_at(n, r, g);
-    let old = image_cells::inner::get(&t[..], at);
-    let from = e.0;
-    let to = r.0;
-    image_cells::inner::put(t, at, (to as usize) + 1);
-    image_cells::inner::put(t, back, (from as usize) + 1);
+    let old = image_cells::inner::get(t, at);
+    image_cells::inner::put(t, at, (r.0 as usize) + 1);
+    image_cells::inner::put(t, back, (e.0 as usize) + 1);
     old == 0
 }
 
@@ -89,10 +86,8 @@ fn record_word(
     ensures { cells t.new ≡ set_word (cells t.old) n new e g len }
 {
     let at = egg::inner::start(n, new) + 2 * (n as usize);
-    let x = e.0;
-    let k = g.0;
-    image_cells::inner::put(t, at, x as usize);
-    image_cells::inner::put(t, at + 1, k as usize);
+    image_cells::inner::put(t, at, e.0 as usize);
+    image_cells::inner::put(t, at + 1, g.0 as usize);
     image_cells::inner::put(t, at + 2, len as usize);
 }
 
@@ -104,30 +99,18 @@ pub fn add_successor(
     count: u32,
     e: GroupElementId,
     g: GeneratorId,
-) -> Reached
+) -> Result<GroupElementId, Refusal>
     ensures { (result ≡ (adds (cells t.old) n room count e g).answer) × (cells t.new ≡ (adds (cells t.old) n room count e g).table) }
 {
-    let x = e.0;
-    let k = g.0;
     if count >= room {
-        return Reached::Refused(Refusal {
-            number: 5,
-            a: x,
-            b: k as u32,
-            c: 0,
-        });
+        return Err(Refusal::BeyondRoom(e, g));
     }
-    let len = word_length(&t[..], n, e);
+    let len = word_length(t, n, e);
     if len >= 4096 {
-        return Reached::Refused(Refusal {
-            number: 6,
-            a: x,
-            b: k as u32,
-            c: 0,
-        });
+        return Err(Refusal::WordTooLong(e, g));
     }
     let new = GroupElementId(count);
     record_word(t, n, new, e, g, len + 1);
     set_successor(t, n, e, g, new);
-    Reached::Element(new)
+    Ok(new)
 }

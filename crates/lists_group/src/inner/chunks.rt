@@ -16,14 +16,12 @@ fn copy_below(limit: u32, from: &[u32], to: &mut [u32]) -> bool
     requires { length from.now ≤ length to.old }
     ensures { result ≡ true → Copied limit from.now to.new }
 {
-    let mut i = 0;
-    while i < from.len() {
+    for i in 0..from.len() {
         let x = from[i];
         if limit <= x {
             return false;
         }
         to[i] = x;
-        i += 1;
     }
     true
 }
@@ -33,12 +31,10 @@ fn cut(n: u32, k: usize, rest: &mut [u32], digits: &mut [u32])
     requires { (0 < n) × ((k ≤ length rest.old) × (k ≤ length digits.old)) }
     ensures { Cut n k rest.old digits.new rest.new }
 {
-    let mut i = 0;
-    while i < k {
+    for i in 0..k {
         let x = rest[i];
         digits[i] = x % n;
         rest[i] = x / n;
-        i += 1;
     }
 }
 
@@ -47,10 +43,8 @@ fn add(stride: u32, k: usize, digits: &[u32], sums: &mut [u32])
     requires { (k ≤ length digits.now) × ((k ≤ length sums.old) × Addable k stride digits.now sums.old) }
     ensures { Written k (λ i. get_or sums.old i 0 + stride * get_or digits.now i 0) sums.new }
 {
-    let mut i = 0;
-    while i < k {
+    for i in 0..k {
         sums[i] += stride * digits[i];
-        i += 1;
     }
 }
 
@@ -68,8 +62,7 @@ fn invert(
     requires { ((0 < n) × (stride * n ≤ 4294967295)) × ((k ≤ length rest.old) × ((k ≤ length sums.old) × Low k stride sums.old)) }
     ensures { result ≡ true → Inverted s.now generators n stride k rest.old sums.old rest.new sums.new }
 {
-    let mut i = 0;
-    while i < k {
+    for i in 0..k {
         let x = rest[i];
         let inverse = egg::inner::get(s, egg::inner::inverse_at(generators, GroupElementId(x % n)));
         if n <= inverse {
@@ -77,7 +70,6 @@ fn invert(
         }
         rest[i] = x / n;
         sums[i] += stride * inverse;
-        i += 1;
     }
     true
 }
@@ -98,9 +90,8 @@ fn factors_in_turn(
     let mut dy = [0; 64];
     let mut ds = [0; 64];
     let c = group_handles::inner::listed(g);
-    let mut f: usize = 0;
     let mut stride: u32 = 1;
-    while f < c {
+    for f in 0..c {
         let h = g.factors[f];
         let n = h.elements;
         cut(n, k, xs, &mut dx);
@@ -111,7 +102,6 @@ fn factors_in_turn(
         }
         add(stride, k, &ds, sums);
         stride *= n;
-        f += 1;
     }
     true
 }
@@ -122,9 +112,8 @@ fn inverses_in_turn(table: &[u32], g: Group, k: usize, xs: &mut [u32], sums: &mu
     ensures { result ≡ true → Gathered PartQuestion.Inverse table.now g k xs.old [] sums.new }
 {
     let c = group_handles::inner::listed(g);
-    let mut f: usize = 0;
     let mut stride: u32 = 1;
-    while f < c {
+    for f in 0..c {
         let h = g.factors[f];
         let n = h.elements;
         let s = egg::inner::part(&table[..], h);
@@ -132,7 +121,6 @@ fn inverses_in_turn(table: &[u32], g: Group, k: usize, xs: &mut [u32], sums: &mu
             return false;
         }
         stride *= n;
-        f += 1;
     }
     true
 }
@@ -184,6 +172,7 @@ pub fn in_chunks(
     ensures { result ≡ true → AllRight (length a.now) (compose_at table.now g a.now b.now) results.new }
 {
     let mut at: usize = 0;
+    // Counted by hand: a turn takes a chunk.
     while at < a.len() {
         let end = lists::inner::chunk_end(at, a.len(), 64);
         if !compose_chunk(
@@ -212,6 +201,7 @@ pub fn inverses_in_chunks(
     ensures { result ≡ true → AllRight (length a.now) (inverse_at table.now g a.now) results.new }
 {
     let mut at: usize = 0;
+    // Counted by hand: a turn takes a chunk.
     while at < a.len() {
         let end = lists::inner::chunk_end(at, a.len(), 64);
         if !inverse_chunk(&table[..], g, elements, &a[at..end], &mut results[at..end]) {

@@ -1,8 +1,15 @@
 -- What `group::flatten` makes, with the empty name beside it.
+use mathlib.Core.Path.{refl}
+use Rattle.egg.proofs.Refusing.{handed_on}
+use Rattle.names_values.specs.Names.{no_name}
 use Rattle.names.specs.Making.{named_flat}
-use Rattle.names.proofs.Makes.{makes_with}
+use Rattle.names.proofs.Makes.{makes_with, makes_none}
 use Rattle.names.proofs.flatten.Goals as goal
+
+pub returns-in_err-factor : goal.returns-in_err-factor
+unfolding named_flat
+returns-in_err-factor c = rw (handed_on c.from_residual.ensures) (makes_none c.flatten.ensures no_name c.in_err-factor.was)
 
 pub returns : goal.returns
 unfolding named_flat
-returns c = makes_with (c.with_name.ensures) (c.no_name.ensures) (c.flatten-made.ensures)
+returns c = rw (c.unnamed.ensures) (makes_with c.flatten.ensures c.in_ok-factor.was refl)

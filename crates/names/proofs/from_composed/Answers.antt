@@ -1,9 +1,21 @@
 -- One law for each answer.
-use Rattle.names.proofs.Makes.{long_composed, composed_named}
+use Rattle.egg.proofs.Refusing.{handed_on}
+use Rattle.names.specs.Making.{named_composed}
+use Rattle.names.proofs.Makes.{long_refused, long_18, short_refused, short_made}
 use Rattle.names.proofs.from_composed.Goals as goal
 
+pub returns-in_err-composed_right : goal.returns-in_err-composed_right
+unfolding named_composed
+returns-in_err-composed_right c = rw (handed_on c.from_residual.ensures) (long_refused c.args.name.now _ c.args.table.now c.args.work.now _ c.if-name-gt32.true c.composed_right.ensures c.in_err-composed_right.was)
+
 pub returns-then-name-gt32 : goal.returns-then-name-gt32
-returns-then-name-gt32 c = long_composed (c.args.table.now) _ (c.args.work.now) (c.args.rows.now) _ _ (c.args.name.now) (c.if-name-gt32.true) (c.too_long.ensures) (c.composed_right.ensures)
+unfolding named_composed
+returns-then-name-gt32 c = long_18 c.args.name.now _ c.args.table.now c.args.work.now _ c.if-name-gt32.true c.composed_right.ensures c.in_ok-composed_right.was
+
+pub returns-in_err-factor : goal.returns-in_err-factor
+unfolding named_composed
+returns-in_err-factor c = rw (handed_on c.from_residual-in_err-factor.ensures) (short_refused c.args.name.now _ c.args.table.now c.args.work.now _ c.if-name-gt32.false c.from_composed.ensures c.in_err-factor.was)
 
 pub returns : goal.returns
-returns c = composed_named (c.args.table.now) _ (c.args.work.now) (c.args.rows.now) _ _ (c.args.name.now) (c.if-name-gt32.false) (c.with_name.ensures) (c.name_of.ensures) (c.from_composed-made.ensures)
+unfolding named_composed
+returns c = short_made c.args.name.now _ c.args.table.now c.args.work.now _ c.if-name-gt32.false c.from_composed.ensures c.in_ok-factor.was c.name_of.ensures

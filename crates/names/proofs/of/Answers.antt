@@ -2,4 +2,4 @@
 use Rattle.names.proofs.of.Goals as goal
 
 pub returns : goal.returns
-returns c = rw (c.of.ensures, c.no_name-none.ensures)
+returns c = rw (c.of.ensures, c.no_name-names.ensures)

@@ -2,4 +2,4 @@
 use Rattle.names.proofs.trivial.Goals as goal
 
 pub returns : goal.returns
-returns c = rw (c.trivial.ensures, c.no_name-none.ensures)
+returns c = rw (c.trivial.ensures, c.no_name.ensures)

@@ -1,22 +1,15 @@
-use mathlib.Core.Path.{refl, ◌∙◌}
 use native.Mathlib.Nat.{sub-zero, sub-eq-zero_of_le}
 use Rattle.build_checks.specs.Checks.{arrivals}
 use Rattle.egg.proofs.Scans.{left_suc}
 use Rattle.build_checks.proofs.inner.arrivals.Goals as goal
 
 pub loop-e-init : goal.loop-e-init
-loop-e-init c = (rw sub-zero, refl)
+loop-e-init c = rw sub-zero
 
 pub loop-e-preserved : goal.loop-e-preserved
 unfolding arrivals
-loop-e-preserved c = (
-  rw c.arrive_row.ensures (rw (left_suc c.loop-e-test.true) at c.loop-e.invariant.0),
-  c.arrive_row.auto.w ∙ c.loop-e.invariant.1,
-)
-
-pub shape_of-w : goal.shape_of-w
-shape_of-w c = c.loop-e.invariant.1
+loop-e-preserved c = rw c.arrive_row.ensures (rw (left_suc c.loop-e-test.true) at c.loop-e.invariant)
 
 pub returns : goal.returns
 unfolding arrivals
-returns c = rw (sub-eq-zero_of_le c.loop-e-test.false) at c.loop-e.invariant.0
+returns c = rw (sub-eq-zero_of_le c.loop-e-test.false) at c.loop-e.invariant

@@ -1,4 +1,3 @@
-use mathlib.Core.Path.{◌∙◌}
 use borrow.Author.Tests.{eq-eqb, ne_eqb}
 use Rattle.build_checks.specs.Checks.{counts_right}
 use Rattle.egg.proofs.Scans.{scanning, stops, goes_on, ends}
@@ -9,8 +8,7 @@ unfolding counts_right
 loop-e-init c = scanning
 
 pub returns-then-get-n : goal.returns-then-get-n
-returns-then-get-n c = c.refused.ensures
-    ∙ stops c.loop-e.invariant c.loop-e-test.true
+returns-then-get-n c = stops c.loop-e.invariant c.loop-e-test.true
     (rw (← c.get.ensures) (simp (ne_eqb _ _ c.if-get-n.true)))
 
 pub loop-e-preserved : goal.loop-e-preserved

@@ -1,16 +1,12 @@
 -- The loop is a scan of the counts; a turn's test is the count's, by what `get` ensures.
-use Prim.Native.Nat.{◌-◌}
 use lib.ListN.{get_or}
 use lib.Dec.{eqb}
 use Rattle.egg.specs.Table.{pick}
-use Rattle.egg.specs.declared.Verdict.TheVariants.{Fine}
+use Rattle.egg.specs.Answers.{fine}
 use Rattle.egg.specs.Scan.{refused_of}
 use Rattle.build_checks.specs.Checks.{counts_right}
 use Rattle.egg.proofs.Scans.{Scanning}
 use Rattle.build_checks.proofs.inner.counts_right.Given as goal
 
 abbrev pub invariant-loop-e : goal.invariant-loop-e
-invariant-loop-e l = Scanning l.count (λ k. pick (eqb (get_or l.w k 0) l.n) Fine (refused_of 9 k l.n 0)) l.e (counts_right l.w l.n l.count)
-
-abbrev pub decreases-loop-e : goal.decreases-loop-e
-decreases-loop-e l = l.count - l.e
+invariant-loop-e l = Scanning l.count (λ k. pick (eqb (get_or l.w k 0) l.n) fine (refused_of 9 k l.n 0)) l.e (counts_right l.w l.n l.count)

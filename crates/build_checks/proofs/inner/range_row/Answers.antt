@@ -1,4 +1,3 @@
-use mathlib.Core.Path.{◌∙◌}
 use borrow.Author.Tests.{lt-ltb, le-ltb}
 use Rattle.build_checks.specs.Checks.{range_row}
 use Rattle.egg.proofs.Scans.{scanning, stops, goes_on, ends}
@@ -9,8 +8,7 @@ unfolding range_row
 loop-k-init c = scanning
 
 pub returns-then-count-cell : goal.returns-then-count-cell
-returns-then-count-cell c = c.refused.ensures
-    ∙ stops c.loop-k.invariant c.loop-k-test.true
+returns-then-count-cell c = stops c.loop-k.invariant c.loop-k-test.true
     (rw (← c.cell.ensures) (simp (lt-ltb _ _ c.if-count-cell.true)))
 
 pub loop-k-preserved : goal.loop-k-preserved

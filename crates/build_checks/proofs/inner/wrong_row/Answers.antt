@@ -1,19 +1,19 @@
+use Rattle.egg.proofs.Refusing.{handed_on}
 use mathlib.Core.Path.{sym, ◌∙◌}
 use Rattle.build_checks.specs.Checks.{wrong_row}
-use Rattle.egg.proofs.Scans.{scanning, hands_on, goes_on, ends}
+use Rattle.egg.proofs.Scans.{scanning, goes_on, ends, stops}
 use Rattle.build_checks.proofs.inner.wrong_row.Goals as goal
 
 pub loop-g-init : goal.loop-g-init
 unfolding wrong_row
 loop-g-init c = scanning
 
-pub returns-in_default : goal.returns-in_default
-returns-in_default c = hands_on c.loop-g.invariant c.loop-g-test.true c.wrong_at-v.ensures
-    c.in_default.is
+pub returns-in_err-wrong_at : goal.returns-in_err-wrong_at
+returns-in_err-wrong_at c = handed_on c.from_residual.ensures ∙ stops c.loop-g.invariant c.loop-g-test.true (sym c.wrong_at.ensures ∙ c.in_err-wrong_at.was)
 
 pub loop-g-preserved : goal.loop-g-preserved
 loop-g-preserved c = goes_on c.loop-g.invariant c.loop-g-test.true
-    (sym c.wrong_at-v.ensures ∙ c.in-Fine.is)
+    (sym c.wrong_at.ensures ∙ c.in_ok-wrong_at.was)
 
 pub returns : goal.returns
 returns c = ends c.loop-g.invariant c.loop-g-test.false

@@ -1,4 +1,4 @@
-use Prim.Native.Nat.{◌+◌, ◌-◌, ◌≤◌}
+use Prim.Native.Nat.{◌+◌, ◌≤◌}
 use lib.ListN.{length}
 use Rattle.egg.specs.Scan.{scan}
 use Rattle.egg.proofs.Scans.{Scanning}
@@ -6,7 +6,4 @@ use Rattle.build_checks_group.proofs.Commuting.{goes_at}
 use Rattle.build_checks_group.proofs.inner.goes_at_once.Given as goal
 
 abbrev pub invariant-loop-g : goal.invariant-loop-g
-invariant-loop-g l = (Scanning l.far (goes_at l.t l.w l.from l.to) l.g (scan l.far (goes_at l.t l.w l.from l.to) 0)) × ((l.from + l.far ≤ length l.t) × (l.to + l.far ≤ length l.t))
-
-abbrev pub decreases-loop-g : goal.decreases-loop-g
-decreases-loop-g l = l.far - l.g
+invariant-loop-g l = Scanning l.far (goes_at l.t l.w l.from l.to) l.g (scan l.far (goes_at l.t l.w l.from l.to) 0) × ((l.from + l.far ≤ length l.t) × (l.to + l.far ≤ length l.t))

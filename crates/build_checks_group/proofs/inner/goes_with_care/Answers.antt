@@ -1,4 +1,3 @@
-use mathlib.Core.Path.{◌∙◌}
 use borrow.Author.Tests.{eq-eqb, ne_eqb}
 use Rattle.build_checks_group.specs.Lefts.{goes_row}
 use Rattle.egg.proofs.Scans.{scanning, stops, goes_on, ends}
@@ -9,8 +8,7 @@ unfolding goes_row
 loop-g-init c = scanning
 
 pub returns-then-get-step : goal.returns-then-get-step
-returns-then-get-step c = c.refused.ensures
-    ∙ stops c.loop-g.invariant c.loop-g-test.true
+returns-then-get-step c = stops c.loop-g.invariant c.loop-g-test.true
     (rw (← c.get.ensures, ← c.step-y.ensures, ← c.get-in-loop-g.ensures, ← c.step.ensures)
     (simp (ne_eqb _ _ c.if-get-step.true)))
 

@@ -1,4 +1,3 @@
-use mathlib.Core.Path.{◌∙◌}
 use borrow.Author.Tests.{eq-eqb, ne_eqb}
 use Rattle.build_checks_inverses.specs.Inverses.{inverses_right}
 use Rattle.egg.proofs.Scans.{scanning, stops, goes_on, ends}
@@ -9,8 +8,7 @@ unfolding inverses_right
 loop-e-init c = scanning
 
 pub returns-then-j-e : goal.returns-then-j-e
-returns-then-j-e c = c.refused.ensures
-    ∙ stops c.loop-e.invariant c.loop-e-test.true
+returns-then-j-e c = stops c.loop-e.invariant c.loop-e-test.true
     (rw (← c.inverse_at.ensures.at, ← c.get-i.ensures, ← c.inverse_at-in-loop-e.ensures.at, ← c.get-j.ensures)
     (simp (ne_eqb _ _ c.if-j-e.true)))
 

@@ -1,11 +1,7 @@
 -- The loop is a scan of the elements; a turn's test is that of the two inverses read.
-use Prim.Native.Nat.{◌-◌}
 use Rattle.build_checks_inverses.specs.Inverses.{inverse_at, inverses_right}
 use Rattle.egg.proofs.Scans.{Scanning}
 use Rattle.build_checks_inverses.proofs.inner.inverses_right.Given as goal
 
 abbrev pub invariant-loop-e : goal.invariant-loop-e
 invariant-loop-e l = Scanning l.count (λ k. inverse_at l.t l.n k) l.e (inverses_right l.t l.n l.count)
-
-abbrev pub decreases-loop-e : goal.decreases-loop-e
-decreases-loop-e l = l.count - l.e

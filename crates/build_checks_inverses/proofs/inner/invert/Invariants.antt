@@ -1,10 +1,8 @@
 -- The invariant: the letters that are left, from here, lead where the whole word leads. A turn is one step of `invert_from`.
+use Prim.Native.Nat.{◌-◌}
 use mathlib.Core.Path.{◌≡◌}
 use Rattle.build_checks_inverses.specs.Inverses.{invert_from}
 use Rattle.build_checks_inverses.proofs.inner.invert.Given as goal
 
-abbrev pub invariant-loop-left : goal.invariant-loop-left
-invariant-loop-left l = invert_from l.left l.t l.n l.at l.x ≡ invert_from l.initial.left l.t l.n l.initial.at l.initial.x
-
-abbrev pub decreases-loop-left : goal.decreases-loop-left
-decreases-loop-left l = l.left
+abbrev pub invariant-loop : goal.invariant-loop
+invariant-loop l = invert_from (l.end - l.counter) l.t l.n l.at l.x ≡ invert_from l.end l.t l.n l.initial.at l.initial.x

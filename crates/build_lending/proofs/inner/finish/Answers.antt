@@ -2,14 +2,14 @@
 use Rattle.build_lending.proofs.Finishing.{finish_refused, finish_unfit, finish_fit}
 use Rattle.build_lending.proofs.inner.finish.Goals as goal
 
-pub returns-in-Refused : goal.returns-in-Refused
-returns-in-Refused c = let a = c.args in
-    finish_refused _ a.t.now a.w.now c.in-Refused.is c.clear.ensures c.clear-in-Refused.ensures
+pub returns-in-Err : goal.returns-in-Err
+returns-in-Err c = let a = c.args in
+    finish_refused _ a.t.now a.w.now c.in-Err.is c.clear.ensures c.clear-in-Err.ensures
 
-pub returns-in-Refused-check_group : goal.returns-in-Refused-check_group
-returns-in-Refused-check_group c = let a = c.args in
-    finish_unfit _ a.t.now a.w.now c.in-Count.is c.check_group.ensures c.in-Refused-check_group.is c.clear-in-Refused-check_group.ensures c.clear-in-Refused-check_group-2.ensures
+pub returns-in-Err-check_group : goal.returns-in-Err-check_group
+returns-in-Err-check_group c = let a = c.args in
+    finish_unfit _ a.t.now a.w.now c.in-Ok.is c.check_group.ensures c.in-Err-check_group.is c.clear-in-Err-check_group.ensures c.clear-in-Err-check_group-2.ensures
 
-pub returns-in-Fine : goal.returns-in-Fine
-returns-in-Fine c = let a = c.args in
-    finish_fit _ a.t.now a.w.now c.in-Count.is c.check_group.ensures c.in-Fine.is c.fill_hops.ensures c.clear-in-Fine.ensures
+pub returns-in-Ok-check_group : goal.returns-in-Ok-check_group
+returns-in-Ok-check_group c = let a = c.args in
+    finish_fit _ a.t.now a.w.now c.in-Ok.is c.check_group.ensures c.in-Ok-check_group.is c.fill_hops.ensures c.clear-in-Ok-check_group.ensures

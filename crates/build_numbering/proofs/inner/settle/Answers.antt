@@ -2,8 +2,8 @@
 use mathlib.Core.Path.{refl}
 use Rattle.build_numbering.proofs.inner.settle.Goals as goal
 
-pub returns-in-Refused : goal.returns-in-Refused
-returns-in-Refused c = rw (c.in-Refused.is) (refl, (c.clear.ensures, c.clear-in-Refused.ensures))
+pub returns-in-Err : goal.returns-in-Err
+returns-in-Err c = rw c.in-Err.is (refl, (c.clear.ensures, c.clear-in-Err.ensures))
 
-pub returns-in-Count : goal.returns-in-Count
-returns-in-Count c = rw (c.in-Count.is) (refl, (refl, refl))
+pub returns-in-Ok : goal.returns-in-Ok
+returns-in-Ok c = rw c.in-Ok.is (refl, (refl, refl))

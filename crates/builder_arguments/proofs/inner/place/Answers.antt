@@ -6,15 +6,15 @@ use Rattle.builder_arguments.proofs.inner.place.Goals as goal
 
 pub returns-then-not-fits : goal.returns-then-not-fits
 returns-then-not-fits c = let a = c.args in
-    c.refused.ensures ∙ place_handle (length a.table.now) a.f a.e a.g (sym c.fits.ensures ∙ c.if-not-fits.true)
+    place_handle (length a.table.now) a.f a.e a.g (sym c.fits.ensures ∙ c.if-not-fits.true)
 
 pub returns-then-f-e : goal.returns-then-f-e
 returns-then-f-e c = let a = c.args in
-    c.refused-then-f-e.ensures ∙ place_element (length a.table.now) a.f a.e a.g (sym c.fits.ensures ∙ c.if-not-fits.false) c.if-f-e.true
+    place_element (length a.table.now) a.f a.e a.g (sym c.fits.ensures ∙ c.if-not-fits.false) c.if-f-e.true
 
 pub returns-then-f-g : goal.returns-then-f-g
 returns-then-f-g c = let a = c.args in
-    c.refused-then-f-g.ensures ∙ place_generator (length a.table.now) a.f a.e a.g (sym c.fits.ensures ∙ c.if-not-fits.false) c.if-f-e.false c.if-f-g.true
+    place_generator (length a.table.now) a.f a.e a.g (sym c.fits.ensures ∙ c.if-not-fits.false) c.if-f-e.false c.if-f-g.true
 
 pub returns : goal.returns
 returns c = let a = c.args in

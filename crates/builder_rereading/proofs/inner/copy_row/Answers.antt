@@ -1,5 +1,4 @@
 use borrow.Author.Rules.{rules}
-use mathlib.Core.Path.{refl, ◌∙◌}
 use native.Mathlib.Nat.{sub-zero, sub-eq-zero_of_le}
 use native.Mathlib.Omega.{arith}
 use Rattle.egg.proofs.Laws.{product_small}
@@ -8,7 +7,7 @@ use Rattle.builder_rereading.specs.Own.{copied_row}
 use Rattle.builder_rereading.proofs.inner.copy_row.Goals as goal
 
 pub loop-g-init : goal.loop-g-init
-loop-g-init c = (rw sub-zero, refl)
+loop-g-init c = rw sub-zero
 
 pub overflow_mul-e : goal.overflow_mul-e
 overflow_mul-e c = let a = c.args in omega (arith, product_small a.e.0 a.n (search rules) (omega arith))
@@ -18,11 +17,8 @@ overflow_add-e c = let a = c.args in omega (arith, product_small a.e.0 a.n (sear
 
 pub loop-g-preserved : goal.loop-g-preserved
 unfolding copied_row
-loop-g-preserved c = (rw (c.keep.ensures, c.get-x.ensures, c.successor_at-at.ensures.at) (rw (left_suc c.loop-g-test.true) at c.loop-g.invariant.0), c.keep.auto.w ∙ c.loop-g.invariant.1)
-
-pub shape_of-w : goal.shape_of-w
-shape_of-w c = c.loop-g.invariant.1
+loop-g-preserved c = rw (c.keep.ensures, c.get-x.ensures, c.successor_at-at.ensures.at) (rw (left_suc c.loop-g-test.true) at c.loop-g.invariant)
 
 pub returns : goal.returns
 unfolding copied_row
-returns c = rw (sub-eq-zero_of_le c.loop-g-test.false) at c.loop-g.invariant.0
+returns c = rw (sub-eq-zero_of_le c.loop-g-test.false) at c.loop-g.invariant

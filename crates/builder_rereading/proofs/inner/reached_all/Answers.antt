@@ -1,18 +1,24 @@
 -- One law for each answer.
+use Rattle.egg.proofs.Refusing.{handed_on}
 use Rattle.builder_rereading.proofs.Owning.{reached_refused, reached_whole, reached_none, reached_missing, reached_fine}
 use Rattle.builder_rereading.proofs.inner.reached_all.Goals as goal
 
-pub returns-in_default : goal.returns-in_default
-returns-in_default c = let a = c.args in reached_refused a.t.now a.n a.elements (c.in_default.is)
+pub returns-in_err-count : goal.returns-in_err-count
+returns-in_err-count c = let a = c.args in
+    rw (handed_on c.from_residual.ensures, ← c.in_err-count.was) (reached_refused a.t.now a.n a.elements c.in_err-count.was)
 
 pub returns-then-elements-count : goal.returns-then-elements-count
-returns-then-elements-count c = let a = c.args in reached_whole a.t.now a.n a.elements (c.in-Count.is) (c.if-elements-count.true)
+returns-then-elements-count c = let a = c.args in
+    reached_whole a.t.now a.n a.elements c.in_ok-count.was c.if-elements-count.true
 
 pub returns-then-n-eq0 : goal.returns-then-n-eq0
-returns-then-n-eq0 c = let a = c.args in reached_none a.t.now a.n a.elements (c.in-Count.is) (c.if-elements-count.false) (c.if-n-eq0.true)
+returns-then-n-eq0 c = let a = c.args in
+    reached_none a.t.now a.n a.elements c.in_ok-count.was c.if-elements-count.false c.if-n-eq0.true
 
-pub returns-in-Refused : goal.returns-in-Refused
-returns-in-Refused c = let a = c.args in reached_missing a.t.now a.n a.elements (c.in-Count.is) (c.if-elements-count.false) (c.if-n-eq0.false) (c.check8.ensures) (c.in-Refused.is)
+pub returns-in_err-check8 : goal.returns-in_err-check8
+returns-in_err-check8 c = let a = c.args in
+    rw (handed_on c.from_residual-in_err-check8.ensures) (reached_missing a.t.now a.n a.elements c.in_ok-count.was c.if-elements-count.false c.if-n-eq0.false c.check8.ensures c.in_err-check8.was)
 
-pub returns-in-Fine : goal.returns-in-Fine
-returns-in-Fine c = let a = c.args in reached_fine a.t.now a.n a.elements (c.in-Count.is) (c.if-elements-count.false) (c.if-n-eq0.false) (c.check8.ensures) (c.in-Fine.is)
+pub returns : goal.returns
+returns c = let a = c.args in
+    reached_fine a.t.now a.n a.elements c.in_ok-count.was c.if-elements-count.false c.if-n-eq0.false c.check8.ensures c.in_ok-check8.was

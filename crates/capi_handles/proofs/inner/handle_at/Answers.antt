@@ -6,4 +6,4 @@ pub returns-then-l-k : goal.returns-then-l-k
 returns-then-l-k c = handle_none (c.args.l.now) (c.args.at) (c.if-l-k.true) (c.factor_of.ensures)
 
 pub returns : goal.returns
-returns c = handle_from (c.args.l.now) (c.args.at) (c.if-l-k.false) (c.start_of-start.ensures) (c.byte_of-n.ensures) (c.factor_of-2.ensures)
+returns c = handle_from (c.args.l.now) (c.args.at) (c.if-l-k.false) (c.start_of.ensures) (c.byte_of.ensures) (c.factor_of-2.ensures)

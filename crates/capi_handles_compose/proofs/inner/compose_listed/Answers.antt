@@ -1,3 +1,4 @@
+use Rattle.egg.proofs.Refusing.{handed_on}
 use mathlib.Core.Path.{◌∙◌}
 use native.Mathlib.Omega.{arith}
 use Rattle.group_digits.specs.Digits.{Compose}
@@ -23,14 +24,14 @@ nonzero_rem-x c = omega (arith, some_there c.loop-f.invariant (turn_first c.args
 pub nonzero_rem-y : goal.nonzero_rem-y
 nonzero_rem-y c = omega (arith, some_there c.loop-f.invariant (turn_first c.args.l.now c.args.count c.loop-f.f (c.listed-c.ensures.0 c.args.l.now 0) c.loop-f-test.true c.listed-c.ensures.1 c.handle_at-h.ensures))
 
-pub returns-in_default : goal.returns-in_default
-returns-in_default c = composes_stop c.loop-f.invariant (turn_first c.args.l.now c.args.count c.loop-f.f (c.listed-c.ensures.0 c.args.l.now 0) c.loop-f-test.true c.listed-c.ensures.1 c.handle_at-h.ensures) (c.compose_elements-r.ensures ∙ rw c.part-s.ensures) c.in_default.is
+pub returns-in_err-d : goal.returns-in_err-d
+returns-in_err-d c = handed_on c.from_residual.ensures ∙ composes_stop c.loop-f.invariant (turn_first c.args.l.now c.args.count c.loop-f.f (c.listed-c.ensures.0 c.args.l.now 0) c.loop-f-test.true c.listed-c.ensures.1 c.handle_at-h.ensures) (c.compose_elements.ensures ∙ rw c.part-s.ensures) c.in_err-d.was
 
 pub overflow_mul-sum : goal.overflow_mul-sum
-overflow_mul-sum c = omega (arith, sum_small c.loop-f.invariant (turn_first c.args.l.now c.args.count c.loop-f.f (c.listed-c.ensures.0 c.args.l.now 0) c.loop-f-test.true c.listed-c.ensures.1 c.handle_at-h.ensures) (c.compose_elements-r.ensures ∙ rw c.part-s.ensures) c.in-Element.is)
+overflow_mul-sum c = omega (arith, sum_small c.loop-f.invariant (turn_first c.args.l.now c.args.count c.loop-f.f (c.listed-c.ensures.0 c.args.l.now 0) c.loop-f-test.true c.listed-c.ensures.1 c.handle_at-h.ensures) (c.compose_elements.ensures ∙ rw c.part-s.ensures) c.in_ok-d.was)
 
 pub overflow_add-sum : goal.overflow_add-sum
-overflow_add-sum c = omega (arith, sum_small c.loop-f.invariant (turn_first c.args.l.now c.args.count c.loop-f.f (c.listed-c.ensures.0 c.args.l.now 0) c.loop-f-test.true c.listed-c.ensures.1 c.handle_at-h.ensures) (c.compose_elements-r.ensures ∙ rw c.part-s.ensures) c.in-Element.is)
+overflow_add-sum c = omega (arith, sum_small c.loop-f.invariant (turn_first c.args.l.now c.args.count c.loop-f.f (c.listed-c.ensures.0 c.args.l.now 0) c.loop-f-test.true c.listed-c.ensures.1 c.handle_at-h.ensures) (c.compose_elements.ensures ∙ rw c.part-s.ensures) c.in_ok-d.was)
 
 pub overflow_mul-stride : goal.overflow_mul-stride
 overflow_mul-stride c = omega (arith, stride_small c.loop-f.invariant (turn_first c.args.l.now c.args.count c.loop-f.f (c.listed-c.ensures.0 c.args.l.now 0) c.loop-f-test.true c.listed-c.ensures.1 c.handle_at-h.ensures))
@@ -41,14 +42,8 @@ nonzero_div-x c = omega (arith, some_there c.loop-f.invariant (turn_first c.args
 pub nonzero_div-y : goal.nonzero_div-y
 nonzero_div-y c = omega (arith, some_there c.loop-f.invariant (turn_first c.args.l.now c.args.count c.loop-f.f (c.listed-c.ensures.0 c.args.l.now 0) c.loop-f-test.true c.listed-c.ensures.1 c.handle_at-h.ensures))
 
-pub overflow_add-f : goal.overflow_add-f
-overflow_add-f c = omega (arith, c.listed-c.ensures.1, c.loop-f-test.true)
-
-pub loop-f-smaller : goal.loop-f-smaller
-loop-f-smaller c = omega (arith, c.loop-f-test.true)
-
 pub loop-f-preserved : goal.loop-f-preserved
-loop-f-preserved c = composes_on c.loop-f.invariant (turn_first c.args.l.now c.args.count c.loop-f.f (c.listed-c.ensures.0 c.args.l.now 0) c.loop-f-test.true c.listed-c.ensures.1 c.handle_at-h.ensures) (c.compose_elements-r.ensures ∙ rw c.part-s.ensures) c.in-Element.is
+loop-f-preserved c = composes_on c.loop-f.invariant (turn_first c.args.l.now c.args.count c.loop-f.f (c.listed-c.ensures.0 c.args.l.now 0) c.loop-f-test.true c.listed-c.ensures.1 c.handle_at-h.ensures) (c.compose_elements.ensures ∙ rw c.part-s.ensures) c.in_ok-d.was
 
 pub returns : goal.returns
 returns c = composes_end c.loop-f.invariant (turned_all (handles (product_of c.args.l.now c.args.count)) c.loop-f.f (c.listed-c.ensures.0 c.args.l.now 0) c.loop-f-test.false)

@@ -1,5 +1,4 @@
 -- What is left to gather gives what the whole does, as in `group_digits::inner::compose_digits`.
-use Prim.Native.Nat.{◌-◌}
 use Rattle.group_digits.specs.Digits.{Compose}
 use Rattle.group_handles.specs.Handles.{handles}
 use Rattle.capi_handles.specs.Product.{product_of}
@@ -8,6 +7,3 @@ use Rattle.capi_handles_compose.proofs.inner.compose_listed.Given as goal
 
 abbrev pub invariant-loop-f : goal.invariant-loop-f
 invariant-loop-f l = Composing Compose l.table (handles (product_of l.l l.count)) l.initial.x l.initial.y l.f l.stride l.sum l.x l.y
-
-abbrev pub decreases-loop-f : goal.decreases-loop-f
-decreases-loop-f l = l.c - l.f

@@ -1,4 +1,5 @@
 -- A product of one handle is asked as the factor is. Else the verdict of `admit` decides, and the work's own contract is the answer.
+use Rattle.egg.proofs.Refusing.{handed_on}
 use lib.ListN.{length}
 use mathlib.Core.Path.{◌∙◌}
 use Rattle.factor.proofs.Admits.{reach_refused, reach_fine}
@@ -12,12 +13,12 @@ pub returns-then-count-eq1 : goal.returns-then-count-eq1
 returns-then-count-eq1 c = conjugate_alone c.args.table.now c.args.l.now c.args.count c.if-count-eq1.true c.handle_at.ensures c.args.a c.args.b c.conjugate.ensures
 
 pub conjugate_listed-requires : goal.conjugate_listed-requires
-conjugate_listed-requires c = ready (length c.args.table.now) (product_of c.args.l.now c.args.count) _ _ _ _ c.admit.ensures c.in-Fine.is
+conjugate_listed-requires c = ready (length c.args.table.now) (product_of c.args.l.now c.args.count) _ _ _ _ c.admit.ensures c.in_ok-admit.was
 
-pub returns-in-Refused : goal.returns-in-Refused
+pub returns-in_err-admit : goal.returns-in_err-admit
 unfolding conjugate_answer
-returns-in-Refused c = reach_refused c.admit.ensures _ c.in-Refused.is
+returns-in_err-admit c = handed_on c.from_residual.ensures ∙ reach_refused c.admit.ensures _ c.in_err-admit.was
 
-pub returns-in-Fine : goal.returns-in-Fine
+pub returns : goal.returns
 unfolding conjugate_answer
-returns-in-Fine c = c.conjugate_listed.ensures ∙ reach_fine c.admit.ensures _ c.in-Fine.is
+returns c = c.conjugate_listed.ensures ∙ reach_fine c.admit.ensures _ c.in_ok-admit.was

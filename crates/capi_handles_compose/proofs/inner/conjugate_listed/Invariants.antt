@@ -1,5 +1,4 @@
 -- As `compose_listed`.
-use Prim.Native.Nat.{◌-◌}
 use Rattle.group_digits.specs.Digits.{Conjugate}
 use Rattle.group_handles.specs.Handles.{handles}
 use Rattle.capi_handles.specs.Product.{product_of}
@@ -8,6 +7,3 @@ use Rattle.capi_handles_compose.proofs.inner.conjugate_listed.Given as goal
 
 abbrev pub invariant-loop-f : goal.invariant-loop-f
 invariant-loop-f l = Composing Conjugate l.table (handles (product_of l.l l.count)) l.initial.outer l.initial.middle l.f l.stride l.sum l.outer l.middle
-
-abbrev pub decreases-loop-f : goal.decreases-loop-f
-decreases-loop-f l = l.c - l.f

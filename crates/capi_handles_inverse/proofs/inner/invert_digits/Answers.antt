@@ -37,12 +37,6 @@ times-elements-requires c = passed_small (c.loop-f.invariant.1.0)
 pub nonzero_div-x : goal.nonzero_div-x
 nonzero_div-x c = omega (arith, some (length (c.args.table.now)) (c.handle_at-h.result) (sym (c.fits.ensures) ∙ c.if-not-fits.false))
 
-pub overflow_add-f : goal.overflow_add-f
-overflow_add-f c = omega (arith, (c.listed-c.ensures.1), (c.loop-f-test.true))
-
-pub loop-f-smaller : goal.loop-f-smaller
-loop-f-smaller c = omega (arith, (c.loop-f-test.true))
-
 pub loop-f-preserved : goal.loop-f-preserved
 loop-f-preserved c = (omega (arith, (c.loop-f-test.true)), (passes_on (c.loop-f.invariant.1.0) (turn_first (c.args.l.now) (c.args.count) (c.loop-f.f) (c.listed-c.ensures.0 (c.args.l.now) 0) (c.loop-f-test.true) (c.listed-c.ensures.1) (c.handle_at-h.ensures)) (sym (c.fits.ensures) ∙ c.if-not-fits.false) (c.times-elements.ensures), inverts_on (c.loop-f.invariant.1.0) (c.loop-f.invariant.1.1) (turn_first (c.args.l.now) (c.args.count) (c.loop-f.f) (c.listed-c.ensures.0 (c.args.l.now) 0) (c.loop-f-test.true) (c.listed-c.ensures.1) (c.handle_at-h.ensures)) (sym (c.fits.ensures) ∙ c.if-not-fits.false) ((c.get-i.ensures) ∙ rw ((c.inverse_at.ensures.at), (c.part.ensures))) (c.chosen.ensures) (c.times-elements.ensures) (c.both-right.ensures)))
 

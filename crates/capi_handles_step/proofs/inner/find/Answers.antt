@@ -26,12 +26,6 @@ times-next-requires c = passed_small (c.loop-f.invariant.1.0)
 pub overflow_add-generators : goal.overflow_add-generators
 overflow_add-generators c = let k : (c.handle_at-h.result.generators) < 256 = search rules in omega (arith, k, (c.listed-c.ensures.1), (c.loop-f-test.true), (c.loop-f.invariant.1.1.small))
 
-pub overflow_add-f : goal.overflow_add-f
-overflow_add-f c = omega (arith, (c.listed-c.ensures.1), (c.loop-f-test.true))
-
-pub loop-f-smaller : goal.loop-f-smaller
-loop-f-smaller c = omega (arith, (c.loop-f-test.true))
-
 pub loop-f-preserved : goal.loop-f-preserved
 loop-f-preserved c = (omega (arith, (c.loop-f-test.true)), (passes_on (c.loop-f.invariant.1.0) (turn_first (c.args.l.now) (c.args.count) (c.loop-f.f) (c.listed-c.ensures.0 (c.args.l.now) 0) (c.loop-f-test.true) (c.listed-c.ensures.1) (c.handle_at-h.ensures)) (sym (c.fits.ensures) ∙ c.if-not-fits.false) (c.times-next.ensures), chooses_on (c.loop-f.invariant.1.0) (c.loop-f.invariant.1.1) (turn_first (c.args.l.now) (c.args.count) (c.loop-f.f) (c.listed-c.ensures.0 (c.args.l.now) 0) (c.loop-f-test.true) (c.listed-c.ensures.1) (c.handle_at-h.ensures)) (search rules) (c.chosen-at.ensures) (c.chosen_long-stride.ensures) (c.chosen-before.ensures)))
 

@@ -1,11 +1,7 @@
 -- By cases on the test.
-use native.Mathlib.Omega.{arith}
 use borrow.Author.Tests.{lt-ltb, le-ltb}
 use Rattle.capi_values.specs.Bridge.{letter_of}
 use Rattle.capi_values.proofs.inner.letter_of.Goals as goal
-
-pub overflow_cast-result : goal.overflow_cast-result
-overflow_cast-result c = omega (arith, c.shared_slice_known-1.given (c.args.k))
 
 pub returns-then-k-part : goal.returns-then-k-part
 unfolding letter_of

@@ -1,7 +1,7 @@
 -- Four stores.
+use mathlib.Core.Path.{◌∙◌}
 use Rattle.capi_values.proofs.Laws.{paper_refused}
-use mathlib.Core.Path.{refl}
 use Rattle.capi_values.proofs.inner.write_refusal.Goals as goal
 
 pub returns : goal.returns
-returns c = (refl, paper_refused c.args.r c.args.out.now c.put.ensures c.put-2.ensures c.put-3.ensures c.put-4.ensures)
+returns c = (c.number-number.ensures, paper_refused c.args.r c.args.out.now (c.put.ensures ∙ rw c.number-number.ensures) (c.put-2.ensures ∙ rw c.places-places.ensures) (c.put-3.ensures ∙ rw c.places-places.ensures) (c.put-4.ensures ∙ rw c.places-places.ensures))

@@ -2,8 +2,8 @@
 use Rattle.capi_values.proofs.Laws.{paper_fine}
 use Rattle.capi_values.proofs.inner.write_verdict.Goals as goal
 
-pub returns-in-Refused : goal.returns-in-Refused
-returns-in-Refused c = rw c.in-Refused.is c.write_refusal.ensures
+pub returns-in-Err : goal.returns-in-Err
+returns-in-Err c = rw c.in-Err.is c.write_refusal.ensures
 
-pub returns-in-Fine : goal.returns-in-Fine
-returns-in-Fine c = (rw c.in-Fine.is, paper_fine c.args.out.now c.in-Fine.is c.put.ensures c.put-in-Fine.ensures c.put-in-Fine-2.ensures c.put-in-Fine-3.ensures)
+pub returns-in-Ok : goal.returns-in-Ok
+returns-in-Ok c = (rw c.in-Ok.is, paper_fine c.args.out.now c.in-Ok.is c.put.ensures c.put-in-Ok.ensures c.put-in-Ok-2.ensures c.put-in-Ok-3.ensures)

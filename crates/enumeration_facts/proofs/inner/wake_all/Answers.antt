@@ -18,7 +18,7 @@ pub shape_of-w-then-at-eq0 : goal.shape_of-w-then-at-eq0
 shape_of-w-then-at-eq0 c = c.loop-left.invariant.1.1.0
 
 pub returns-then-at-eq0 : goal.returns-then-at-eq0
-returns-then-at-eq0 c = sym (wake_end (c.args.n) (c.loop-left.at) (c.args.side) (state (c.loop-left.t) (c.loop-left.w) (c.loop-left.now_top)) (c.loop-left.left) (c.if-at-eq0.true)) ∙ c.loop-left.invariant.0
+returns-then-at-eq0 c = sym (wake_end (c.args.n) (c.loop-left.at) (c.args.side) (state (c.loop-left.t) (c.loop-left.w) (c.loop-left.top)) (c.loop-left.left) (c.if-at-eq0.true)) ∙ c.loop-left.invariant.0
 
 pub overflow_sub-place : goal.overflow_sub-place
 overflow_sub-place c = pos (c.loop-left.at) (c.if-at-eq0.false)
@@ -32,20 +32,20 @@ overflow_add-place c = omega (arith, c.loop-left.invariant.1.1.1)
 pub read_row-before-requires : goal.read_row-before-requires
 read_row-before-requires c = omega (arith, c.loop-left.invariant.1.1.1)
 
-pub wake-now_top-requires : goal.wake-now_top-requires
-wake-now_top-requires c = omega (arith, c.loop-left.invariant.1.1.1)
+pub wake-top-requires : goal.wake-top-requires
+wake-top-requires c = omega (arith, c.loop-left.invariant.1.1.1)
 
 pub overflow_sub-left : goal.overflow_sub-left
 overflow_sub-left c = pos (c.loop-left.left) (c.loop-left-test.true)
 
 pub carry-rest-requires : goal.carry-rest-requires
-carry-rest-requires c = λ h. c.fill-after.ensures ∙ ap (λ (l : List ℕ). filled l (c.args.n) (c.read_row-before.result)) (sym (woken_table (c.args.n) (c.loop-left.at - 1) (c.args.side) (state (c.loop-left.t) (c.loop-left.w) (c.loop-left.now_top)) (c.fill-after.result) (λ e. omega (arith, h, e)) (c.wake-now_top.ensures)))
+carry-rest-requires c = λ h. c.fill-after.ensures ∙ ap (λ (l : List ℕ). filled l (c.args.n) (c.read_row-before.result)) (sym (woken_table (c.args.n) (c.loop-left.at - 1) (c.args.side) (state (c.loop-left.t) (c.loop-left.w) (c.loop-left.top)) (c.fill-after.result) (λ e. omega (arith, h, e)) (c.wake-top.ensures)))
 
 pub loop-left-smaller : goal.loop-left-smaller
 loop-left-smaller c = omega (arith, c.carry-rest.ensures.1, pos (c.loop-left.left) (c.loop-left-test.true))
 
 pub loop-left-preserved : goal.loop-left-preserved
-loop-left-preserved c = (c.carry-rest.ensures.0 ∙ wake_turn (c.args.n) (c.loop-left.at) (c.args.side) (state (c.loop-left.t) (c.loop-left.w) (c.loop-left.now_top)) (c.loop-left.left) (c.loop-left-test.true) (c.if-at-eq0.false) (c.get-next.ensures) (wakes_by (c.args.n) (c.loop-left.at - 1) (c.args.side) (state (c.loop-left.t) (c.loop-left.w) (c.loop-left.now_top)) (c.fill-after.result) (c.read_row-before.ensures) (c.fill-after.ensures) (c.wake-now_top.ensures)) ∙ c.loop-left.invariant.0, (c.wake-now_top.auto.t ∙ c.loop-left.invariant.1.0, (c.carry-rest.auto.w ∙ c.wake-now_top.auto.w ∙ c.loop-left.invariant.1.1.0, search rules)))
+loop-left-preserved c = (c.carry-rest.ensures.0 ∙ wake_turn (c.args.n) (c.loop-left.at) (c.args.side) (state (c.loop-left.t) (c.loop-left.w) (c.loop-left.top)) (c.loop-left.left) (c.loop-left-test.true) (c.if-at-eq0.false) (c.get-next.ensures) (wakes_by (c.args.n) (c.loop-left.at - 1) (c.args.side) (state (c.loop-left.t) (c.loop-left.w) (c.loop-left.top)) (c.fill-after.result) (c.read_row-before.ensures) (c.fill-after.ensures) (c.wake-top.ensures)) ∙ c.loop-left.invariant.0, (c.wake-top.auto.t ∙ c.loop-left.invariant.1.0, (c.carry-rest.auto.w ∙ c.wake-top.auto.w ∙ c.loop-left.invariant.1.1.0, search rules)))
 
 pub shape_of-t : goal.shape_of-t
 shape_of-t c = c.loop-left.invariant.1.0
@@ -54,4 +54,4 @@ pub shape_of-w : goal.shape_of-w
 shape_of-w c = c.loop-left.invariant.1.1.0
 
 pub returns : goal.returns
-returns c = sym (wake_spent (c.args.n) (c.loop-left.at) (c.args.side) (state (c.loop-left.t) (c.loop-left.w) (c.loop-left.now_top)) (c.loop-left.left) (c.loop-left-test.false)) ∙ c.loop-left.invariant.0
+returns c = sym (wake_spent (c.args.n) (c.loop-left.at) (c.args.side) (state (c.loop-left.t) (c.loop-left.w) (c.loop-left.top)) (c.loop-left.left) (c.loop-left-test.false)) ∙ c.loop-left.invariant.0

@@ -13,9 +13,6 @@ loop_by-found-requires c = (c.requires.0, (c.requires.1, c.word_length-length.en
 pub returns-then-found-ne0 : goal.returns-then-found-ne0
 returns-then-found-ne0 c = from_here (c.args.t.now) (c.args.orders.now) (c.args.n) (c.args.e.0) (c.args.g.0) (c.args.n) (c.loop-h.h) (c.loop_by-found.ensures) (c.loop-h-test.true) (c.if-found-ne0.true) ∙ c.loop-h.invariant
 
-pub overflow_add-h : goal.overflow_add-h
-overflow_add-h c = omega arith
-
 pub loop-h-smaller : goal.loop-h-smaller
 loop-h-smaller c = omega arith
 

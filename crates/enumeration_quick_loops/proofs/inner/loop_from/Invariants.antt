@@ -5,6 +5,3 @@ use Rattle.enumeration_quick_loops.proofs.inner.loop_from.Given as goal
 
 abbrev pub invariant-loop-h : goal.invariant-loop-h
 invariant-loop-h l = loop_from (l.n - l.h) l.t l.orders l.n l.e.0 l.g.0 l.h ≡ loop_from l.n l.t l.orders l.n l.e.0 l.g.0 0
-
-abbrev pub decreases-loop-h : goal.decreases-loop-h
-decreases-loop-h l = l.n - l.h

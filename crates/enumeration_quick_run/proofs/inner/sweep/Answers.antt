@@ -17,11 +17,11 @@ returns-then-left-eq0 c = sweep_paused (c.args.n) (c.args.orders.now) (c.args.ro
 pub sweep_place-requires : goal.sweep_place-requires
 sweep_place-requires c = (c.requires.0, omega arith)
 
-pub shape_of-t-in-Refused : goal.shape_of-t-in-Refused
-shape_of-t-in-Refused c = c.sweep_place.auto.t ∙ c.loop-at.invariant.1.0
+pub shape_of-t-in-Err : goal.shape_of-t-in-Err
+shape_of-t-in-Err c = c.sweep_place.auto.t ∙ c.loop-at.invariant.1.0
 
-pub returns-in-Refused : goal.returns-in-Refused
-returns-in-Refused c = sweep_refused (c.args.n) (c.args.orders.now) (c.args.room) (c.loop-at.at) (c.loop-at.t) (c.loop-at-test.true) (c.sweep_place.ensures) (c.loop-at.left) (c.if-left-eq0.false) (c.in-Refused.is) ∙ c.loop-at.invariant.0
+pub returns-in-Err : goal.returns-in-Err
+returns-in-Err c = sweep_refused (c.args.n) (c.args.orders.now) (c.args.room) (c.loop-at.at) (c.loop-at.t) (c.loop-at-test.true) (c.sweep_place.ensures) (c.loop-at.left) (c.if-left-eq0.false) (c.in-Err.is) ∙ c.loop-at.invariant.0
 
 pub advance-at-requires : goal.advance-at-requires
 advance-at-requires c = (c.loop-at.invariant.1.1, omega arith)
@@ -34,7 +34,7 @@ loop-at-smaller c = omega (arith, pos (c.loop-at.left) (c.if-left-eq0.false))
 
 pub loop-at-preserved : goal.loop-at-preserved
 loop-at-preserved c = (
-  sweep_turn (c.args.n) (c.args.orders.now) (c.args.room) (c.loop-at.at) (c.loop-at.t) (c.loop-at-test.true) (c.sweep_place.ensures) (c.loop-at.left) (c.if-left-eq0.false) (c.in-Count.is) (c.advance-at.ensures) ∙ c.loop-at.invariant.0,
+  sweep_turn (c.args.n) (c.args.orders.now) (c.args.room) (c.loop-at.at) (c.loop-at.t) (c.loop-at-test.true) (c.sweep_place.ensures) (c.loop-at.left) (c.if-left-eq0.false) (c.in-Ok.is) (c.advance-at.ensures) ∙ c.loop-at.invariant.0,
   (c.sweep_place.auto.t ∙ c.loop-at.invariant.1.0, rw (c.advance-at.ensures) (advanced_generator (c.args.n) (c.loop-at.at) _ (c.loop-at.invariant.1.1))),
 )
 

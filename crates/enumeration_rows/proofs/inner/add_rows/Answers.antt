@@ -26,9 +26,6 @@ offset_bounds-orders-k c = omega arith
 pub add_row-requires : goal.add_row-requires
 add_row-requires c = (omega arith, c.requires.1 c.loop-k.k (search rules))
 
-pub overflow_add-k : goal.overflow_add-k
-overflow_add-k c = omega arith
-
 pub loop-k-smaller : goal.loop-k-smaller
 loop-k-smaller c = omega arith
 

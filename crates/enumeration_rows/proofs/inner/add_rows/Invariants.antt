@@ -6,6 +6,3 @@ use Rattle.enumeration_rows.proofs.inner.add_rows.Given as goal
 
 abbrev pub invariant-loop-k : goal.invariant-loop-k
 invariant-loop-k l = (add_rows_from (length l.orders - l.k) l.w l.orders l.n l.e l.k ≡ add_rows_from (length l.orders) l.initial.w l.orders l.n l.e 0) × (length l.w ≡ length l.initial.w)
-
-abbrev pub decreases-loop-k : goal.decreases-loop-k
-decreases-loop-k l = length l.orders - l.k

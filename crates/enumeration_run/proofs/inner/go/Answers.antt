@@ -19,14 +19,14 @@ returns-then-left-eq0 c = runs_paused c.args.n c.args.orders.now c.args.room c.l
 pub visit_place-requires : goal.visit_place-requires
 visit_place-requires c = c.requires.0
 
-pub shape_of-t-in-Refused : goal.shape_of-t-in-Refused
-shape_of-t-in-Refused c = c.visit_place.auto.t ∙ c.loop-at.invariant.1.0
+pub shape_of-t-in-Err : goal.shape_of-t-in-Err
+shape_of-t-in-Err c = c.visit_place.auto.t ∙ c.loop-at.invariant.1.0
 
-pub shape_of-w-in-Refused : goal.shape_of-w-in-Refused
-shape_of-w-in-Refused c = c.visit_place.auto.w ∙ c.loop-at.invariant.1.1.0
+pub shape_of-w-in-Err : goal.shape_of-w-in-Err
+shape_of-w-in-Err c = c.visit_place.auto.w ∙ c.loop-at.invariant.1.1.0
 
-pub returns-in-Refused : goal.returns-in-Refused
-returns-in-Refused c = runs_refused c.args.n c.args.orders.now c.args.room c.loop-at.at c.loop-at.t c.loop-at.w c.loop-at.left c.loop-at-test.true c.if-left-eq0.false c.visit_place.ensures c.in-Refused.is ∙ c.loop-at.invariant.0
+pub returns-in-Err : goal.returns-in-Err
+returns-in-Err c = runs_refused c.args.n c.args.orders.now c.args.room c.loop-at.at c.loop-at.t c.loop-at.w c.loop-at.left c.loop-at-test.true c.if-left-eq0.false c.visit_place.ensures c.in-Err.is ∙ c.loop-at.invariant.0
 
 pub advance-at-requires : goal.advance-at-requires
 advance-at-requires c = (c.loop-at.invariant.1.1.1, omega arith)
@@ -38,7 +38,7 @@ pub loop-at-smaller : goal.loop-at-smaller
 loop-at-smaller c = omega (arith, pos c.loop-at.left c.if-left-eq0.false)
 
 pub loop-at-preserved : goal.loop-at-preserved
-loop-at-preserved c = (runs_turn c.args.n c.args.orders.now c.args.room c.loop-at.at c.loop-at.t c.loop-at.w c.loop-at.left c.loop-at-test.true c.if-left-eq0.false c.visit_place.ensures c.in-Count.is c.advance-at.ensures ∙ c.loop-at.invariant.0, (c.visit_place.auto.t ∙ c.loop-at.invariant.1.0, (c.visit_place.auto.w ∙ c.loop-at.invariant.1.1.0, rw c.advance-at.ensures (advanced_generator c.args.n c.loop-at.at _ c.loop-at.invariant.1.1.1))))
+loop-at-preserved c = (runs_turn c.args.n c.args.orders.now c.args.room c.loop-at.at c.loop-at.t c.loop-at.w c.loop-at.left c.loop-at-test.true c.if-left-eq0.false c.visit_place.ensures c.in-Ok.is c.advance-at.ensures ∙ c.loop-at.invariant.0, (c.visit_place.auto.t ∙ c.loop-at.invariant.1.0, (c.visit_place.auto.w ∙ c.loop-at.invariant.1.1.0, rw c.advance-at.ensures (advanced_generator c.args.n c.loop-at.at _ c.loop-at.invariant.1.1.1))))
 
 pub shape_of-t : goal.shape_of-t
 shape_of-t c = c.loop-at.invariant.1.0

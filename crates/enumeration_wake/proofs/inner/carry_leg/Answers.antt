@@ -2,7 +2,6 @@ use Rattle.std.proofs.Common.{sym, refl, ◌∙◌, zero-le, le_refl, arith, rul
 use Rattle.enumeration_wake.proofs.Carrying.{carry_turn}
 use Rattle.enumeration_wake.proofs.WakeLaws.{pos}
 use Rattle.enumeration_fill.proofs.Alike.{moves_forth, moves_back}
-use borrow.Author.Tests.{not-false}
 use Rattle.enumeration_wake.proofs.inner.carry_leg.Goals as goal
 
 pub overflow_sub-forth : goal.overflow_sub-forth
@@ -42,10 +41,10 @@ pub overflow_add-place : goal.overflow_add-place
 overflow_add-place c = omega arith
 
 pub overflow_add-moved : goal.overflow_add-moved
-overflow_add-moved c = omega (arith, (c.alike.ensures (not-false _ (c.if-not-alike.false-raw))).wide)
+overflow_add-moved c = omega (arith, (c.alike.ensures (c.if-not-alike.false)).wide)
 
 pub overflow_sub-moved : goal.overflow_sub-moved
-overflow_sub-moved c = omega (arith, (c.alike.ensures (not-false _ (c.if-not-alike.false-raw))).wide)
+overflow_sub-moved c = omega (arith, (c.alike.ensures (c.if-not-alike.false)).wide)
 
 pub write_row-requires : goal.write_row-requires
 write_row-requires c = omega arith
@@ -60,13 +59,13 @@ pub shape_of-w-then-next-guess : goal.shape_of-w-then-next-guess
 shape_of-w-then-next-guess c = c.append.auto.w ∙ c.write_row.auto.w ∙ c.loop-left.invariant.1.1.0
 
 pub returns-then-next-guess : goal.returns-then-next-guess
-returns-then-next-guess c = (carry_turn (c.args.t.now) (c.loop-left.w) (c.args.n) (c.args.top) (c.args.side) (c.args.before) (c.args.after) (c.requires) (c.loop-left.at) (c.loop-left.left) (c.list_at-list.ensures.at) (c.loop-left-test.true) (c.if-at-eq0.false) (c.read_row-row.ensures) (c.alike.ensures (not-false _ (c.if-not-alike.false-raw))) (c.get-next.ensures) (c.write_row.ensures) (c.append.ensures) ∙ c.loop-left.invariant.0 (c.args.side) (c.list_at-list.ensures.at), (omega (arith, c.loop-left.invariant.1.0), omega (arith, c.loop-left.invariant.1.0, pos (c.loop-left.left) (c.loop-left-test.true))))
+returns-then-next-guess c = (carry_turn (c.args.t.now) (c.loop-left.w) (c.args.n) (c.args.top) (c.args.side) (c.args.before) (c.args.after) (c.requires) (c.loop-left.at) (c.loop-left.left) (c.list_at-list.ensures.at) (c.loop-left-test.true) (c.if-at-eq0.false) (c.read_row-row.ensures) (c.alike.ensures (c.if-not-alike.false)) (c.get-next.ensures) (c.write_row.ensures) (c.append.ensures) ∙ c.loop-left.invariant.0 (c.args.side) (c.list_at-list.ensures.at), (omega (arith, c.loop-left.invariant.1.0), omega (arith, c.loop-left.invariant.1.0, pos (c.loop-left.left) (c.loop-left-test.true))))
 
 pub loop-left-smaller : goal.loop-left-smaller
 loop-left-smaller c = omega (arith, pos (c.loop-left.left) (c.loop-left-test.true))
 
 pub loop-left-preserved : goal.loop-left-preserved
-loop-left-preserved c = (λ side h. carry_turn (c.args.t.now) (c.loop-left.w) (c.args.n) (c.args.top) side (c.args.before) (c.args.after) (c.requires) (c.loop-left.at) (c.loop-left.left) h (c.loop-left-test.true) (c.if-at-eq0.false) (c.read_row-row.ensures) (c.alike.ensures (not-false _ (c.if-not-alike.false-raw))) (sym (c.if-next-guess.false) ∙ c.get-next.ensures) (c.write_row.ensures) (c.append.ensures) ∙ c.loop-left.invariant.0 side h, (omega (arith, c.loop-left.invariant.1.0), (c.append.auto.w ∙ c.write_row.auto.w ∙ c.loop-left.invariant.1.1.0, c.wrapping_add_u32-guess.type_inv)))
+loop-left-preserved c = (λ side h. carry_turn (c.args.t.now) (c.loop-left.w) (c.args.n) (c.args.top) side (c.args.before) (c.args.after) (c.requires) (c.loop-left.at) (c.loop-left.left) h (c.loop-left-test.true) (c.if-at-eq0.false) (c.read_row-row.ensures) (c.alike.ensures (c.if-not-alike.false)) (sym (c.if-next-guess.false) ∙ c.get-next.ensures) (c.write_row.ensures) (c.append.ensures) ∙ c.loop-left.invariant.0 side h, (omega (arith, c.loop-left.invariant.1.0), (c.append.auto.w ∙ c.write_row.auto.w ∙ c.loop-left.invariant.1.1.0, search rules)))
 
 pub shape_of-w : goal.shape_of-w
 shape_of-w c = c.loop-left.invariant.1.1.0

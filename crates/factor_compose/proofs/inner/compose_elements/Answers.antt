@@ -3,4 +3,4 @@ use mathlib.Core.Path.{sym}
 use Rattle.factor_compose.proofs.inner.compose_elements.Goals as goal
 
 pub returns-then-x-count : goal.returns-then-x-count
-returns-then-x-count c = sym (c.product_number-x.ensures (c.if-x-count.true))
+returns-then-x-count c = sym (c.product_number-x.ensures c.if-x-count.true)

@@ -11,4 +11,4 @@ pub returns-then-count-i : goal.returns-then-count-i
 returns-then-count-i c = λ h. absurd (omega arith)
 
 pub returns : goal.returns
-returns c = λ h. conjugate_reached (c.args.s.now) (c.args.n) (c.args.count) (c.args.a.0) (c.args.b.0) (c.product_number-c.ensures (c.if-count-c.false)) (got (c.args.s.now) (c.get-i.ensures) (c.inverse_at.ensures.at)) (c.if-count-i.false) (c.product_number.ensures h)
+returns c = λ h. conjugate_reached c.args.s.now c.args.n c.args.count c.args.a.0 c.args.b.0 (c.product_number-c.ensures c.if-count-c.false) (got c.args.s.now c.get-i.ensures c.inverse_at.ensures.at) c.if-count-i.false (c.product_number.ensures h)

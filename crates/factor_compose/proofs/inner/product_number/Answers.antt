@@ -10,26 +10,26 @@ use Rattle.factor_compose.proofs.inner.product_number.Goals as goal
 pub returns-then-not-rows_within : goal.returns-then-not-rows_within
 returns-then-not-rows_within c = λ h. absurd (omega arith)
 
-pub returns-then-count-first : goal.returns-then-count-first
-returns-then-count-first c = λ h. absurd (omega arith)
+pub returns-then-count-a : goal.returns-then-count-a
+returns-then-count-a c = λ h. absurd (omega arith)
 
-pub returns-then-count-second : goal.returns-then-count-second
-returns-then-count-second c = λ h. absurd (omega arith)
+pub returns-then-count-b : goal.returns-then-count-b
+returns-then-count-b c = λ h. absurd (omega arith)
 
 pub recorded-len-requires : goal.recorded-len-requires
-recorded-len-requires c = (c.rows_within.ensures c.if-not-rows_within.false, (c.if-count-second.false, omega arith))
+recorded-len-requires c = (c.rows_within.ensures c.if-not-rows_within.false, (c.if-count-b.false, omega arith))
 
 pub recorded-c-requires : goal.recorded-c-requires
-recorded-c-requires c = (c.rows_within.ensures c.if-not-rows_within.false, (c.if-count-second.false, omega arith))
+recorded-c-requires c = (c.rows_within.ensures c.if-not-rows_within.false, (c.if-count-b.false, omega arith))
 
 pub advance-requires : goal.advance-requires
-advance-requires c = (c.rows_within.ensures c.if-not-rows_within.false, (c.if-count-first.false, omega arith))
+advance-requires c = (c.rows_within.ensures c.if-not-rows_within.false, (c.if-count-a.false, omega arith))
 
 pub returns-then-len-le5 : goal.returns-then-len-le5
-returns-then-len-le5 c = λ h. sym (compose_short c.args.s.now c.args.n c.args.count c.args.a.0 c.args.b.0 c.recorded-len.ensures c.if-len-le5.true) ∙ c.advance.ensures h c.args.b.0 c.if-count-second.false c.recorded-c.ensures
+returns-then-len-le5 c = λ h. sym (compose_short c.args.s.now c.args.n c.args.count c.args.a.0 c.args.b.0 c.recorded-len.ensures c.if-len-le5.true) ∙ c.advance.ensures h c.args.b.0 c.if-count-b.false c.recorded-c.ensures
 
 pub route-way-requires : goal.route-way-requires
-route-way-requires c = (c.rows_within.ensures c.if-not-rows_within.false, (c.if-count-first.false, (c.if-count-second.false, c.recorded-len.ensures)))
+route-way-requires c = (c.rows_within.ensures c.if-not-rows_within.false, (c.if-count-a.false, (c.if-count-b.false, c.recorded-len.ensures)))
 
 pub returns-then-not-way : goal.returns-then-not-way
 returns-then-not-way c = λ h. absurd (omega arith)

@@ -1,3 +1,4 @@
+use Rattle.egg.proofs.Refusing.{handed_on}
 use Prim.Native.Nat.{ℕ}
 use mathlib.Core.Path.{refl, sym, ap, ◌∙◌}
 use native.Mathlib.Omega.{arith}
@@ -15,14 +16,14 @@ shape_of-t-then-count-e c = c.loop-e.invariant.0
 pub returns-then-count-e : goal.returns-then-count-e
 returns-then-count-e c = let a = c.args in rows_done (composed_at a.rows.now a.n) a.n a.room c.loop-e.e c.loop-e.count c.loop-e.t c.loop-e-test.true c.if-count-e.true ∙ c.loop-e.invariant.2
 
-pub shape_of-t-in_default : goal.shape_of-t-in_default
-shape_of-t-in_default c = c.read_row-c.auto.t ∙ c.loop-e.invariant.0
+pub shape_of-t-in_err-count : goal.shape_of-t-in_err-count
+shape_of-t-in_err-count c = c.read_row.auto.t ∙ c.loop-e.invariant.0
 
-pub returns-in_default : goal.returns-in_default
-returns-in_default c = let a = c.args in rows_stop (composed_at a.rows.now a.n) a.n a.room c.loop-e.e c.loop-e.count c.loop-e.t c.loop-e-test.true c.if-count-e.false c.read_row-c.ensures c.in_default.is ∙ c.loop-e.invariant.2
+pub returns-in_err-count : goal.returns-in_err-count
+returns-in_err-count c = let a = c.args in rw (handed_on c.from_residual.ensures, ← c.in_err-count.was) (rows_stop (composed_at a.rows.now a.n) a.n a.room c.loop-e.e c.loop-e.count c.loop-e.t c.loop-e-test.true c.if-count-e.false c.read_row.ensures c.in_err-count.was ∙ c.loop-e.invariant.2)
 
 pub loop-e-preserved : goal.loop-e-preserved
-loop-e-preserved c = let a = c.args in (c.read_row-c.auto.t ∙ c.loop-e.invariant.0, search rules, sym (rows_next (composed_at a.rows.now a.n) a.n a.room c.loop-e.e c.loop-e.count c.loop-e.t c.loop-e-test.true c.if-count-e.false c.read_row-c.ensures c.in-Count.is) ∙ c.loop-e.invariant.2)
+loop-e-preserved c = let a = c.args in (c.read_row.auto.t ∙ c.loop-e.invariant.0, search rules, sym (rows_next (composed_at a.rows.now a.n) a.n a.room c.loop-e.e c.loop-e.count c.loop-e.t c.loop-e-test.true c.if-count-e.false c.read_row.ensures c.in_ok-count.was) ∙ c.loop-e.invariant.2)
 
 pub shape_of-t : goal.shape_of-t
 shape_of-t c = c.loop-e.invariant.0

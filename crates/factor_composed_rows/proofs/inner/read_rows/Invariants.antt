@@ -7,6 +7,3 @@ use Rattle.factor_composed_rows.proofs.inner.read_rows.Given as goal
 
 abbrev pub invariant-loop-e : goal.invariant-loop-e
 invariant-loop-e l = (length l.t ≡ length l.initial.t) × (l.e ≤ l.room) × (read_from (l.room - l.e) (composed_at l.rows l.n) l.n l.room l.e l.count l.t ≡ read_from l.room (composed_at l.rows l.n) l.n l.room 0 1 l.initial.t)
-
-abbrev pub decreases-loop-e : goal.decreases-loop-e
-decreases-loop-e l = l.room - l.e

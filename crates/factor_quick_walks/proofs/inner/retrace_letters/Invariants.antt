@@ -2,7 +2,7 @@
 use Prim.Native.Nat.{ℕ, ◌-◌, ◌≤◌, ◌<◌}
 use mathlib.Core.Path.{◌≡◌}
 use mathlib.Core.Bool.{true}
-use Rattle.egg.specs.declared.Reached.{Reached}
+use Rattle.egg.specs.Answers.{Reached}
 use Rattle.factor_word_letters.specs.Spell.{cell_by}
 use Rattle.factor_word_walks.specs.Letters.{LettersBack}
 use Rattle.factor_quick_walks.proofs.inner.retrace_letters.Given as goal

@@ -6,6 +6,3 @@ use Rattle.factor_relations.proofs.inner.orders_right.Given as goal
 
 abbrev pub invariant-loop-k : goal.invariant-loop-k
 invariant-loop-k l = (l.k ≤ l.count) × (scan (l.count - l.k) (λ i. order_at l.orders i) l.k ≡ orders_right l.orders l.n)
-
-abbrev pub decreases-loop-k : goal.decreases-loop-k
-decreases-loop-k l = l.count - l.k

@@ -6,7 +6,7 @@ use Rattle.factor_word_walks.proofs.Walks.{along_unread, along_read}
 use Rattle.factor_word_walks.proofs.inner.along_short.Goals as goal
 
 pub returns-then-not-gather : goal.returns-then-not-gather
-returns-then-not-gather c = c.refuse.ensures ∙ along_unread (c.args.s.now) (c.args.n) (c.args.count) (c.args.from.0) (c.args.e.0) (c.args.len) (c.gather.ensures.0) c.if-not-gather.true
+returns-then-not-gather c = along_unread (c.args.s.now) (c.args.n) (c.args.count) (c.args.from.0) (c.args.e.0) (c.args.len) (c.gather.ensures.0) c.if-not-gather.true
 
 pub returns : goal.returns
 returns c = c.follow.ensures ∙ along_read (c.args.s.now) (c.args.n) (c.args.count) (c.args.from.0) (c.args.e.0) (c.args.len) (c.gather.ensures.0) c.if-not-gather.false (replicate 68 0) (search rules) (c.gather.ensures.1 c.if-not-gather.false)

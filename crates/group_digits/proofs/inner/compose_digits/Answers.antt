@@ -1,3 +1,5 @@
+use Rattle.egg.proofs.Refusing.{handed_on}
+use mathlib.Core.Path.{◌∙◌}
 use Prim.Native.Nat.{◌%◌}
 use lib.ListN.{length, get_or}
 use native.Mathlib.Nat.{mod-lt}
@@ -21,14 +23,14 @@ nonzero_rem-x c = omega (arith, (some_there c.args.g c.loop-f.f c.listed-c.ensur
 pub nonzero_rem-y : goal.nonzero_rem-y
 nonzero_rem-y c = omega (arith, (some_there c.args.g c.loop-f.f c.listed-c.ensures.0 c.loop-f-test.true (length c.args.table.now) c.requires.0))
 
-pub returns-in_default : goal.returns-in_default
-returns-in_default c = gathers_stop c.loop-f.invariant (turn_at c.args.g c.loop-f.f c.listed-c.ensures.0 c.loop-f-test.true) (digit_compose c.args.table.now (get_or c.args.g.factors c.loop-f.f no_factor) (c.loop-f.x % (get_or c.args.g.factors c.loop-f.f no_factor).elements) (c.loop-f.y % (get_or c.args.g.factors c.loop-f.f no_factor).elements) c.part-s.ensures c.compose_elements-r.ensures) c.in_default.is
+pub returns-in_err-d : goal.returns-in_err-d
+returns-in_err-d c = handed_on c.from_residual.ensures ∙ gathers_stop c.loop-f.invariant (turn_at c.args.g c.loop-f.f c.listed-c.ensures.0 c.loop-f-test.true) (digit_compose c.args.table.now (get_or c.args.g.factors c.loop-f.f no_factor) (c.loop-f.x % (get_or c.args.g.factors c.loop-f.f no_factor).elements) (c.loop-f.y % (get_or c.args.g.factors c.loop-f.f no_factor).elements) c.part-s.ensures c.compose_elements.ensures) c.in_err-d.was
 
 pub overflow_mul-sum : goal.overflow_mul-sum
-overflow_mul-sum c = omega (arith, sum_fits c.loop-f.invariant.walks (turn_at c.args.g c.loop-f.f c.listed-c.ensures.0 c.loop-f-test.true) (below_element (digit_below Compose c.args.table.now (get_or c.args.g.factors c.loop-f.f no_factor) (c.loop-f.x % (get_or c.args.g.factors c.loop-f.f no_factor).elements) (c.loop-f.y % (get_or c.args.g.factors c.loop-f.f no_factor).elements) (mod-lt c.loop-f.x (some_there c.args.g c.loop-f.f c.listed-c.ensures.0 c.loop-f-test.true (length c.args.table.now) c.requires.0))) (digit_compose c.args.table.now (get_or c.args.g.factors c.loop-f.f no_factor) (c.loop-f.x % (get_or c.args.g.factors c.loop-f.f no_factor).elements) (c.loop-f.y % (get_or c.args.g.factors c.loop-f.f no_factor).elements) c.part-s.ensures c.compose_elements-r.ensures) c.in-Element.is), stride_fits c.loop-f.invariant.walks (turn_at c.args.g c.loop-f.f c.listed-c.ensures.0 c.loop-f-test.true) (positive (length c.args.table.now) (handles c.args.g) c.requires.0), c.requires.1)
+overflow_mul-sum c = omega (arith, sum_fits c.loop-f.invariant.walks (turn_at c.args.g c.loop-f.f c.listed-c.ensures.0 c.loop-f-test.true) (below_element (digit_below Compose c.args.table.now (get_or c.args.g.factors c.loop-f.f no_factor) (c.loop-f.x % (get_or c.args.g.factors c.loop-f.f no_factor).elements) (c.loop-f.y % (get_or c.args.g.factors c.loop-f.f no_factor).elements) (mod-lt c.loop-f.x (some_there c.args.g c.loop-f.f c.listed-c.ensures.0 c.loop-f-test.true (length c.args.table.now) c.requires.0))) (digit_compose c.args.table.now (get_or c.args.g.factors c.loop-f.f no_factor) (c.loop-f.x % (get_or c.args.g.factors c.loop-f.f no_factor).elements) (c.loop-f.y % (get_or c.args.g.factors c.loop-f.f no_factor).elements) c.part-s.ensures c.compose_elements.ensures) c.in_ok-d.was), stride_fits c.loop-f.invariant.walks (turn_at c.args.g c.loop-f.f c.listed-c.ensures.0 c.loop-f-test.true) (positive (length c.args.table.now) (handles c.args.g) c.requires.0), c.requires.1)
 
 pub overflow_add-sum : goal.overflow_add-sum
-overflow_add-sum c = omega (arith, sum_fits c.loop-f.invariant.walks (turn_at c.args.g c.loop-f.f c.listed-c.ensures.0 c.loop-f-test.true) (below_element (digit_below Compose c.args.table.now (get_or c.args.g.factors c.loop-f.f no_factor) (c.loop-f.x % (get_or c.args.g.factors c.loop-f.f no_factor).elements) (c.loop-f.y % (get_or c.args.g.factors c.loop-f.f no_factor).elements) (mod-lt c.loop-f.x (some_there c.args.g c.loop-f.f c.listed-c.ensures.0 c.loop-f-test.true (length c.args.table.now) c.requires.0))) (digit_compose c.args.table.now (get_or c.args.g.factors c.loop-f.f no_factor) (c.loop-f.x % (get_or c.args.g.factors c.loop-f.f no_factor).elements) (c.loop-f.y % (get_or c.args.g.factors c.loop-f.f no_factor).elements) c.part-s.ensures c.compose_elements-r.ensures) c.in-Element.is), stride_fits c.loop-f.invariant.walks (turn_at c.args.g c.loop-f.f c.listed-c.ensures.0 c.loop-f-test.true) (positive (length c.args.table.now) (handles c.args.g) c.requires.0), c.requires.1)
+overflow_add-sum c = omega (arith, sum_fits c.loop-f.invariant.walks (turn_at c.args.g c.loop-f.f c.listed-c.ensures.0 c.loop-f-test.true) (below_element (digit_below Compose c.args.table.now (get_or c.args.g.factors c.loop-f.f no_factor) (c.loop-f.x % (get_or c.args.g.factors c.loop-f.f no_factor).elements) (c.loop-f.y % (get_or c.args.g.factors c.loop-f.f no_factor).elements) (mod-lt c.loop-f.x (some_there c.args.g c.loop-f.f c.listed-c.ensures.0 c.loop-f-test.true (length c.args.table.now) c.requires.0))) (digit_compose c.args.table.now (get_or c.args.g.factors c.loop-f.f no_factor) (c.loop-f.x % (get_or c.args.g.factors c.loop-f.f no_factor).elements) (c.loop-f.y % (get_or c.args.g.factors c.loop-f.f no_factor).elements) c.part-s.ensures c.compose_elements.ensures) c.in_ok-d.was), stride_fits c.loop-f.invariant.walks (turn_at c.args.g c.loop-f.f c.listed-c.ensures.0 c.loop-f-test.true) (positive (length c.args.table.now) (handles c.args.g) c.requires.0), c.requires.1)
 
 pub overflow_mul-stride : goal.overflow_mul-stride
 overflow_mul-stride c = omega (arith, stride_fits c.loop-f.invariant.walks (turn_at c.args.g c.loop-f.f c.listed-c.ensures.0 c.loop-f-test.true) (positive (length c.args.table.now) (handles c.args.g) c.requires.0), c.requires.1)
@@ -39,14 +41,8 @@ nonzero_div-x c = omega (arith, (some_there c.args.g c.loop-f.f c.listed-c.ensur
 pub nonzero_div-y : goal.nonzero_div-y
 nonzero_div-y c = omega (arith, (some_there c.args.g c.loop-f.f c.listed-c.ensures.0 c.loop-f-test.true (length c.args.table.now) c.requires.0))
 
-pub overflow_add-f : goal.overflow_add-f
-overflow_add-f c = omega (arith, c.listed-c.ensures.1, c.loop-f-test.true)
-
-pub loop-f-smaller : goal.loop-f-smaller
-loop-f-smaller c = omega (arith, c.loop-f-test.true)
-
 pub loop-f-preserved : goal.loop-f-preserved
-loop-f-preserved c = gathers_on c.loop-f.invariant (turn_at c.args.g c.loop-f.f c.listed-c.ensures.0 c.loop-f-test.true) (digit_compose c.args.table.now (get_or c.args.g.factors c.loop-f.f no_factor) (c.loop-f.x % (get_or c.args.g.factors c.loop-f.f no_factor).elements) (c.loop-f.y % (get_or c.args.g.factors c.loop-f.f no_factor).elements) c.part-s.ensures c.compose_elements-r.ensures) c.in-Element.is (below_element (digit_below Compose c.args.table.now (get_or c.args.g.factors c.loop-f.f no_factor) (c.loop-f.x % (get_or c.args.g.factors c.loop-f.f no_factor).elements) (c.loop-f.y % (get_or c.args.g.factors c.loop-f.f no_factor).elements) (mod-lt c.loop-f.x (some_there c.args.g c.loop-f.f c.listed-c.ensures.0 c.loop-f-test.true (length c.args.table.now) c.requires.0))) (digit_compose c.args.table.now (get_or c.args.g.factors c.loop-f.f no_factor) (c.loop-f.x % (get_or c.args.g.factors c.loop-f.f no_factor).elements) (c.loop-f.y % (get_or c.args.g.factors c.loop-f.f no_factor).elements) c.part-s.ensures c.compose_elements-r.ensures) c.in-Element.is)
+loop-f-preserved c = gathers_on c.loop-f.invariant (turn_at c.args.g c.loop-f.f c.listed-c.ensures.0 c.loop-f-test.true) (digit_compose c.args.table.now (get_or c.args.g.factors c.loop-f.f no_factor) (c.loop-f.x % (get_or c.args.g.factors c.loop-f.f no_factor).elements) (c.loop-f.y % (get_or c.args.g.factors c.loop-f.f no_factor).elements) c.part-s.ensures c.compose_elements.ensures) c.in_ok-d.was (below_element (digit_below Compose c.args.table.now (get_or c.args.g.factors c.loop-f.f no_factor) (c.loop-f.x % (get_or c.args.g.factors c.loop-f.f no_factor).elements) (c.loop-f.y % (get_or c.args.g.factors c.loop-f.f no_factor).elements) (mod-lt c.loop-f.x (some_there c.args.g c.loop-f.f c.listed-c.ensures.0 c.loop-f-test.true (length c.args.table.now) c.requires.0))) (digit_compose c.args.table.now (get_or c.args.g.factors c.loop-f.f no_factor) (c.loop-f.x % (get_or c.args.g.factors c.loop-f.f no_factor).elements) (c.loop-f.y % (get_or c.args.g.factors c.loop-f.f no_factor).elements) c.part-s.ensures c.compose_elements.ensures) c.in_ok-d.was)
 
 pub returns : goal.returns
 returns c = gathers_end c.loop-f.invariant (turned_all (handles c.args.g) c.loop-f.f c.listed-c.ensures.0 c.loop-f-test.false)

@@ -1,5 +1,4 @@
 -- What is left to gather gives what the whole does; every sum is within the product.
-use Prim.Native.Nat.{◌-◌}
 use Rattle.group_handles.specs.Handles.{handles}
 use Rattle.group_digits.specs.Digits.{Compose, digit_of}
 use Rattle.group_digits.proofs.Walks.{Gathering}
@@ -7,6 +6,3 @@ use Rattle.group_digits.proofs.inner.compose_digits.Given as goal
 
 abbrev pub invariant-loop-f : goal.invariant-loop-f
 invariant-loop-f l = Gathering (digit_of Compose l.table) (handles l.g) l.initial.x l.initial.y l.f l.stride l.sum l.x l.y
-
-abbrev pub decreases-loop-f : goal.decreases-loop-f
-decreases-loop-f l = l.c - l.f

@@ -1,4 +1,5 @@
 use native.Mathlib.Nat.{mod-le, div-le_self}
+use mathlib.Core.Path.{refl}
 use lib.ListN.{get_or}
 use Rattle.build_lending.specs.Lending.{no_factor}
 use native.Mathlib.Omega.{arith}
@@ -9,7 +10,7 @@ use borrow.Author.Rules.{rules}
 use Rattle.group_digits.proofs.inner.split_in.Goals as goal
 
 pub returns-then-out-c : goal.returns-then-out-c
-returns-then-out-c c = split_short (handles c.args.g) c.args.e.0 c.listed-c.ensures.0 c.args.out.now c.if-out-c.true c.refused_count.ensures
+returns-then-out-c c = split_short (handles c.args.g) c.args.e.0 c.listed-c.ensures.0 c.args.out.now c.if-out-c.true refl
 
 pub loop-f-init : goal.loop-f-init
 loop-f-init c = (splitting (handles c.args.g) c.args.e.0 c.args.out.now, search rules)
@@ -22,12 +23,6 @@ overflow_cast-rest c = omega (arith, mod-le c.loop-f.rest (get_or c.args.g.facto
 
 pub nonzero_div-rest : goal.nonzero_div-rest
 nonzero_div-rest c = omega (arith, (some_at c.args.g c.loop-f.f c.listed-c.ensures.0 c.loop-f-test.true c.requires))
-
-pub overflow_add-f : goal.overflow_add-f
-overflow_add-f c = omega (arith, c.listed-c.ensures.1, c.loop-f-test.true)
-
-pub loop-f-smaller : goal.loop-f-smaller
-loop-f-smaller c = omega (arith, c.loop-f-test.true)
 
 pub loop-f-preserved : goal.loop-f-preserved
 loop-f-preserved c = (splits_on c.loop-f.invariant.0 (turn_at c.args.g c.loop-f.f c.listed-c.ensures.0 c.loop-f-test.true) c.put.auto.s c.put.ensures, omega (arith, div-le_self c.loop-f.rest (get_or c.args.g.factors c.loop-f.f no_factor).elements, c.loop-f.invariant.1))

@@ -1,3 +1,4 @@
+use Rattle.egg.proofs.Refusing.{handed_on}
 use Rattle.group_digits.proofs.Walks.{rest_total, stepping, steps_on, steps_refused, steps_found, found_small, part_small, found_within, steps_none, sum_fits, stride_fits}
 use lib.ListN.{length}
 use mathlib.Core.Path.{◌∙◌}
@@ -16,26 +17,26 @@ part-requires c = (fits_there c.args.g c.loop-f.f c.listed-c.ensures.0 c.loop-f-
 pub nonzero_rem-rest : goal.nonzero_rem-rest
 nonzero_rem-rest c = omega (arith, (some_there c.args.g c.loop-f.f c.listed-c.ensures.0 c.loop-f-test.true (length c.args.table.now) c.requires.0))
 
-pub returns-in_default : goal.returns-in_default
-returns-in_default c = steps_refused c.loop-f.invariant (turn_at c.args.g c.loop-f.f c.listed-c.ensures.0 c.loop-f-test.true) c.if-left-h.true (rw c.part.ensures at c.next-r.ensures) c.in_default.is
+pub returns-in_err-d : goal.returns-in_err-d
+returns-in_err-d c = handed_on c.from_residual.ensures ∙ steps_refused c.loop-f.invariant (turn_at c.args.g c.loop-f.f c.listed-c.ensures.0 c.loop-f-test.true) c.if-left-h.true (rw c.part.ensures at c.next.ensures) c.in_err-d.was
 
 pub nonzero_div-result : goal.nonzero_div-result
 nonzero_div-result c = omega (arith, (some_there c.args.g c.loop-f.f c.listed-c.ensures.0 c.loop-f-test.true (length c.args.table.now) c.requires.0))
 
 pub overflow_mul-result : goal.overflow_mul-result
-overflow_mul-result c = omega (arith, part_small c.loop-f.invariant (turn_at c.args.g c.loop-f.f c.listed-c.ensures.0 c.loop-f-test.true) (found_small c.loop-f.invariant (turn_at c.args.g c.loop-f.f c.listed-c.ensures.0 c.loop-f-test.true) c.if-left-h.true (rw c.part.ensures at c.next-r.ensures) c.in-Element.is), rest_total c.loop-f.invariant.walks, c.requires.1.0)
+overflow_mul-result c = omega (arith, part_small c.loop-f.invariant (turn_at c.args.g c.loop-f.f c.listed-c.ensures.0 c.loop-f-test.true) (found_small c.loop-f.invariant (turn_at c.args.g c.loop-f.f c.listed-c.ensures.0 c.loop-f-test.true) c.if-left-h.true (rw c.part.ensures at c.next.ensures) c.in_ok-d.was), rest_total c.loop-f.invariant.walks, c.requires.1.0)
 
 pub overflow_add-result : goal.overflow_add-result
-overflow_add-result c = omega (arith, part_small c.loop-f.invariant (turn_at c.args.g c.loop-f.f c.listed-c.ensures.0 c.loop-f-test.true) (found_small c.loop-f.invariant (turn_at c.args.g c.loop-f.f c.listed-c.ensures.0 c.loop-f-test.true) c.if-left-h.true (rw c.part.ensures at c.next-r.ensures) c.in-Element.is), rest_total c.loop-f.invariant.walks, c.requires.1.0)
+overflow_add-result c = omega (arith, part_small c.loop-f.invariant (turn_at c.args.g c.loop-f.f c.listed-c.ensures.0 c.loop-f-test.true) (found_small c.loop-f.invariant (turn_at c.args.g c.loop-f.f c.listed-c.ensures.0 c.loop-f-test.true) c.if-left-h.true (rw c.part.ensures at c.next.ensures) c.in_ok-d.was), rest_total c.loop-f.invariant.walks, c.requires.1.0)
 
 pub overflow_mul-result-then-left-h : goal.overflow_mul-result-then-left-h
-overflow_mul-result-then-left-h c = omega (arith, found_within c.loop-f.invariant (turn_at c.args.g c.loop-f.f c.listed-c.ensures.0 c.loop-f-test.true) (found_small c.loop-f.invariant (turn_at c.args.g c.loop-f.f c.listed-c.ensures.0 c.loop-f-test.true) c.if-left-h.true (rw c.part.ensures at c.next-r.ensures) c.in-Element.is), c.requires.1.0)
+overflow_mul-result-then-left-h c = omega (arith, found_within c.loop-f.invariant (turn_at c.args.g c.loop-f.f c.listed-c.ensures.0 c.loop-f-test.true) (found_small c.loop-f.invariant (turn_at c.args.g c.loop-f.f c.listed-c.ensures.0 c.loop-f-test.true) c.if-left-h.true (rw c.part.ensures at c.next.ensures) c.in_ok-d.was), c.requires.1.0)
 
 pub overflow_add-result-then-left-h : goal.overflow_add-result-then-left-h
-overflow_add-result-then-left-h c = omega (arith, found_within c.loop-f.invariant (turn_at c.args.g c.loop-f.f c.listed-c.ensures.0 c.loop-f-test.true) (found_small c.loop-f.invariant (turn_at c.args.g c.loop-f.f c.listed-c.ensures.0 c.loop-f-test.true) c.if-left-h.true (rw c.part.ensures at c.next-r.ensures) c.in-Element.is), c.requires.1.0)
+overflow_add-result-then-left-h c = omega (arith, found_within c.loop-f.invariant (turn_at c.args.g c.loop-f.f c.listed-c.ensures.0 c.loop-f-test.true) (found_small c.loop-f.invariant (turn_at c.args.g c.loop-f.f c.listed-c.ensures.0 c.loop-f-test.true) c.if-left-h.true (rw c.part.ensures at c.next.ensures) c.in_ok-d.was), c.requires.1.0)
 
 pub returns-then-left-h : goal.returns-then-left-h
-returns-then-left-h c = steps_found c.loop-f.invariant (turn_at c.args.g c.loop-f.f c.listed-c.ensures.0 c.loop-f-test.true) c.if-left-h.true (rw c.part.ensures at c.next-r.ensures) c.in-Element.is
+returns-then-left-h c = steps_found c.loop-f.invariant (turn_at c.args.g c.loop-f.f c.listed-c.ensures.0 c.loop-f-test.true) c.if-left-h.true (rw c.part.ensures at c.next.ensures) c.in_ok-d.was
 
 pub nonzero_rem-low : goal.nonzero_rem-low
 nonzero_rem-low c = omega (arith, (some_there c.args.g c.loop-f.f c.listed-c.ensures.0 c.loop-f-test.true (length c.args.table.now) c.requires.0))
@@ -52,14 +53,8 @@ overflow_mul-stride c = omega (arith, stride_fits c.loop-f.invariant.walks (turn
 pub nonzero_div-rest : goal.nonzero_div-rest
 nonzero_div-rest c = omega (arith, (some_there c.args.g c.loop-f.f c.listed-c.ensures.0 c.loop-f-test.true (length c.args.table.now) c.requires.0))
 
-pub overflow_add-f : goal.overflow_add-f
-overflow_add-f c = omega (arith, c.listed-c.ensures.1, c.loop-f-test.true)
-
-pub loop-f-smaller : goal.loop-f-smaller
-loop-f-smaller c = omega (arith, c.loop-f-test.true)
-
 pub loop-f-preserved : goal.loop-f-preserved
 loop-f-preserved c = steps_on c.loop-f.invariant (turn_at c.args.g c.loop-f.f c.listed-c.ensures.0 c.loop-f-test.true) (some_there c.args.g c.loop-f.f c.listed-c.ensures.0 c.loop-f-test.true (length c.args.table.now) c.requires.0) c.if-left-h.false
 
 pub returns : goal.returns
-returns c = c.refuse.ensures ∙ steps_none c.loop-f.invariant (turned_all (handles c.args.g) c.loop-f.f c.listed-c.ensures.0 c.loop-f-test.false)
+returns c = steps_none c.loop-f.invariant (turned_all (handles c.args.g) c.loop-f.f c.listed-c.ensures.0 c.loop-f-test.false)

@@ -1,5 +1,5 @@
 -- The stride of the next factor is this one times its size, and none is above the count.
-use Prim.Native.Nat.{◌-◌, ◌≤◌}
+use Prim.Native.Nat.{◌≤◌}
 use mathlib.Core.Path.{◌≡◌}
 use Rattle.group_handles.specs.Handles.{handles, sizes}
 use Rattle.theory_radix.specs.Radix.{stride}
@@ -7,6 +7,3 @@ use Rattle.group_digits.proofs.inner.stride_of.Given as goal
 
 abbrev pub invariant-loop-i : goal.invariant-loop-i
 invariant-loop-i l = (l.i ≤ l.f) × (l.s ≡ stride (sizes (handles l.g)) l.i)
-
-abbrev pub decreases-loop-i : goal.decreases-loop-i
-decreases-loop-i l = l.f - l.i

@@ -9,6 +9,3 @@ use Rattle.group_flatten.proofs.inner.flat_row.Given as goal
 
 abbrev pub invariant-loop-x : goal.invariant-loop-x
 invariant-loop-x l = (length l.t ≡ length l.initial.t) × (l.x ≤ l.n) × (row_by (l.n - l.x) (step_in l.from (handles l.g)) l.n l.room l.e.0 l.x l.count l.t ≡ row_by l.n (step_in l.from (handles l.g)) l.n l.room l.e.0 0 l.first l.initial.t)
-
-abbrev pub decreases-loop-x : goal.decreases-loop-x
-decreases-loop-x l = l.n - l.x

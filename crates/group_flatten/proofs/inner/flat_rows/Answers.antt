@@ -1,3 +1,4 @@
+use Rattle.egg.proofs.Refusing.{handed_on}
 use Prim.Native.Nat.{ℕ}
 use lib.ListN.{length}
 use mathlib.Core.Path.{refl, sym, ◌∙◌, ap}
@@ -19,23 +20,17 @@ shape_of-t-then-count-e c = c.loop-e.invariant.0
 pub returns-then-count-e : goal.returns-then-count-e
 returns-then-count-e c = rows_done (step_in c.args.from.now (handles c.args.g)) c.args.n c.args.room c.loop-e.e c.loop-e.count c.loop-e.t c.loop-e-test.true c.if-count-e.true ∙ c.loop-e.invariant.3
 
-pub flat_row-c-requires : goal.flat_row-c-requires
-flat_row-c-requires c = (c.requires.0, (c.requires.1, omega (arith, c.if-count-e.false, c.loop-e.invariant.2)))
+pub flat_row-requires : goal.flat_row-requires
+flat_row-requires c = (c.requires.0, (c.requires.1, omega (arith, c.if-count-e.false, c.loop-e.invariant.2)))
 
-pub shape_of-t-in_default : goal.shape_of-t-in_default
-shape_of-t-in_default c = c.flat_row-c.auto.t ∙ c.loop-e.invariant.0
+pub shape_of-t-in_err-count : goal.shape_of-t-in_err-count
+shape_of-t-in_err-count c = c.flat_row.auto.t ∙ c.loop-e.invariant.0
 
-pub returns-in_default : goal.returns-in_default
-returns-in_default c = rows_stop (step_in c.args.from.now (handles c.args.g)) c.args.n c.args.room c.loop-e.e c.loop-e.count c.loop-e.t c.loop-e-test.true c.if-count-e.false c.flat_row-c.ensures c.in_default.is ∙ c.loop-e.invariant.3
-
-pub overflow_add-e : goal.overflow_add-e
-overflow_add-e c = omega (arith, c.loop-e-test.true, c.ranges.room.fits)
-
-pub loop-e-smaller : goal.loop-e-smaller
-loop-e-smaller c = omega (arith, c.loop-e-test.true)
+pub returns-in_err-count : goal.returns-in_err-count
+returns-in_err-count c = rw (handed_on c.from_residual.ensures) (rows_stop (step_in c.args.from.now (handles c.args.g)) c.args.n c.args.room c.loop-e.e c.loop-e.count c.loop-e.t c.loop-e-test.true c.if-count-e.false c.flat_row.ensures c.in_err-count.was ∙ c.loop-e.invariant.3)
 
 pub loop-e-preserved : goal.loop-e-preserved
-loop-e-preserved c = (c.flat_row-c.auto.t ∙ c.loop-e.invariant.0, omega (arith, c.loop-e-test.true), row_counted (step_in c.args.from.now (handles c.args.g)) c.args.n c.args.room c.loop-e.e c.loop-e.count c.loop-e.t (λ x. steps_below c.args.from.now (handles c.args.g) c.loop-e.e x (omega (arith, c.if-count-e.false, c.loop-e.invariant.2))) c.loop-e.invariant.2 c.flat_row-c.ensures c.in-Count.is, sym (rows_next (step_in c.args.from.now (handles c.args.g)) c.args.n c.args.room c.loop-e.e c.loop-e.count c.loop-e.t c.loop-e-test.true c.if-count-e.false c.flat_row-c.ensures c.in-Count.is) ∙ c.loop-e.invariant.3)
+loop-e-preserved c = (c.flat_row.auto.t ∙ c.loop-e.invariant.0, omega (arith, c.loop-e-test.true), row_counted (step_in c.args.from.now (handles c.args.g)) c.args.n c.args.room c.loop-e.e c.loop-e.count c.loop-e.t (λ x. steps_below c.args.from.now (handles c.args.g) c.loop-e.e x (omega (arith, c.if-count-e.false, c.loop-e.invariant.2))) c.loop-e.invariant.2 c.flat_row.ensures c.in_ok-count.was, sym (rows_next (step_in c.args.from.now (handles c.args.g)) c.args.n c.args.room c.loop-e.e c.loop-e.count c.loop-e.t c.loop-e-test.true c.if-count-e.false c.flat_row.ensures c.in_ok-count.was) ∙ c.loop-e.invariant.3)
 
 pub shape_of-t : goal.shape_of-t
 shape_of-t c = c.loop-e.invariant.0

@@ -9,6 +9,3 @@ use Rattle.group_flatten.proofs.inner.flat_rows.Given as goal
 
 abbrev pub invariant-loop-e : goal.invariant-loop-e
 invariant-loop-e l = (length l.t ≡ length l.initial.t) × (l.e ≤ l.room) × (l.count ≤ elements_of (handles l.g)) × (rows_by (l.room - l.e) (step_in l.from (handles l.g)) l.n l.room l.e l.count l.t ≡ rows_by l.room (step_in l.from (handles l.g)) l.n l.room 0 1 l.initial.t)
-
-abbrev pub decreases-loop-e : goal.decreases-loop-e
-decreases-loop-e l = l.room - l.e

@@ -4,4 +4,4 @@ use Rattle.group_handles.specs.declared.inner.Seen.{Seen}
 use Rattle.group_handles.proofs.inner.generators_of.Goals as goal
 
 pub returns : goal.returns
-returns c = (ap (λ (s : Seen). s.generators) c.look-s.ensures.0, c.look-s.ensures.1)
+returns c = (ap (λ (s : Seen). s.generators) c.look.ensures.0, c.look.ensures.1)

@@ -3,8 +3,8 @@ use native.Mathlib.Omega.{arith}
 use Rattle.group_handles.proofs.Lists.{listed_many, listed_few}
 use Rattle.group_handles.proofs.inner.listed.Goals as goal
 
-pub returns-then-c-gt8 : goal.returns-then-c-gt8
-returns-then-c-gt8 c = (listed_many c.args.g c.well_formed.0.1.1.0.1.0.1 c.if-c-gt8.true, omega arith)
+pub returns-then-g-gt8 : goal.returns-then-g-gt8
+returns-then-g-gt8 c = (listed_many c.args.g c.well_formed.0.1.1.0.1.0.1 c.if-g-gt8.true, omega arith)
 
-pub returns-else-c-gt8 : goal.returns-else-c-gt8
-returns-else-c-gt8 c = (listed_few c.args.g c.well_formed.0.1.1.0.1.0.1 c.if-c-gt8.false, c.if-c-gt8.false)
+pub returns-else-g-gt8 : goal.returns-else-g-gt8
+returns-else-g-gt8 c = (listed_few c.args.g c.well_formed.0.1.1.0.1.0.1 c.if-g-gt8.false, c.if-g-gt8.false)

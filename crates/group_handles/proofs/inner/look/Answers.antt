@@ -17,12 +17,6 @@ times-elements-requires c = c.loop-f.invariant.1.caps.small
 pub overflow_add-generators : goal.overflow_add-generators
 overflow_add-generators c = let k : (get_or c.args.g.factors c.loop-f.f no_factor).generators < 256 = search rules in omega (arith, c.listed-c.ensures.1, c.loop-f-test.true, c.loop-f.invariant.1.adds.small)
 
-pub overflow_add-f : goal.overflow_add-f
-overflow_add-f c = omega (arith, c.listed-c.ensures.1, c.loop-f-test.true)
-
-pub loop-f-smaller : goal.loop-f-smaller
-loop-f-smaller c = omega (arith, c.loop-f-test.true)
-
 pub loop-f-preserved : goal.loop-f-preserved
 loop-f-preserved c = (omega (arith, c.loop-f-test.true), looks_on c.loop-f.invariant.1 (turn_at c.args.g c.loop-f.f c.listed-c.ensures.0 c.loop-f-test.true) c.fits.ensures c.both-fit.ensures c.times-elements.ensures (search rules))
 

@@ -9,4 +9,4 @@ pub returns-then-listed-f : goal.returns-then-listed-f
 returns-then-listed-f c = size_none (handles c.args.g) c.args.f (rw (← c.listed.ensures.0) c.if-listed-f.true)
 
 pub returns : goal.returns
-returns c = ap (λ (h : Factor). h.elements) c.handle-h.ensures ∙ sizes_at (handles c.args.g) c.args.f (rw (← c.listed.ensures.0) c.if-listed-f.false)
+returns c = ap (λ (h : Factor). h.elements) c.handle.ensures ∙ sizes_at (handles c.args.g) c.args.f (rw (← c.listed.ensures.0) c.if-listed-f.false)

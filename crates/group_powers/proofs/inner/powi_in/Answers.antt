@@ -1,5 +1,6 @@
 -- One law for each answer: a positive exponent, a negative one, and the least.
-use mathlib.Core.Path.{refl}
+use Rattle.egg.proofs.Refusing.{handed_on}
+use mathlib.Core.Path.{refl, sym, ◌∙◌}
 use Rattle.group_handles.specs.Handles.{handles}
 use Rattle.group_digits.specs.Digits.{composes, inverts}
 use Rattle.group_powers.proofs.Signs.{positive_cast, powers_positive, powers_refused, least_refused, least_squared, negative_fits, negative_cast, powers_negative}
@@ -14,23 +15,23 @@ power-requires c = c.requires
 pub returns-then-i-ge0 : goal.returns-then-i-ge0
 returns-then-i-ge0 c = powers_positive 1073741824 (composes c.args.table.now (handles c.args.g)) (inverts c.args.table.now (handles c.args.g)) c.args.a.0 c.args.i c.ranges.i c.if-i-ge0.true c.power.ensures
 
-pub inverse_digits-back-requires : goal.inverse_digits-back-requires
-inverse_digits-back-requires c = c.requires
+pub inverse_digits-requires : goal.inverse_digits-requires
+inverse_digits-requires c = c.requires
 
-pub returns-in_default : goal.returns-in_default
-returns-in_default c = powers_refused 1073741824 (composes c.args.table.now (handles c.args.g)) (inverts c.args.table.now (handles c.args.g)) c.args.a.0 c.inverse_digits-back.ensures c.args.i c.ranges.i c.if-i-ge0.false c.in_default.is
+pub returns-in_err-b : goal.returns-in_err-b
+returns-in_err-b c = handed_on c.from_residual.ensures ∙ sym c.in_err-b.was ∙ powers_refused 1073741824 (composes c.args.table.now (handles c.args.g)) (inverts c.args.table.now (handles c.args.g)) c.args.a.0 c.inverse_digits.ensures c.args.i c.ranges.i c.if-i-ge0.false c.in_err-b.was
 
-pub power-root-requires : goal.power-root-requires
-power-root-requires c = c.requires
+pub power-requires-then-i-eq-LEAST : goal.power-requires-then-i-eq-LEAST
+power-requires-then-i-eq-LEAST c = c.requires
 
-pub returns-in_default-root : goal.returns-in_default-root
-returns-in_default-root c = least_refused 1073741824 (composes c.args.table.now (handles c.args.g)) (inverts c.args.table.now (handles c.args.g)) c.args.a.0 c.inverse_digits-back.ensures c.in-Element.is c.args.i c.ranges.i c.if-i-ge0.false c.if-i-eq-LEAST.true refl c.power-root.ensures c.in_default-root.is
+pub returns-in_err-x : goal.returns-in_err-x
+returns-in_err-x c = handed_on c.from_residual-in_err-x.ensures ∙ sym c.in_err-x.was ∙ least_refused 1073741824 (composes c.args.table.now (handles c.args.g)) (inverts c.args.table.now (handles c.args.g)) c.args.a.0 c.inverse_digits.ensures c.in_ok-b.was c.args.i c.ranges.i c.if-i-ge0.false c.if-i-eq-LEAST.true refl c.power-then-i-eq-LEAST.ensures c.in_err-x.was
 
 pub compose_digits-requires : goal.compose_digits-requires
 compose_digits-requires c = c.requires
 
 pub returns-then-i-eq-LEAST : goal.returns-then-i-eq-LEAST
-returns-then-i-eq-LEAST c = least_squared 1073741824 (composes c.args.table.now (handles c.args.g)) (inverts c.args.table.now (handles c.args.g)) c.args.a.0 c.inverse_digits-back.ensures c.in-Element.is c.args.i c.ranges.i c.if-i-ge0.false c.if-i-eq-LEAST.true refl c.power-root.ensures c.in-Element-root.is c.compose_digits.ensures
+returns-then-i-eq-LEAST c = least_squared 1073741824 (composes c.args.table.now (handles c.args.g)) (inverts c.args.table.now (handles c.args.g)) c.args.a.0 c.inverse_digits.ensures c.in_ok-b.was c.args.i c.ranges.i c.if-i-ge0.false c.if-i-eq-LEAST.true refl c.power-then-i-eq-LEAST.ensures c.in_ok-x.was c.compose_digits.ensures
 
 pub overflow_sub-i : goal.overflow_sub-i
 overflow_sub-i c = negative_fits c.args.i c.ranges.i c.if-i-ge0.false c.if-i-eq-LEAST.false
@@ -42,4 +43,4 @@ pub power-requires-2 : goal.power-requires-2
 power-requires-2 c = c.requires
 
 pub returns : goal.returns
-returns c = powers_negative c.args.i c.ranges.i c.if-i-ge0.false c.if-i-eq-LEAST.false 1073741824 (composes c.args.table.now (handles c.args.g)) (inverts c.args.table.now (handles c.args.g)) c.args.a.0 refl c.inverse_digits-back.ensures c.in-Element.is c.power-2.ensures
+returns c = powers_negative c.args.i c.ranges.i c.if-i-ge0.false c.if-i-eq-LEAST.false 1073741824 (composes c.args.table.now (handles c.args.g)) (inverts c.args.table.now (handles c.args.g)) c.args.a.0 refl c.inverse_digits.ensures c.in_ok-b.was c.power-2.ensures

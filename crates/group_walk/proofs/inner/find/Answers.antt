@@ -17,12 +17,6 @@ overflow_cast-f c = omega (arith, c.listed-c.ensures.1, c.loop-f-test.true)
 pub overflow_add-generators : goal.overflow_add-generators
 overflow_add-generators c = let k : (get_or (c.args.g.factors) (c.loop-f.f) no_factor).generators < 256 = search rules in omega (arith, c.listed-c.ensures.1, c.loop-f-test.true, c.loop-f.invariant.small)
 
-pub overflow_add-f : goal.overflow_add-f
-overflow_add-f c = omega (arith, c.listed-c.ensures.1, c.loop-f-test.true)
-
-pub loop-f-smaller : goal.loop-f-smaller
-loop-f-smaller c = omega (arith, c.loop-f-test.true)
-
 pub loop-f-preserved : goal.loop-f-preserved
 loop-f-preserved c = let l : c.loop-f.f < length (handles (c.args.g)) = omega (arith, c.listed-c.ensures.0, c.loop-f-test.true) in owns_on (c.loop-f.invariant) l (handle_at_lem (c.args.g) (c.loop-f.f) (c.listed-c.ensures.0) (c.loop-f-test.true)) (search rules) (c.chosen-at.ensures) (c.chosen-before.ensures)
 

@@ -1,3 +1,4 @@
+use Rattle.egg.proofs.Refusing.{handed_on}
 use mathlib.Core.Path.{refl, sym, ◌∙◌}
 use lib.ListN.{length}
 use native.Mathlib.Omega.{arith}
@@ -27,17 +28,14 @@ overflow_sub-x c = (owned c.requires.0 c.loop-i-test.true c.wide-x.ensures c.fin
 pub overflow_cast-x : goal.overflow_cast-x
 overflow_cast-x c = omega (arith, owned_letter c.requires.0 c.loop-i-test.true c.wide-x.ensures c.find-o.ensures)
 
-pub returns-in_default : goal.returns-in_default
-returns-in_default c = follows_stops (c.loop-i.invariant _ (held_start c.requires.0 c.split_in.ensures.1)) c.loop-i-test.true c.wide-x.ensures (owned c.requires.0 c.loop-i-test.true c.wide-x.ensures c.find-o.ensures) (owned_handle c.requires.0 c.loop-i-test.true c.wide-x.ensures c.find-o.ensures) c.part.ensures refl c.next-r.ensures c.in_default.is
+pub returns-in_err-y : goal.returns-in_err-y
+returns-in_err-y c = handed_on c.from_residual.ensures ∙ follows_stops (c.loop-i.invariant _ (held_start c.requires.0 c.split_in.ensures.1)) c.loop-i-test.true c.wide-x.ensures (owned c.requires.0 c.loop-i-test.true c.wide-x.ensures c.find-o.ensures) (owned_handle c.requires.0 c.loop-i-test.true c.wide-x.ensures c.find-o.ensures) c.part.ensures refl c.next.ensures c.in_err-y.was
 
 pub bounds-digits-f-in-loop-i : goal.bounds-digits-f-in-loop-i
 bounds-digits-f-in-loop-i c = owned_at c.requires.0 c.loop-i-test.true c.wide-x.ensures c.find-o.ensures
 
-pub overflow_add-i : goal.overflow_add-i
-overflow_add-i c = omega (arith, c.loop-i-test.true, c.well_formed.1.1.1.1.0.0)
-
 pub loop-i-preserved : goal.loop-i-preserved
-loop-i-preserved c = λ e H. follows_on (c.loop-i.invariant e H) c.loop-i-test.true c.wide-x.ensures (owned c.requires.0 c.loop-i-test.true c.wide-x.ensures c.find-o.ensures) (owned_handle c.requires.0 c.loop-i-test.true c.wide-x.ensures c.find-o.ensures) c.part.ensures refl c.next-r.ensures c.in-Element.is
+loop-i-preserved c = λ e H. follows_on (c.loop-i.invariant e H) c.loop-i-test.true c.wide-x.ensures (owned c.requires.0 c.loop-i-test.true c.wide-x.ensures c.find-o.ensures) (owned_handle c.requires.0 c.loop-i-test.true c.wide-x.ensures c.find-o.ensures) c.part.ensures refl c.next.ensures c.in_ok-y.was
 
 pub slice_bounds-join_in-end : goal.slice_bounds-join_in-end
 slice_bounds-join_in-end c = sym (c.loop-i.invariant _ (held_start c.requires.0 c.split_in.ensures.1)).long

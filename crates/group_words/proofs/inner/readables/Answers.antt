@@ -21,12 +21,6 @@ returns-then-not-readable c = looks_stop c.loop-f.invariant (turn_at c.args.g c.
 pub nonzero_div-rest : goal.nonzero_div-rest
 nonzero_div-rest c = omega (arith, (some_there c.args.g c.loop-f.f c.listed-c.ensures.0 c.loop-f-test.true (length c.args.table.now) c.requires))
 
-pub overflow_add-f : goal.overflow_add-f
-overflow_add-f c = omega (arith, c.listed-c.ensures.1, c.loop-f-test.true)
-
-pub loop-f-smaller : goal.loop-f-smaller
-loop-f-smaller c = omega (arith, c.loop-f-test.true)
-
 pub loop-f-preserved : goal.loop-f-preserved
 loop-f-preserved c = looks_on c.loop-f.invariant (turn_at c.args.g c.loop-f.f c.listed-c.ensures.0 c.loop-f-test.true) c.part-s.ensures refl c.word_length-len.ensures c.readable.ensures c.if-not-readable.false
 

@@ -30,12 +30,6 @@ overflow_add-offset c = let k : (get_or c.args.g.factors c.loop-f.f no_factor).g
 pub nonzero_div-rest : goal.nonzero_div-rest
 nonzero_div-rest c = omega (arith, (some_there c.args.g c.loop-f.f c.listed-c.ensures.0 c.loop-f-test.true (length c.args.table.now) c.requires))
 
-pub overflow_add-f : goal.overflow_add-f
-overflow_add-f c = omega (arith, c.listed-c.ensures.1, c.loop-f-test.true)
-
-pub loop-f-smaller : goal.loop-f-smaller
-loop-f-smaller c = omega (arith, c.loop-f-test.true)
-
 pub loop-f-preserved : goal.loop-f-preserved
 loop-f-preserved c = (omega (arith, c.loop-f-test.true), spells_on c.loop-f.invariant.1 (turn_at c.args.g c.loop-f.f c.listed-c.ensures.0 c.loop-f-test.true) c.part-s.ensures refl c.word_length-len.ensures c.spell_from.ensures (search rules) (search rules) c.spell_from.auto.out)
 

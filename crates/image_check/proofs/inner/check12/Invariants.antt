@@ -8,6 +8,3 @@ use Rattle.image_check.proofs.inner.check12.Given as goal
 
 abbrev pub invariant-loop-s : goal.invariant-loop-s
 invariant-loop-s l = (length l.b ≡ length l.initial.b) × (take l.at l.b ≡ take l.at l.initial.b) × (lefts (l.n - l.s) (cells (take l.at l.initial.b)) l.n l.count (cells (drop l.at l.b)) l.s ≡ lefts l.n (cells (take l.at l.initial.b)) l.n l.count (cells (drop l.at l.initial.b)) 0)
-
-abbrev pub decreases-loop-s : goal.decreases-loop-s
-decreases-loop-s l = l.n - l.s

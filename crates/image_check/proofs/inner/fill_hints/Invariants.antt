@@ -1,5 +1,4 @@
 -- The invariant: the elements that were passed have their hints; the table before `at` is kept.
-use Prim.Native.Nat.{◌-◌}
 use mathlib.Core.Path.{◌≡◌}
 use lib.ListN.{length, take, drop}
 use Rattle.image_cells.specs.Cells.{cells}
@@ -8,6 +7,3 @@ use Rattle.image_check.proofs.inner.fill_hints.Given as goal
 
 abbrev pub invariant-loop-e : goal.invariant-loop-e
 invariant-loop-e l = (length l.b ≡ length l.initial.b) × (take l.at l.b ≡ take l.at l.initial.b) × Hints (cells (take l.at l.initial.b)) (cells (drop l.at l.b)) l.n l.e
-
-abbrev pub decreases-loop-e : goal.decreases-loop-e
-decreases-loop-e l = l.count - l.e

@@ -19,7 +19,7 @@ put_table-requires c = rw c.loop-e.invariant.0 c.requires.0
 pub loop-e-preserved : goal.loop-e-preserved
 loop-e-preserved c = let small : c.inverted_at-x.result.0 < 4294967296 = search rules in (
   c.put_table.auto.b ∙ c.loop-e.invariant.0,
-  rw (c.put_table.ensures.0, c.inverse_at.ensures.at)
+  rw (c.put_table.ensures.0, c.inverse_at-i.ensures.at)
       (fills c.loop-e.invariant.1 c.loop-e-test.true small
       (c.inverted_at-x.ensures
       ∙ by_hint c.loop-e.invariant.1 (ap (λ (w : List ℕ). get_or (cells w) c.loop-e.e 0) c.loop-e.invariant.2) (c.requires.1.each _ c.loop-e-test.true))),

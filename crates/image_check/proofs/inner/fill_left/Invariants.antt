@@ -8,6 +8,3 @@ use Rattle.image_check.proofs.inner.fill_left.Given as goal
 
 abbrev pub invariant-loop-x : goal.invariant-loop-x
 invariant-loop-x l = (length l.b ≡ length l.initial.b) × (take l.at l.b ≡ take l.at l.initial.b) × (fill_left (l.count - l.x) (cells (take l.at l.initial.b)) l.n l.s.0 (cells (drop l.at l.b)) l.x ≡ fill_left l.count (cells (take l.at l.initial.b)) l.n l.s.0 (cells (drop l.at l.initial.b)) 0)
-
-abbrev pub decreases-loop-x : goal.decreases-loop-x
-decreases-loop-x l = l.count - l.x

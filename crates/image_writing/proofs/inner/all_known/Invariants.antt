@@ -1,11 +1,7 @@
 -- A loop over a scan: each turn goes on or stops at a refusal.
 use Rattle.egg.proofs.Scans.{Scanning}
-use Prim.Native.Nat.{◌-◌}
 use Rattle.image_writing.specs.Written.{known_row, all_known}
 use Rattle.image_writing.proofs.inner.all_known.Given as goal
 
 abbrev pub invariant-loop-e : goal.invariant-loop-e
 invariant-loop-e l = Scanning l.count (λ i. known_row l.s l.n l.count i) l.e (all_known l.s l.n l.count)
-
-abbrev pub decreases-loop-e : goal.decreases-loop-e
-decreases-loop-e l = l.count - l.e

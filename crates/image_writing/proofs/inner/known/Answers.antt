@@ -1,9 +1,11 @@
 -- The answer of the read step decides.
+use Rattle.egg.proofs.Refusing.{handed_on}
+use mathlib.Core.Path.{◌∙◌}
 use Rattle.image_writing.proofs.WriteLaws.{step_refused, step_read_lem}
 use Rattle.image_writing.proofs.inner.known.Goals as goal
 
-pub returns-in-Refused : goal.returns-in-Refused
-returns-in-Refused c = step_refused c.next.ensures c.in-Refused.is
+pub returns-in_err-next : goal.returns-in_err-next
+returns-in_err-next c = handed_on c.from_residual.ensures ∙ step_refused c.next.ensures c.in_err-next.was
 
-pub returns-in-Element : goal.returns-in-Element
-returns-in-Element c = step_read_lem c.next.ensures c.in-Element.is
+pub returns : goal.returns
+returns c = step_read_lem c.next.ensures c.in_ok-next.was

@@ -8,6 +8,3 @@ use Rattle.image_writing.proofs.inner.put_row.Given as goal
 
 abbrev pub invariant-loop-g : goal.invariant-loop-g
 invariant-loop-g l = (length l.out ≡ length l.initial.out) × (l.g ≤ l.n) × (put_row (l.n - l.g) (step_of l.s l.n) l.n l.e.0 l.g l.out ≡ put_row l.n (step_of l.s l.n) l.n l.e.0 0 l.initial.out)
-
-abbrev pub decreases-loop-g : goal.decreases-loop-g
-decreases-loop-g l = l.n - l.g

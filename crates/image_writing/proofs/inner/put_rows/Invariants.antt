@@ -8,6 +8,3 @@ use Rattle.image_writing.proofs.inner.put_rows.Given as goal
 
 abbrev pub invariant-loop-e : goal.invariant-loop-e
 invariant-loop-e l = (length l.out ≡ length l.initial.out) × (put_rows (l.count - l.e) (step_of l.s l.n) l.n l.e l.out ≡ put_rows l.count (step_of l.s l.n) l.n 0 l.initial.out)
-
-abbrev pub decreases-loop-e : goal.decreases-loop-e
-decreases-loop-e l = l.count - l.e

@@ -6,6 +6,3 @@ use Rattle.listing_lines.proofs.inner.write_lines.Given as goal
 
 abbrev pub invariant-loop-e : goal.invariant-loop-e
 invariant-loop-e l = (l.e ≤ l.count) × Rest l.initial.out l.at (lines_text l.count l.t l.n 0) l.out l.next (lines_text (l.count - l.e) l.t l.n l.e)
-
-abbrev pub decreases-loop-e : goal.decreases-loop-e
-decreases-loop-e l = l.count - l.e

@@ -16,9 +16,6 @@ order_at-requires c = omega arith
 pub bounds-orders-i : goal.bounds-orders-i
 bounds-orders-i c = omega arith
 
-pub overflow_add-i : goal.overflow_add-i
-overflow_add-i c = omega arith
-
 pub loop-i-smaller : goal.loop-i-smaller
 loop-i-smaller c = omega arith
 

@@ -8,6 +8,3 @@ use Rattle.listing_page.proofs.inner.read_orders.Given as goal
 
 abbrev pub invariant-loop-i : goal.invariant-loop-i
 invariant-loop-i l = (l.i ≤ l.k) × (length l.orders ≡ 28) × Rest l.initial.orders 0 (orders_in l.k l.input 0) l.orders l.i (orders_in (l.k - l.i) l.input l.i)
-
-abbrev pub decreases-loop-i : goal.decreases-loop-i
-decreases-loop-i l = l.k - l.i

@@ -9,9 +9,6 @@ loop-i-init c = writing
 pub bounds-from-i : goal.bounds-from-i
 bounds-from-i c = omega (arith, c.loop-i.invariant.as_long, c.requires)
 
-pub loop-i-smaller : goal.loop-i-smaller
-loop-i-smaller c = omega (arith, c.loop-i.invariant.as_long)
-
 pub loop-i-preserved : goal.loop-i-preserved
 loop-i-preserved c = writes (c.loop-i.invariant) (search rules) (search rules)
 

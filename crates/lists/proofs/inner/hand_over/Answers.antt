@@ -1,11 +1,9 @@
 -- By the answer: only where it is fine is there anything to copy.
+use Rattle.egg.proofs.Refusing.{handed_on}
 use Rattle.lists.proofs.inner.hand_over.Goals as goal
 
-pub returns-in-RefusedAt : goal.returns-in-RefusedAt
-returns-in-RefusedAt c = rw (c.in-RefusedAt.is)
+pub returns-in_err-said : goal.returns-in_err-said
+returns-in_err-said c = rw (handed_on c.from_residual.ensures, c.in_err-said.was)
 
-pub returns-in-ListsRefused : goal.returns-in-ListsRefused
-returns-in-ListsRefused c = rw (c.in-ListsRefused.is)
-
-pub returns-in-Fine : goal.returns-in-Fine
-returns-in-Fine c = rw (c.in-Fine.is, c.copy_front.ensures)
+pub returns : goal.returns
+returns c = rw (c.in_ok-said.was, c.copy_front.ensures)

@@ -20,9 +20,6 @@ returns-then-f-product c = λ h. absurd (false_true h)
 pub bounds-results-i : goal.bounds-results-i
 bounds-results-i c = omega (arith, c.loop-i-test.true, c.requires.1, c.loop-i.invariant.1)
 
-pub loop-i-smaller : goal.loop-i-smaller
-loop-i-smaller c = omega (arith, c.loop-i-test.true)
-
 pub loop-i-preserved : goal.loop-i-preserved
 loop-i-preserved c = (right_here (c.loop-i.invariant.0) (omega (arith, c.loop-i-test.true, c.requires.1, c.loop-i.invariant.1)) (c.product_at_once-product.ensures (omega (arith, c.if-f-product.false))), length-set (c.loop-i.results) (c.loop-i.i) (c.product_at_once-product.result) ∙ c.loop-i.invariant.1)
 

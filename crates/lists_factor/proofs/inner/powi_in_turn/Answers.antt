@@ -1,3 +1,4 @@
+use Rattle.egg.proofs.Refusing.{handed_on}
 use Rattle.group_powers.proofs.Signs.{read_is}
 use Rattle.lists.proofs.Places.{working, stores, refuses, worked, exponent_there}
 use borrow.Author.Rules.{rules}
@@ -14,20 +15,17 @@ loop-i-init c = (working, refl)
 pub exponent-k-requires : goal.exponent-k-requires
 exponent-k-requires c = omega (arith, c.requires.0)
 
-pub shape_of-results-in_default : goal.shape_of-results-in_default
-shape_of-results-in_default c = c.loop-i.invariant.1
+pub shape_of-results-in_err-e : goal.shape_of-results-in_err-e
+shape_of-results-in_err-e c = c.loop-i.invariant.1
 
-pub returns-in_default : goal.returns-in_default
-returns-in_default c = refuses (c.loop-i.invariant.0) (search rules) (exponent_there (λ (z : ℤ). powi_alone (c.args.table.now) (c.args.f) (record { 0 = get_or (c.args.a.now) (c.loop-i.i) 0 }) z) (c.powi-said.ensures) (read_is (c.exponent-k.result) (record { sfits = c.exponent-k.type_inv }) ∙ c.exponent-k.ensures)) (c.in_default.is) (c.stopped.ensures)
+pub returns-in_err-e : goal.returns-in_err-e
+returns-in_err-e c = rw (handed_on c.from_residual.ensures) (refuses (c.loop-i.invariant.0) (search rules) (exponent_there (λ (z : ℤ). powi_alone (c.args.table.now) (c.args.f) (record { 0 = get_or (c.args.a.now) (c.loop-i.i) 0 }) z) (c.powi-said.ensures) (read_is (c.exponent-k.result) (record { sfits = c.exponent-k.type_inv }) ∙ c.exponent-k.ensures)) c.at_place.ensures (c.in_err-e.was))
 
 pub bounds-results-i : goal.bounds-results-i
 bounds-results-i c = omega (arith, c.requires.1, c.loop-i.invariant.1)
 
-pub loop-i-smaller : goal.loop-i-smaller
-loop-i-smaller c = omega arith
-
 pub loop-i-preserved : goal.loop-i-preserved
-loop-i-preserved c = (stores (c.loop-i.invariant.0) (search rules) (omega (arith, c.requires.1, c.loop-i.invariant.1)) (exponent_there (λ (z : ℤ). powi_alone (c.args.table.now) (c.args.f) (record { 0 = get_or (c.args.a.now) (c.loop-i.i) 0 }) z) (c.powi-said.ensures) (read_is (c.exponent-k.result) (record { sfits = c.exponent-k.type_inv }) ∙ c.exponent-k.ensures)) (c.in-Element.is), simp length-set (c.loop-i.invariant.1))
+loop-i-preserved c = (stores (c.loop-i.invariant.0) (search rules) (omega (arith, c.requires.1, c.loop-i.invariant.1)) (exponent_there (λ (z : ℤ). powi_alone (c.args.table.now) (c.args.f) (record { 0 = get_or (c.args.a.now) (c.loop-i.i) 0 }) z) (c.powi-said.ensures) (read_is (c.exponent-k.result) (record { sfits = c.exponent-k.type_inv }) ∙ c.exponent-k.ensures)) c.at_place.ensures (c.in_ok-e.was), simp length-set (c.loop-i.invariant.1))
 
 pub shape_of-results : goal.shape_of-results
 shape_of-results c = c.loop-i.invariant.1

@@ -3,11 +3,7 @@ use Rattle.lists.proofs.Places.{Working}
 use Rattle.lists_group.specs.Each.{powi_at}
 use mathlib.Core.Path.{◌≡◌}
 use lib.ListN.{length}
-use Prim.Native.Nat.{◌-◌}
 use Rattle.lists_group.proofs.inner.powi_in_turn.Given as goal
 
 abbrev pub invariant-loop-i : goal.invariant-loop-i
 invariant-loop-i l = Working (length l.a) (powi_at l.table l.g l.a l.exponents) l.i l.results × (length l.results ≡ length l.initial.results)
-
-abbrev pub decreases-loop-i : goal.decreases-loop-i
-decreases-loop-i l = length l.a - l.i

@@ -9,9 +9,6 @@ loop-j-init c = omega arith
 pub returns-then-k-j-eq0 : goal.returns-then-k-j-eq0
 returns-then-k-j-eq0 c = (omega arith, c.if-k-j-eq0.true)
 
-pub loop-j-smaller : goal.loop-j-smaller
-loop-j-smaller c = omega arith
-
 pub loop-j-preserved : goal.loop-j-preserved
 loop-j-preserved c = omega arith
 

@@ -12,9 +12,6 @@ bounds-ks-i c = omega (arith, c.requires.1.0)
 pub bounds-ms-i : goal.bounds-ms-i
 bounds-ms-i c = omega (arith, c.requires.1.1, c.loop-i.invariant.as_long)
 
-pub loop-i-smaller : goal.loop-i-smaller
-loop-i-smaller c = omega arith
-
 pub loop-i-preserved : goal.loop-i-preserved
 loop-i-preserved c = writes (c.loop-i.invariant) (omega (arith, c.requires.1.1, c.loop-i.invariant.as_long)) (c.chosen.ensures)
 

@@ -16,9 +16,6 @@ bounds-xs-i c = omega (arith, c.requires.1.1, c.loop-i.invariant.as_long)
 pub bounds-xs-i-in-loop-i : goal.bounds-xs-i-in-loop-i
 bounds-xs-i-in-loop-i c = omega (arith, c.requires.1.1, c.loop-i.invariant.as_long)
 
-pub loop-i-smaller : goal.loop-i-smaller
-loop-i-smaller c = omega arith
-
 pub loop-i-preserved : goal.loop-i-preserved
 loop-i-preserved c = keeps c.args.ks.now c.args.j c.args.ys.now (c.loop-i.invariant) (omega (arith, c.requires.1.1, c.loop-i.invariant.as_long)) (c.chosen-x.ensures) (c.chosen.ensures)
 

@@ -22,9 +22,6 @@ shape_of-ms-then-not-round c = c.round.auto.ms ∙ c.loop-j.invariant.1.1.1.1
 pub returns-then-not-round : goal.returns-then-not-round
 returns-then-not-round c = λ h. search rules
 
-pub loop-j-smaller : goal.loop-j-smaller
-loop-j-smaller c = omega arith
-
 pub loop-j-preserved : goal.loop-j-preserved
 loop-j-preserved c = (c.round.ensures (c.if-not-round.false), (omega (arith, c.loop-j.invariant.1.0), (c.round.auto.xs ∙ c.loop-j.invariant.1.1.0, (c.round.auto.ys ∙ c.loop-j.invariant.1.1.1.0, c.round.auto.ms ∙ c.loop-j.invariant.1.1.1.1))))
 

@@ -14,17 +14,17 @@ five_back-y-requires c = (c.requires.0, record { p = c.requires.1.p.inside.store
 pub returns-then-y-eq0 : goal.returns-then-y-eq0
 returns-then-y-eq0 c = λ h. absurd (false_true (sym c.broken.ensures ∙ h))
 
-pub onward-first-requires : goal.onward-first-requires
-onward-first-requires c = c.requires.1.p.far
+pub onward-requires : goal.onward-requires
+onward-requires c = c.requires.1.p.far
 
-pub onward-second-requires : goal.onward-second-requires
-onward-second-requires c = c.requires.1.q.far
+pub onward-requires-2 : goal.onward-requires-2
+onward-requires-2 c = c.requires.1.q.far
 
-pub onward-third-requires : goal.onward-third-requires
-onward-third-requires c = c.requires.1.r.far
+pub onward-requires-3 : goal.onward-requires-3
+onward-requires-3 c = c.requires.1.r.far
 
-pub onward-fourth-requires : goal.onward-fourth-requires
-onward-fourth-requires c = c.requires.1.t.far
+pub onward-requires-4 : goal.onward-requires-4
+onward-requires-4 c = c.requires.1.t.far
 
 pub returns : goal.returns
-returns c = λ h. let back = c.five_back-y.ensures (omega (arith, c.if-y-eq0.false)) in record { p = forward (c.requires.1.p) c.recorded.ensures back.p c.onward-first.ensures; q = forward (c.requires.1.q) c.recorded-2.ensures back.q c.onward-second.ensures; r = forward (c.requires.1.r) c.recorded-3.ensures back.r c.onward-third.ensures; t = forward (c.requires.1.t) c.recorded-4.ensures back.t c.onward-fourth.ensures; next = refl }
+returns c = λ h. let back = c.five_back-y.ensures (omega (arith, c.if-y-eq0.false)) in record { p = forward (c.requires.1.p) c.recorded.ensures back.p c.onward.ensures; q = forward (c.requires.1.q) c.recorded-2.ensures back.q c.onward-2.ensures; r = forward (c.requires.1.r) c.recorded-3.ensures back.r c.onward-3.ensures; t = forward (c.requires.1.t) c.recorded-4.ensures back.t c.onward-4.ensures; next = refl }

@@ -6,8 +6,8 @@ use Rattle.lists_walks.proofs.inner.number.Goals as goal
 pub returns-then-x-count : goal.returns-then-x-count
 returns-then-x-count c = c.product_number-x.ensures
 
-pub returns-in-Refused : goal.returns-in-Refused
-returns-in-Refused c = λ h. absurd (omega arith)
+pub returns-in-Err : goal.returns-in-Err
+returns-in-Err c = λ h. absurd (omega arith)
 
-pub returns-in-Element : goal.returns-in-Element
-returns-in-Element c = λ h. sym c.compose_with_care.ensures ∙ c.in-Element.is
+pub returns-in-Ok : goal.returns-in-Ok
+returns-in-Ok c = λ h. sym c.compose_with_care.ensures ∙ c.in-Ok.is

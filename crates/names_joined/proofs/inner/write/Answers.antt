@@ -20,12 +20,6 @@ put_gap-at-requires c = gap_room (listed_names c.args.g) c.loop-f.f (name_turn c
 pub put_name-at-requires : goal.put_name-at-requires
 put_name-at-requires c = (fits_here (listed_names c.args.g) c.loop-f.f (name_turn c.args.g c.loop-f.f c.names_listed-c.ensures.0 c.loop-f-test.true) c.requires.0, name_room (listed_names c.args.g) c.loop-f.f (name_turn c.args.g c.loop-f.f c.names_listed-c.ensures.0 c.loop-f-test.true) c.loop-f.invariant c.put_gap-at.ensures c.requires.1)
 
-pub overflow_add-f : goal.overflow_add-f
-overflow_add-f c = omega (arith, c.names_listed-c.ensures.1, c.loop-f-test.true)
-
-pub loop-f-smaller : goal.loop-f-smaller
-loop-f-smaller c = omega (arith, c.loop-f-test.true)
-
 pub loop-f-preserved : goal.loop-f-preserved
 loop-f-preserved c = joins_on (listed_names c.args.g) c.loop-f.f (name_turn c.args.g c.loop-f.f c.names_listed-c.ensures.0 c.loop-f-test.true) c.loop-f.invariant c.put_gap-at.ensures c.put_name-at.ensures
 

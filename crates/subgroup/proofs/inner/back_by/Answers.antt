@@ -1,4 +1,5 @@
 -- The verdict of `admit` decides.
+use Rattle.egg.proofs.Refusing.{handed_on}
 use Prim.Native.Nat.{ℕ}
 use mathlib.Core.Path.{ap, ◌∙◌}
 use lib.ListN.{length}
@@ -7,12 +8,12 @@ use Rattle.subgroup.proofs.Outlines.{back_goes, within_refused, within_fine}
 use Rattle.subgroup.proofs.inner.back_by.Goals as goal
 
 pub carry_back-requires : goal.carry_back-requires
-carry_back-requires c = back_goes c.args.o (length c.args.inn.now) c.args.o.over c.args.x.0 c.admit.ensures c.in-Fine.is c.measure-m.ensures
+carry_back-requires c = back_goes c.args.o (length c.args.inn.now) c.args.o.over c.args.x.0 c.admit.ensures c.in_ok-admit.was c.measure-m.ensures
 
-pub returns-in-Refused : goal.returns-in-Refused
+pub returns-in_err-admit : goal.returns-in_err-admit
 unfolding back_by_outline
-returns-in-Refused c = within_refused (c.admit.ensures ∙ ap (λ (l : ℕ). admits_outline c.args.o (length c.args.inn.now) c.args.o.over c.args.x.0 l) c.measure-m.ensures) _ c.in-Refused.is
+returns-in_err-admit c = handed_on c.from_residual.ensures ∙ within_refused (c.admit.ensures ∙ ap (λ (l : ℕ). admits_outline c.args.o (length c.args.inn.now) c.args.o.over c.args.x.0 l) c.measure-m.ensures) _ c.in_err-admit.was
 
-pub returns-in-Fine : goal.returns-in-Fine
+pub returns : goal.returns
 unfolding back_by_outline
-returns-in-Fine c = c.carry_back.ensures ∙ within_fine (c.admit.ensures ∙ ap (λ (l : ℕ). admits_outline c.args.o (length c.args.inn.now) c.args.o.over c.args.x.0 l) c.measure-m.ensures) _ c.in-Fine.is
+returns c = c.carry_back.ensures ∙ within_fine (c.admit.ensures ∙ ap (λ (l : ℕ). admits_outline c.args.o (length c.args.inn.now) c.args.o.over c.args.x.0 l) c.measure-m.ensures) _ c.in_ok-admit.was

@@ -5,8 +5,8 @@ use Rattle.subgroup.proofs.inner.over_group.Goals as goal
 pub joined-high-requires : goal.joined-high-requires
 joined-high-requires c = high_short c.args.s c.requires
 
-pub joined-group-requires : goal.joined-group-requires
-joined-group-requires c = all_short c.args.s c.requires c.joined-high.ensures
+pub joined-requires : goal.joined-requires
+joined-requires c = all_short c.args.s c.requires c.joined-high.ensures
 
 pub returns : goal.returns
-returns c = rw (all_joined c.args.s c.requires c.joined-high.ensures c.joined-group.ensures)
+returns c = all_joined c.args.s c.requires c.joined-high.ensures c.joined.ensures

@@ -1,5 +1,4 @@
 use mathlib.Core.Path.{refl}
-use native.Mathlib.Omega.{arith}
 use lib.ListN.{length-set}
 use Rattle.subgroup_one_factor.proofs.LetterLaws.{letters_none, letters_next, letters_end}
 use Rattle.subgroup_one_factor.proofs.inner.find_letters.Goals as goal
@@ -10,14 +9,11 @@ loop-i-init c = (refl, letters_none c.args.s.now c.args.n c.args.count c.args.ge
 pub nonzero_rem-by : goal.nonzero_rem-by
 nonzero_rem-by c = c.requires
 
-pub loop-i-smaller : goal.loop-i-smaller
-loop-i-smaller c = let h = c.loop-i.invariant.0 in omega arith
-
 pub loop-i-preserved : goal.loop-i-preserved
-loop-i-preserved c = (simp length-set c.loop-i.invariant.0, letters_next c.loop-i.invariant.1 c.loop-i-test.true c.get-by.ensures c.step_letter.ensures)
+loop-i-preserved c = (simp length-set c.loop-i.invariant.0, letters_next c.loop-i.invariant.1 (rw c.loop-i.invariant.0 c.loop-i-test.true) c.get-by.ensures c.step_letter.ensures)
 
 pub shape_of-letters : goal.shape_of-letters
 shape_of-letters c = c.loop-i.invariant.0
 
 pub returns : goal.returns
-returns c = letters_end c.loop-i.invariant.1 c.loop-i-test.false
+returns c = letters_end c.loop-i.invariant.1 (rw c.loop-i.invariant.0 c.loop-i-test.false)

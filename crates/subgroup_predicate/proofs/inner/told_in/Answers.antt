@@ -8,9 +8,6 @@ use Rattle.subgroup_predicate.proofs.Told.{told_start}
 use borrow.Author.Rules.{rules}
 use Rattle.subgroup_predicate.proofs.inner.told_in.Goals as goal
 
-pub slice_bounds-generated_in-end : goal.slice_bounds-generated_in-end
-slice_bounds-generated_in-end c = refl
-
 pub generated_in-made-requires : goal.generated_in-made-requires
 generated_in-made-requires c = c.requires.0
 

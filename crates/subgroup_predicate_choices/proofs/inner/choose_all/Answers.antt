@@ -33,10 +33,7 @@ pub returns-in_default : goal.returns-in_default
 returns-in_default c = (turns_stop (again_in (length c.args.t.now) (composes c.args.from.now (handles c.args.over)) c.args.room (length c.args.inn.now) (length c.args.outw.now)) (λ y. get_or c.args.members.now y 0) (length c.args.inn.now - c.loop-x.x) c.loop-x.x (take c.loop-x.q.generators c.loop-x.q.chosen) c.loop-x.q.made c.loop-x.t c.loop-x.w c.loop-x.inn c.loop-x.outw c.in_default.is c.loop-x.invariant.6, c.loop-x.invariant.5)
 
 pub choose-q-requires : goal.choose-q-requires
-choose-q-requires c = (c.requires.0.0, (c.loop-x.invariant.5, last_built c.in-Count.is))
-
-pub overflow_add-x : goal.overflow_add-x
-overflow_add-x c = let h = c.loop-x-test.true in let k = c.requires.0.1 in omega arith
+choose-q-requires c = (c.requires.0.0, (c.loop-x.invariant.5, last_built c.in-Ok.is))
 
 pub loop-x-preserved : goal.loop-x-preserved
 loop-x-preserved c = (c.choose-q.auto.t ∙ c.loop-x.invariant.0, c.choose-q.auto.w ∙ c.loop-x.invariant.1, c.choose-q.auto.inn ∙ c.loop-x.invariant.2, c.choose-q.auto.outw ∙ c.loop-x.invariant.3, (let h = c.loop-x-test.true in omega arith), c.choose-q.ensures.1, turn_on (again_in (length c.args.t.now) (composes c.args.from.now (handles c.args.over)) c.args.room (length c.args.inn.now) (length c.args.outw.now)) (λ y. get_or c.args.members.now y 0) (length c.args.inn.now) c.loop-x.x (take c.loop-x.q.generators c.loop-x.q.chosen) (renumbering (built c.loop-x.q.made c.loop-x.t c.loop-x.w) c.loop-x.inn c.loop-x.outw) c.loop-x-test.true c.loop-x.invariant.6 (turn_lengths (composes c.args.from.now (handles c.args.over)) c.args.room (λ y. get_or c.args.members.now y 0) c.loop-x.x (take c.loop-x.q.generators c.loop-x.q.chosen) (renumbering (built c.loop-x.q.made c.loop-x.t c.loop-x.w) c.loop-x.inn c.loop-x.outw) c.loop-x.invariant.0 c.loop-x.invariant.2 c.loop-x.invariant.3 c.choose-q.ensures.0))

@@ -1,3 +1,4 @@
+use Rattle.egg.proofs.Refusing.{handed_on}
 use Prim.Native.Nat.{ℕ}
 use mathlib.Core.Path.{refl, sym, ap, ◌∙◌}
 use native.Mathlib.Omega.{arith}
@@ -23,26 +24,23 @@ shape_of-outw-then-count-e c = c.loop-e.invariant.2
 pub returns-then-count-e : goal.returns-then-count-e
 returns-then-count-e c = let a = c.args in map_rows_done (product_by a.from.now (a.f ∷ []) a.gens.now) a.n a.room c.loop-e.e c.loop-e.count c.loop-e.t c.loop-e.inn c.loop-e.outw c.loop-e-test.true c.if-count-e.true ∙ c.loop-e.invariant.4
 
-pub factor_row-c-requires : goal.factor_row-c-requires
-factor_row-c-requires c = (c.requires, c.if-count-e.false)
+pub factor_row-requires : goal.factor_row-requires
+factor_row-requires c = (c.requires, c.if-count-e.false)
 
-pub shape_of-t-in_default : goal.shape_of-t-in_default
-shape_of-t-in_default c = c.factor_row-c.auto.t ∙ c.loop-e.invariant.0
+pub shape_of-t-in_err-count : goal.shape_of-t-in_err-count
+shape_of-t-in_err-count c = c.factor_row.auto.t ∙ c.loop-e.invariant.0
 
-pub shape_of-inn-in_default : goal.shape_of-inn-in_default
-shape_of-inn-in_default c = c.factor_row-c.auto.inn ∙ c.loop-e.invariant.1
+pub shape_of-inn-in_err-count : goal.shape_of-inn-in_err-count
+shape_of-inn-in_err-count c = c.factor_row.auto.inn ∙ c.loop-e.invariant.1
 
-pub shape_of-outw-in_default : goal.shape_of-outw-in_default
-shape_of-outw-in_default c = c.factor_row-c.auto.outw ∙ c.loop-e.invariant.2
+pub shape_of-outw-in_err-count : goal.shape_of-outw-in_err-count
+shape_of-outw-in_err-count c = c.factor_row.auto.outw ∙ c.loop-e.invariant.2
 
-pub returns-in_default : goal.returns-in_default
-returns-in_default c = let a = c.args in map_rows_stop (product_by a.from.now (a.f ∷ []) a.gens.now) a.n a.room c.loop-e.e c.loop-e.count c.loop-e.t c.loop-e.inn c.loop-e.outw c.loop-e-test.true c.if-count-e.false c.factor_row-c.ensures c.in_default.is ∙ c.loop-e.invariant.4
-
-pub overflow_add-e : goal.overflow_add-e
-overflow_add-e c = let h = c.loop-e-test.true in let k = c.ranges.room.fits in omega arith
+pub returns-in_err-count : goal.returns-in_err-count
+returns-in_err-count c = let a = c.args in rw (handed_on c.from_residual.ensures, ← c.in_err-count.was) (map_rows_stop (product_by a.from.now (a.f ∷ []) a.gens.now) a.n a.room c.loop-e.e c.loop-e.count c.loop-e.t c.loop-e.inn c.loop-e.outw c.loop-e-test.true c.if-count-e.false c.factor_row.ensures c.in_err-count.was ∙ c.loop-e.invariant.4)
 
 pub loop-e-preserved : goal.loop-e-preserved
-loop-e-preserved c = let a = c.args in (c.factor_row-c.auto.t ∙ c.loop-e.invariant.0, c.factor_row-c.auto.inn ∙ c.loop-e.invariant.1, c.factor_row-c.auto.outw ∙ c.loop-e.invariant.2, search rules, sym (map_rows_next (product_by a.from.now (a.f ∷ []) a.gens.now) a.n a.room c.loop-e.e c.loop-e.count c.loop-e.t c.loop-e.inn c.loop-e.outw c.loop-e-test.true c.if-count-e.false c.factor_row-c.ensures c.in-Count.is) ∙ c.loop-e.invariant.4)
+loop-e-preserved c = let a = c.args in (c.factor_row.auto.t ∙ c.loop-e.invariant.0, c.factor_row.auto.inn ∙ c.loop-e.invariant.1, c.factor_row.auto.outw ∙ c.loop-e.invariant.2, search rules, sym (map_rows_next (product_by a.from.now (a.f ∷ []) a.gens.now) a.n a.room c.loop-e.e c.loop-e.count c.loop-e.t c.loop-e.inn c.loop-e.outw c.loop-e-test.true c.if-count-e.false c.factor_row.ensures c.in_ok-count.was) ∙ c.loop-e.invariant.4)
 
 pub shape_of-t : goal.shape_of-t
 shape_of-t c = c.loop-e.invariant.0

@@ -9,6 +9,3 @@ use Rattle.subgroup_rows.proofs.inner.product_row.Given as goal
 
 abbrev pub invariant-loop-g : goal.invariant-loop-g
 invariant-loop-g l = (length l.t ≡ length l.initial.t) × (length l.inn ≡ length l.initial.inn) × (length l.outw ≡ length l.initial.outw) × (l.g ≤ l.n) × (map_row (l.n - l.g) (product_by l.from (handles l.over) l.gens) l.n l.room l.e.0 l.g l.count l.t l.inn l.outw ≡ map_row l.n (product_by l.from (handles l.over) l.gens) l.n l.room l.e.0 0 l.first l.initial.t l.initial.inn l.initial.outw)
-
-abbrev pub decreases-loop-g : goal.decreases-loop-g
-decreases-loop-g l = l.n - l.g

@@ -5,7 +5,7 @@ use Rattle.subgroup_sides.proofs.SideLaws.{multiplied_no, multiplied_is, join_fi
 use Rattle.subgroup_sides.proofs.inner.left_of.Goals as goal
 
 pub returns-then-not-joinable : goal.returns-then-not-joinable
-returns-then-not-joinable c = c.refused_sides.ensures ∙ multiplied_no c.args.g c.args.s.below (put_left c.args.g c.args.s) (sym c.joinable.ensures ∙ c.if-not-joinable.true)
+returns-then-not-joinable c = multiplied_no c.args.g c.args.s.below (put_left c.args.g c.args.s) (sym c.joinable.ensures ∙ c.if-not-joinable.true)
 
 pub joined-below-requires : goal.joined-below-requires
 joined-below-requires c = join_fits c.args.g c.args.s.below (sym c.joinable.ensures ∙ c.if-not-joinable.false)

@@ -5,7 +5,7 @@ use Rattle.subgroup_sides.proofs.SideLaws.{multiplied_no, multiplied_is, join_fi
 use Rattle.subgroup_sides.proofs.inner.right_of.Goals as goal
 
 pub returns-then-not-joinable : goal.returns-then-not-joinable
-returns-then-not-joinable c = c.refused_sides.ensures ∙ multiplied_no c.args.s.above c.args.g (put_right c.args.s c.args.g) (sym c.joinable.ensures ∙ c.if-not-joinable.true)
+returns-then-not-joinable c = multiplied_no c.args.s.above c.args.g (put_right c.args.s c.args.g) (sym c.joinable.ensures ∙ c.if-not-joinable.true)
 
 pub joined-above-requires : goal.joined-above-requires
 joined-above-requires c = join_fits c.args.s.above c.args.g (sym c.joinable.ensures ∙ c.if-not-joinable.false)

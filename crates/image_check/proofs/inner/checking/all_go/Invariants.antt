@@ -1,13 +1,8 @@
 -- The loop is a scan of the elements, whose verdicts are `goes_row`'s.
--- The loop is a scan of the elements, whose verdicts are `goes_row`'s.
 use Rattle.image_cells.specs.Cells.{cells}
-use Prim.Native.Nat.{◌-◌}
 use Rattle.build_checks_group.specs.Lefts.{goes_row, all_go}
 use Rattle.egg.proofs.Scans.{Scanning}
 use Rattle.image_check.proofs.inner.checking.all_go.Given as goal
 
 abbrev pub invariant-loop-x : goal.invariant-loop-x
 invariant-loop-x l = Scanning l.count (λ k. goes_row (cells l.t) (cells l.w) l.n k) l.x (all_go (cells l.t) (cells l.w) l.n l.count)
-
-abbrev pub decreases-loop-x : goal.decreases-loop-x
-decreases-loop-x l = l.count - l.x

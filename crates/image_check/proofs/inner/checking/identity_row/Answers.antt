@@ -1,4 +1,3 @@
-use mathlib.Core.Path.{◌∙◌}
 use borrow.Author.Tests.{eq-eqb, ne_eqb}
 use Rattle.build_checks_group.specs.Lefts.{identity_row}
 use Rattle.egg.proofs.Scans.{scanning, stops, goes_on, ends}
@@ -9,8 +8,7 @@ unfolding identity_row
 loop-g-init c = scanning
 
 pub returns-then-step-g : goal.returns-then-step-g
-returns-then-step-g c = c.refused.ensures
-    ∙ stops c.loop-g.invariant c.loop-g-test.true
+returns-then-step-g c = stops c.loop-g.invariant c.loop-g-test.true
     (rw (← c.step.ensures) (simp (ne_eqb _ _ c.if-step-g.true)))
 
 pub loop-g-preserved : goal.loop-g-preserved

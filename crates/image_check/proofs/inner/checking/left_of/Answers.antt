@@ -1,5 +1,4 @@
 -- The test decides the pick of `left_of`.
--- The test decides the pick of `left_of`.
 use mathlib.Core.Path.{◌∙◌}
 use borrow.Author.Tests.{lt-ltb, le-ltb}
 use Rattle.image_check.proofs.inner.checking.left_of.Goals as goal

@@ -1,4 +1,3 @@
-use mathlib.Core.Path.{◌∙◌}
 use borrow.Author.Tests.{eq-eqb, ne_eqb}
 use Rattle.build_checks.specs.Checks.{missing_row}
 use Rattle.egg.proofs.Scans.{scanning, stops, goes_on, ends}
@@ -9,8 +8,7 @@ unfolding missing_row
 loop-g-init c = scanning
 
 pub returns-then-cell-eq0 : goal.returns-then-cell-eq0
-returns-then-cell-eq0 c = c.refused.ensures
-    ∙ stops c.loop-g.invariant c.loop-g-test.true
+returns-then-cell-eq0 c = stops c.loop-g.invariant c.loop-g-test.true
     (rw (← c.cell.ensures) (simp (eq-eqb _ _ c.if-cell-eq0.true)))
 
 pub loop-g-preserved : goal.loop-g-preserved

@@ -1,13 +1,8 @@
 -- The loop is a scan of the row, whose verdicts are `wrong_at`'s.
--- The loop is a scan of the row, whose verdicts are `wrong_at`'s.
 use Rattle.image_cells.specs.Cells.{cells}
-use Prim.Native.Nat.{◌-◌}
 use Rattle.build_checks.specs.Checks.{wrong_at, wrong_row}
 use Rattle.egg.proofs.Scans.{Scanning}
 use Rattle.image_check.proofs.inner.checking.wrong_row.Given as goal
 
 abbrev pub invariant-loop-g : goal.invariant-loop-g
 invariant-loop-g l = Scanning l.n (λ k. wrong_at (cells l.t) l.n l.e.0 k) l.g (wrong_row (cells l.t) l.n l.e.0)
-
-abbrev pub decreases-loop-g : goal.decreases-loop-g
-decreases-loop-g l = l.n - l.g

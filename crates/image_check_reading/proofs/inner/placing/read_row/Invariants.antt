@@ -8,6 +8,3 @@ use Rattle.image_check_reading.proofs.inner.placing.read_row.Given as goal
 
 abbrev pub invariant-loop-g : goal.invariant-loop-g
 invariant-loop-g l = (length l.t ≡ length l.initial.t) × (l.g ≤ l.n) × (read_row (l.n - l.g) (composed_at (halves l.rows) l.n) l.n l.room l.e.0 l.g l.count (cells l.t) ≡ read_row l.n (composed_at (halves l.rows) l.n) l.n l.room l.e.0 0 l.first (cells l.initial.t))
-
-abbrev pub decreases-loop-g : goal.decreases-loop-g
-decreases-loop-g l = l.n - l.g

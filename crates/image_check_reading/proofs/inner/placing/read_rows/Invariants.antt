@@ -1,5 +1,4 @@
 -- The rows left give what the whole reading gives: each turn reads one.
--- The rows left give what the whole reading gives: each turn reads one.
 use Rattle.image_cells.specs.Cells.{cells, halves}
 use Prim.Native.Nat.{◌-◌, ◌≤◌}
 use mathlib.Core.Path.{◌≡◌}
@@ -9,6 +8,3 @@ use Rattle.image_check_reading.proofs.inner.placing.read_rows.Given as goal
 
 abbrev pub invariant-loop-e : goal.invariant-loop-e
 invariant-loop-e l = (length l.t ≡ length l.initial.t) × (l.e ≤ l.room) × (read_from (l.room - l.e) (composed_at (halves l.rows) l.n) l.n l.room l.e l.count (cells l.t) ≡ read_from l.room (composed_at (halves l.rows) l.n) l.n l.room 0 1 (cells l.initial.t))
-
-abbrev pub decreases-loop-e : goal.decreases-loop-e
-decreases-loop-e l = l.room - l.e

@@ -1,5 +1,4 @@
 -- One law of `adds` for each answer, by the tests that lead to it.
--- One law of `adds` for each answer, by the tests that lead to it.
 use Rattle.image_cells.specs.Cells.{cells}
 use native.Mathlib.Omega.{arith}
 use Rattle.build_reading.proofs.Laws.{adds_full, adds_long, adds_new, parts}

@@ -1,5 +1,4 @@
 -- The three stores one after the other are `set_word`'s.
--- The three stores one after the other are `set_word`'s.
 use Rattle.image_cells.specs.Cells.{cells}
 use Rattle.build_reading.proofs.Laws.{word_stored}
 use Rattle.image_check_reading.proofs.inner.table.record_word.Goals as goal

@@ -1,5 +1,4 @@
 -- The two stores are `set_step`'s; what was read before them tells whether the place was new.
--- The two stores are `set_step`'s; what was read before them tells whether the place was new.
 use Rattle.image_cells.specs.Cells.{cells}
 use Rattle.build_reading.proofs.Laws.{step_stored}
 use Rattle.image_check_reading.proofs.inner.table.set_successor.Goals as goal

@@ -22,9 +22,6 @@ overflow_add-sums c = omega (arith, add_fits (c.args.stride) (c.args.digits.now)
 pub bounds-sums-i-in-loop-i : goal.bounds-sums-i-in-loop-i
 bounds-sums-i-in-loop-i c = omega (arith, c.requires.1.0, c.loop-i.invariant.as_long)
 
-pub loop-i-smaller : goal.loop-i-smaller
-loop-i-smaller c = omega (arith, c.loop-i-test.true)
-
 pub loop-i-preserved : goal.loop-i-preserved
 loop-i-preserved c = adds (c.args.stride) (c.args.digits.now) (c.loop-i.invariant) (omega (arith, c.requires.1.0, c.loop-i.invariant.as_long, c.loop-i-test.true))
 

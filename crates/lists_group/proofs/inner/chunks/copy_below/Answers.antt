@@ -16,9 +16,6 @@ returns-then-limit-x c = λ h. absurd (false_true h)
 pub bounds-to-i : goal.bounds-to-i
 bounds-to-i c = omega (arith, c.requires, c.loop-i.invariant.same.as_long)
 
-pub loop-i-smaller : goal.loop-i-smaller
-loop-i-smaller c = omega arith
-
 pub loop-i-preserved : goal.loop-i-preserved
 loop-i-preserved c = copies (c.loop-i.invariant) (omega (arith, c.requires, c.loop-i.invariant.same.as_long)) (search rules)
 

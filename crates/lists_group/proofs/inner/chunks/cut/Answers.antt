@@ -21,9 +21,6 @@ nonzero_div-rest c = omega (arith, c.requires.0)
 pub bounds-rest-i-in-loop-i : goal.bounds-rest-i-in-loop-i
 bounds-rest-i-in-loop-i c = omega (arith, c.requires.1.0, c.loop-i.invariant.rest_of.as_long)
 
-pub loop-i-smaller : goal.loop-i-smaller
-loop-i-smaller c = omega (arith, c.loop-i-test.true)
-
 pub loop-i-preserved : goal.loop-i-preserved
 loop-i-preserved c = cuts (c.loop-i.invariant) (omega (arith, c.requires.1.0, c.loop-i.invariant.rest_of.as_long)) (omega (arith, c.requires.1.1, c.loop-i.invariant.digit.as_long))
 

@@ -31,12 +31,6 @@ returns-then-not-invert c = λ h. absurd (false_true h)
 pub overflow_mul-stride : goal.overflow_mul-stride
 overflow_mul-stride c = omega (arith, stride_fits c.loop-f.invariant.0.strides (turn_at c.args.g c.loop-f.f c.listed-c.ensures.0 c.loop-f-test.true) (positive (length c.args.table.now) (handles c.args.g) c.requires.0.0), c.requires.0.1)
 
-pub overflow_add-f : goal.overflow_add-f
-overflow_add-f c = omega (arith, c.listed-c.ensures.1, c.loop-f-test.true)
-
-pub loop-f-smaller : goal.loop-f-smaller
-loop-f-smaller c = omega (arith, c.loop-f-test.true)
-
 pub loop-f-preserved : goal.loop-f-preserved
 loop-f-preserved c = (inverts_on c.loop-f.invariant.0 (turn_at c.args.g c.loop-f.f c.listed-c.ensures.0 c.loop-f-test.true) (some_there c.args.g c.loop-f.f c.listed-c.ensures.0 c.loop-f-test.true (length c.args.table.now) c.requires.0.0) c.part-s.ensures (c.invert.ensures c.if-not-invert.false), (c.invert.auto.rest ∙ c.loop-f.invariant.1.0, c.invert.auto.sums ∙ c.loop-f.invariant.1.1))
 

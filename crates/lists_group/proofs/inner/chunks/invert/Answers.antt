@@ -41,9 +41,6 @@ overflow_add-sums c = omega (arith, inverse_fits c.loop-i.invariant c.requires.1
 pub bounds-sums-i-in-loop-i : goal.bounds-sums-i-in-loop-i
 bounds-sums-i-in-loop-i c = omega (arith, c.requires.1.1.0, c.loop-i.invariant.sum.as_long)
 
-pub loop-i-smaller : goal.loop-i-smaller
-loop-i-smaller c = omega (arith, c.loop-i-test.true)
-
 pub loop-i-preserved : goal.loop-i-preserved
 loop-i-preserved c = inverses c.loop-i.invariant (omega (arith, c.requires.1.0, c.loop-i.invariant.rest_of.as_long, c.loop-i-test.true)) (omega (arith, c.requires.1.1.0, c.loop-i.invariant.sum.as_long, c.loop-i-test.true)) (got c.args.s.now c.get-inverse.ensures c.inverse_at.ensures.at) c.if-n-inverse.false
 
