@@ -18,7 +18,8 @@ fn write_at(told: &mut [u32], v: Result<(), Refusal>, place: usize) -> u32
     number
 }
 
-// The same of lists that are refused, or a place of them.
+// The same of lists that are refused, or a place of them. It stands apart, so that an answer without a refusal need not be put together in memory.
+#[cold]
 fn write_refused(told: &mut [u32], why: ListRefusal) -> u32
     ensures { (result ≡ (listed_paper (Err why)).refusal.number) × (told.new ≡ listed_into (Err why) told.old) }
 {
@@ -28,7 +29,9 @@ fn write_refused(told: &mut [u32], why: ListRefusal) -> u32
     }
 }
 
-// The same of whatever a question over lists answers; where nothing is refused, all five are 0.
+// The same of whatever a question over lists answers; where nothing is refused, all five are 0. In line: called, it would read from memory what its
+// caller has just put there piece by piece, and wait for it.
+#[inline(always)]
 pub fn write_listed(told: &mut [u32], said: Result<(), ListRefusal>) -> u32
     ensures { (result ≡ (listed_paper said).refusal.number) × (told.new ≡ listed_into said told.old) }
 {

@@ -7,7 +7,7 @@ ghost use Rattle.subgroup_predicate.specs.Predicate.{from_predicate};
 
 use egg::Refusal;
 use group_handles::Group;
-use subgroup_build::Subgroup;
+pub use subgroup_build::Subgroup;
 
 pub mod inner;
 
