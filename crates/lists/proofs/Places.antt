@@ -99,17 +99,20 @@ module _ {k : ℕ} {single : ℕ → Reached} {i : ℕ} {results : List ℕ} (w 
       let none : k - i ≡ 0 = omega arith in
       record { told = sym (rw none) ∙ w.rest; filled = λ good. ap (λ (j : ℕ). take j results) (sym all) ∙ w.filled ∙ ap (λ (j : ℕ). numbers j single 0) all }
 
--- Where every place is known to be right, whichever way its number was found, that is what a loop over the places comes to.
-module _ {k : ℕ} {single : ℕ → Reached} {results : List ℕ} (a : AllRight k single results) (long : k ≤ length results) where
-  come : (i : ℕ) → i ≤ k → Working k single i results
+-- Where the first places are known to be right, whichever way their numbers were found, that is what a loop over the places comes to there.
+module _ {k at : ℕ} {single : ℕ → Reached} {results : List ℕ} (a : AllRight at single results) (within : at ≤ k) (long : at ≤ length results) where
+  come : (i : ℕ) → i ≤ at → Working k single i results
   come zero h = working
   come (suc i) h =
       let more : i + 1 ≡ suc i = omega arith in
       let stored : Working k single (i + 1) (set results i (get_or results i 0)) = stores (come i (omega arith)) (omega arith) (omega arith) refl refl (ap (λ (x : Reached). placed x i) (a.each i (omega arith))) in
       subst (λ (j : ℕ). Working k single j results) more (subst (λ (l : List ℕ). Working k single (i + 1) l) (set-get_or results i 0) stored)
 
-  pub all_worked : Worked k single fine results
-  all_worked = worked (come k (omega arith)) (omega arith)
+  pub come_so_far : Working k single at results
+  come_so_far = come at (omega arith)
+
+pub all_worked : {k : ℕ} {single : ℕ → Reached} {results : List ℕ} → AllRight k single results → k ≤ length results → Worked k single fine results
+all_worked a long = worked (come_so_far a (omega arith) long) (omega arith)
 
 -- The same place by place, for a loop that asks each by a quick way.
 pub none_yet : {single : ℕ → Reached} {results : List ℕ} → AllRight 0 single results

@@ -1,6 +1,7 @@
 // The places of lists, into a list of our own, so that a refused call has written nothing: all at once where that serves, else
 // one after another. Slices are passed on as `&s[..]`, since a slice parameter that is passed on as it is would be copied first.
-ghost use Rattle.std.specs.Prelude.{◌≡◌, true, ◌<◌, ◌≤◌, length};
+ghost use Rattle.std.specs.Prelude.{◌≡◌, true, ◌+◌, ◌*◌, ◌<◌, ◌≤◌, length};
+ghost use Rattle.egg.specs.Table.{inverse_of};
 ghost use Rattle.lists.specs.Lists.{Answered, each_place};
 ghost use Rattle.lists.specs.Worked.{Worked, WorkedFrom, AllRight};
 ghost use Rattle.factor.specs.Questions.{compose_answer};
@@ -193,6 +194,61 @@ pub fn compose_few(
     compose_several(&table[..], f, &a[..], &b[..], out)
 }
 
+// The number of the inverse that stands in the row of x; the count of elements where there is none.
+fn inverse_number(s: &[u32], n: u8, count: u32, x: u32) -> u32
+    requires { count * (2 * n + 4) ≤ length s.now }
+    ensures { result < count → (x < count) × (result ≡ inverse_of s.now n x) }
+{
+    if count <= x {
+        return count;
+    }
+    factor_quick_walks::inner::recorded(s, n, count, GroupElementId(x), 3)
+}
+
+// How many inverses from the first place on are found by the numbers in the rows: all, or those before a place that is refused. The handle is looked at
+// once, and what stands in a row is read with no test. Apart, so that the loop's jumps lie as they do whatever is before it: across a border of 32 bytes
+// some processors take twice the time.
+#[inline(never)]
+fn inverses_found(table: &[u32], f: Factor, a: &[u32], results: &mut [u32]) -> usize
+    requires { length a.now ≤ length results.old }
+    ensures { (result ≤ length a.now) × AllRight result (inverse_at table.now f a.now) results.new }
+{
+    if !egg::fits(&table[..], f) {
+        return 0;
+    }
+    let s = egg::inner::part(&table[..], f);
+    let count = f.elements;
+    for i in 0..a.len() {
+        let inverse = inverse_number(s, f.generators, count, a[i]);
+        if count <= inverse {
+            return i;
+        }
+        results[i] = inverse;
+    }
+    a.len()
+}
+
+// What is not found is asked place by place: then it is known why. Apart, so that a list without a refusal need not put an answer together in memory.
+#[inline(never)]
+fn inverse_in_turn(
+    table: &[u32],
+    f: Factor,
+    a: &[u32],
+    found: usize,
+    results: &mut [u32],
+) -> Result<(), ListRefusal>
+    requires { (found ≤ length a.now) × ((length a.now ≤ length results.old) × AllRight found (inverse_at table.now f a.now) results.old) }
+    ensures { Worked (length a.now) (inverse_at table.now f a.now) result results.new }
+{
+    for i in found..a.len() {
+        let said = factor::inverse(&table[..], f, GroupElementId(a[i]));
+        let e = lists::inner::at_place(i, said)?;
+        results[i] = e.0;
+    }
+    Ok(())
+}
+
+#[inline(always)]
 pub fn inverse_into(
     table: &[u32],
     f: Factor,
@@ -202,12 +258,11 @@ pub fn inverse_into(
     requires { length a.now ≤ length results.old }
     ensures { Worked (length a.now) (inverse_at table.now f a.now) result results.new }
 {
-    for i in 0..a.len() {
-        let said = factor::inverse(&table[..], f, GroupElementId(a[i]));
-        let e = lists::inner::at_place(i, said)?;
-        results[i] = e.0;
+    let found = inverses_found(&table[..], f, &a[..], results);
+    if a.len() <= found {
+        return Ok(());
     }
-    Ok(())
+    inverse_in_turn(&table[..], f, &a[..], found, results)
 }
 
 pub fn inverse_by(
@@ -222,6 +277,33 @@ pub fn inverse_by(
 {
     let said = inverse_into(&table[..], f, &a[..], results);
     lists::inner::hand_over(said, results, out)
+}
+
+// One place that is not found. Apart, as `inverse_in_turn`.
+#[inline(never)]
+fn inverse_asked(table: &[u32], f: Factor, a: &[u32], out: &mut [u32]) -> Result<(), ListRefusal>
+    requires { (length a.now ≡ 1) × (length out.old ≡ length a.now) }
+    ensures { Answered.answered result out.new ≡ each_place (length a.now) (inverse_at table.now f a.now) out.old }
+{
+    let said = factor::inverse(&table[..], f, GroupElementId(a[0]));
+    lists::inner::hand_over_one(said, out)
+}
+
+// One place: where it has an inverse, no list of our own comes between.
+pub fn inverse_one(table: &[u32], f: Factor, a: &[u32], out: &mut [u32]) -> Result<(), ListRefusal>
+    requires { (length a.now ≡ 1) × (length out.old ≡ length a.now) }
+    ensures { Answered.answered result out.new ≡ each_place (length a.now) (inverse_at table.now f a.now) out.old }
+{
+    if !egg::fits(&table[..], f) {
+        return inverse_asked(&table[..], f, &a[..], out);
+    }
+    let s = egg::inner::part(&table[..], f);
+    let inverse = inverse_number(s, f.generators, f.elements, a[0]);
+    if inverse < f.elements {
+        out[0] = inverse;
+        return Ok(());
+    }
+    inverse_asked(&table[..], f, &a[..], out)
 }
 
 // As `compose_from`.

@@ -40,8 +40,7 @@ pub fn inverse_each(table: &[u32], f: Factor, a: &[u32], out: &mut [u32]) -> Res
         return lists::inner::lists_refused();
     }
     if a.len() == 1 {
-        let said = factor::inverse(&table[..], f, GroupElementId(a[0]));
-        return lists::inner::hand_over_one(said, out);
+        return inner::inverse_one(&table[..], f, &a[..], out);
     }
     if a.len() <= 64 {
         let mut few = [0; 64];

@@ -1,5 +1,5 @@
 -- The lists are refused; or one place is asked; or few, with a short list of our own; or a piece at a time.
-use Rattle.lists.proofs.Answers.{lists_wrong, lists_right, only_place}
+use Rattle.lists.proofs.Answers.{lists_wrong, lists_right}
 use Rattle.lists.proofs.Lengths.{right_lengths}
 use mathlib.Core.Path.{sym, ◌∙◌}
 use Rattle.lists.proofs.Pieces.{in_pieces}
@@ -11,12 +11,12 @@ pub returns-then-not-lengths_right : goal.returns-then-not-lengths_right
 unfolding inverse_each
 returns-then-not-lengths_right c = lists_wrong (c.lengths_right.ensures) _ _ _ (c.if-not-lengths_right.true) (c.lists_refused.ensures)
 
-pub hand_over_one-requires : goal.hand_over_one-requires
-hand_over_one-requires c = let l = right_lengths _ _ _ (sym (c.lengths_right.ensures) ∙ c.if-not-lengths_right.false) in sym l.1.0 ∙ c.if-a-eq1.true
+pub inverse_one-requires : goal.inverse_one-requires
+inverse_one-requires c = let l = right_lengths _ _ _ (sym (c.lengths_right.ensures) ∙ c.if-not-lengths_right.false) in (c.if-a-eq1.true, sym l.1.0)
 
 pub returns-then-a-eq1 : goal.returns-then-a-eq1
 unfolding inverse_each
-returns-then-a-eq1 c = lists_right (c.lengths_right.ensures) _ _ _ (c.if-not-lengths_right.false) (only_place (c.args.out.now) _ (c.if-a-eq1.true) (c.inverse-said.ensures) (c.hand_over_one.ensures))
+returns-then-a-eq1 c = lists_right (c.lengths_right.ensures) _ _ _ (c.if-not-lengths_right.false) (c.inverse_one.ensures)
 
 pub inverse_by-requires : goal.inverse_by-requires
 inverse_by-requires c = let l = right_lengths _ _ _ (sym (c.lengths_right.ensures) ∙ c.if-not-lengths_right.false) in (sym l.1.0, search rules)

@@ -1,28 +1,11 @@
-use Rattle.egg.proofs.Refusing.{handed_on}
-use Rattle.lists.proofs.Places.{working, stores, refuses, worked}
+-- Every place was found, or the rest is asked one after another.
+use Rattle.lists.proofs.Places.{all_worked, all_places}
 use borrow.Author.Rules.{rules}
 use native.Mathlib.Omega.{arith}
-use mathlib.Core.Path.{refl}
-use lib.ListN.{length-set}
 use Rattle.lists_factor.proofs.inner.inverse_into.Goals as goal
 
-pub loop-i-init : goal.loop-i-init
-loop-i-init c = (working, refl)
+pub returns-then-a-found : goal.returns-then-a-found
+returns-then-a-found c = all_worked (all_places (c.inverses_found-found.ensures.1) (omega (arith, c.if-a-found.true))) (search rules)
 
-pub shape_of-results-in_err-e : goal.shape_of-results-in_err-e
-shape_of-results-in_err-e c = c.loop-i.invariant.1
-
-pub returns-in_err-e : goal.returns-in_err-e
-returns-in_err-e c = rw (handed_on c.from_residual.ensures) (refuses (c.loop-i.invariant.0) (search rules) (c.inverse-said.ensures) c.at_place.ensures (c.in_err-e.was))
-
-pub bounds-results-i : goal.bounds-results-i
-bounds-results-i c = omega (arith, c.requires, c.loop-i.invariant.1)
-
-pub loop-i-preserved : goal.loop-i-preserved
-loop-i-preserved c = (stores (c.loop-i.invariant.0) (search rules) (omega (arith, c.requires, c.loop-i.invariant.1)) (c.inverse-said.ensures) c.at_place.ensures (c.in_ok-e.was), simp length-set (c.loop-i.invariant.1))
-
-pub shape_of-results : goal.shape_of-results
-shape_of-results c = c.loop-i.invariant.1
-
-pub returns : goal.returns
-returns c = worked (c.loop-i.invariant.0) (search rules)
+pub inverse_in_turn-requires : goal.inverse_in_turn-requires
+inverse_in_turn-requires c = (c.inverses_found-found.ensures.0, (search rules, c.inverses_found-found.ensures.1))
